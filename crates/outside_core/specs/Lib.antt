@@ -1,0 +1,9 @@
+pub mod Counts
+pub mod Files
+pub mod Streams
+pub mod Host
+pub mod Lends
+pub mod Counting
+pub mod Memory
+pub mod MemoryCodes
+pub mod formers
