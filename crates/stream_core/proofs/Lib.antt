@@ -1,0 +1,4 @@
+pub mod InnerLemmas
+pub mod LaneLemmas
+pub mod PublishedVectors
+pub mod StreamLemmas

@@ -1,0 +1,12 @@
+use Rattle.stream_core.specs.Salsa20.{row_round}
+use Rattle.stream_core.proofs.salsa_blocks.row_round.Goals as goal
+
+pub returns : goal.returns
+unfolding row_round
+returns c j h =
+    rw (
+      ← c.quarter_round.ensures j h,
+      ← c.quarter_round-2.ensures j h,
+      ← c.quarter_round-3.ensures j h,
+      ← c.quarter_round-4.ensures j h,
+    )

@@ -1,0 +1,6 @@
+pub mod Words
+pub mod ChaCha20
+pub mod Salsa20
+pub mod Stream
+pub mod Lanes
+pub mod InnerStream
