@@ -1,0 +1,6 @@
+pub mod AnswerLaws
+pub mod BlockLists
+mod BlockVectors
+mod HmacVectors
+pub mod OneReading
+pub mod StateSteps

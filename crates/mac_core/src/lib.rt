@@ -1,0 +1,18 @@
+//! Message authentication: HMAC-SHA-256, and the authenticated blocks of a KDBX 4 file.
+#![tactic(auto)]
+
+pub use fail::BlockFail;
+pub use hmac::Hmac256;
+pub use reader::BlockReader;
+pub use writer::BlockWriter;
+
+mod fail;
+mod head;
+mod hmac;
+pub mod laws;
+mod reader;
+mod running_mac;
+mod state;
+#[cfg(test)]
+mod tests;
+mod writer;
