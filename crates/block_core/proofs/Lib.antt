@@ -1,0 +1,10 @@
+mod AesVectors
+mod TwofishVectors
+pub mod ByteTables
+pub mod AesRounds
+pub mod KeyWords
+pub mod CbcSteps
+pub mod TimesSteps
+pub mod TwofishWords
+pub mod TwofishH
+pub mod TwofishRounds

@@ -1,0 +1,10 @@
+pub mod Field
+pub mod Blocks
+pub mod Aes
+pub mod AesCipher
+pub mod TwofishCipher
+pub mod Twofish
+pub mod TwofishTables
+pub mod Cbc
+pub mod Padding
+pub mod Laws
