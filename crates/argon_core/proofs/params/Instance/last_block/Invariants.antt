@@ -1,0 +1,6 @@
+use Rattle.std.proofs.Common.{◌≡◌}
+use Rattle.argon_core.specs.Argon2.{last_blocks}
+use Rattle.argon_core.proofs.params.Instance.last_block.Given as goal
+
+abbrev pub invariant-lanes : goal.invariant-lanes
+invariant-lanes l = l.last ≡ last_blocks l.self l.lane

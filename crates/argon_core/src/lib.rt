@@ -1,0 +1,18 @@
+//! BLAKE2b (RFC 7693) and Argon2 (RFC 9106), proved equal to their definitions in `specs/`.
+#![tactic(auto)]
+
+mod argon;
+mod blake;
+mod compression;
+mod fill;
+mod hashes;
+mod memory;
+mod params;
+mod words;
+
+pub use argon::argon2;
+pub use blake::blake2b;
+pub use params::{ArgonFail, ArgonKind, ArgonParams};
+
+#[cfg(test)]
+mod tests;

@@ -1,0 +1,52 @@
+//! The parameters of Argon2 (RFC 9106, 3.1), and what one computation is made of.
+
+/// A type of Argon2: how the blocks to mix in are chosen.
+#[derive(Clone, Copy, Debug, PartialEq, Eq)]
+pub enum ArgonKind {
+    /// Argon2d: by the blocks before.
+    D,
+    /// Argon2id: by counters in the first half of the first pass, and then by the blocks before.
+    Id,
+}
+
+/// The costs of a computation.
+#[derive(Clone, Copy, Debug, PartialEq, Eq)]
+pub struct ArgonParams {
+    /// How often the memory is filled.
+    pub passes: u32,
+    /// The memory in units of 1,024 bytes.
+    pub kib: u32,
+    /// How many lanes the memory is divided into.
+    pub lanes: u32,
+}
+
+/// Why a computation is not made, in the order in which the limits are looked at.
+#[derive(Clone, Copy, Debug, PartialEq, Eq)]
+pub enum ArgonFail {
+    /// The number of passes, which is 0.
+    Passes(u32),
+    /// The number of lanes, which is not from 1 to 1,024.
+    Lanes(u32),
+    /// The memory in units of 1,024 bytes: less than 8 for a lane, or more than 1,048,576.
+    Kib(u32),
+    /// The length of the salt in bytes, which is not from 8 to 1,024.
+    Salt(usize),
+    /// There was no memory left.
+    NoMemory,
+}
+
+// One computation: its type, its costs, and the hash of all that it was given.
+#[derive(Drop)]
+pub(crate) struct Instance {
+    pub(crate) kind: ArgonKind,
+    pub(crate) params: ArgonParams,
+    pub(crate) first_hash: [u8; 64],
+}
+
+// A part of a lane that is filled in one go: a lane's columns in one slice, in one pass.
+#[derive(Clone, Copy)]
+pub(crate) struct Segment {
+    pub(crate) pass: usize,
+    pub(crate) slice: usize,
+    pub(crate) lane: usize,
+}
