@@ -1,0 +1,14 @@
+pub mod Allowed
+pub mod Facts
+pub mod Joins
+pub mod Laid
+pub mod Orders
+pub mod Paths
+pub mod Semilattice
+pub mod SoundDoc
+pub mod SoundJoin
+pub mod Tables
+pub mod Tests
+pub mod TreeShape
+pub mod Unite
+pub mod Versions

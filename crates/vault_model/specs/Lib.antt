@@ -1,0 +1,11 @@
+pub mod Bare
+pub mod Db
+pub mod Join
+pub mod Orders
+pub mod Plans
+pub mod Proper
+pub mod Seen
+pub mod Shape
+pub mod TotalOrders
+pub mod Tree
+pub mod Unite
