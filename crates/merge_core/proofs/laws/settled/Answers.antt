@@ -1,0 +1,6 @@
+-- The tree that is made of a laid document has its shape.
+use Rattle.vault_model.proofs.TreeShape.{laid_document}
+use Rattle.merge_core.proofs.laws.settled.Goals as goal
+
+pub returns : goal.returns
+returns c n m t s root fits = laid_document n m t s fits

@@ -1,0 +1,4 @@
+//! Merging copies of one vault: the laws of their join.
+#![tactic(auto)]
+
+pub mod laws;
