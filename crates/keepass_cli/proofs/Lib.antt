@@ -1,0 +1,4 @@
+pub mod Document
+pub mod Kids
+pub mod Steps
+mod Tried

@@ -1,0 +1,9 @@
+pub mod Databases
+pub mod Listing
+pub mod Messages
+pub mod Outcome
+pub mod Phases
+pub mod Reading
+pub mod Telling
+pub mod Thin
+pub mod Words

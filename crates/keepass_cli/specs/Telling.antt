@@ -1,0 +1,25 @@
+-- How a call that stopped tells why.
+use Rattle.std.specs.Prelude.{◌≡◌, ℕ, List, Option, codes, ◌⊎◌}
+use Rattle.outside_core.specs.Counts.{Rose}
+use Rattle.outside_core.specs.declared.fails.SinkFail.{SinkFail}
+use Rattle.outside_core.specs.declared.fails.SinkFail.TheVariants as sink
+use Rattle.keepass_cli.specs.declared.answers.Stop.{Stop}
+use Rattle.keepass_cli.specs.declared.answers.Stop.TheVariants.{Refused, FileFault, NoMemory}
+use Rattle.keepass_cli.specs.Messages.{status_of, words_of, told_line}
+use Rattle.keepass_cli.specs.Outcome.{Gains}
+
+-- The status where a text was not written.
+abbrev pub IsUnwritten : SinkFail → ℕ → Type 0
+IsUnwritten sink.Failed status = status ≡ 10
+IsUnwritten sink.NoMemory status = status ≡ 9
+
+-- A line was written and its status given; or want of memory came, or a fault of standard error.
+abbrev pub TellsLine : ℕ → List ℕ → ℕ → (errors errors' : Option (List ℕ)) → (faults faults' : ℕ) → Type 0
+TellsLine own line result errors errors' faults faults' =
+    ((result ≡ own) × Gains errors errors' line) ⊎ (result ≡ 9) ⊎ ((result ≡ 10) × Rose faults faults')
+
+-- The stop has its own status and its own line, or want of memory came, or a fault of standard error.
+abbrev pub IsTold : Stop → ℕ → (errors errors' : Option (List ℕ)) → (faults faults' : ℕ) → Type 0
+IsTold (Refused refusal) = TellsLine (status_of refusal.answer) (told_line refusal.subject (words_of refusal.answer))
+IsTold (FileFault name) = TellsLine 7 (told_line name (codes "file fault"))
+IsTold NoMemory = λ result errors errors' faults faults'. (result ≡ 9) ⊎ ((result ≡ 10) × Rose faults faults')

@@ -1,0 +1,111 @@
+//! The one call of the program: from its words, and the objects of the outside, to its status.
+ghost use Rattle.std.specs.Prelude.{◌≡◌, ◌≢◌, ◌≤◌, ◌⊎◌, ℕ, Some, IfErr, map, string_bytes};
+ghost use Rattle.outside_core.specs.Files.{FileMap};
+ghost use Rattle.keepass_cli.specs.Outcome.{answer_of, outcome, IsCalm, IsAsSaid, IsNear, IsSafe, counts, seen};
+ghost use Rattle.keepass_cli.specs.Messages.{told_line};
+ghost use Rattle.keepass_cli.specs.Phases.{Gives, IsCaused};
+ghost use Rattle.keepass_cli.specs.Telling.{IsTold, IsUnwritten, TellsLine};
+ghost use Rattle.keepass_cli.specs.Words.{command_of, files_named};
+
+use crate::answers::{Stop, line, status, words_for};
+use crate::databases::open;
+use crate::listing::{Done, perform};
+use crate::words::read_words;
+use outside_core::{Dice, FileStore, NoMemory, Sink, SinkFail, Source, write_all};
+use std::alloc::Global;
+
+/// The status of a call at which the store failed.
+const FILE_FAULT: u8 = 7;
+
+/// The status of a call for which memory ran out.
+const OUT_OF_MEMORY: u8 = 9;
+
+/// The status of a call whose output failed.
+const OUTPUT_FAULT: u8 = 10;
+
+// The phases of a call, one after another.
+#[tactic(auto, unfolding(crate::specs::Outcome::answer_of))]
+fn answer<F: FileStore>(alloc: Global, words: &[String], files: &mut F) -> Result<Done, Stop>
+    ensures told { (m : FileMap) → F.files files.old ≡ Some m → Gives (λ done. done) result (answer_of (map string_bytes words.now) m) }
+    ensures cause { IfErr result (IsCaused (files_named (command_of (map string_bytes words.now))) (F.faults files.old) (F.faults files.new) (F.absences files.old) (F.absences files.new)) }
+    ensures faults { F.faults files.old ≤ F.faults files.new }
+    ensures files { F.files files.new ≡ F.files files.old }
+    ensures draft_name { F.draft_name files.new ≡ F.draft_name files.old }
+    ensures draft_bytes { F.draft_bytes files.new ≡ F.draft_bytes files.old }
+{
+    let command = read_words(alloc, words)?;
+    let root = open(alloc, files, &command)?;
+    perform(alloc, &command, &root)
+}
+
+// The status of a call whose text or line was not written.
+fn unwritten(fail: SinkFail) -> u8
+    ensures { IsUnwritten fail result }
+{
+    match fail {
+        SinkFail::Failed => OUTPUT_FAULT,
+        SinkFail::NoMemory => OUT_OF_MEMORY,
+    }
+}
+
+// Writes the line of a subject, and gives the status that goes with it.
+fn tell_line<E: Sink>(alloc: Global, err: &mut E, own: u8, subject: &str, text: &str) -> u8
+    ensures { TellsLine own (told_line subject.now text.now) result (E.written err.old) (E.written err.new) (E.faults err.old) (E.faults err.new) }
+{
+    match line(alloc, subject, text) {
+        Ok(line) => match write_all(err, line.as_slice()) {
+            Ok(()) => own,
+            Err(fail) => unwritten(fail),
+        },
+        Err(NoMemory) => OUT_OF_MEMORY,
+    }
+}
+
+// Tells on standard error why a call stopped, and gives its status.
+fn tell<E: Sink>(alloc: Global, err: &mut E, stop: Stop) -> u8
+    ensures { IsTold stop result (E.written err.old) (E.written err.new) (E.faults err.old) (E.faults err.new) }
+{
+    match stop {
+        Stop::Refused(refusal) => tell_line(
+            alloc,
+            err,
+            status(refusal.answer),
+            refusal.subject.as_str(),
+            words_for(refusal.answer),
+        ),
+        Stop::FileFault(name) => tell_line(alloc, err, FILE_FAULT, name.as_str(), "file fault"),
+        Stop::NoMemory => tell_line(alloc, err, OUT_OF_MEMORY, "words", "out of memory"),
+    }
+}
+
+/// One call of the program, whose words are those after its name; `now` is in seconds since the year 1. Gives the
+/// program's status.
+///
+/// Where no object of the outside fails and memory does not run out, all that is seen of the call is what `outcome`
+/// says of its words and files. Where one fails, no file is changed, what was printed is a front part of the outcome's
+/// text, and the status tells of the failure.
+pub fn keepass<F: FileStore, S: Source, O: Sink, E: Sink, D: Dice>(
+    alloc: Global,
+    words: &[String],
+    files: &mut F,
+    input: &mut S,
+    out: &mut O,
+    err: &mut E,
+    dice: &mut D,
+    now: u64,
+) -> u8
+    ensures as_said { (m : FileMap) → F.files files.old ≡ Some m
+        → (result ≡ 0) ⊎ ((result ≢ 9) × IsCalm (counts (F.faults files.old) (F.absences files.old) (S.faults input.old) (O.faults out.old) (E.faults err.old) (D.faults dice.old)) (counts (F.faults files.new) (F.absences files.new) (S.faults input.new) (O.faults out.new) (E.faults err.new) (D.faults dice.new)))
+        → IsAsSaid (outcome (map string_bytes words.now) m) result (seen (O.written out.old) (E.written err.old) (F.files files.old) (F.draft_name files.old) (F.draft_bytes files.old) (S.left input.old) (D.stream dice.old)) (seen (O.written out.new) (E.written err.new) (F.files files.new) (F.draft_name files.new) (F.draft_bytes files.new) (S.left input.new) (D.stream dice.new)) }
+    ensures near { (m : FileMap) → F.files files.old ≡ Some m
+        → IsNear (files_named (command_of (map string_bytes words.now))) (outcome (map string_bytes words.now) m) result (seen (O.written out.old) (E.written err.old) (F.files files.old) (F.draft_name files.old) (F.draft_bytes files.old) (S.left input.old) (D.stream dice.old)) (seen (O.written out.new) (E.written err.new) (F.files files.new) (F.draft_name files.new) (F.draft_bytes files.new) (S.left input.new) (D.stream dice.new)) (counts (F.faults files.old) (F.absences files.old) (S.faults input.old) (O.faults out.old) (E.faults err.old) (D.faults dice.old)) (counts (F.faults files.new) (F.absences files.new) (S.faults input.new) (O.faults out.new) (E.faults err.new) (D.faults dice.new)) }
+    ensures safe { IsSafe result (seen (O.written out.old) (E.written err.old) (F.files files.old) (F.draft_name files.old) (F.draft_bytes files.old) (S.left input.old) (D.stream dice.old)) (seen (O.written out.new) (E.written err.new) (F.files files.new) (F.draft_name files.new) (F.draft_bytes files.new) (S.left input.new) (D.stream dice.new)) (counts (F.faults files.old) (F.absences files.old) (S.faults input.old) (O.faults out.old) (E.faults err.old) (D.faults dice.old)) (counts (F.faults files.new) (F.absences files.new) (S.faults input.new) (O.faults out.new) (E.faults err.new) (D.faults dice.new)) }
+{
+    match answer(alloc, words, files) {
+        Ok(done) => match write_all(out, done.text.as_slice()) {
+            Ok(()) => 0,
+            Err(fail) => unwritten(fail),
+        },
+        Err(stop) => tell(alloc, err, stop),
+    }
+}
