@@ -1,0 +1,138 @@
+//! Does the work that `bench/primitives` times: one primitive, over as many pieces of a MiB as its arguments
+//! ask for. It prints the first bytes of what was made, so that the work can be compared.
+#![tactic(auto)]
+
+ghost use Rattle.std.specs.Prelude.{◌≡◌, ◌%◌, ◌≤◌, ◌^◌, length};
+
+use argon_core::{ArgonKind, ArgonParams, argon2};
+use block_core::{Aes256, Block16, Twofish256, cbc_decrypt, cbc_encrypt};
+use mac_core::Hmac256;
+use secret_core::Key;
+use std::alloc::AllocGlobal;
+use std::env;
+use std::process::ExitCode;
+use stream_core::{ChaCha20, Salsa20};
+
+/// The length of a piece.
+const PIECE: usize = 1_048_576;
+
+/// The bytes of every key.
+const KEY: [u8; 32] = [7; 32];
+
+// Enciphers the text as often as asked.
+fn encrypt<B: Block16>(cipher: &B, text: &mut [u8], turns: u32)
+    requires { length text.old % 16 ≡ 0 }
+{
+    for _ in 0..turns {
+        cbc_encrypt(cipher, &[0; 16], text);
+    }
+}
+
+// Deciphers the text as often as asked.
+fn decrypt<B: Block16>(cipher: &B, text: &mut [u8], turns: u32)
+    requires { length text.old % 16 ≡ 0 }
+{
+    for _ in 0..turns {
+        cbc_decrypt(cipher, &[0; 16], text);
+    }
+}
+
+// XORs the text with the stream of ChaCha20 as often as asked, each time from its start.
+fn chacha(text: &mut [u8], turns: u32)
+    requires { length text.old ≤ 2 ^ 38 }
+{
+    for _ in 0..turns {
+        ChaCha20::new(&KEY, &[0; 12]).apply(text);
+    }
+}
+
+// The same with Salsa20.
+fn salsa(text: &mut [u8], turns: u32)
+    requires { length text.old ≤ 2 ^ 38 }
+{
+    for _ in 0..turns {
+        Salsa20::new(&KEY, &[0; 8]).apply(text);
+    }
+}
+
+// Writes a digest into the front of the text.
+fn put(text: &mut [u8], digest: &[u8; 32]) {
+    for (place, byte) in text.iter_mut().zip(digest) {
+        *place = *byte;
+    }
+}
+
+// The code of as many pieces as asked, in the front of the text.
+fn hmac(text: &mut [u8], turns: u32) {
+    let mut code = Hmac256::new(&KEY);
+    for _ in 0..turns {
+        code.update(text);
+    }
+    put(text, &code.finish());
+}
+
+// Argon2 with 64 MiB, as many passes as asked, and 2 lanes, its tag in the front of the text.
+fn argon(rt: &impl AllocGlobal, kind: ArgonKind, text: &mut [u8], turns: u32) {
+    let params = ArgonParams {
+        passes: turns,
+        kib: 65_536,
+        lanes: 2,
+    };
+    if let Ok(mut tag) = argon2(
+        rt.alloc(),
+        kind,
+        &params,
+        b"password",
+        b"somesaltsomesalt",
+        b"",
+        b"",
+    ) {
+        put(text, tag.bytes());
+        tag.clear();
+        tag.release();
+    }
+}
+
+// Does the work of this name over one piece; false where there is none of the name, or the text is no piece.
+fn work(rt: &impl AllocGlobal, name: &str, text: &mut [u8], turns: u32) -> bool {
+    if text.len() != PIECE {
+        return false;
+    }
+    let mut key = Key::of(&KEY);
+    let aes = Aes256::new(&key);
+    let twofish = Twofish256::new(&key);
+    key.clear();
+    key.release();
+    match name {
+        "aes-encrypt" => encrypt(&aes, text, turns),
+        "aes-decrypt" => decrypt(&aes, text, turns),
+        "twofish-encrypt" => encrypt(&twofish, text, turns),
+        "twofish-decrypt" => decrypt(&twofish, text, turns),
+        "chacha20" => chacha(text, turns),
+        "salsa20" => salsa(text, turns),
+        "hmac" => hmac(text, turns),
+        "argon2d" => argon(rt, ArgonKind::D, text, turns),
+        "argon2id" => argon(rt, ArgonKind::Id, text, turns),
+        _ => return false,
+    }
+    true
+}
+
+fn main(rt: HostRuntime) -> anyhow::Result<ExitCode> {
+    let words: Vec<String> = env::args(&rt)?.skip(1).collect(rt.alloc())?;
+    let [name, turns] = words.as_slice() else {
+        println!(rt; "usage: bench_primitives NAME TURNS")?;
+        return Ok(ExitCode::from(1));
+    };
+    let turns: u32 = turns.parse()?;
+    let mut text = vec![in rt.alloc(); 0; PIECE]?;
+    if !work(&rt, name.as_str(), &mut text, turns) {
+        println!(rt; "no work of this name")?;
+        return Ok(ExitCode::from(1));
+    }
+    for byte in text.iter().take(16) {
+        print!(rt; "{byte:02x}")?;
+    }
+    println!(rt;)?;
+    Ok(ExitCode::SUCCESS)
+}
