@@ -54,6 +54,7 @@ fine_first = record {
     groups_proper = refl;
     icons_rise = refl;
     items_rise = refl;
+    meta_texts = refl;
   };
   entries = refl;
   groups = refl;
@@ -79,6 +80,7 @@ fine_second = record {
     groups_proper = refl;
     icons_rise = refl;
     items_rise = refl;
+    meta_texts = refl;
   };
   entries = refl;
   groups = refl;
@@ -104,6 +106,7 @@ fine_third = record {
     groups_proper = refl;
     icons_rise = refl;
     items_rise = refl;
+    meta_texts = refl;
   };
   entries = refl;
   groups = refl;

@@ -1,12 +1,12 @@
 -- Members that can be joined: what is kept is held, and leads up to the root over what is kept.
-use Rattle.std.proofs.Common.{◌≡◌, ◌≤◌, ◌+◌, ◌-◌, ℕ, zero, suc, Bool, true, false, not, ◌||◌, ◌&&◌, ◌⊎◌, inl, inr, List, [], ◌∷◌, Option, Some, None, map, length, refl, sym, ap, subst, ◌∙◌, arith}
+use Rattle.std.proofs.Common.{◌≡◌, ◌≤◌, ◌+◌, ◌-◌, ℕ, zero, suc, true, false, not, ◌&&◌, ◌⊎◌, inl, inr, List, Option, Some, None, map, length, refl, sym, ap, subst, ◌∙◌, arith}
 use Rattle.std.specs.FinMap.{get, contains_key}
 use Rattle.std.specs.List.{list_any}
-use Rattle.vault_model.specs.Db.{NodeId, Place, place_cmp, Db, holds, parent_or, steps, Reaches, Sound}
+use Rattle.vault_model.specs.Db.{NodeId, Place, place_cmp, Db, parent_or, steps, Reaches, Sound}
 use Rattle.vault_model.specs.Join.{is_id, root_of, latest, above, held, buried, own, ids, trail, path, kept, IsIn, Allowed}
 use Rattle.vault_model.specs.Unite.{greater}
-use Rattle.vault_model.proofs.Facts.{same_id, is_same_id, id_itself, held_by, held_id, latest_found, root_held, trail_head, trail_keeps}
-use Rattle.vault_model.proofs.Paths.{steps_add, stay, later, reached_within, at_number}
+use Rattle.vault_model.proofs.Facts.{same_id, id_itself, held_by, held_id, latest_found, root_held, trail_head, trail_keeps}
+use Rattle.vault_model.proofs.Paths.{steps_add, reached_within, at_number}
 use Rattle.vault_model.proofs.Semilattice.{none-gather}
 use Rattle.vault_model.proofs.Tests.{or_cases, or_left, or_right, and_true, and_both, apart, any_true, any_found, from_map}
 

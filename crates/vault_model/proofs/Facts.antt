@@ -1,18 +1,16 @@
 -- What the join has at an id, and what agreed members say of their own nodes.
-use Rattle.std.proofs.Common.{◌≡◌, ◌≢◌, ◌≤◌, ℕ, Bool, true, false, not, cond, ◌||◌, ◌&&◌, ◌⊎◌, inl, inr, List, [], ◌∷◌, ◌++◌, Option, Some, None, map, max, is_some, ◌↔◌, nat_le, length, zero, suc, refl, sym, ap, subst, ◌∙◌, arith}
-use Rattle.std.proofs.lemmas.Bool.{le-leb, leb-true}
+use Rattle.std.proofs.Common.{◌≡◌, ◌≢◌, ◌≤◌, ℕ, Bool, true, false, not, cond, ◌&&◌, inl, inr, List, [], ◌∷◌, ◌++◌, Option, Some, None, map, max, ◌↔◌, length, zero, suc, refl, sym, ap, subst, ◌∙◌}
+use Rattle.std.proofs.lemmas.Bool.{le-leb}
 use Rattle.std.specs.FinMap.{FinMap, get, contains_key, keys, retain_keys, get-retain_keys}
 use Rattle.std.specs.Cmp.{both_ways}
 use Rattle.std.specs.List.{list_any}
-use Rattle.vault_model.specs.declared.contents.Stats.{Stats}
-use Rattle.vault_model.specs.declared.nodes.GroupState.{GroupState}
-use Rattle.vault_model.specs.Db.{NodeId, id_cmp, Versions, Place, place_cmp, Db, holds, greatest, stamp_in, parent_or, steps, Reaches, Sound}
-use Rattle.vault_model.specs.Join.{stats_join, state_join, is_id, root_of, latest, above, stamp, is_from, held, buried, own, ids, trail, path, kept, join, IsIn, IsWithin, IsNotEmpty, IsPart, HaveOneRoot, HaveOneKind, IsAcyclic, Allowed, KeepsParents, Compatible, Agreed}
+use Rattle.vault_model.specs.Db.{NodeId, id_cmp, Place, place_cmp, Db, holds, stamp_in, parent_or, Sound}
+use Rattle.vault_model.specs.Join.{stats_join, state_join, is_id, root_of, latest, above, stamp, is_from, held, buried, own, ids, trail, path, kept, join, IsIn, IsNotEmpty, IsPart, HaveOneRoot, KeepsParents, Compatible}
 use Rattle.vault_model.specs.Unite.{greater, gather, unite, unite_all}
 use Rattle.vault_model.proofs.Orders.{id_order}
-use Rattle.vault_model.proofs.Semilattice.{gather-selects, none-gather, greater_one}
+use Rattle.vault_model.proofs.Semilattice.{gather-selects, greater_one}
 use Rattle.vault_model.proofs.Orders.{place_order}
-use Rattle.vault_model.proofs.Tests.{or_cases, or_left, or_right, and_true, and_both, not_true, not_false, is_false, apart, decide, some_of, some_is, any_true, any_found, any_false, any_none, in_front, in_back, in_flat, map_map, greatest_below, in_map, from_map, or_false}
+use Rattle.vault_model.proofs.Tests.{or_cases, or_left, or_right, and_true, and_both, not_true, not_false, apart, some_is, any_true, any_found, any_none, in_front, in_back, in_flat, map_map, greatest_below, from_map}
 use Rattle.vault_model.proofs.Unite.{tie, ties, get-unite_all, in_keys}
 
 pub same_id : (u v : NodeId) → is_id u v ≡ true → u ≡ v

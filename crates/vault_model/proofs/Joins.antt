@@ -1,14 +1,8 @@
 -- What two copies say of one thing is joined so that neither order nor grouping nor repeats matter.
-use Rattle.std.proofs.Common.{◌≡◌, ℕ, max, refl, ap}
-use Rattle.std.specs.FinMap.{FinMap}
-use Rattle.std.specs.Ordering.{on}
+use Rattle.std.proofs.Common.{refl}
 use Rattle.std.specs.declared.cmp.Ordering.{Ordering}
-use Rattle.vault_model.specs.declared.contents.Stats.{Stats}
-use Rattle.vault_model.specs.declared.metas.Timed.{Timed}
-use Rattle.vault_model.specs.declared.nodes.GroupState.{GroupState}
-use Rattle.vault_model.specs.Db.{mark_of, place_cmp, mark_cmp, Place, SharedMeta}
-use Rattle.vault_model.specs.Join.{stats_join, state_join, timed_join, timed_cmp, meta_join}
-use Rattle.vault_model.specs.Orders.{bytes_cmp, bin_cmp, settings_cmp, icon_cmp, later_item_cmp}
+use Rattle.vault_model.specs.Db.{mark_of, place_cmp, mark_cmp}
+use Rattle.vault_model.specs.Join.{stats_join, state_join, timed_join, meta_join}
 use Rattle.vault_model.specs.Unite.{greater, unite}
 use Rattle.vault_model.proofs.Orders.{IsOrder, bytes_order, bin_order, settings_order, icon_order, later_item_order, timed_order, id_order, mark_order, group_mark_order, place_order}
 use Rattle.vault_model.proofs.Semilattice.{IsJoin, max_join, by_key_join, greater_join}

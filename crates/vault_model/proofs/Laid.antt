@@ -1,28 +1,26 @@
 -- A database laid over an older document has that database, and laid over itself stays as it is.
-use Rattle.std.proofs.Common.{◌≡◌, ◌≢◌, ℕ, Bool, true, false, not, cond, ◌||◌, ◌⊎◌, inl, inr, List, [], ◌∷◌, ◌++◌, Option, Some, None, map, is_some, refl, sym, ap, subst, ◌∙◌}
+use Rattle.std.proofs.Common.{◌≡◌, ◌≢◌, ℕ, Bool, true, false, not, cond, inl, inr, List, [], ◌∷◌, ◌++◌, Option, Some, None, map, is_some, refl, sym, ap, subst, ◌∙◌}
 use Rattle.std.proofs.lemmas.List.{append-nil}
 use Rattle.std.proofs.lemmas.Option.{same_Some}
 use Rattle.std.specs.FinMap.{FinMap, empty, get, insert, entries, keys, values, contains_key, from_entries, entries_sorted, get-entries, contains_key-keys, same_map}
-use Rattle.std.specs.List.{list_any, filter, flat_map}
+use Rattle.std.specs.List.{list_any, filter}
 use Rattle.std.specs.Option.{option_map, unwrap_or}
 use Rattle.std.specs.Ordering.{eq_by_cmp}
 use Rattle.vault_model.specs.declared.contents.Item.{Item}
 use Rattle.vault_model.specs.declared.contents.Stats.{Stats}
 use Rattle.vault_model.specs.declared.metas.Icon.{Icon}
-use Rattle.vault_model.specs.declared.metas.Meta.{Meta}
 use Rattle.vault_model.specs.declared.nodes.GroupState.{GroupState}
-use Rattle.vault_model.specs.Db.{NodeId, id_cmp, Mark, mark_cmp, Versions, Place, SharedMeta, Db, holds, IsProperMeta, Sound}
+use Rattle.vault_model.specs.Db.{NodeId, id_cmp, Mark, Versions, Place, Db, Sound}
 use Rattle.vault_model.specs.Join.{is_id, stats_join, IsIn}
-use Rattle.vault_model.specs.Orders.{bytes_cmp}
 use Rattle.vault_model.specs.Shape.{BareVersion, EntryRecord, GroupRecord, Children, Shape, versions_of, no_children, placed_or, placed_of, place_rows, shared_of, db_of, in_order, last_of, but_last, version_of, record_of, placed_in, stands_in, standing, kids, laid_children, new_view, laid_group, laid_meta, versions_in, lay}
 use Rattle.vault_model.specs.Unite.{merged, gather, unite_all, tabulate}
-use Rattle.vault_model.proofs.Facts.{same_id, id_itself, is_same_id, placed_held}
+use Rattle.vault_model.proofs.Facts.{same_id, id_itself, placed_held}
 use Rattle.vault_model.proofs.Joins.{stats_joins}
 use Rattle.vault_model.proofs.Orders.{id_order, mark_order, bytes_order}
-use Rattle.vault_model.proofs.Semilattice.{IsJoin, merged_join, merged_none, gather-append}
-use Rattle.vault_model.proofs.Tables.{get_entry, entry_get, made_from, made_of_entries, single, gathered_singles}
-use Rattle.vault_model.proofs.Tests.{or_cases, or_left, or_right, not_true, not_false, is_false, apart, decide, some_of, none_of, some_is, any_true, any_found, any_false, any_none, in_front, in_back, in_either, in_filter, from_filter, in_map, from_map, in_flat, from_flat, map_map, map_append, map_same}
-use Rattle.vault_model.proofs.Unite.{get-tabulate, get-unite_all, in_keys, from_keys}
+use Rattle.vault_model.proofs.Semilattice.{merged_join, merged_none, gather-append}
+use Rattle.vault_model.proofs.Tables.{get_entry, entry_get, made_from, made_of_entries, gathered_singles}
+use Rattle.vault_model.proofs.Tests.{or_cases, not_false, is_false, apart, decide, none_of, any_true, any_found, in_front, in_back, in_either, in_filter, from_filter, in_map, from_map, in_flat, from_flat, map_map, map_append, map_same}
+use Rattle.vault_model.proofs.Unite.{get-tabulate, get-unite_all, in_keys}
 use Rattle.vault_model.proofs.Versions.{never}
 
 -- ---- what a laid document has at an id
@@ -268,7 +266,7 @@ module _ (m : Db) (t : Shape) (s : Sound m) where
   icons_again =
       ap from_entries (map_map (λ (e : NodeId × Icon). e.1) (λ (i : Icon). (i.id, i)) (entries m.meta.icons)
       ∙ map_same (λ (e : NodeId × Icon). (e.1.id, e.1)) (λ e. e) (entries m.meta.icons) (λ e h i.
-      (s.meta.icons e.0 e.1 (entry_get id_order.total id_order.same m.meta.icons e h) i, e.1))
+      ((s.meta.icons e.0 e.1 (entry_get id_order.total id_order.same m.meta.icons e h)).0 i, e.1))
       ∙ map_id (entries m.meta.icons))
       ∙ made_of_entries id_order.total id_order.same m.meta.icons
     where
@@ -280,7 +278,7 @@ module _ (m : Db) (t : Shape) (s : Sound m) where
   items_again =
       ap from_entries (map_map (λ (e : List ℕ × Item). e.1) (λ (i : Item). (i.key, i)) (entries m.meta.items)
       ∙ map_same (λ (e : List ℕ × Item). (e.1.key, e.1)) (λ e. e) (entries m.meta.items) (λ e h i.
-      (s.meta.items e.0 e.1 (entry_get bytes_order.total bytes_order.same m.meta.items e h) i, e.1))
+      ((s.meta.items e.0 e.1 (entry_get bytes_order.total bytes_order.same m.meta.items e h)).0 i, e.1))
       ∙ map_id (entries m.meta.items))
       ∙ made_of_entries bytes_order.total bytes_order.same m.meta.items
     where

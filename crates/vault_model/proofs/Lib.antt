@@ -1,7 +1,11 @@
 pub mod Allowed
+pub mod DocumentLaws
+pub mod EmptyLaws
 pub mod Facts
 pub mod Joins
 pub mod Laid
+pub mod MomentTests
+pub mod Moments
 pub mod Orders
 pub mod Paths
 pub mod Semilattice
@@ -12,3 +16,4 @@ pub mod Tests
 pub mod TreeShape
 pub mod Unite
 pub mod Versions
+pub mod Walked

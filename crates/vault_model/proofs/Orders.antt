@@ -1,5 +1,5 @@
 -- Every order of what a vault holds is total, and only equal values tie in it.
-use Rattle.std.proofs.Common.{◌≡◌, ℕ, ℤ, Bool, true, false, List, Option, Some, None, refl, sym, ap, ◌∙◌}
+use Rattle.std.proofs.Common.{◌≡◌, true, false, Some, None, refl, sym, ap, ◌∙◌}
 use Rattle.std.specs.declared.cmp.Ordering.{Ordering}
 use Rattle.std.specs.declared.cmp.Ordering.TheVariants.{Less, Equal, Greater}
 use Rattle.std.specs.Cmp.{IsTotalOrder, on_total, then_total, nat_cmp_total, int_cmp_total, bool_cmp_total}
@@ -7,19 +7,8 @@ use Rattle.std.specs.Cmp.Lexicographic.{slice_cmp, lists_total, options_total}
 use Rattle.std.specs.FinMap.{IsAntisymmetric, nat_cmp-IsAntisymmetric, int_cmp-IsAntisymmetric, slice_cmp-IsAntisymmetric}
 use Rattle.std.specs.Option.{option_cmp}
 use Rattle.std.specs.Ordering.{nat_cmp, int_cmp, bool_cmp, on, ordering_then}
-use Rattle.vault_model.specs.declared.contents.Association.{Association}
-use Rattle.vault_model.specs.declared.contents.AutoType.{AutoType}
-use Rattle.vault_model.specs.declared.contents.GroupContent.{GroupContent}
-use Rattle.vault_model.specs.declared.contents.Item.{Item}
-use Rattle.vault_model.specs.declared.contents.Tri.{Tri}
 use Rattle.vault_model.specs.declared.contents.Tri.TheVariants.{Inherit, No, Yes}
-use Rattle.vault_model.specs.declared.metas.Bin.{Bin}
-use Rattle.vault_model.specs.declared.metas.Icon.{Icon}
-use Rattle.vault_model.specs.declared.metas.MetaSettings.{MetaSettings}
-use Rattle.vault_model.specs.declared.metas.Protection.{Protection}
-use Rattle.vault_model.specs.declared.metas.Timed.{Timed}
-use Rattle.vault_model.specs.Bare.{BareAttachment, BareContent, BareField}
-use Rattle.vault_model.specs.Db.{NodeId, id_cmp, Mark, mark_cmp, GroupMark, group_mark_cmp, Place, place_cmp}
+use Rattle.vault_model.specs.Db.{id_cmp, mark_cmp, group_mark_cmp, place_cmp}
 use Rattle.vault_model.specs.Join.{timed_cmp}
 use Rattle.vault_model.specs.Orders.{pair_cmp, bytes_cmp, tri_rank, tri_cmp, field_cmp, attachment_cmp, item_cmp, association_cmp, auto_type_cmp, content_cmp, group_content_cmp, bin_cmp, protection_cmp, settings_cmp, icon_cmp, later_item_cmp}
 

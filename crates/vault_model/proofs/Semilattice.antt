@@ -1,12 +1,11 @@
 -- Joins that ask for no order: they may be taken in any grouping, in any order and as often as one likes.
-use mathlib.Core.Bool.{true≢false}
-use Rattle.std.proofs.Common.{◌≡◌, ◌≤◌, ℕ, Bool, true, false, ◌⊎◌, inl, inr, List, [], ◌∷◌, ◌++◌, Option, Some, None, map, max, refl, sym, ap, subst, ◌∙◌, arith}
+use Rattle.std.proofs.Common.{◌≡◌, ◌⊎◌, inl, inr, List, [], ◌∷◌, ◌++◌, Option, Some, None, max, refl, sym, ap, ◌∙◌, arith}
 use Rattle.std.specs.declared.cmp.Ordering.{Ordering}
 use Rattle.std.specs.declared.cmp.Ordering.TheVariants.{Less, Equal, Greater}
 use Rattle.std.specs.Cmp.{IsTotalOrder, tied_itself}
 use Rattle.std.specs.FinMap.{IsAntisymmetric}
-use Rattle.std.specs.Ordering.{ordering_reverse, on}
-use Rattle.vault_model.specs.Join.{IsIn, IsWithin, IsNotEmpty}
+use Rattle.std.specs.Ordering.{ordering_reverse}
+use Rattle.vault_model.specs.Join.{IsIn, IsWithin}
 use Rattle.vault_model.specs.Unite.{by_order, greater, by_key, merged, gather}
 
 -- A join of two values for which grouping, order and repeats do not matter.

@@ -1,31 +1,28 @@
 -- The database of every document is sound.
-use Rattle.std.proofs.Common.{◌≡◌, ◌≢◌, ◌≤◌, ◌+◌, ℕ, zero, suc, Bool, true, false, not, cond, ◌||◌, ◌⊎◌, inl, inr, List, [], ◌∷◌, ◌++◌, Option, Some, None, map, is_some, refl, sym, ap, subst, ◌∙◌}
+use Rattle.std.proofs.Common.{◌≡◌, ◌≢◌, ◌+◌, ℕ, zero, suc, Bool, true, false, not, cond, ◌&&◌, ◌⊎◌, inl, inr, List, [], ◌∷◌, ◌++◌, Option, Some, None, map, is_some, refl, sym, ap, subst, ◌∙◌}
 use Rattle.std.proofs.lemmas.Option.{same_Some}
 use Rattle.std.specs.Cmp.{both_ways}
-use Rattle.std.specs.FinMap.{FinMap, get, contains_key, entries, keys, from_entries, find, insert, empty, get-from_entries}
-use Rattle.std.specs.List.{list_any, flat_map, list_all}
+use Rattle.std.specs.FinMap.{get, contains_key, entries, keys, find, insert, empty, get-from_entries}
+use Rattle.std.specs.List.{list_any, list_all}
 use Rattle.std.specs.Option.{option_map}
 use Rattle.std.specs.Ordering.{eq_by_cmp}
+use Rattle.std.specs.Str.{is_utf8}
 use Rattle.vault_model.specs.declared.contents.Item.{Item}
 use Rattle.vault_model.specs.declared.contents.Stats.{Stats}
 use Rattle.vault_model.specs.declared.metas.Icon.{Icon}
-use Rattle.vault_model.specs.declared.metas.Meta.{Meta}
 use Rattle.vault_model.specs.declared.nodes.GroupState.{GroupState}
 use Rattle.vault_model.specs.declared.nodes.Tombstone.{Tombstone}
-use Rattle.vault_model.specs.Db.{NodeId, id_cmp, nil_id, Mark, mark_cmp, Versions, Place, SharedMeta, Db, holds, parent_or, parent_in, steps, Reaches, IsProperMeta, Sound}
+use Rattle.vault_model.specs.Db.{NodeId, id_cmp, nil_id, Mark, mark_cmp, Versions, Place, Db, holds, parent_or, parent_in, steps, IsProperMeta, Sound}
 use Rattle.vault_model.specs.Join.{is_id, stats_join, IsIn}
-use Rattle.vault_model.specs.Orders.{bytes_cmp}
-use Rattle.vault_model.specs.Proper.{is_proper_content, is_proper_group_content}
+use Rattle.vault_model.specs.Proper.{is_proper_content, is_proper_group_content, is_text_icon, is_text_item}
 use Rattle.vault_model.specs.Shape.{BareVersion, EntryRecord, GroupRecord, Children, Shape, versions_of, placed_of, place_rows, shared_of, db_of}
 use Rattle.vault_model.specs.Tree.{Tree, node, Trees, none, beside, BareDoc, id_of, ids_of, entry_rows, entry_rows_all, group_rows, group_rows_all, child_rows, child_rows_all, node_ids, node_ids_all, are_distinct, is_elsewhere, is_proper_entry, IsDoc, shape_of, db_in}
-use Rattle.vault_model.specs.Unite.{gather, unite_all}
-use Rattle.vault_model.proofs.Facts.{same_id, id_itself, is_same_id}
 use Rattle.vault_model.proofs.Laid.{db_entries, db_groups, in_list, list_in}
 use Rattle.vault_model.proofs.Orders.{id_order, mark_order, bytes_order}
-use Rattle.vault_model.proofs.Paths.{steps_add, at_number}
+use Rattle.vault_model.proofs.Paths.{steps_add}
 use Rattle.vault_model.proofs.Semilattice.{some-gather}
 use Rattle.vault_model.proofs.Tables.{find_in, some_find, get_entry, entry_get, get_single}
-use Rattle.vault_model.proofs.Tests.{and_true, not_true, or_cases, or_left, or_right, apart, is_false, none_of, some_of, some_is, decide, in_front, in_back, in_either, in_map, from_map, in_flat, from_flat, any_found, map_map}
+use Rattle.vault_model.proofs.Tests.{and_true, not_true, or_cases, or_left, or_right, apart, is_false, none_of, some_of, some_is, decide, in_front, in_back, in_either, in_map, from_map, in_flat, from_flat}
 use Rattle.vault_model.proofs.Unite.{get-unite_all, tie, ties}
 use Rattle.vault_model.proofs.Versions.{never, some_from, some_versions}
 
@@ -547,16 +544,37 @@ module _ (d : BareDoc) (is : IsDoc d) where
       ∙ all_in (λ (r : NodeId × GroupRecord). is_proper_group_content r.1.state.content) (group_rows d.tree) (u, at.0) is.groups_proper at.1.0
 
   proper_meta : IsProperMeta (shared_of d.meta)
-  proper_meta = record {
-    icons = λ u icon e.
-        let row = find_in id_order.total id_order.same (map (λ (i : Icon). (i.id, i)) d.meta.icons) u icon (sym (get-from_entries id_order.total (map (λ (i : Icon). (i.id, i)) d.meta.icons) u) ∙ e) in
-        let f = from_map (λ (i : Icon). (i.id, i)) d.meta.icons (u, icon) row in
-        sym (ap (λ (y : NodeId × Icon). y.1.id) f.1.1) ∙ ap (λ (y : NodeId × Icon). y.0) f.1.1;
-    items = λ k item e.
-        let row = find_in bytes_order.total bytes_order.same (map (λ (i : Item). (i.key, i)) d.meta.items) k item (sym (get-from_entries bytes_order.total (map (λ (i : Item). (i.key, i)) d.meta.items) k) ∙ e) in
-        let f = from_map (λ (i : Item). (i.key, i)) d.meta.items (k, item) row in
-        sym (ap (λ (y : List ℕ × Item). y.1.key) f.1.1) ∙ ap (λ (y : List ℕ × Item). y.0) f.1.1;
-  }
+  proper_meta =
+      let name = is_utf8 d.meta.name.value in
+      let description = is_utf8 d.meta.description.value in
+      let user = is_utf8 d.meta.user.value in
+      let color = is_utf8 d.meta.settings.value.color in
+      let icons = list_all is_text_icon d.meta.icons in
+      let to_items = and_true (name && description && user && color && icons) (list_all is_text_item d.meta.items) is.meta_texts in
+      let to_icons = and_true (name && description && user && color) icons to_items.0 in
+      let to_color = and_true (name && description && user) color to_icons.0 in
+      let to_user = and_true (name && description) user to_color.0 in
+      let to_description = and_true name description to_user.0 in
+      record {
+        name = to_description.0;
+        description = to_description.1;
+        user = to_user.1;
+        color = to_color.1;
+        icons = λ u icon e.
+            let row = find_in id_order.total id_order.same (map (λ (i : Icon). (i.id, i)) d.meta.icons) u icon (sym (get-from_entries id_order.total (map (λ (i : Icon). (i.id, i)) d.meta.icons) u) ∙ e) in
+            let f = from_map (λ (i : Icon). (i.id, i)) d.meta.icons (u, icon) row in
+            let same = ap (λ (y : NodeId × Icon). y.1) f.1.1 in (
+              sym (ap (λ (i : Icon). i.id) same) ∙ ap (λ (y : NodeId × Icon). y.0) f.1.1,
+              ap is_text_icon (sym same) ∙ all_in is_text_icon d.meta.icons f.0 to_icons.1 f.1.0,
+            );
+        items = λ k item e.
+            let row = find_in bytes_order.total bytes_order.same (map (λ (i : Item). (i.key, i)) d.meta.items) k item (sym (get-from_entries bytes_order.total (map (λ (i : Item). (i.key, i)) d.meta.items) k) ∙ e) in
+            let f = from_map (λ (i : Item). (i.key, i)) d.meta.items (k, item) row in
+            let same = ap (λ (y : List ℕ × Item). y.1) f.1.1 in (
+              sym (ap (λ (i : Item). i.key) same) ∙ ap (λ (y : List ℕ × Item). y.0) f.1.1,
+              ap is_text_item (sym same) ∙ all_in is_text_item d.meta.items f.0 to_items.1 f.1.0,
+            );
+      }
 
   -- the database of a document is sound
   pub document_sound : Sound (db_in d)

@@ -1,27 +1,26 @@
 -- The join of sound databases that can be joined is sound.
-use mathlib.Core.Bool.{true≢false}
-use Rattle.std.proofs.Common.{◌≡◌, ◌≢◌, ◌≤◌, ℕ, Bool, true, false, not, cond, ◌||◌, ◌⊎◌, inl, inr, List, [], ◌∷◌, Option, Some, None, map, max, refl, sym, ap, subst, ◌∙◌}
-use Rattle.std.proofs.lemmas.Option.{same_Some}
+use Rattle.std.proofs.Common.{◌≡◌, ◌≢◌, Bool, true, false, not, cond, ◌⊎◌, inl, inr, List, [], ◌∷◌, Option, Some, None, map, max, refl, sym, ap, subst, ◌∙◌}
 use Rattle.std.specs.Cmp.{both_ways}
 use Rattle.std.specs.declared.cmp.Ordering.{Ordering}
-use Rattle.std.specs.FinMap.{FinMap, get, contains_key, keys, empty, get-empty}
+use Rattle.std.specs.FinMap.{FinMap, get, contains_key, keys, get-empty}
 use Rattle.std.specs.Option.{unwrap_or}
-use Rattle.vault_model.specs.declared.contents.Item.{Item}
+use Rattle.std.specs.Str.{chars, is_utf8}
 use Rattle.vault_model.specs.declared.contents.Stats.{Stats}
-use Rattle.vault_model.specs.declared.metas.Icon.{Icon}
+use Rattle.vault_model.specs.declared.metas.MetaSettings.{MetaSettings}
+use Rattle.vault_model.specs.declared.metas.Timed.{Timed}
 use Rattle.vault_model.specs.declared.nodes.GroupState.{GroupState}
-use Rattle.vault_model.specs.Db.{NodeId, id_cmp, nil_id, Mark, Versions, GroupMark, mark_of, Place, place_cmp, SharedMeta, Db, holds, parent_or, parent_in, steps, Reaches, IsProperMeta, Sound}
-use Rattle.vault_model.specs.Join.{stats_join, state_join, meta_join, no_meta, root_of, latest, above, kept, join, IsIn, IsNotEmpty, Allowed}
+use Rattle.vault_model.specs.Db.{NodeId, id_cmp, nil_id, Mark, Versions, GroupMark, Place, place_cmp, SharedMeta, Db, holds, parent_or, parent_in, Reaches, IsProperMeta, Sound}
+use Rattle.vault_model.specs.Join.{stats_join, state_join, timed_join, meta_join, no_meta, root_of, latest, above, kept, join, IsIn, IsNotEmpty, Allowed}
 use Rattle.vault_model.specs.Orders.{bytes_cmp, icon_cmp, later_item_cmp}
 use Rattle.vault_model.specs.Proper.{is_proper_content, is_proper_group_content}
 use Rattle.vault_model.specs.Unite.{greater, merged, gather, unite}
 use Rattle.vault_model.proofs.Allowed.{root_latest, kept_held, kept_root, kept_above, kept_reaches}
-use Rattle.vault_model.proofs.Facts.{join_entries, join_groups, join_places, join_tombs, join_root, latest_found, held_by}
-use Rattle.vault_model.proofs.Orders.{bytes_order, id_order, icon_order, later_item_order}
+use Rattle.vault_model.proofs.Facts.{join_entries, join_groups, join_places, join_tombs, join_root, latest_found}
+use Rattle.vault_model.proofs.Orders.{IsOrder, bytes_order, id_order, icon_order, later_item_order, settings_order, timed_order}
 use Rattle.vault_model.proofs.Paths.{steps_same}
 use Rattle.vault_model.proofs.Semilattice.{some-gather, greater_one}
 use Rattle.vault_model.proofs.Tests.{or_cases, or_left, or_right, apart, is_false, some_of, some_is, any_found, in_map, from_map}
-use Rattle.vault_model.proofs.Unite.{get-unite, in_keys}
+use Rattle.vault_model.proofs.Unite.{get-unite}
 use Rattle.vault_model.proofs.Versions.{never, some_from, version_from, versions_some, version_stays, some_versions, state_from}
 
 pub cond_some : {A : Type 0} (b : Bool) (o : Option A) (x : A) → cond b o None ≡ Some x → (b ≡ true) × (o ≡ Some x)
@@ -64,8 +63,20 @@ merged_from f one None b x e = inr e
 merged_from f one (Some y) None x e = inl e
 merged_from f one (Some y) (Some z) x e = elim (one y z) [ inl p ↦ inl (ap Some (sym p) ∙ e) | inr p ↦ inr (ap Some (sym p) ∙ e) ]
 
+-- the later of two values is as each of them is
+timed_keeps : {A : Type 0} {R : A → A → Ordering} → IsOrder R → (test : A → Bool) (x y : Timed A) → test x.value ≡ true → test y.value ≡ true → test (timed_join R x y).value ≡ true
+timed_keeps r test x y p q =
+    elim (greater_one (timed_order r).total (timed_order r).same x y) [
+      | inl e ↦ ap (λ (t : Timed _). test t.value) e ∙ p
+      | inr e ↦ ap (λ (t : Timed _). test t.value) e ∙ q
+    ]
+
 pub meta_proper : (m n : SharedMeta) → IsProperMeta m → IsProperMeta n → IsProperMeta (meta_join m n)
 meta_proper m n p q = record {
+  name = timed_keeps bytes_order is_utf8 m.name n.name p.name q.name;
+  description = timed_keeps bytes_order is_utf8 m.description n.description p.description q.description;
+  user = timed_keeps bytes_order is_utf8 m.user n.user p.user q.user;
+  color = timed_keeps settings_order (λ (s : MetaSettings). is_utf8 s.color) m.settings n.settings p.color q.color;
   icons = λ u icon e.
       elim (merged_from (greater icon_cmp) (greater_one icon_order.total icon_order.same) (get m.icons u) (get n.icons u) icon
       (sym (get-unite id_order.total id_order.same (greater icon_cmp) m.icons n.icons u) ∙ e)) [
@@ -95,7 +106,15 @@ gathered_proper (m ∷ ms) each =
     merged_proper (Some m.meta) (gather meta_join (map (λ (n : Db). Some n.meta) ms)) (each m (inl refl)) (gathered_proper ms (λ n h. each n (inr h)))
 
 proper_or : (o : Option SharedMeta) → IsProperOr o → IsProperMeta (unwrap_or o no_meta)
-proper_or None p = record { icons = λ u icon e. never icon (sym (get-empty id_cmp u) ∙ e); items = λ k item e. never item (sym (get-empty bytes_cmp k) ∙ e) }
+unfolding is_utf8 chars
+proper_or None p = record {
+  name = refl;
+  description = refl;
+  user = refl;
+  color = refl;
+  icons = λ u icon e. never icon (sym (get-empty id_cmp u) ∙ e);
+  items = λ k item e. never item (sym (get-empty bytes_cmp k) ∙ e);
+}
 proper_or (Some m) p = p
 
 pub join_meta : (S : List Db) → (join S).meta ≡ unwrap_or (gather meta_join (map (λ (m : Db). Some m.meta) S)) no_meta

@@ -1,17 +1,17 @@
 -- Finite maps and the lists of their entries.
-use Rattle.std.proofs.Common.{◌≡◌, ℕ, Bool, true, false, cond, ◌&&◌, ◌⊎◌, inl, inr, List, [], ◌∷◌, ◌++◌, Option, Some, None, map, is_some, refl, sym, ap, subst, ◌∙◌}
+use Rattle.std.proofs.Common.{◌≡◌, Bool, true, false, cond, ◌&&◌, inl, inr, List, [], ◌∷◌, Option, Some, None, map, refl, sym, ap, ◌∙◌}
 use Rattle.std.proofs.lemmas.Option.{same_Some}
 use Rattle.std.proofs.Math.Dec.{T}
 use Rattle.std.specs.declared.cmp.Ordering.{Ordering}
 use Rattle.std.specs.declared.cmp.Ordering.TheVariants.{Less, Equal, Greater}
 use Rattle.std.specs.Cmp.{IsTotalOrder}
-use Rattle.std.specs.FinMap.{FinMap, IsAntisymmetric, empty, get, insert, entries, keys, contains_key, find, is_sorted, from_entries, entries_sorted, get-entries, get-empty, get-insert, get-from_entries, same_map}
+use Rattle.std.specs.FinMap.{FinMap, IsAntisymmetric, empty, get, insert, entries, contains_key, find, is_sorted, from_entries, entries_sorted, get-entries, get-empty, get-insert, get-from_entries, same_map}
 use Rattle.std.specs.FinMap.Entries.{below_all}
 use Rattle.std.specs.Ordering.{eq_by_cmp, is_eq, is_lt, ordering_reverse}
 use Rattle.vault_model.specs.Join.{IsIn}
 use Rattle.vault_model.specs.Unite.{gather, merged}
 use Rattle.vault_model.proofs.Semilattice.{none-gather}
-use Rattle.vault_model.proofs.Tests.{decide, apart, some_of, some_is, none_of, is_false, from_map, in_map}
+use Rattle.vault_model.proofs.Tests.{decide, apart, some_of, none_of, is_false, from_map}
 use Rattle.vault_model.proofs.Unite.{tie, ties}
 use Rattle.vault_model.proofs.Versions.{never}
 

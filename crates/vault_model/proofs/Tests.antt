@@ -1,10 +1,9 @@
 -- Tests as facts, and members of lists.
 use mathlib.Core.Bool.{true≢false}
-use Rattle.std.proofs.Common.{◌≡◌, ◌≢◌, ◌≤◌, ◌<◌, ℕ, Bool, true, false, not, cond, ◌||◌, ◌&&◌, ◌⊎◌, inl, inr, List, [], ◌∷◌, ◌++◌, Option, Some, None, map, max, is_some, refl, sym, ap, subst, ◌∙◌, arith}
-use Rattle.std.specs.Cmp.{both_ways}
+use Rattle.std.proofs.Common.{◌≡◌, ◌≤◌, ℕ, Bool, true, false, not, cond, ◌||◌, ◌&&◌, ◌⊎◌, inl, inr, List, [], ◌∷◌, ◌++◌, Option, Some, None, map, is_some, refl, sym, ap, subst, ◌∙◌, arith}
 use Rattle.std.specs.List.{list_any, flat_map, filter}
 use Rattle.vault_model.specs.Db.{greatest}
-use Rattle.vault_model.specs.Join.{IsIn, IsWithin, IsNotEmpty}
+use Rattle.vault_model.specs.Join.{IsIn}
 
 -- ---- tests
 

@@ -1,10 +1,9 @@
 -- What joined maps have at a key.
-use Rattle.std.proofs.Common.{◌≡◌, ℕ, Bool, true, false, cond, ◌||◌, inl, inr, List, [], ◌∷◌, ◌++◌, Option, Some, None, map, is_some, refl, sym, ap, subst, ◌∙◌}
+use Rattle.std.proofs.Common.{◌≡◌, Bool, true, false, cond, ◌||◌, inl, inr, List, [], ◌∷◌, ◌++◌, Option, Some, None, map, is_some, refl, sym, ap, subst, ◌∙◌}
 use Rattle.std.proofs.lemmas.List.Folds.{list_any-append}
 use Rattle.std.specs.declared.cmp.Ordering.{Ordering}
-use Rattle.std.specs.declared.cmp.Ordering.TheVariants.{Equal}
 use Rattle.std.specs.Cmp.{IsTotalOrder, Equal-is, tied_itself}
-use Rattle.std.specs.FinMap.{FinMap, IsAntisymmetric, empty, get, insert, contains_key, keys, get-empty, get-insert, contains_key-keys, same_map}
+use Rattle.std.specs.FinMap.{FinMap, IsAntisymmetric, get, contains_key, keys, get-empty, get-insert, contains_key-keys, same_map}
 use Rattle.std.specs.List.{list_any}
 use Rattle.std.specs.Ordering.{eq_by_cmp, is_eq}
 use Rattle.vault_model.specs.Join.{IsIn}

@@ -1,12 +1,12 @@
 -- What joined versions and joined groups have of their members.
-use Rattle.std.proofs.Common.{◌≡◌, ◌≢◌, ◌≤◌, ℕ, true, ◌⊎◌, inl, inr, List, [], ◌∷◌, Option, Some, None, map, max, refl, sym, ap, subst, ◌∙◌, arith}
+use Rattle.std.proofs.Common.{◌≡◌, ◌≢◌, ◌≤◌, ℕ, ◌⊎◌, inl, inr, List, [], ◌∷◌, Option, Some, None, map, max, refl, sym, ap, subst, ◌∙◌, arith}
 use Rattle.std.proofs.lemmas.Option.{same_Some}
 use Rattle.std.specs.declared.cmp.Ordering.{Ordering}
 use Rattle.std.specs.declared.cmp.Ordering.TheVariants.{Less, Equal, Greater}
-use Rattle.std.specs.FinMap.{FinMap, get, keys, contains_key}
+use Rattle.std.specs.FinMap.{get, keys}
 use Rattle.vault_model.specs.declared.contents.Stats.{Stats}
 use Rattle.vault_model.specs.declared.nodes.GroupState.{GroupState}
-use Rattle.vault_model.specs.Db.{Mark, mark_cmp, Versions, GroupMark, group_mark_cmp, mark_of, greatest, newest, state_time}
+use Rattle.vault_model.specs.Db.{Mark, Versions, GroupMark, group_mark_cmp, mark_of, newest, state_time}
 use Rattle.vault_model.specs.Join.{stats_join, state_join, IsIn}
 use Rattle.vault_model.specs.Unite.{by_order, merged, gather, unite}
 use Rattle.vault_model.proofs.Joins.{stats_joins}

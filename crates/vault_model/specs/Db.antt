@@ -3,6 +3,7 @@ use Rattle.std.specs.Prelude.{◌≡◌, ◌≢◌, ℕ, suc, zero, Bool, true, 
 use Rattle.std.specs.Ordering.{nat_cmp, on}
 use Rattle.std.specs.declared.cmp.Ordering.{Ordering}
 use Rattle.std.specs.FinMap.{FinMap, get, contains_key, keys}
+use Rattle.std.specs.Str.{is_utf8}
 use Rattle.vault_model.specs.declared.contents.GroupContent.{GroupContent}
 use Rattle.vault_model.specs.declared.contents.Item.{Item}
 use Rattle.vault_model.specs.declared.contents.Stats.{Stats}
@@ -13,7 +14,7 @@ use Rattle.vault_model.specs.declared.metas.Timed.{Timed}
 use Rattle.vault_model.specs.declared.nodes.GroupState.{GroupState}
 use Rattle.vault_model.specs.Bare.{BareContent}
 use Rattle.vault_model.specs.Orders.{pair_cmp, bytes_cmp, content_cmp, group_content_cmp}
-use Rattle.vault_model.specs.Proper.{is_proper_content, is_proper_group_content}
+use Rattle.vault_model.specs.Proper.{is_proper_content, is_proper_group_content, is_text_icon, is_text_item}
 
 -- The 16 bytes of an id; ids are ordered by them.
 abbrev pub NodeId : Type 0
@@ -123,10 +124,14 @@ steps up (suc n) u = steps up n (up u)
 abbrev pub Reaches : (NodeId → NodeId) → NodeId → NodeId → Type 0
 Reaches up u root = (n : ℕ) × (steps up n u ≡ root)
 
--- Icons stand under their own ids, and items under their own keys.
+-- Icons stand under their own ids, and items under their own keys; all texts are in UTF-8.
 pub record IsProperMeta (s : SharedMeta) : Type 0 where
-  pub icons : (u : NodeId) (icon : Icon) → get s.icons u ≡ Some icon → icon.id ≡ u
-  pub items : (k : List ℕ) (item : Item) → get s.items k ≡ Some item → item.key ≡ k
+  pub name : is_utf8 s.name.value ≡ true
+  pub description : is_utf8 s.description.value ≡ true
+  pub user : is_utf8 s.user.value ≡ true
+  pub color : is_utf8 s.settings.value.color ≡ true
+  pub icons : (u : NodeId) (icon : Icon) → get s.icons u ≡ Some icon → (icon.id ≡ u) × (is_text_icon icon ≡ true)
+  pub items : (k : List ℕ) (item : Item) → get s.items k ≡ Some item → (item.key ≡ k) × (is_text_item item ≡ true)
 
 -- A database whose parts fit together.
 pub record Sound (m : Db) : Type 0 where

@@ -1,11 +1,17 @@
 pub mod Bare
 pub mod Db
+pub mod Empty
 pub mod Join
 pub mod Orders
 pub mod Plans
 pub mod Proper
 pub mod Seen
+pub mod SeenDoc
+pub mod SeenNodes
 pub mod Shape
+pub mod Spelled
+pub mod Times
 pub mod TotalOrders
 pub mod Tree
 pub mod Unite
+pub mod Walk

@@ -1,5 +1,5 @@
 -- What is seen of a vault in memory: the same without memory.
-use Rattle.std.specs.Prelude.{ℕ, List, map}
+use Rattle.std.specs.Prelude.{map}
 use Rattle.vault_model.specs.declared.contents.Attachment.{Attachment}
 use Rattle.vault_model.specs.declared.contents.Content.{Content}
 use Rattle.vault_model.specs.declared.contents.Field.{Field}

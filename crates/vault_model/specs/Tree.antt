@@ -10,7 +10,7 @@ use Rattle.vault_model.specs.declared.metas.Meta.{Meta}
 use Rattle.vault_model.specs.declared.nodes.Tombstone.{Tombstone}
 use Rattle.vault_model.specs.Db.{NodeId, id_cmp, nil_id, Place, Db}
 use Rattle.vault_model.specs.Join.{is_id}
-use Rattle.vault_model.specs.Proper.{rises, is_proper_content, is_proper_group_content}
+use Rattle.vault_model.specs.Proper.{rises, is_proper_content, is_proper_group_content, is_text_meta}
 use Rattle.vault_model.specs.Shape.{BareVersion, EntryRecord, GroupRecord, Children, Shape, kids, lay, db_of, new_view}
 
 -- a group with its entries and its groups, in their order
@@ -222,3 +222,4 @@ pub record IsDoc (d : BareDoc) : Type 0 where
   pub groups_proper : list_all (λ (r : NodeId × GroupRecord). is_proper_group_content r.1.state.content) (group_rows d.tree) ≡ true
   pub icons_rise : rises (λ (i : Icon). i.id) d.meta.icons ≡ true
   pub items_rise : rises (λ (i : Item). i.key) d.meta.items ≡ true
+  pub meta_texts : is_text_meta d.meta ≡ true

@@ -6,6 +6,8 @@ ghost use Rattle.std.specs.Cmp.{eq_by_cmp_equiv, on_total, partial_equiv_from_eq
 ghost use Rattle.std.proofs.Common.{refl};
 ghost use Rattle.vault_model.specs.TotalOrders.{attachment_cmp_total, field_cmp_total};
 
+pub mod laws;
+
 use crate::times::Stamp;
 use outside_core::{List, Text};
 use secret_core::Secret;

@@ -1,5 +1,7 @@
+ghost use Rattle.std.specs.Prelude.{◌≡◌};
+ghost use Rattle.vault_model.specs.SeenNodes.{entry_record, entry_time};
+
 use crate::contents::{Content, GroupContent, Stats};
-use crate::metas::Meta;
 use crate::times::Stamp;
 use outside_core::List;
 use uuid::Uuid;
@@ -54,10 +56,14 @@ pub struct Group {
     pub groups: List<Group>,
 }
 
-/// A document: what the database says of itself, its tree, and the tombstones of what was deleted.
-#[derive(Drop)]
-pub struct Doc {
-    pub meta: Meta,
-    pub root: Group,
-    pub tombs: List<Tombstone>,
+/// When an entry was last modified: the greatest modification time of its versions, the current one and those
+/// before it.
+pub fn entry_stamp(entry: &Entry) -> Stamp
+    ensures { result ≡ entry_time (entry_record entry.now) }
+{
+    let mut newest = entry.current.modified;
+    for version in entry.history.as_slice() {
+        newest = newest.max(version.modified);
+    }
+    newest
 }
