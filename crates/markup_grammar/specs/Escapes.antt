@@ -1,0 +1,101 @@
+-- Escapes: the text that raw markup stands for, and the raw markup in which a text is written.
+use Rattle.std.specs.Prelude.{ℕ, ◌+◌, ◌-◌, ◌==◌, nat_lt, ◌&&◌, if◌then◌else◌, Option, Some, None, List, [], ◌∷◌, ◌++◌, length, flat_map, bytes_eq, codes, encode_utf8}
+use Rattle.std.specs.Char.{is_digit}
+use Rattle.std.specs.List.{list_all}
+use Rattle.std.specs.Str.Parse.{digits_value}
+use lib.Utf8.{scalar}
+
+-- the character whose number these digits write, which is a Unicode scalar value
+unfoldable pub numbered : ℕ → List ℕ → Option ℕ
+numbered radix digits =
+    if nat_lt 0 (length digits) && list_all (λ d. is_digit d radix) digits && scalar (digits_value radix digits)
+    then Some (digits_value radix digits)
+    else None
+
+-- past `#`: hexadecimal digits behind an `x`, or decimal digits
+abbrev pub behind_hash : List ℕ → Option ℕ
+behind_hash [] = None
+behind_hash (b ∷ rest) = if b == 120 then numbered 16 rest else numbered 10 (b ∷ rest)
+
+-- the character of a name
+abbrev pub by_name : List ℕ → Option ℕ
+by_name name =
+    if bytes_eq name (codes "amp") then Some 38
+    else (if bytes_eq name (codes "lt") then Some 60
+    else (if bytes_eq name (codes "gt") then Some 62
+    else (if bytes_eq name (codes "quot") then Some 34
+    else (if bytes_eq name (codes "apos") then Some 39
+    else None))))
+
+-- the character that a reference stands for, told by what stands between its `&` and its `;`
+unfoldable pub referred : List ℕ → Option ℕ
+referred [] = None
+referred (b ∷ rest) = if b == 35 then behind_hash rest else by_name (b ∷ rest)
+
+-- the bytes of that character, and none where there is no such character
+abbrev pub bytes_of : Option ℕ → List ℕ
+bytes_of None = []
+bytes_of (Some c) = encode_utf8 c
+
+-- Where one is in raw text: in plain text, past a carriage return, or past a `&` and these bytes.
+pub data Place : Type 0 where
+  plain : Place
+  returned : Place
+  reference : List ℕ → Place
+
+-- in plain text: a `&` begins a reference, and a carriage return gives a line feed
+abbrev pub plainly_given : ℕ → List ℕ
+plainly_given b = if b == 38 then [] else (if b == 13 then 10 ∷ [] else b ∷ [])
+
+abbrev pub plainly_behind : ℕ → Place
+plainly_behind b = if b == 38 then reference [] else (if b == 13 then returned else plain)
+
+-- what a byte gives: a line feed behind a carriage return gives nothing, and a reference its character at its `;`
+abbrev pub given : Place → ℕ → List ℕ
+given plain b = plainly_given b
+given returned b = if b == 10 then [] else plainly_given b
+given (reference name) b = if b == 59 then bytes_of (referred name) else []
+
+-- and where one is then
+abbrev pub behind : Place → ℕ → Place
+behind plain b = plainly_behind b
+behind returned b = plainly_behind b
+behind (reference name) b = if b == 59 then plain else reference (name ++ b ∷ [])
+
+-- what raw text stands for, from a place on
+unfoldable pub unescaped_from : Place → List ℕ → List ℕ
+unescaped_from place [] = []
+unescaped_from place (b ∷ rest) = given place b ++ unescaped_from (behind place b) rest
+
+-- what raw text stands for: its line ends as line feeds, and its references as their characters
+abbrev pub unescaped : List ℕ → List ℕ
+unescaped raw = unescaped_from plain raw
+
+-- the digit that writes a number below 16, in upper case
+abbrev pub upper_digit : ℕ → ℕ
+upper_digit d = if nat_lt d 10 then 48 + d else 55 + d
+
+-- the hexadecimal digits of a number below 32, the first of them not 0 but for 0 itself
+abbrev pub upper_digits : ℕ → List ℕ
+upper_digits n = if nat_lt n 16 then upper_digit n ∷ [] else 49 ∷ upper_digit (n - 16) ∷ []
+
+-- a byte below 32 by its number
+abbrev pub numbered_control : ℕ → List ℕ
+numbered_control b = codes "&#x" ++ (upper_digits b ++ 59 ∷ [])
+
+-- how a byte is written: `&`, `<`, `>` and `"` by their names, the controls below the space other than tab and line
+-- feed by their numbers, and every other byte as it is
+unfoldable pub escaped_byte : ℕ → List ℕ
+escaped_byte b =
+    if b == 38 then codes "&amp;"
+    else (if b == 60 then codes "&lt;"
+    else (if b == 62 then codes "&gt;"
+    else (if b == 34 then codes "&quot;"
+    else (if b == 9 then b ∷ []
+    else (if b == 10 then b ∷ []
+    else (if nat_lt b 32 then numbered_control b
+    else b ∷ []))))))
+
+-- how a text is written
+abbrev pub escaped : List ℕ → List ℕ
+escaped text = flat_map escaped_byte text

@@ -1,0 +1,16 @@
+pub mod Answers
+pub mod Attributes
+pub mod Bytes
+pub mod Elements
+pub mod Escapes
+pub mod Faults
+pub mod Kinds
+pub mod Machine
+pub mod Places
+pub mod Reading
+pub mod References
+pub mod Runs
+pub mod Tags
+pub mod Tree
+pub mod TreeElements
+pub mod Utf8
