@@ -1,9 +1,9 @@
 -- The pieces of a text of the grammar give back its tree.
 use Rattle.std.proofs.Common.{◌≡◌, ℕ, Bool, true, false, ◌+◌, List, [], ◌∷◌, ◌++◌, length, refl, sym, ap, append_assoc, ◌∙◌, ◌≤◌}
 use Rattle.std.specs.Prelude.{Option, Some}
-use Rattle.markup_core.specs.Answers.{Answer, start, words, stop, finish, refused, finishes}
-use Rattle.markup_core.specs.Machine.{answers}
-use Rattle.markup_core.specs.Tree.{start_tag, spelled, spelled_all, Element, element, Content, text_only, text_then, IsText, height, pieces, pieces_all}
+use Rattle.thin_markup.specs.Answers.{Answer, start, words, stop, finish, refused, finishes}
+use Rattle.thin_markup.specs.Machine.{answers}
+use Rattle.thin_markup.specs.Tree.{start_tag, spelled, spelled_all, Element, element, Content, text_only, text_then, IsText, height, pieces, pieces_all}
 use Rattle.keepass_cli.specs.Thin.{Root, document, given, IsThinText}
 use Rattle.keepass_cli.specs.Reading.{Rest, inner, outer, ended, preceded, within_text, left, root_in, root_of}
 

@@ -4,7 +4,7 @@ use Rattle.std.proofs.Math.Numerals.{one-add}
 use Rattle.std.specs.Prelude.{Option, None, Some, option_map, unwrap_or, map, filter, codes}
 use Rattle.std.specs.List.{last_or, prefix_len}
 use Rattle.std.specs.Str.{bytes_eq}
-use Rattle.markup_core.specs.Tree.{Element}
+use Rattle.thin_markup.specs.Tree.{Element}
 use Rattle.keepass_cli.specs.Thin.{Root, Field, ◌>>=◌, each, field_of, listed, is_entry, entry_title, group_name}
 use Rattle.keepass_cli.specs.Reading.{with_titles}
 

@@ -3,8 +3,8 @@ use Rattle.std.proofs.Common.{◌≡◌, ℕ, ◌<◌, ◌≤◌, Bool, true, fa
 use Rattle.std.specs.Prelude.{Option, None, Some, option_map, map, not, codes, Err}
 use Rattle.std.proofs.lemmas.List.{map-append}
 use Rattle.std.specs.Str.{bytes_eq}
-use Rattle.markup_core.specs.Answers.{Answer}
-use Rattle.markup_core.specs.Tree.{element}
+use Rattle.thin_markup.specs.Answers.{Answer}
+use Rattle.thin_markup.specs.Tree.{element}
 use Rattle.secret_core.specs.Secret.{Held}
 use Rattle.keepass_cli.specs.Thin.{Field, children, line_text, field_of, field_parts, entry_parts, entry_title, listed}
 use Rattle.keepass_cli.specs.Reading.{Reads, ReadsEntries, inner, outer, left, kids_from, round_from, read_kids, TakesLine, listed_from, groups_from, with_titles}

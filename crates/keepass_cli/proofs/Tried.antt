@@ -2,8 +2,8 @@
 use Rattle.std.specs.Prelude.{◌≡◌, ℕ, List, [], ◌∷◌, Some, None, Ok, refl, codes}
 use Rattle.std.specs.FinMap.{empty, insert}
 use Rattle.outside_core.specs.Files.{FileMap}
-use Rattle.markup_core.specs.Bytes.{is_space, is_letter, is_text}
-use Rattle.markup_core.specs.Machine.{answers_from}
+use Rattle.thin_markup.specs.Bytes.{is_space, is_letter, is_text}
+use Rattle.thin_markup.specs.Machine.{answers_from}
 use Rattle.keepass_cli.specs.Outcome.{outcome, ended, done_of, answer_of}
 use Rattle.keepass_cli.specs.Databases.{plain_of}
 use Rattle.keepass_cli.specs.Phases.{◌>>=◌}

@@ -4,7 +4,6 @@ use Rattle.std.specs.FinMap as map
 use Rattle.outside_core.specs.Files.{FileMap}
 use Rattle.secret_core.specs.declared.files.ReadFail.{ReadFail}
 use Rattle.secret_core.specs.declared.files.ReadFail.TheVariants as read
-use Rattle.keepass_cli.specs.declared.TheConstants.{FILE_LIMIT}
 use Rattle.keepass_cli.specs.declared.answers.Answer.TheVariants.{NotBuilt, NoSuchFile, TooLarge}
 use Rattle.keepass_cli.specs.declared.answers.Refusal.{Refusal}
 use Rattle.keepass_cli.specs.declared.answers.Stop.{Stop}
@@ -21,10 +20,14 @@ abbrev pub built : List ℕ → Option Root → Result Root Refusal
 built name None = Err (refusal_of NotBuilt name)
 built name (Some root) = Ok root
 
+-- The most bytes of a file that is read: 128 MiB.
+abbrev pub file_limit : ℕ
+file_limit = 134217728
+
 -- What a file of this name holds as a plain document.
 abbrev pub plain_of : List ℕ → Option (List ℕ) → Result Root Refusal
 plain_of name None = Err (refusal_of NoSuchFile name)
-plain_of name (Some bytes) = cond (nat_le (length bytes) FILE_LIMIT) (built name (root_of bytes)) (Err (refusal_of TooLarge name))
+plain_of name (Some bytes) = cond (nat_le (length bytes) file_limit) (built name (root_of bytes)) (Err (refusal_of TooLarge name))
 
 -- The database of a command.
 abbrev pub database_of : Command → FileMap → Result Root Refusal

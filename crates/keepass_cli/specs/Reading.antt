@@ -2,9 +2,9 @@
 use Rattle.std.specs.Prelude.{ℕ, ◌≡◌, Bool, List, [], ◌∷◌, ◌++◌, Option, None, Some, option_map, map, Result, Ok, Err, true, false, codes}
 use Rattle.std.specs.Str.{bytes_eq}
 use Rattle.std.specs.Borrow.{Bor}
-use Rattle.markup_core.specs.Answers.{Answer, start, words, stop, finish, refused}
-use Rattle.markup_core.specs.Machine.{answers}
-use Rattle.markup_core.specs.Tree.{Element, element, Content, text_only, text_then}
+use Rattle.thin_markup.specs.Answers.{Answer, start, words, stop, finish, refused}
+use Rattle.thin_markup.specs.Machine.{answers}
+use Rattle.thin_markup.specs.Tree.{Element, element, Content, text_only, text_then}
 use Rattle.vault_model.specs.declared.ThinRoot.{ThinRoot}
 use Rattle.keepass_cli.specs.declared.plain.Entries.{Entries}
 use Rattle.keepass_cli.specs.declared.plain.FieldText.{FieldText}

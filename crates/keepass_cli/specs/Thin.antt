@@ -2,7 +2,7 @@
 use Rattle.std.specs.Prelude.{ℕ, Bool, ◌≡◌, ◌≤◌, ◌&&◌, ◌||◌, ◌==◌, nat_le, true, false, List, [], ◌∷◌, Option, None, Some, option_map, unwrap_or, map, filter, take, drop, codes}
 use Rattle.std.specs.List.{list_all, last_or, prefix_len}
 use Rattle.std.specs.Str.{bytes_eq}
-use Rattle.markup_core.specs.Tree.{Element, element, Content, text_only, text_then, IsText, height}
+use Rattle.thin_markup.specs.Tree.{Element, element, Content, text_only, text_then, IsText, height}
 
 -- The titles of the root group's entries and the names of its groups, each in the document's order.
 pub record Root : Type 0 where

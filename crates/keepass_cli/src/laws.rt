@@ -3,7 +3,7 @@ ghost use Rattle.std.specs.Prelude.{◌≡◌, ◌↔◌, ℕ, List, Some};
 ghost use Rattle.keepass_cli.specs.Reading.{root_of};
 ghost use Rattle.keepass_cli.specs.Thin.{Root, IsThinText};
 
-use markup_core::laws::{finished_texts, whole_texts};
+use thin_markup::laws::{finished_texts, whole_texts};
 
 /// Reading finds a root group in a text exactly where the text is a thin document with this root group, and no text
 /// has two.

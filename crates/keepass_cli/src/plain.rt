@@ -5,10 +5,10 @@ ghost use Rattle.keepass_cli.specs.Thin.{children, is_space, is_printable, line_
 ghost use Rattle.keepass_cli.specs.Reading.{inner, outer, left, read_kids, round_from, groups_from, root_of, root_in, root_seen, Reads, BeginsKid, BeginsTag, ReadsLine, ReadsEntries, MoreIsLeft, field_seen};
 ghost use Rattle.keepass_cli.specs.declared.plain.ThinFail.TheVariants as thin;
 
-use markup_core::{MarkupFail, Piece, Reader};
 use outside_core::{List, NoMemory, Text};
 use secret_core::Secret;
 use std::alloc::Global;
+use thin_markup::{MarkupFail, Piece, Reader};
 use vault_model::ThinRoot;
 
 /// Why a text gave no thin document.

@@ -1,103 +1,123 @@
 -- What one token does to the answers that are left.
-use Rattle.std.proofs.Common.{◌≡◌, ◌≢◌, ℕ, zero, suc, ◌+◌, ◌-◌, ◌<◌, ◌≤◌, Bool, true, ltb, List, [], ◌∷◌, length, take, drop, set, refl, ap, sym, ◌∙◌, arith, Option, Some, None, Bor, MatchOption, add-one, drop-drop, slice_index_or, slice_set, lt-ltb, subst}
-use Rattle.std.proofs.lemmas.List.{get_or-set_same, get_or-set_other}
-use Rattle.markup_core.specs.Answers.{Answer, start, words, stop, limited}
-use Rattle.markup_core.specs.Machine.{State, inside, outside, Names, state_of, answers_from}
+use Rattle.std.proofs.Common.{◌≡◌, ◌≢◌, ℕ, zero, suc, ◌+◌, ◌-◌, ◌<◌, ◌≤◌, Bool, true, false, cond, eqb, List, [], ◌∷◌, length, take, set, refl, ap, sym, ◌∙◌, arith, add-one, slice_range, slice_set, lt-ltb, eqb-true, length-take-le, Result}
+use Rattle.std.proofs.lemmas.List.{get_or-set_same, get_or-set_other, take_all}
+use Rattle.markup_grammar.specs.Answers.{Answer, start, words, stop, form, depth, limited, cut_short}
+use Rattle.markup_grammar.specs.Machine.{State, fresh, between, within, outside, Names, answers_from}
+use Rattle.markup_grammar.specs.Reading.{answers, answers_within}
+use Rattle.markup_grammar.specs.Utf8.{utf8_front}
+use Rattle.markup_core.specs.Left.{left}
+use Rattle.markup_core.specs.Reader.{seen}
 use Rattle.markup_core.specs.Spans.{part, open_names}
-use Rattle.markup_core.specs.Tokens.{IsRefused, BeginWith, NameStands}
+use Rattle.markup_core.specs.Tags.{behind_tag}
+use Rattle.markup_core.specs.Tokens.{Tells, Leaves, state_at}
+use Rattle.markup_core.specs.declared.tag.StartTag.{StartTag}
 use Rattle.markup_core.specs.declared.token.Token.{Token}
-use Rattle.markup_core.specs.declared.token.Token.TheVariants.{Start, Words, Stop}
-
--- what stands past one byte more
-pub name_behind : (bytes tag name : List ℕ) (n : ℕ) → drop n bytes ≡ 60 ∷ tag → name ≡ take (length name) tag → name ≡ take (length name) (drop (n + 1) bytes)
-name_behind bytes tag name n opens stands =
-    stands ∙ ap (λ xs. take (length name) xs) (sym (sym (drop-drop 1 n bytes) ∙ ap (λ xs. drop 1 xs) opens))
-
--- the names that are open, by the innermost one
-pub open_names_by : (text : List ℕ) (spans : List (ℕ × ℕ)) (depth : ℕ) (begun : Bool) (rest : List ℕ) (innermost : Option (Bor (List ℕ))) (r : Option Token) → MatchOption innermost (depth ≡ 0) (λ name. (0 < depth) × (name.now ≡ part text (slice_index_or spans (depth - 1) (0, 0)))) → MatchOption innermost (BeginWith [] (state_of begun []) rest r) (λ name. (names : Names) → BeginWith (name.now ∷ names) (inside name.now names) rest r) → BeginWith (open_names text spans depth) (state_of begun (open_names text spans depth)) rest r
-open_names_by text spans depth begun rest None r none token = rw none token
-open_names_by text spans zero begun rest (Some name) r some token = absurd (omega arith)
-open_names_by text spans (suc depth) begun rest (Some name) r some token =
-    let low : suc depth - 1 ≡ depth = omega arith in
-    let is : name.now ≡ part text (slice_index_or spans depth (0, 0)) = some.1 ∙ ap (λ n. part text (slice_index_or spans n (0, 0))) low in
-    let P : List ℕ → Type 0 = λ xs. BeginWith (xs ∷ open_names text spans depth) (inside xs (open_names text spans depth)) rest r in
-    subst P is (token (open_names text spans depth))
-
--- the token, where the bytes are what is left of the text
-pub token_here : (text : List ℕ) (spans : List (ℕ × ℕ)) (depth at : ℕ) (begun : Bool) (rest : List ℕ) (innermost : Option (Bor (List ℕ))) (r t : Option Token) → r ≡ t → rest ≡ drop at text → MatchOption innermost (depth ≡ 0) (λ name. (0 < depth) × (name.now ≡ part text (slice_index_or spans (depth - 1) (0, 0)))) → MatchOption innermost (BeginWith [] (state_of begun []) rest r) (λ name. (names : Names) → BeginWith (name.now ∷ names) (inside name.now names) rest r) → BeginWith (open_names text spans depth) (state_of begun (open_names text spans depth)) (drop at text) t
-token_here text spans depth at begun rest innermost r t is left name token =
-    let P : Option Token → Type 0 = λ o. BeginWith (open_names text spans depth) (state_of begun (open_names text spans depth)) (drop at text) o in
-    let Q : List ℕ → Type 0 = λ xs. BeginWith (open_names text spans depth) (state_of begun (open_names text spans depth)) xs r in
-    subst P is (subst Q left (open_names_by text spans depth begun rest innermost r name token))
-
--- the name, where the bytes are what is left of the text
-pub name_here : (text : List ℕ) (at space : ℕ) (name : Bor (List ℕ)) (rest : List ℕ) (r : Option Token) → r ≡ Some (Start space name) → rest ≡ drop at text → NameStands rest r → name.now ≡ take (length name.now) (drop (space + 1) (drop at text))
-name_here text at space name rest r is left stands =
-    let P : Option Token → Type 0 = λ o. NameStands (drop at text) o in
-    let Q : List ℕ → Type 0 = λ xs. NameStands xs r in
-    subst P is (subst Q left stands)
 
 -- names below a span that is written stay
-open_names-set : (text : List ℕ) (spans : List (ℕ × ℕ)) (i : ℕ) (span : ℕ × ℕ) (depth : ℕ) → depth ≤ i → open_names text (set spans i span) depth ≡ open_names text spans depth
+open_names-set : (text : List ℕ) (spans : List (ℕ × ℕ)) (i : ℕ) (span : ℕ × ℕ) (deep : ℕ) → deep ≤ i → open_names text (set spans i span) deep ≡ open_names text spans deep
 open_names-set text spans i span zero le = refl
-open_names-set text spans i span (suc depth) le =
-    let other : depth ≢ i = omega arith in
-    let below : depth ≤ i = omega arith in
-    rw (get_or-set_other spans i depth span (0, 0) other, open_names-set text spans i span depth below) refl
+open_names-set text spans i span (suc deep) le =
+    let other : deep ≢ i = omega arith in
+    let below : deep ≤ i = omega arith in
+    rw (get_or-set_other spans i deep span (0, 0) other, open_names-set text spans i span deep below) refl
 
 -- a span that is written names the innermost element
-pub open_names-push : (text : List ℕ) (spans : List (ℕ × ℕ)) (depth : ℕ) (span : ℕ × ℕ) (name : List ℕ) → depth < length spans → name ≡ part text span → open_names text (set spans depth span) (depth + 1) ≡ name ∷ open_names text spans depth
-open_names-push text spans depth span name room is =
-    let same : depth ≤ depth = omega arith in
-    ap (λ n. open_names text (set spans depth span) n) (add-one depth)
-    ∙ rw (get_or-set_same spans depth span (0, 0) room, open_names-set text spans depth span depth same) (ap (λ xs. xs ∷ open_names text spans depth) (sym is))
+pub open_names-push : (text : List ℕ) (spans : List (ℕ × ℕ)) (deep : ℕ) (span : ℕ × ℕ) → deep < length spans → open_names text (set spans deep span) (deep + 1) ≡ part text span ∷ open_names text spans deep
+open_names-push text spans deep span room =
+    let same : deep ≤ deep = omega arith in
+    ap (λ n. open_names text (set spans deep span) n) (add-one deep)
+    ∙ rw (get_or-set_same spans deep span (0, 0) room, open_names-set text spans deep span deep same) refl
 
--- only a refusal is left
-pub left_refused : (d : ℕ) (list : List Answer) → IsRefused list → IsRefused (limited d list)
-left_refused d list (place, is) = (place, ap (λ xs. limited d xs) is)
-
--- a start tag within the limit
-pub left_start : (text : List ℕ) (spans : List (ℕ × ℕ)) (depth at : ℕ) (begun : Bool) (space : ℕ) (name : Bor (List ℕ)) → BeginWith (open_names text spans depth) (state_of begun (open_names text spans depth)) (drop at text) (Some (Start space name)) → depth < 256 → depth < length spans → name.now ≡ take (length name.now) (drop (space + 1) (drop at text)) → limited depth (answers_from (state_of begun (open_names text spans depth)) at (drop at text)) ≡ start (at + space) name.now ∷ limited (depth + 1) (answers_from (state_of true (open_names text (slice_set spans depth (at + space + 1, length name.now)) (depth + 1))) (at + space + length name.now + 2) (drop (at + space + length name.now + 2) text))
-left_start text spans depth at begun space name token low room stands =
-    let within : ltb depth 256 ≡ true = lt-ltb depth 256 low in
-    let place : at + (space + length name.now + 2) ≡ at + space + length name.now + 2 = omega arith in
-    let stand : name.now ≡ part text (at + space + 1, length name.now) =
-    stands ∙ ap (λ xs. take (length name.now) xs) (drop-drop (space + 1) at text ∙ ap (λ n. drop n text) (let e : at + (space + 1) ≡ at + space + 1 = omega arith in e)) in
-    ap (λ xs. limited depth xs) (token at)
-    ∙ rw within
-    (ap (λ xs. start (at + space) name.now ∷ limited (depth + 1) xs)
-    (ap (λ xs. answers_from (inside name.now (open_names text spans depth)) (at + (space + length name.now + 2)) xs) (drop-drop (space + length name.now + 2) at text)
-    ∙ (ap (λ n. answers_from (inside name.now (open_names text spans depth)) n (drop n text)) place
-    ∙ ap (λ names. answers_from (state_of true names) (at + space + length name.now + 2) (drop (at + space + length name.now + 2) text))
-    (sym (open_names-push text spans depth (at + space + 1, length name.now) name.now room stand)))))
-
--- a start tag with 256 elements open
-pub left_deep : (names : Names) (s : State) (depth at : ℕ) (bytes : List ℕ) (space : ℕ) (name : Bor (List ℕ)) → BeginWith names s bytes (Some (Start space name)) → depth ≡ 256 → IsRefused (limited depth (answers_from s at bytes))
-left_deep names s depth at bytes space name token full = rw full (at + space, ap (λ xs. limited 256 xs) (token at))
+-- between two tokens, once the outermost element has begun
+pub state_outside : (at : ℕ) (names : Names) → 0 < at → state_at at names ≡ between (outside names)
+state_outside zero names low = absurd (omega arith)
+state_outside (suc at) [] low = refl
+state_outside (suc at) (name ∷ names) low = refl
 
 -- a run of text
-pub left_words : (text : List ℕ) (names : Names) (s : State) (depth at : ℕ) (raw : Bor (List ℕ)) → BeginWith names s (drop at text) (Some (Words raw)) → limited depth (answers_from s at (drop at text)) ≡ words at raw.now ∷ limited depth (answers_from s (at + length raw.now) (drop (at + length raw.now) text))
-left_words text names s depth at raw token =
-    ap (λ xs. limited depth xs) (token at)
-    ∙ ap (λ xs. words at raw.now ∷ limited depth (answers_from s (at + length raw.now) xs)) (drop-drop (length raw.now) at text)
+pub seen_words : (is_whole : Bool) (len open_count place : ℕ) (raw : List ℕ) (more : List Answer) → seen is_whole len open_count (words place raw ∷ more) ≡ words place raw ∷ seen is_whole len open_count more
+seen_words true len open_count place raw more = refl
+seen_words false len open_count place raw more = refl
 
 -- an end tag
-pub left_stop : (text : List ℕ) (spans : List (ℕ × ℕ)) (depth at : ℕ) (begun : Bool) (len : ℕ) → BeginWith (open_names text spans depth) (state_of begun (open_names text spans depth)) (drop at text) (Some (Stop len)) → (0 < depth → begun ≡ true) → limited depth (answers_from (state_of begun (open_names text spans depth)) at (drop at text)) ≡ stop at ∷ limited (depth - 1) (answers_from (state_of begun (open_names text spans (depth - 1))) (at + len) (drop (at + len) text))
-left_stop text spans zero at begun len token has = absurd token
-left_stop text spans (suc depth) at begun len token has =
-    let low : suc depth - 1 ≡ depth = omega arith in
-    let yet : begun ≡ true = has (omega arith) in
-    ap (λ xs. limited (suc depth) xs) (token at)
-    ∙ (ap (λ xs. stop at ∷ limited (suc depth - 1) xs)
-    (ap (λ xs. answers_from (outside (open_names text spans depth)) (at + len) xs) (drop-drop len at text)
-    ∙ ap (λ s. answers_from s (at + len) (drop (at + len) text)) (outside_is (open_names text spans depth) ∙ ap (λ b. state_of b (open_names text spans depth)) (sym yet)))
-    ∙ ap (λ n. stop at ∷ limited (suc depth - 1) (answers_from (state_of begun (open_names text spans n)) (at + len) (drop (at + len) text))) (sym low))
-  where
-    outside_is : (names : Names) → outside names ≡ state_of true names
-    outside_is [] = refl
-    outside_is (name ∷ names) = refl
+pub seen_stop : (is_whole : Bool) (len open_count place : ℕ) (more : List Answer) → seen is_whole len open_count (stop place ∷ more) ≡ stop place ∷ seen is_whole len (open_count - 1) more
+seen_stop true len open_count place more = refl
+seen_stop false len open_count place more = refl
+
+-- a start tag within the limit
+pub seen_start : (is_whole : Bool) (len open_count place : ℕ) (name raw : List ℕ) (more : List Answer) → open_count < 256 → seen is_whole len open_count (start place name raw ∷ more) ≡ start place name raw ∷ seen is_whole len (open_count + 1) more
+seen_start true len open_count place name raw more low = rw (lt-ltb open_count 256 low) refl
+seen_start false len open_count place name raw more low = rw (lt-ltb open_count 256 low) refl
+
+-- a start tag with 256 elements open
+pub seen_deep : (is_whole : Bool) (len open_count place : ℕ) (name raw : List ℕ) (more : List Answer) → open_count ≡ 256 → seen is_whole len open_count (start place name raw ∷ more) ≡ depth place ∷ []
+seen_deep true len open_count place name raw more full = rw full refl
+seen_deep false len open_count place name raw more full = rw full refl
+
+-- a refusal
+pub seen_form : (is_whole : Bool) (len open_count place : ℕ) → seen is_whole len open_count (form place ∷ []) ≡ form place ∷ []
+seen_form true len open_count place = refl
+seen_form false len open_count place = refl
+
+-- an empty element: its start and its end leave as many open
+pub seen_empty : (is_whole : Bool) (len open_count place : ℕ) (name raw : List ℕ) (slash : ℕ) (more : List Answer) → open_count < 256 → seen is_whole len open_count (start place name raw ∷ stop slash ∷ more) ≡ start place name raw ∷ stop slash ∷ seen is_whole len open_count more
+seen_empty is_whole len open_count place name raw slash more low =
+    let count : open_count + 1 - 1 ≡ open_count = omega arith in
+    seen_start is_whole len open_count place name raw (stop slash ∷ more) low
+    ∙ (ap (λ xs. start place name raw ∷ xs) (seen_stop is_whole len (open_count + 1) slash more)
+    ∙ ap (λ n. start place name raw ∷ stop slash ∷ seen is_whole len n more) count)
+
+-- past an element's start tag
+pub left_start : (text : List ℕ) (is_whole : Bool) (spans : List (ℕ × ℕ)) (open_count place at : ℕ) (s : State) (tag : StartTag) → left text s at ≡ start place (slice_range text (place + 1) tag.name_end) (slice_range text tag.name_end tag.attrs_end) ∷ behind_tag text tag (slice_range text (place + 1) tag.name_end) (open_names text spans open_count) → tag.is_empty ≡ false → open_count < 256 → open_count < length spans → seen is_whole (length text) open_count (left text s at) ≡ start place (slice_range text (place + 1) tag.name_end) (slice_range text tag.name_end tag.attrs_end) ∷ seen is_whole (length text) (open_count + 1) (left text (state_at (tag.attrs_end + 1) (open_names text (slice_set spans open_count (place + 1, tag.name_end)) (open_count + 1))) (tag.attrs_end + 1))
+left_start text is_whole spans open_count place at s tag told none low room =
+    let more : behind_tag text tag (slice_range text (place + 1) tag.name_end) (open_names text spans open_count) ≡ left text (between (within (slice_range text (place + 1) tag.name_end) (open_names text spans open_count))) (tag.attrs_end + 1) = rw none refl in
+    ap (λ xs. seen is_whole (length text) open_count xs) (told ∙ ap (λ xs. start place (slice_range text (place + 1) tag.name_end) (slice_range text tag.name_end tag.attrs_end) ∷ xs) more)
+    ∙ (seen_start is_whole (length text) open_count place (slice_range text (place + 1) tag.name_end) (slice_range text tag.name_end tag.attrs_end) (left text (between (within (slice_range text (place + 1) tag.name_end) (open_names text spans open_count))) (tag.attrs_end + 1)) low
+    ∙ ap (λ names. start place (slice_range text (place + 1) tag.name_end) (slice_range text tag.name_end tag.attrs_end) ∷ seen is_whole (length text) (open_count + 1) (left text (state_at (tag.attrs_end + 1) names) (tag.attrs_end + 1)))
+    (sym (open_names-push text spans open_count (place + 1, tag.name_end) room)))
+
+-- past an empty element's
+pub left_empty : (text : List ℕ) (is_whole : Bool) (names : Names) (open_count place at : ℕ) (s : State) (tag : StartTag) → left text s at ≡ start place (slice_range text (place + 1) tag.name_end) (slice_range text tag.name_end tag.attrs_end) ∷ behind_tag text tag (slice_range text (place + 1) tag.name_end) names → tag.is_empty ≡ true → open_count < 256 → seen is_whole (length text) open_count (left text s at) ≡ start place (slice_range text (place + 1) tag.name_end) (slice_range text tag.name_end tag.attrs_end) ∷ stop tag.attrs_end ∷ seen is_whole (length text) open_count (left text (state_at (tag.attrs_end + 2) names) (tag.attrs_end + 2))
+left_empty text is_whole names open_count place at s tag told is low =
+    let begun : 0 < tag.attrs_end + 2 = omega arith in
+    let more : behind_tag text tag (slice_range text (place + 1) tag.name_end) names ≡ stop tag.attrs_end ∷ left text (state_at (tag.attrs_end + 2) names) (tag.attrs_end + 2) = rw is (ap (λ t. stop tag.attrs_end ∷ left text t (tag.attrs_end + 2)) (sym (state_outside (tag.attrs_end + 2) names begun))) in
+    ap (λ xs. seen is_whole (length text) open_count xs) (told ∙ ap (λ xs. start place (slice_range text (place + 1) tag.name_end) (slice_range text tag.name_end tag.attrs_end) ∷ xs) more)
+    ∙ seen_empty is_whole (length text) open_count place (slice_range text (place + 1) tag.name_end) (slice_range text tag.name_end tag.attrs_end) tag.attrs_end (left text (state_at (tag.attrs_end + 2) names) (tag.attrs_end + 2)) low
+
+-- past a start tag with 256 elements open
+pub left_deep : (text : List ℕ) (is_whole : Bool) (names : Names) (open_count place at : ℕ) (s : State) (tag : StartTag) → left text s at ≡ start place (slice_range text (place + 1) tag.name_end) (slice_range text tag.name_end tag.attrs_end) ∷ behind_tag text tag (slice_range text (place + 1) tag.name_end) names → open_count ≡ 256 → seen is_whole (length text) open_count (left text s at) ≡ depth place ∷ []
+left_deep text is_whole names open_count place at s tag told full =
+    ap (λ xs. seen is_whole (length text) open_count xs) told
+    ∙ seen_deep is_whole (length text) open_count place (slice_range text (place + 1) tag.name_end) (slice_range text tag.name_end tag.attrs_end) (behind_tag text tag (slice_range text (place + 1) tag.name_end) names) full
 
 -- an end tag stands in an element
-pub stop_within : (text : List ℕ) (spans : List (ℕ × ℕ)) (depth : ℕ) (s : State) (bytes : List ℕ) (len : ℕ) → BeginWith (open_names text spans depth) s bytes (Some (Stop len)) → 1 ≤ depth
-stop_within text spans zero s bytes len token = absurd token
-stop_within text spans (suc depth) s bytes len token = omega arith
+pub stop_within : (text : List ℕ) (spans : List (ℕ × ℕ)) (open_count : ℕ) (s : State) (at place end : ℕ) → Leaves text (open_names text spans open_count) s at place end → 1 ≤ open_count
+stop_within text spans zero s at place end leaves = absurd leaves
+stop_within text spans (suc open_count) s at place end leaves = omega arith
+
+-- past an end tag
+pub left_stop : (text : List ℕ) (is_whole : Bool) (spans : List (ℕ × ℕ)) (open_count : ℕ) (s : State) (at place end : ℕ) → Leaves text (open_names text spans open_count) s at place end → 0 < end → seen is_whole (length text) open_count (left text s at) ≡ stop place ∷ seen is_whole (length text) (open_count - 1) (left text (state_at end (open_names text spans (open_count - 1))) end)
+left_stop text is_whole spans zero s at place end leaves low = absurd leaves
+left_stop text is_whole spans (suc open_count) s at place end leaves low =
+    let count : suc open_count - 1 ≡ open_count = omega arith in
+    ap (λ xs. seen is_whole (length text) (suc open_count) xs) leaves
+    ∙ (seen_stop is_whole (length text) (suc open_count) place (left text (between (outside (open_names text spans open_count))) end)
+    ∙ (ap (λ t. stop place ∷ seen is_whole (length text) (suc open_count - 1) (left text t end)) (sym (state_outside end (open_names text spans open_count) low))
+    ∙ ap (λ n. stop place ∷ seen is_whole (length text) (suc open_count - 1) (left text (state_at end (open_names text spans n)) end)) (sym count)))
+
+-- a token, at another name of the same answer
+pub told_at : (text : List ℕ) (names : Names) (s : State) (at : ℕ) (r t : Result Token ℕ) → r ≡ t → Tells text names s at r → Tells text names s at t
+told_at text names s at r t is tells = rw is at tells
+
+-- a reader at the start of a text
+pub answers_new : (text : List ℕ) (n : ℕ) → n ≡ utf8_front text → n ≤ length text → seen (eqb n (length text)) (length (take n text)) 0 (left (take n text) fresh 0) ≡ answers text
+unfolding answers left
+answers_new text n is fits =
+    rw (length-take-le n text fits) (by_length (eqb n (length text)) refl)
+    ∙ ap (λ k. limited 0 (answers_within text k)) is
+  where
+    by_length : (t : Bool) → eqb n (length text) ≡ t → limited 0 (cond t (answers_from fresh 0 (take n text)) (cut_short n (answers_from fresh 0 (take n text)))) ≡ limited 0 (cond t (answers_from fresh 0 text) (cut_short n (answers_from fresh 0 (take n text))))
+    by_length true e =
+        let whole : n ≡ length text = eqb-true n (length text) e in
+        ap (λ xs. limited 0 (answers_from fresh 0 xs)) (take_all n text (omega arith))
+    by_length false e = refl

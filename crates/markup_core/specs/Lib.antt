@@ -1,9 +1,12 @@
-pub mod Answers
-pub mod Bytes
-pub mod Machine
+pub mod Asides
+pub mod AttributeRuns
+pub mod Fronts
+pub mod Left
 pub mod Next
-pub mod Places
+pub mod Numbers
+pub mod Parts
 pub mod Reader
+pub mod Scans
 pub mod Spans
+pub mod Tags
 pub mod Tokens
-pub mod Tree

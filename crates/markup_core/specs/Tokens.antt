@@ -1,69 +1,40 @@
--- What stands at the front of what is left of a text, told by the answers that it gives.
-use Rattle.std.specs.Prelude.{ℕ, ◌+◌, ◌≡◌, Option, Some, None, List, [], ◌∷◌, length, take, drop}
-use Rattle.markup_core.specs.Answers.{Answer, start, words, stop, finish, refused}
-use Rattle.markup_core.specs.Bytes.{BeginsWithout}
-use Rattle.markup_core.specs.Machine.{State, opened, inside, closing, outside, Names, answers_from}
+-- What stands at a place of a text, told by the answers that it gives.
+use Rattle.std.specs.Prelude.{ℕ, zero, suc, ◌+◌, ◌≡◌, ◌≤◌, List, [], ◌∷◌, slice_range, Result, Ok, Err}
+use Rattle.markup_grammar.specs.Answers.{start, words, stop, finish, form}
+use Rattle.markup_grammar.specs.Machine.{State, fresh, between, within, behind, outside, Names}
+use Rattle.markup_core.specs.Asides.{EndsTag, EndsTagOrStays}
+use Rattle.markup_core.specs.Left.{left, StandsAt}
+use Rattle.markup_core.specs.Tags.{behind_tag, TagStands}
 use Rattle.markup_core.specs.declared.token.Token.{Token}
 use Rattle.markup_core.specs.declared.token.Token.TheVariants.{Start, Words, Stop, End}
 
--- only a refusal is left
-abbrev pub IsRefused : List Answer → Type 0
-IsRefused answers = (place : ℕ) × (answers ≡ refused place ∷ [])
+-- the state between two tokens, where these elements are open; at place 0 none has been
+abbrev pub state_at : ℕ → Names → State
+state_at at (name ∷ names) = between (within name names)
+state_at zero [] = fresh
+state_at (suc at) [] = between behind
 
--- past a `<`: the rest of a start tag of this name
-abbrev pub NamesTag : List ℕ → List ℕ → Type 0
-NamesTag bytes name =
-    (p at : ℕ) (names : Names)
-    → answers_from (opened p names) at bytes
-    ≡ start p name ∷ answers_from (inside name names) (at + (length name + 1)) (drop (length name + 1) bytes)
+-- an end tag leaves the innermost element, of which there must be one
+abbrev pub Leaves : List ℕ → Names → State → ℕ → ℕ → ℕ → Type 0
+Leaves text [] s at place end = ⊥
+Leaves text (name ∷ names) s at place end =
+    left text s at ≡ stop place ∷ left text (between (outside names)) end
 
--- past a `<`: neither a start tag's rest nor an end tag's
-abbrev pub NamesNothing : List ℕ → Type 0
-NamesNothing bytes =
-    (p at : ℕ) (names : Names) → BeginsWithout 47 bytes → IsRefused (answers_from (opened p names) at bytes)
+-- the token is what a state first gives at a place, where these elements are open; or it is refused at a place
+abbrev pub Tells : List ℕ → Names → State → ℕ → Result Token ℕ → Type 0
+Tells text names s at (Err p) = left text s at ≡ form p ∷ []
+Tells text names s at (Ok (Start place tag)) =
+    left text s at
+    ≡ start place (slice_range text (place + 1) tag.name_end) (slice_range text tag.name_end tag.attrs_end)
+    ∷ behind_tag text tag (slice_range text (place + 1) tag.name_end) names
+Tells text names s at (Ok (Words place end)) =
+    left text s at ≡ words place (slice_range text place end) ∷ left text (state_at end names) end
+Tells text names s at (Ok (Stop place end)) = Leaves text names s at place end
+Tells text names s at (Ok End) = left text s at ≡ finish ∷ []
 
--- past `</`: the rest of the end tag of this name
-abbrev pub Closes : List ℕ → List ℕ → Type 0
-Closes bytes name =
-    (p at : ℕ) (names : Names)
-    → answers_from (closing p name names) at bytes
-    ≡ stop p ∷ answers_from (outside names) (at + (length name + 1)) (drop (length name + 1) bytes)
-
--- past `</`: not the rest of the end tag of this name
-abbrev pub ClosesNothing : List ℕ → List ℕ → Type 0
-ClosesNothing bytes name =
-    (p at : ℕ) (names : Names) → IsRefused (answers_from (closing p name names) at bytes)
-
--- an end tag of this length leaves the innermost element, of which there must be one
-abbrev pub Leaves : Names → State → List ℕ → ℕ → Type 0
-Leaves [] state bytes len = ⊥
-Leaves (name ∷ names) state bytes len =
-    (at : ℕ) → answers_from state at bytes ≡ stop at ∷ answers_from (outside names) (at + len) (drop len bytes)
-
--- the token is what these bytes begin with in this state, in which these elements are open; with none they are refused
-abbrev pub BeginWith : Names → State → List ℕ → Option Token → Type 0
-BeginWith names state bytes None = (at : ℕ) → IsRefused (answers_from state at bytes)
-BeginWith names state bytes (Some (Start space name)) =
-    (at : ℕ)
-    → answers_from state at bytes
-    ≡ start (at + space) name.now
-    ∷ answers_from (inside name.now names) (at + (space + length name.now + 2)) (drop (space + length name.now + 2) bytes)
-BeginWith names state bytes (Some (Words raw)) =
-    (at : ℕ)
-    → answers_from state at bytes
-    ≡ words at raw.now ∷ answers_from state (at + length raw.now) (drop (length raw.now) bytes)
-BeginWith names state bytes (Some (Stop len)) = Leaves names state bytes len
-BeginWith names state bytes (Some End) = (at : ℕ) → answers_from state at bytes ≡ finish ∷ []
-
--- how many bytes the token takes
-abbrev pub token_len : Option Token → ℕ
-token_len None = 0
-token_len (Some (Start space name)) = space + length name.now + 2
-token_len (Some (Words raw)) = length raw.now
-token_len (Some (Stop len)) = len
-token_len (Some End) = 0
-
--- the name of a start tag stands behind its white space and `<`
-abbrev pub NameStands : List ℕ → Option Token → Type 0
-NameStands bytes (Some (Start space name)) = name.now ≡ take (length name.now) (drop (space + 1) bytes)
-NameStands bytes _ = Unit {0}
+-- a token lies behind its place, and where it begins and ends stand bytes of ASCII
+abbrev pub TokenStands : List ℕ → ℕ → Result Token ℕ → Type 0
+TokenStands text at (Ok (Start place tag)) = (at ≤ place) × StandsAt text place 60 × TagStands text (place + 1) tag
+TokenStands text at (Ok (Words place end)) = (place ≤ end) × StandsAt text end 60 × EndsTagOrStays text at place
+TokenStands text at (Ok (Stop place end)) = (at ≤ place) × (place ≤ end) × EndsTag text end
+TokenStands text at _ = Unit {0}

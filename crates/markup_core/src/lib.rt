@@ -1,13 +1,24 @@
 //! A reader of markup: it gives the pieces of a text, each a slice of the text, and takes no memory.
 #![tactic(auto)]
 
-pub mod laws;
+mod aside;
+mod attributes;
+mod bytes;
+mod escapes;
+mod front;
+mod fronts;
 mod piece;
 mod reader;
-mod scan;
+mod reference;
+#[cfg(test)]
+mod refusal_tests;
+mod run;
+mod tag;
 #[cfg(test)]
 mod tests;
 mod token;
 
-pub use piece::{Attrs, MarkupFail, Piece};
+pub use attributes::Attrs;
+pub use escapes::{escape, escaped_len, unescape, unescaped_len};
+pub use piece::{MarkupFail, Piece};
 pub use reader::Reader;

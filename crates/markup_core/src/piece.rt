@@ -1,26 +1,22 @@
 //! What a reader gives: pieces of the text, or its refusal.
 
-/// The attributes of a start tag, as they stand in it. No attribute is read yet, so there are none.
-#[derive(Clone, Copy, Debug, PartialEq, Eq)]
-pub struct Attrs<'a> {
-    pub(crate) raw: &'a str,
-}
+use crate::attributes::Attrs;
 
 /// A piece of a text. Its names and runs of text are slices of the text, and its place counts bytes from the text's start.
 #[derive(Clone, Copy, Debug, PartialEq, Eq)]
 pub enum Piece<'a> {
-    /// A start tag, whose `<` stands at the place.
+    /// A start tag, whose `<` stands at the place. An empty element's tag gives it too.
     Start {
         name: &'a str,
         attrs: Attrs<'a>,
         place: usize,
     },
-    /// A longest run of text inside an element, up to the next `<`. It is not empty.
+    /// A longest run of text inside an element, up to the next `<`, with its references as they stand. It is not empty.
     Words {
         raw: &'a str,
         place: usize,
     },
-    /// An end tag, whose `<` stands at the place.
+    /// An end tag, whose `<` stands at the place, or the end of an empty element, whose `/` does.
     Stop {
         place: usize,
     },
@@ -31,6 +27,8 @@ pub enum Piece<'a> {
 /// Why a reader stops before the end of a text.
 #[derive(Clone, Copy, Debug, PartialEq, Eq)]
 pub enum MarkupFail {
-    /// The text is none of the grammar that is read so far, or more than 256 elements are open at once.
-    NotBuilt,
+    /// The text is none of the grammar. It carries the length of the longest front of it that begins one.
+    Form(usize),
+    /// More than 256 elements would be open at once. It carries the place of the start tag's `<`.
+    Depth(usize),
 }

@@ -1,9 +1,11 @@
 //! The reader: a place in a text, and the stack of the elements that are open there.
 
-use crate::piece::{Attrs, MarkupFail, Piece};
-use crate::scan::after;
+use crate::attributes::Attrs;
+use crate::front::front_len;
+use crate::piece::{MarkupFail, Piece};
 use crate::token::{Token, token_at};
 use std::marker::Model;
+use std::str;
 
 /// The most elements that may be open at once.
 const OPEN_LIMIT: usize = 256;
@@ -11,18 +13,22 @@ const OPEN_LIMIT: usize = 256;
 /// Gives the pieces of a text, one a call, and keeps no more than where it stands and which elements are open.
 #[derive(Drop)]
 pub struct Reader<'a> {
+    /// The longest front of the text that begins a text in UTF-8.
     text: &'a [u8],
+    /// Whether it is the whole text.
+    is_whole: bool,
+    /// Where the next token begins. At 0 the outermost element has not begun.
     at: usize,
-    /// Whether the outermost element has begun.
-    begun: bool,
-    /// Where the name of each open element begins, and how long it is, the outermost first.
+    /// Whether the `/` of an empty element stands there.
+    is_empty: bool,
+    /// Where the name of each open element begins and ends, the outermost first.
     spans: [(usize, usize); 256],
     depth: usize,
 }
 
 impl<'a> Model for Reader<'a> {
     ghost use Rattle.std.specs.Prelude.{List};
-    ghost use Rattle.markup_core.specs.Answers.{Answer};
+    ghost use Rattle.markup_grammar.specs.Answers.{Answer};
 
     ghost Value = { List Answer };
 
@@ -35,17 +41,19 @@ impl<'a> Model for Reader<'a> {
 
 impl<'a> Reader<'a> {
     ghost use Rattle.std.specs.Prelude.{◌≡◌};
-    ghost use Rattle.markup_core.specs.Machine.{answers};
+    ghost use Rattle.markup_grammar.specs.Reading.{answers};
     ghost use Rattle.markup_core.specs.Next.{Answers};
 
     /// A reader at the start of a text. Its value is the list of all answers that it will give.
     pub fn new(text: &'a [u8]) -> Reader<'a>
         ensures { result ≡ answers text.now }
     {
+        let len = front_len(text);
         Reader {
-            text,
+            text: &text[..len],
+            is_whole: len == text.len(),
             at: 0,
-            begun: false,
+            is_empty: false,
             spans: [(0, 0); 256],
             depth: 0,
         }
@@ -56,53 +64,62 @@ impl<'a> Reader<'a> {
         ensures { Answers self.old result self.new }
     {
         let text = self.text;
-        let innermost = innermost_name(text, &self.spans, self.depth);
-        match token_at(after(text, self.at), innermost, self.begun) {
-            Some(Token::Start { space, name }) => {
+        if self.is_empty {
+            let place = self.at;
+            self.is_empty = false;
+            self.at = place + 2;
+            return Ok(Piece::Stop { place });
+        }
+        match token_at(text, self.at, &self.spans, self.depth) {
+            Ok(Token::Start { place, tag }) => {
                 if self.depth == OPEN_LIMIT {
-                    return Err(MarkupFail::NotBuilt);
+                    return Err(MarkupFail::Depth(place));
                 }
-                let place = self.at + space;
-                self.spans[self.depth] = (place + 1, name.len());
+                let name = piece(text, place + 1, tag.name_end);
+                let attrs = Attrs {
+                    raw: piece(text, tag.name_end, tag.attrs_end),
+                };
+                if tag.is_empty {
+                    self.at = tag.attrs_end;
+                    self.is_empty = true;
+                    return Ok(Piece::Start { name, attrs, place });
+                }
+                self.spans[self.depth] = (place + 1, tag.name_end);
                 self.depth += 1;
-                self.begun = true;
-                self.at = place + name.len() + 2;
-                let attrs = Attrs { raw: "" };
+                self.at = tag.attrs_end + 1;
                 Ok(Piece::Start { name, attrs, place })
             }
-            Some(Token::Words { raw }) => {
-                let place = self.at;
-                self.at = place + raw.len();
+            Ok(Token::Words { place, end }) => {
+                let raw = piece(text, place, end);
+                self.at = end;
                 Ok(Piece::Words { raw, place })
             }
-            Some(Token::Stop { len }) => {
-                let place = self.at;
+            Ok(Token::Stop { place, end }) => {
                 self.depth -= 1;
-                self.at = place + len;
+                self.at = end;
                 Ok(Piece::Stop { place })
             }
-            Some(Token::End) => Ok(Piece::Finish),
-            None => Err(MarkupFail::NotBuilt),
+            Ok(Token::End) => {
+                if self.is_whole {
+                    Ok(Piece::Finish)
+                } else {
+                    Err(MarkupFail::Form(text.len()))
+                }
+            }
+            Err(place) => Err(MarkupFail::Form(place)),
         }
     }
 }
 
-ghost use Rattle.std.specs.Prelude.{◌≡◌, ◌≤◌, ◌<◌, ℕ, [], ◌∷◌, ◌+◌, ◌-◌, length, MatchOption, slice_index_or};
-ghost use Rattle.markup_core.specs.Spans.{part, SpansFit};
+ghost use Rattle.std.specs.Prelude.{◌≡◌, ◌≤◌, length, IsUtf8, slice_range};
 
-/// The name of the innermost of the elements that are open.
-fn innermost_name<'a>(
-    text: &'a [u8],
-    spans: &[(usize, usize); 256],
-    depth: usize,
-) -> Option<&'a [u8]>
-    requires depth { depth ≤ 256 }
-    requires fits { SpansFit text.now spans.now depth }
-    ensures { MatchOption result (depth ≡ 0) (λ name. (0 < depth) × (name.now ≡ part text.now (slice_index_or spans.now (depth - 1) (0, 0)))) }
+/// The text between two places. That it is text was tested in `new`, so it is not tested again.
+#[inline(always)]
+fn piece(text: &[u8], start: usize, end: usize) -> &str
+    requires order { start ≤ end }
+    requires within { end ≤ length text.now }
+    requires utf8 { IsUtf8 (slice_range text.now start end) }
+    ensures { result.now ≡ slice_range text.now start end }
 {
-    if depth == 0 {
-        return None;
-    }
-    let (start, len) = spans[depth - 1];
-    Some(&text[start..start + len])
+    unsafe { str::from_utf8_unchecked(&text[start..end]) }
 }

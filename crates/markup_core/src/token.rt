@@ -1,119 +1,108 @@
-//! The token at the front of what is left of a text: a tag, a run of text, or the end.
+//! The token that stands at a place of a text: a tag, a run of text, or the end.
 
-ghost use Rattle.std.specs.Prelude.{◌≡◌, ℕ, ◌+◌, ◌≤◌, take, List, [], ◌∷◌, length, MatchOption, MatchBool, ⊤};
-ghost use Rattle.markup_core.specs.Bytes.{BeginsWithout};
-ghost use Rattle.markup_core.specs.Machine.{Names, before, inside, behind, state_of};
-ghost use Rattle.markup_core.specs.Tokens.{NamesTag, NamesNothing, Closes, ClosesNothing, BeginWith, NameStands, token_len};
+ghost use Rattle.std.specs.Prelude.{◌≤◌, ◌≡◌, ◌<◌, [], ◌∷◌, length};
+ghost use Rattle.markup_grammar.specs.Machine.{Names, fresh, before, behind, between, within};
+ghost use Rattle.markup_core.specs.Scans.{Leads, EndsWithin};
+ghost use Rattle.markup_core.specs.Spans.{SpansFit, open_names};
+ghost use Rattle.markup_core.specs.Tokens.{Tells, TokenStands, state_at};
 
-use crate::scan::{after, letters, space_len, strip, words};
+use crate::aside::{asides_end, outside_end};
+use crate::run::past;
+use crate::tag::{StartTag, end_tag_end, start_tag, words_end};
 
 /// A whole tag, a whole run of text, or the end of the text.
-pub(crate) enum Token<'a> {
-    /// White space of this length, none inside an element, and then a start tag.
-    Start { space: usize, name: &'a str },
-    /// A run of text, up to the next `<`.
-    Words { raw: &'a str },
-    /// The end tag of the innermost element, of this length.
-    Stop { len: usize },
+pub(crate) enum Token {
+    /// A start tag, whose `<` stands at the place.
+    Start { place: usize, tag: StartTag },
+    /// A run of text from the place up to the `<` at its end.
+    Words { place: usize, end: usize },
+    /// The end tag of the innermost element, from the place to its end.
+    Stop { place: usize, end: usize },
     /// The end of the text, past the outermost element.
     End,
 }
 
-/// The token of a rest of the text, in the element of this name, or else before or past the outermost
-/// element, as that has begun or not.
-pub(crate) fn token_at<'a>(
-    rest: &'a [u8],
-    innermost: Option<&[u8]>,
-    begun: bool,
-) -> Option<Token<'a>>
-    ensures token { MatchOption innermost.entry (BeginWith [] (state_of begun []) rest.now result)
-        (λ name. (names : Names) → BeginWith (name.now ∷ names) (inside name.now names) rest.now result) }
-    ensures name { NameStands rest.now result }
-    ensures within { token_len result ≤ length rest.now }
+/// The token that follows at a place, or the first place at which none does. So many elements are open
+/// there, whose names these are; at place 0 the outermost one has not begun.
+pub(crate) fn token_at(
+    text: &[u8],
+    at: usize,
+    spans: &[(usize, usize); 256],
+    depth: usize,
+) -> Result<Token, usize>
+    requires place { at ≤ length text.now }
+    requires depth { depth ≤ 256 }
+    requires fits { SpansFit text.now spans.now depth }
+    requires begun { 0 < depth → 0 < at }
+    ensures token { Tells text.now (open_names text.now spans.now depth) (state_at at (open_names text.now spans.now depth)) at result }
+    ensures stands { TokenStands text.now at result }
 {
-    match innermost {
-        Some(name) => token_within(rest, name),
-        None if begun => token_behind(rest),
-        None => token_before(rest),
+    if at == 0 {
+        return first_token(text);
     }
+    if depth == 0 {
+        return last_token(text, at);
+    }
+    let (start, end) = spans[depth - 1];
+    inner_token(text, at, &text[start..end])
 }
 
-/// White space, and then the outermost element's start tag.
-fn token_before(rest: &[u8]) -> Option<Token<'_>>
-    ensures token { BeginWith [] before rest.now result }
-    ensures name { NameStands rest.now result }
-    ensures within { token_len result ≤ length rest.now }
+/// The outermost element's start tag, behind a byte order mark, white space, comments and instructions.
+fn first_token(text: &[u8]) -> Result<Token, usize>
+    ensures token { Tells text.now [] fresh 0 result }
+    ensures stands { TokenStands text.now 0 result }
 {
-    let space = space_len(rest);
-    let name = start_name(strip(after(rest, space), b'<')?)?;
-    Some(Token::Start { space, name })
+    let begin = mark_end(text)?;
+    let place = outside_end(text, begin)?;
+    let name = past(text, place, b'<')?;
+    let tag = start_tag(text, name)?;
+    Ok(Token::Start { place, tag })
 }
 
-/// A run of text, or a tag.
-fn token_within<'a>(rest: &'a [u8], name: &[u8]) -> Option<Token<'a>>
-    ensures token { (names : Names) → BeginWith (name.now ∷ names) (inside name.now names) rest.now result }
-    ensures name { NameStands rest.now result }
-    ensures within { token_len result ≤ length rest.now }
+/// The end of a byte order mark at the text's start, or the start where none begins, or the first place
+/// at which it is none.
+fn mark_end(text: &[u8]) -> Result<usize, usize>
+    ensures mark { Leads text.now fresh 0 (λ end. between before) result }
+    ensures within { EndsWithin text.now 0 result }
 {
-    let Some(tag) = strip(rest, b'<') else {
-        return words_before_tag(rest);
+    let Ok(second) = past(text, 0, 0xEF) else {
+        return Ok(0);
     };
-    let Some(end) = strip(tag, b'/') else {
-        let name = start_name(tag)?;
-        return Some(Token::Start { space: 0, name });
+    let third = past(text, second, 0xBB)?;
+    past(text, third, 0xBF)
+}
+
+/// What stands at a place in the element of this name, behind comments and instructions.
+fn inner_token(text: &[u8], at: usize, name: &[u8]) -> Result<Token, usize>
+    requires { at ≤ length text.now }
+    ensures token { (names : Names) → Tells text.now (name.now ∷ names) (between (within name.now names)) at result }
+    ensures stands { TokenStands text.now at result }
+{
+    let place = asides_end(text, at)?;
+    let Ok(opened) = past(text, place, b'<') else {
+        let end = words_end(text, place)?;
+        return Ok(Token::Words { place, end });
     };
-    if closes(end, name) {
-        Some(Token::Stop {
-            len: name.len() + 3,
-        })
-    } else {
-        None
+    if let Ok(closing) = past(text, opened, b'/') {
+        let end = end_tag_end(text, closing, name)?;
+        return Ok(Token::Stop { place, end });
     }
+    let tag = start_tag(text, opened)?;
+    Ok(Token::Start { place, tag })
 }
 
-/// White space, and then the end.
-fn token_behind(rest: &[u8]) -> Option<Token<'_>>
-    ensures token { BeginWith [] behind rest.now result }
-    ensures name { NameStands rest.now result }
-    ensures within { token_len result ≤ length rest.now }
+/// The end, where only white space, comments and instructions stand from a place on.
+fn last_token(text: &[u8], at: usize) -> Result<Token, usize>
+    requires { at ≤ length text.now }
+    ensures token { Tells text.now [] (between behind) at result }
+    ensures stands { TokenStands text.now at result }
 {
-    if space_len(rest) == rest.len() {
-        Some(Token::End)
-    } else {
-        None
+    let place = outside_end(text, at)?;
+    if place == text.len() {
+        return Ok(Token::End);
     }
-}
-
-/// A run of text up to the `<` that follows it.
-fn words_before_tag(rest: &[u8]) -> Option<Token<'_>>
-    requires { BeginsWithout 60 rest.now }
-    ensures token { (name : List ℕ) (names : Names) → BeginWith (name ∷ names) (inside name names) rest.now result }
-    ensures name { NameStands rest.now result }
-    ensures within { token_len result ≤ length rest.now }
-{
-    let raw = words(rest);
-    strip(after(rest, raw.len()), b'<')?;
-    Some(Token::Words { raw })
-}
-
-/// The name of the start tag whose `<` stands before these bytes, where it is whole.
-fn start_name(bytes: &[u8]) -> Option<&str>
-    ensures name { MatchOption result (NamesNothing bytes.now) (λ name. NamesTag bytes.now name.now) }
-    ensures front { MatchOption result ⊤ (λ name. name.now ≡ take (length name.now) bytes.now) }
-    ensures within { MatchOption result ⊤ (λ name. length name.now + 1 ≤ length bytes.now) }
-{
-    let name = letters(bytes);
-    if name.is_empty() {
-        return None;
+    match past(text, place, b'<') {
+        Ok(opened) => Err(opened),
+        Err(place) => Err(place),
     }
-    strip(after(bytes, name.len()), b'>')?;
-    Some(name)
-}
-
-/// Whether the end tag whose `</` stands before these bytes is that of the name.
-fn closes(bytes: &[u8], name: &[u8]) -> bool
-    ensures name { MatchBool result (Closes bytes.now name.now) (ClosesNothing bytes.now name.now) }
-    ensures within { MatchBool result (length name.now + 1 ≤ length bytes.now) ⊤ }
-{
-    bytes.starts_with(name) && strip(after(bytes, name.len()), b'>').is_some()
 }

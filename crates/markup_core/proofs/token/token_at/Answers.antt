@@ -1,7 +1,11 @@
+use Rattle.std.proofs.Common.{refl, arith}
+use Rattle.markup_core.proofs.Tokens.{first_told, inner_told}
 use Rattle.markup_core.proofs.token.token_at.Goals as goal
 
-pub returns-in-None-clause-token : goal.returns-in-None-clause-token
-returns-in-None-clause-token c = rw (c.in-None.is, c.if-begun.true) c.token_behind.ensures.token
+pub returns-then-at-eq0-clause-token : goal.returns-then-at-eq0-clause-token
+returns-then-at-eq0-clause-token c =
+    first_told c.args.text.now c.args.spans.now c.args.depth c.args.at c.first_token.result c.if-at-eq0.true c.requires.begun c.first_token.ensures.token
 
-pub returns-in-None-2-clause-token : goal.returns-in-None-2-clause-token
-returns-in-None-2-clause-token c = rw (c.in-None-2.is, c.if-begun.false) c.token_before.ensures.token
+pub returns-clause-token : goal.returns-clause-token
+returns-clause-token c =
+    inner_told c.args.text.now c.args.spans.now c.args.depth c.args.at _ c.inner_token.result (omega arith) refl c.inner_token.ensures.token

@@ -1,74 +1,106 @@
-use Rattle.std.proofs.Common.{◌∙◌, ◌<◌, sym, refl, length, ap, drop, Some, None, arith}
-use Rattle.markup_core.specs.Answers.{limited}
-use Rattle.markup_core.specs.Machine.{state_of}
+use Rattle.std.proofs.Common.{◌∙◌, ◌<◌, sym, refl, ap, length, Ok, Err, arith}
 use Rattle.markup_core.specs.Reader.{answers_left}
-use Rattle.markup_core.specs.Spans.{open_names}
-use Rattle.markup_core.specs.Tokens.{BeginWith, IsRefused}
+use Rattle.markup_core.specs.Tokens.{TokenStands}
 use Rattle.markup_core.specs.declared.token.Token.TheVariants.{Start, Words, Stop, End}
-use Rattle.markup_core.proofs.Left.{token_here, name_here, left_refused, left_start, left_deep, left_words, left_stop, stop_within}
+use Rattle.markup_core.proofs.Cuts.{name_utf8, attrs_utf8, words_utf8}
+use Rattle.markup_core.proofs.Next.{TellsNext, tells_at, stands_at, next_slash, next_words, next_start, next_empty, next_deep, next_stop, next_refused, next_end, next_cut, stop_low}
+use Rattle.markup_core.proofs.Soundness.{sound_slash, sound_start, sound_stop}
 use Rattle.markup_core.proofs.reader.Reader.next.Goals as goal
+use Rattle.markup_core.proofs.reader.Reader.next.Goals.{then-self-2, else-self-2}
 
-pub returns-in-None : goal.returns-in-None
+pub invariant_of-self : goal.invariant_of-self
+invariant_of-self c = sound_slash c.self.inside c.self.invariant c.if-self.true
+
+pub returns-then-self : goal.returns-then-self
 unfolding answers_left
-returns-in-None c =
-    let token : BeginWith (open_names c.self.inside.text.now c.self.inside.spans c.self.inside.depth) (state_of c.self.inside.begun (open_names c.self.inside.text.now c.self.inside.spans c.self.inside.depth)) (drop c.self.inside.at c.self.inside.text.now) None =
-    token_here c.self.inside.text.now c.self.inside.spans c.self.inside.depth c.self.inside.at c.self.inside.begun c.after.result.now
-    c.innermost_name-innermost.result c.token_at.result None c.in-None.is c.after.ensures c.innermost_name-innermost.ensures c.token_at.ensures.token in
-    let refused : IsRefused c.args.self.now = rw (← c.self.view_is) (left_refused c.self.inside.depth _ (token c.self.inside.at)) in
-    (refused, refl)
+returns-then-self c = sym c.self.view_is ∙ next_slash c.self.inside c.if-self.true
 
 pub returns-then-self-eq-OPEN_LIMIT : goal.returns-then-self-eq-OPEN_LIMIT
 unfolding answers_left
 returns-then-self-eq-OPEN_LIMIT c =
-    let token : BeginWith (open_names c.self.inside.text.now c.self.inside.spans c.self.inside.depth) (state_of c.self.inside.begun (open_names c.self.inside.text.now c.self.inside.spans c.self.inside.depth)) (drop c.self.inside.at c.self.inside.text.now) (Some (Start c.in-Some-Start.space c.in-Some-Start.name)) =
-    token_here c.self.inside.text.now c.self.inside.spans c.self.inside.depth c.self.inside.at c.self.inside.begun c.after.result.now
-    c.innermost_name-innermost.result c.token_at.result (Some (Start c.in-Some-Start.space c.in-Some-Start.name)) (c.in-Some-Start.is ∙ ap Some c.in-Some-Start.field-0-is) c.after.ensures c.innermost_name-innermost.ensures c.token_at.ensures.token in
-    let refused : IsRefused c.args.self.now =
-    rw (← c.self.view_is)
-    (left_deep (open_names c.self.inside.text.now c.self.inside.spans c.self.inside.depth) (state_of c.self.inside.begun (open_names c.self.inside.text.now c.self.inside.spans c.self.inside.depth)) c.self.inside.depth c.self.inside.at (drop c.self.inside.at c.self.inside.text.now) c.in-Some-Start.space c.in-Some-Start.name token c.if-self-eq-OPEN_LIMIT.true) in
-    (refused, refl)
+    let tells : TellsNext c.self.inside (Ok (Start c.in-Ok-Start.place c.in-Ok-Start.tag)) =
+    tells_at c.self.inside c.token_at.result (Ok (Start c.in-Ok-Start.place c.in-Ok-Start.tag)) (c.in-Ok-Start.is ∙ ap Ok c.in-Ok-Start.field-0-is) c.token_at.ensures.token in
+    (sym c.self.view_is ∙ next_deep c.self.inside c.in-Ok-Start.place c.in-Ok-Start.tag c.if-self.false tells c.if-self-eq-OPEN_LIMIT.true, refl)
 
-pub returns-else-self-eq-OPEN_LIMIT : goal.returns-else-self-eq-OPEN_LIMIT
+pub piece-name-requires-clause-utf8 : goal.piece-name-requires-clause-utf8
+piece-name-requires-clause-utf8 c =
+    let stand : TokenStands c.self.inside.text.now c.self.inside.at (Ok (Start c.in-Ok-Start.place c.in-Ok-Start.tag)) =
+    stands_at c.self.inside.text.now c.self.inside.at c.token_at.result (Ok (Start c.in-Ok-Start.place c.in-Ok-Start.tag)) (c.in-Ok-Start.is ∙ ap Ok c.in-Ok-Start.field-0-is) c.token_at.ensures.stands in
+    name_utf8 c.self.inside.text.now c.self.inside.at c.in-Ok-Start.place c.in-Ok-Start.tag c.self.invariant.is_utf8 stand
+
+pub piece-requires-clause-utf8 : goal.piece-requires-clause-utf8
+piece-requires-clause-utf8 c =
+    let stand : TokenStands c.self.inside.text.now c.self.inside.at (Ok (Start c.in-Ok-Start.place c.in-Ok-Start.tag)) =
+    stands_at c.self.inside.text.now c.self.inside.at c.token_at.result (Ok (Start c.in-Ok-Start.place c.in-Ok-Start.tag)) (c.in-Ok-Start.is ∙ ap Ok c.in-Ok-Start.field-0-is) c.token_at.ensures.stands in
+    attrs_utf8 c.self.inside.text.now c.self.inside.at c.in-Ok-Start.place c.in-Ok-Start.tag c.self.invariant.is_utf8 stand
+
+pub returns-then-tag : goal.returns-then-tag
 unfolding answers_left
-returns-else-self-eq-OPEN_LIMIT c =
-    let token : BeginWith (open_names c.self.inside.text.now c.self.inside.spans c.self.inside.depth) (state_of c.self.inside.begun (open_names c.self.inside.text.now c.self.inside.spans c.self.inside.depth)) (drop c.self.inside.at c.self.inside.text.now) (Some (Start c.in-Some-Start.space c.in-Some-Start.name)) =
-    token_here c.self.inside.text.now c.self.inside.spans c.self.inside.depth c.self.inside.at c.self.inside.begun c.after.result.now
-    c.innermost_name-innermost.result c.token_at.result (Some (Start c.in-Some-Start.space c.in-Some-Start.name)) (c.in-Some-Start.is ∙ ap Some c.in-Some-Start.field-0-is) c.after.ensures c.innermost_name-innermost.ensures c.token_at.ensures.token in
+returns-then-tag c =
+    let tells : TellsNext c.self.inside (Ok (Start c.in-Ok-Start.place c.in-Ok-Start.tag)) =
+    tells_at c.self.inside c.token_at.result (Ok (Start c.in-Ok-Start.place c.in-Ok-Start.tag)) (c.in-Ok-Start.is ∙ ap Ok c.in-Ok-Start.field-0-is) c.token_at.ensures.token in
     let low : c.self.inside.depth < 256 = omega arith in
-    let room : c.self.inside.depth < length c.self.inside.spans = omega arith in (
-      sym c.self.view_is
-          ∙ left_start c.self.inside.text.now c.self.inside.spans c.self.inside.depth c.self.inside.at c.self.inside.begun c.in-Some-Start.space c.in-Some-Start.name token low room
-          (name_here c.self.inside.text.now c.self.inside.at c.in-Some-Start.space c.in-Some-Start.name c.after.result.now c.token_at.result
-          (c.in-Some-Start.is ∙ ap Some c.in-Some-Start.field-0-is) c.after.ensures c.token_at.ensures.name),
-      refl,
-    )
-
-pub returns-in-Some-Words : goal.returns-in-Some-Words
-unfolding answers_left
-returns-in-Some-Words c =
     sym c.self.view_is
-    ∙ left_words c.self.inside.text.now (open_names c.self.inside.text.now c.self.inside.spans c.self.inside.depth) (state_of c.self.inside.begun (open_names c.self.inside.text.now c.self.inside.spans c.self.inside.depth)) c.self.inside.depth c.self.inside.at c.in-Some-Words.raw
-    (token_here c.self.inside.text.now c.self.inside.spans c.self.inside.depth c.self.inside.at c.self.inside.begun c.after.result.now
-    c.innermost_name-innermost.result c.token_at.result (Some (Words c.in-Some-Words.raw)) (c.in-Some-Words.is ∙ ap Some c.in-Some-Words.field-0-is) c.after.ensures c.innermost_name-innermost.ensures c.token_at.ensures.token)
+    ∙ next_empty c.self.inside c.in-Ok-Start.place c.in-Ok-Start.tag c.piece-name.result.now c.piece.result.now c.if-self.false tells c.if-tag.true low c.piece-name.ensures c.piece.ensures
 
-pub overflow_sub-self : goal.overflow_sub-self
-overflow_sub-self c =
-    stop_within c.self.inside.text.now c.self.inside.spans c.self.inside.depth (state_of c.self.inside.begun (open_names c.self.inside.text.now c.self.inside.spans c.self.inside.depth)) (drop c.self.inside.at c.self.inside.text.now) c.in-Some-Stop.len
-    (token_here c.self.inside.text.now c.self.inside.spans c.self.inside.depth c.self.inside.at c.self.inside.begun c.after.result.now
-    c.innermost_name-innermost.result c.token_at.result (Some (Stop c.in-Some-Stop.len)) (c.in-Some-Stop.is ∙ ap Some c.in-Some-Stop.field-0-is) c.after.ensures c.innermost_name-innermost.ensures c.token_at.ensures.token)
+pub invariant_of-self-in-Ok-Start : goal.invariant_of-self-in-Ok-Start
+invariant_of-self-in-Ok-Start c =
+    let stand : TokenStands c.self.inside.text.now c.self.inside.at (Ok (Start c.in-Ok-Start.place c.in-Ok-Start.tag)) =
+    stands_at c.self.inside.text.now c.self.inside.at c.token_at.result (Ok (Start c.in-Ok-Start.place c.in-Ok-Start.tag)) (c.in-Ok-Start.is ∙ ap Ok c.in-Ok-Start.field-0-is) c.token_at.ensures.stands in
+    let low : c.self.inside.depth < 256 = omega arith in
+    sound_start c.self.inside c.in-Ok-Start.place c.in-Ok-Start.tag c.self.invariant stand c.if-tag.false c.if-self.false low
 
-pub returns-in-Some-Stop : goal.returns-in-Some-Stop
+pub returns-else-tag : goal.returns-else-tag
 unfolding answers_left
-returns-in-Some-Stop c =
+returns-else-tag c =
+    let tells : TellsNext c.self.inside (Ok (Start c.in-Ok-Start.place c.in-Ok-Start.tag)) =
+    tells_at c.self.inside c.token_at.result (Ok (Start c.in-Ok-Start.place c.in-Ok-Start.tag)) (c.in-Ok-Start.is ∙ ap Ok c.in-Ok-Start.field-0-is) c.token_at.ensures.token in
+    let low : c.self.inside.depth < 256 = omega arith in
+    let room : c.self.inside.depth < length c.self.inside.spans = omega arith in
     sym c.self.view_is
-    ∙ left_stop c.self.inside.text.now c.self.inside.spans c.self.inside.depth c.self.inside.at c.self.inside.begun c.in-Some-Stop.len
-    (token_here c.self.inside.text.now c.self.inside.spans c.self.inside.depth c.self.inside.at c.self.inside.begun c.after.result.now
-    c.innermost_name-innermost.result c.token_at.result (Some (Stop c.in-Some-Stop.len)) (c.in-Some-Stop.is ∙ ap Some c.in-Some-Stop.field-0-is) c.after.ensures c.innermost_name-innermost.ensures c.token_at.ensures.token) c.self.invariant.has_begun
+    ∙ next_start c.self.inside c.in-Ok-Start.place c.in-Ok-Start.tag c.piece-name.result.now c.piece.result.now c.if-self.false tells c.if-tag.false low room c.piece-name.ensures c.piece.ensures
 
-pub returns-in-Some-End : goal.returns-in-Some-End
+pub piece-raw-requires-clause-utf8 : goal.piece-raw-requires-clause-utf8
+piece-raw-requires-clause-utf8 c =
+    let stand : TokenStands c.self.inside.text.now c.self.inside.at (Ok (Words c.in-Ok-Words.place c.in-Ok-Words.end)) =
+    stands_at c.self.inside.text.now c.self.inside.at c.token_at.result (Ok (Words c.in-Ok-Words.place c.in-Ok-Words.end)) (c.in-Ok-Words.is ∙ ap Ok c.in-Ok-Words.field-0-is) c.token_at.ensures.stands in
+    words_utf8 c.self.inside.text.now c.self.inside.at c.in-Ok-Words.place c.in-Ok-Words.end c.self.invariant.is_utf8 c.self.invariant.between_characters stand
+
+pub returns-in-Ok-Words : goal.returns-in-Ok-Words
 unfolding answers_left
-returns-in-Some-End c =
-    let token : BeginWith (open_names c.self.inside.text.now c.self.inside.spans c.self.inside.depth) (state_of c.self.inside.begun (open_names c.self.inside.text.now c.self.inside.spans c.self.inside.depth)) (drop c.self.inside.at c.self.inside.text.now) (Some End) =
-    token_here c.self.inside.text.now c.self.inside.spans c.self.inside.depth c.self.inside.at c.self.inside.begun c.after.result.now
-    c.innermost_name-innermost.result c.token_at.result (Some End) (c.in-Some-End.is ∙ ap Some c.in-Some-End.field-0-is) c.after.ensures c.innermost_name-innermost.ensures c.token_at.ensures.token in
-    (sym c.self.view_is ∙ ap (λ xs. limited c.self.inside.depth xs) (token c.self.inside.at), refl)
+returns-in-Ok-Words c =
+    let tells : TellsNext c.self.inside (Ok (Words c.in-Ok-Words.place c.in-Ok-Words.end)) =
+    tells_at c.self.inside c.token_at.result (Ok (Words c.in-Ok-Words.place c.in-Ok-Words.end)) (c.in-Ok-Words.is ∙ ap Ok c.in-Ok-Words.field-0-is) c.token_at.ensures.token in
+    sym c.self.view_is
+    ∙ next_words c.self.inside c.in-Ok-Words.place c.in-Ok-Words.end c.piece-raw.result.now c.if-self.false tells c.piece-raw.ensures
+
+pub invariant_of-self-in-Ok-Stop : goal.invariant_of-self-in-Ok-Stop
+invariant_of-self-in-Ok-Stop c =
+    let stand : TokenStands c.self.inside.text.now c.self.inside.at (Ok (Stop c.in-Ok-Stop.place c.in-Ok-Stop.end)) =
+    stands_at c.self.inside.text.now c.self.inside.at c.token_at.result (Ok (Stop c.in-Ok-Stop.place c.in-Ok-Stop.end)) (c.in-Ok-Stop.is ∙ ap Ok c.in-Ok-Stop.field-0-is) c.token_at.ensures.stands in
+    sound_stop c.self.inside c.in-Ok-Stop.place c.in-Ok-Stop.end c.self.invariant stand c.if-self.false
+
+pub returns-in-Ok-Stop : goal.returns-in-Ok-Stop
+unfolding answers_left
+returns-in-Ok-Stop c =
+    let tells : TellsNext c.self.inside (Ok (Stop c.in-Ok-Stop.place c.in-Ok-Stop.end)) =
+    tells_at c.self.inside c.token_at.result (Ok (Stop c.in-Ok-Stop.place c.in-Ok-Stop.end)) (c.in-Ok-Stop.is ∙ ap Ok c.in-Ok-Stop.field-0-is) c.token_at.ensures.token in
+    let stand : TokenStands c.self.inside.text.now c.self.inside.at (Ok (Stop c.in-Ok-Stop.place c.in-Ok-Stop.end)) =
+    stands_at c.self.inside.text.now c.self.inside.at c.token_at.result (Ok (Stop c.in-Ok-Stop.place c.in-Ok-Stop.end)) (c.in-Ok-Stop.is ∙ ap Ok c.in-Ok-Stop.field-0-is) c.token_at.ensures.stands in
+    sym c.self.view_is
+    ∙ next_stop c.self.inside c.in-Ok-Stop.place c.in-Ok-Stop.end c.if-self.false tells (stop_low c.self.inside.text.now c.self.inside.at c.in-Ok-Stop.place c.in-Ok-Stop.end stand)
+
+pub returns-after-self-2 : goal.returns-after-self-2
+unfolding answers_left
+returns-after-self-2 c =
+    let tells : TellsNext c.self.inside (Ok End) = tells_at c.self.inside c.token_at.result (Ok End) (c.in-Ok-End.is ∙ ap Ok c.in-Ok-End.field-0-is) c.token_at.ensures.token in
+    elim c.if-self-2.branch [
+      | then-self-2 w ↦ rw w.result-is (sym c.self.view_is ∙ next_end c.self.inside c.if-self.false tells w.if-self-2.true, refl)
+      | else-self-2 w ↦ rw w.result-is (sym c.self.view_is ∙ next_cut c.self.inside c.if-self.false tells w.if-self-2.false, refl)
+    ]
+
+pub returns-in-Err : goal.returns-in-Err
+unfolding answers_left
+returns-in-Err c =
+    let tells : TellsNext c.self.inside (Err c.in-Err.place) = tells_at c.self.inside c.token_at.result (Err c.in-Err.place) c.in-Err.is c.token_at.ensures.token in
+    (sym c.self.view_is ∙ next_refused c.self.inside c.in-Err.place c.if-self.false tells, refl)

@@ -1,5 +1,0 @@
-use Rattle.markup_core.proofs.Limit.{finished_texts}
-use Rattle.markup_core.proofs.laws.finished_texts.Goals as goal
-
-pub returns : goal.returns
-returns c = finished_texts

@@ -1,0 +1,14 @@
+pub mod Counts
+pub mod Deep
+pub mod Examples
+pub mod First
+pub mod Left
+pub mod Limit
+pub mod Lives
+pub mod Runs
+pub mod Sound
+pub mod Stand
+pub mod Steps
+pub mod Tokens
+pub mod Verdicts
+pub mod Whole

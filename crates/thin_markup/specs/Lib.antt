@@ -1,0 +1,9 @@
+pub mod Answers
+pub mod Bytes
+pub mod Machine
+pub mod Next
+pub mod Places
+pub mod Reader
+pub mod Spans
+pub mod Tokens
+pub mod Tree
