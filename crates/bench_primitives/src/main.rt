@@ -6,6 +6,7 @@ ghost use Rattle.std.specs.Prelude.{◌≡◌, ◌%◌, ◌≤◌, ◌^◌, leng
 
 use argon_core::{ArgonKind, ArgonParams, argon2};
 use block_core::{Aes256, Block16, Twofish256, cbc_decrypt, cbc_encrypt};
+use key_core::{Kdf, check_kdf, transform};
 use mac_core::Hmac256;
 use secret_core::Key;
 use std::alloc::AllocGlobal;
@@ -15,6 +16,9 @@ use stream_core::{ChaCha20, Salsa20};
 
 /// The length of a piece.
 const PIECE: usize = 1_048_576;
+
+/// The rounds of a turn of the transformation of a key by AES.
+const ROUNDS: u64 = 100_000;
 
 /// The bytes of every key.
 const KEY: [u8; 32] = [7; 32];
@@ -93,6 +97,26 @@ fn argon(rt: &impl AllocGlobal, kind: ArgonKind, text: &mut [u8], turns: u32) {
     }
 }
 
+// Transforms a key by AES, with the rounds of as many turns as asked, into the front of the text.
+fn transform_by_aes(rt: &impl AllocGlobal, text: &mut [u8], turns: u32) {
+    let kdf = Kdf::Aes {
+        rounds: turns as u64 * ROUNDS,
+        seed: KEY,
+    };
+    let Ok(()) = check_kdf(&kdf) else {
+        return;
+    };
+    let mut key = Key::of(&KEY);
+    let transformed = transform(rt.alloc(), &key, &kdf);
+    key.clear();
+    key.release();
+    if let Ok(mut transformed) = transformed {
+        put(text, transformed.bytes());
+        transformed.clear();
+        transformed.release();
+    }
+}
+
 // Does the work of this name over one piece; false where there is none of the name, or the text is no piece.
 fn work(rt: &impl AllocGlobal, name: &str, text: &mut [u8], turns: u32) -> bool {
     if text.len() != PIECE {
@@ -111,6 +135,7 @@ fn work(rt: &impl AllocGlobal, name: &str, text: &mut [u8], turns: u32) -> bool 
         "chacha20" => chacha(text, turns),
         "salsa20" => salsa(text, turns),
         "hmac" => hmac(text, turns),
+        "aes-transform" => transform_by_aes(rt, text, turns),
         "argon2d" => argon(rt, ArgonKind::D, text, turns),
         "argon2id" => argon(rt, ArgonKind::Id, text, turns),
         _ => return false,

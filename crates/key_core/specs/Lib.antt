@@ -1,0 +1,2 @@
+pub mod Kdf
+pub mod Keys

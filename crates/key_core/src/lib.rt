@@ -1,0 +1,16 @@
+//! The keys of a vault file: from a password and a key file to the keys under which the file stands.
+#![tactic(auto)]
+
+mod composition;
+mod files;
+mod kdf;
+mod transformation;
+
+pub use argon_core::ArgonKind;
+pub use composition::composite;
+pub use files::{FileKeys, file_keys};
+pub use kdf::{Kdf, KdfFail, KdfField, check_kdf};
+pub use transformation::transform;
+
+#[cfg(test)]
+mod tests;

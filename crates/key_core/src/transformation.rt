@@ -1,0 +1,101 @@
+// The transformation of the composite key, whose cost is chosen by the file.
+
+ghost use Rattle.std.specs.Prelude.{◌≡◌, ◌≤◌, ◌+◌, ◌++◌, IfOk, IfErr, take, drop};
+ghost use Rattle.std.specs.Fn.{iterate};
+ghost use Rattle.sha2.specs.Sha256.{sha256};
+ghost use Rattle.block_core.specs.AesCipher.{aes_enciphered};
+ghost use Rattle.key_core.specs.Kdf.{IsChecked};
+ghost use Rattle.key_core.specs.Keys.{aes_transformed, transformed_key};
+
+use crate::kdf::{Kdf, KdfFail};
+use argon_core::{ArgonParams, argon2};
+use block_core::{Aes256, Block16};
+use secret_core::Key;
+use sha2::{Digest, Sha256};
+use std::alloc::Global;
+
+/// Transforms a composite key, which is lent. Only want of memory is refused: the key derivation
+/// function must have passed `check_kdf`.
+pub fn transform(alloc: Global, composite: &Key, kdf: &Kdf) -> Result<Key, KdfFail>
+    requires { IsChecked kdf.now }
+    ensures key { IfOk result (λ key. key ≡ transformed_key kdf.now composite.now) }
+    ensures memory { IfErr result (λ fail. fail ≡ KdfFail.NoMemory) }
+{
+    match kdf {
+        Kdf::Aes { rounds, seed } => Ok(transform_by_aes(composite, *rounds, seed)),
+        Kdf::Argon {
+            kind,
+            passes,
+            bytes,
+            lanes,
+            salt,
+        } => {
+            let params = ArgonParams {
+                passes: *passes as u32,
+                kib: (*bytes / 1024) as u32,
+                lanes: *lanes,
+            };
+            match argon2(
+                alloc,
+                *kind,
+                &params,
+                composite.bytes(),
+                salt.as_slice(),
+                &[],
+                &[],
+            ) {
+                Ok(key) => Ok(key),
+                Err(_) => Err(KdfFail::NoMemory),
+            }
+        }
+    }
+}
+
+// The halves of a key.
+fn halves(key: &Key) -> ([u8; 16], [u8; 16])
+    ensures first { result.0 ≡ take 16 key.now }
+    ensures second { result.1 ≡ drop 16 key.now }
+{
+    let (front, back) = key.bytes().split_at(16);
+    let mut first = [0; 16];
+    first.copy_from_slice(front);
+    let mut second = [0; 16];
+    second.copy_from_slice(back);
+    (first, second)
+}
+
+// Both halves of a key enciphered again and again under a seed, and their hash.
+fn transform_by_aes(key: &Key, rounds: u64, seed: &[u8; 32]) -> Key
+    ensures { result ≡ aes_transformed seed.now rounds key.now }
+{
+    let mut cipher_key = Key::of(seed);
+    let cipher = Aes256::new(&cipher_key);
+    cipher_key.clear();
+    cipher_key.release();
+    let (mut first, mut second) = halves(key);
+    encipher_often(&cipher, rounds, &mut first);
+    encipher_often(&cipher, rounds, &mut second);
+    let transformed = hash_of(&first, &second);
+    first.fill(0);
+    second.fill(0);
+    transformed
+}
+
+// The hash of two blocks.
+fn hash_of(first: &[u8; 16], second: &[u8; 16]) -> Key
+    ensures { result ≡ sha256 (first.now ++ second.now) }
+{
+    let mut hasher = Sha256::new();
+    hasher.update(first);
+    hasher.update(second);
+    Key::of(&hasher.finalize())
+}
+
+// Enciphers a block again and again.
+fn encipher_often(cipher: &Aes256, rounds: u64, block: &mut [u8; 16])
+    ensures { block.new ≡ iterate (aes_enciphered cipher.now) rounds block.old }
+{
+    'rounds: for _ in 0..rounds {
+        cipher.encrypt(block);
+    }
+}
