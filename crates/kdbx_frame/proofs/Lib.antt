@@ -1,0 +1,2 @@
+mod HeaderVectors
+pub mod Steps

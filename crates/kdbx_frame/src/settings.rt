@@ -1,0 +1,216 @@
+// What the fields of a header settle.
+
+ghost use Rattle.std.specs.Prelude.{◌≡◌, ◌-◌, ◌≤◌, ◌++◌, IfOk, IfSome, Ok, length, option_map, replicate};
+ghost use Rattle.key_core.specs.Kdf.{IsChecked};
+ghost use Rattle.kdbx_frame.specs.Results.{Gives};
+ghost use Rattle.kdbx_frame.specs.Settings.{IsInOrder, cipher_of, iv_of, judged_of, kdf_of, settled_of, uncompressed};
+ghost use Rattle.kdbx_frame.specs.Seen.{HasSmall, found_seen, judged_seen, told_seen};
+
+use crate::FrameFail;
+use crate::dictionary::Told;
+use crate::fields::Found;
+use crate::parts::{copy_of, needed, same};
+use key_core::{Kdf, check_kdf};
+use outside_core::Bytes;
+use std::alloc::Global;
+use uuid::Uuid;
+
+/// The version of a file's format. They are ordered: 3.1 before 4.0.
+#[derive(Clone, Copy, Debug, PartialEq, Eq, PartialOrd, Ord)]
+pub enum FileVersion {
+    /// KDBX 3.1.
+    V31,
+    /// KDBX 4.0.
+    V40,
+}
+
+/// The cipher of a file's content.
+#[derive(Clone, Copy, Debug, PartialEq, Eq)]
+pub enum Cipher {
+    /// AES-256 in CBC.
+    Aes,
+    /// Twofish with a key of 256 bits, in CBC.
+    Twofish,
+    /// ChaCha20 (RFC 8439).
+    ChaCha,
+}
+
+/// What a user chose for a file, which a rewriting of the file keeps.
+#[derive(Debug, Drop)]
+pub struct Settings {
+    /// The version of the format.
+    pub version: FileVersion,
+    /// The cipher of the content.
+    pub cipher: Cipher,
+    /// The key derivation, with its costs within their limits.
+    pub kdf: Kdf,
+    /// The public data, which stands in the header in the clear, if any.
+    pub public: Option<Bytes>,
+}
+
+/// What the fields settle, with the master seed and the IV.
+#[derive(Drop)]
+pub struct Judged {
+    pub settings: Settings,
+    pub seed: [u8; 32],
+    pub iv: [u8; 16],
+}
+
+/// The ids of the ciphers.
+const AES: [u8; 16] = [
+    0x31, 0xC1, 0xF2, 0xE6, 0xBF, 0x71, 0x43, 0x50, 0xBE, 0x58, 0x05, 0x21, 0x6A, 0xFC, 0x5A, 0xFF,
+];
+
+const TWOFISH: [u8; 16] = [
+    0xAD, 0x68, 0xF2, 0x9F, 0x57, 0x6F, 0x4B, 0xB9, 0xA3, 0x6A, 0xD4, 0x7A, 0xF9, 0x65, 0x34, 0x6C,
+];
+
+const CHACHA: [u8; 16] = [
+    0xD6, 0x03, 0x8A, 0x2B, 0x8B, 0x6F, 0x4C, 0xB5, 0xA5, 0x24, 0x33, 0x9A, 0x31, 0xDB, 0xB5, 0x9A,
+];
+
+/// The version of Argon2 that is read.
+const ARGON_VERSION: u32 = 0x13;
+
+// The cipher of an id.
+fn cipher_of(id: [u8; 16]) -> Result<Cipher, FrameFail>
+    ensures { Gives (λ x. x) result (cipher_of id) }
+{
+    if same(&id, &AES) {
+        Ok(Cipher::Aes)
+    } else if same(&id, &TWOFISH) {
+        Ok(Cipher::Twofish)
+    } else if same(&id, &CHACHA) {
+        Ok(Cipher::ChaCha)
+    } else {
+        Err(FrameFail::CipherUnknown(Uuid::from_bytes(id)))
+    }
+}
+
+// The bytes with zeros behind them, up to sixteen.
+fn filled(iv: &[u8]) -> [u8; 16]
+    requires { length iv.now ≤ 16 }
+    ensures { result ≡ iv.now ++ replicate (16 - length iv.now) 0 }
+{
+    let mut whole = [0; 16];
+    whole[..iv.len()].copy_from_slice(iv);
+    whole
+}
+
+// The IV of a cipher as it is kept.
+fn iv_of(cipher: Cipher, iv: &[u8]) -> Result<[u8; 16], FrameFail>
+    ensures { Gives (λ x. x) result (iv_of cipher iv.now) }
+{
+    let len = match cipher {
+        Cipher::Aes | Cipher::Twofish => 16,
+        Cipher::ChaCha => 12,
+    };
+    if iv.len() != len {
+        return Err(FrameFail::FieldLength(7, iv.len() as u64));
+    }
+    Ok(filled(iv))
+}
+
+// Whether the content is not compressed.
+fn uncompressed(flag: u32) -> Result<(), FrameFail>
+    ensures { Gives (λ x. x) result (uncompressed flag) }
+{
+    if flag != 0 {
+        return Err(FrameFail::Compressed(flag));
+    }
+    Ok(())
+}
+
+// The key derivation that a dictionary tells.
+fn kdf_of(alloc: Global, told: Told) -> Result<Kdf, FrameFail>
+    ensures gives { Gives (λ x. x) result (kdf_of (told_seen told.entry)) }
+    ensures checked { IfOk result IsChecked }
+{
+    let kdf = match told {
+        Told::Wrong(version) => return Err(FrameFail::Variant(version as u64)),
+        Told::Unknown(id) => return Err(FrameFail::KdfUnknown(Uuid::from_bytes(id))),
+        Told::Aes { rounds, seed } => Kdf::Aes { rounds, seed },
+        Told::Argon {
+            kind,
+            passes,
+            memory,
+            lanes,
+            salt,
+            version,
+            extra,
+        } => {
+            if version != ARGON_VERSION {
+                return Err(FrameFail::Variant(version as u64));
+            }
+            if extra {
+                return Err(FrameFail::Variant(0));
+            }
+            Kdf::Argon {
+                kind,
+                passes,
+                bytes: memory,
+                lanes,
+                salt: copy_of(alloc, salt)?,
+            }
+        }
+    };
+    check_kdf(&kdf)?;
+    Ok(kdf)
+}
+
+// The public data in memory of its own, if any.
+fn public_of(alloc: Global, public: Option<&[u8]>) -> Result<Option<Bytes>, FrameFail>
+    requires { HasSmall public }
+    ensures gives { Gives (λ x. x) result (Ok (option_map (λ x. x.now) public.entry)) }
+    ensures small { IfOk result (λ x. IfSome x (λ bytes. length bytes ≤ 65536)) }
+{
+    match public {
+        Some(bytes) => Ok(Some(copy_of(alloc, bytes)?)),
+        None => Ok(None),
+    }
+}
+
+// The settings, with the IV, of fields that stand.
+#[tactic(auto, unfolding(crate::specs::Settings::settled_of))]
+fn settled_of(
+    alloc: Global,
+    id: [u8; 16],
+    flag: u32,
+    iv: &[u8],
+    told: Told,
+    public: Option<&[u8]>,
+) -> Result<(Settings, [u8; 16]), FrameFail>
+    requires { HasSmall public }
+    ensures gives { Gives (λ x. (x.0, x.1)) result (settled_of id flag iv.now (told_seen told.entry) (option_map (λ x. x.now) public.entry)) }
+    ensures in_order { IfOk result (λ x. IsInOrder x.0) }
+{
+    let cipher = cipher_of(id)?;
+    let iv = iv_of(cipher, iv)?;
+    uncompressed(flag)?;
+    let kdf = kdf_of(alloc, told)?;
+    let public = public_of(alloc, public)?;
+    let settings = Settings {
+        version: FileVersion::V40,
+        cipher,
+        kdf,
+        public,
+    };
+    Ok((settings, iv))
+}
+
+/// What the fields settle. The refusals are FieldMissing, CipherUnknown, FieldLength of the IV, Compressed, KdfUnknown,
+/// Variant and KdfLimit, the first in this order.
+#[tactic(auto, unfolding(crate::specs::Settings::judged_of))]
+pub fn judged_of(alloc: Global, found: Found) -> Result<Judged, FrameFail>
+    requires { HasSmall found.public }
+    ensures gives { Gives judged_seen result (judged_of (found_seen found.entry)) }
+    ensures in_order { IfOk result (λ j. IsInOrder j.settings) }
+{
+    let id = needed(2, found.cipher)?;
+    let flag = needed(3, found.compression)?;
+    let seed = needed(4, found.seed)?;
+    let iv = needed(7, found.iv)?;
+    let told = needed(11, found.kdf)?;
+    let (settings, iv) = settled_of(alloc, id, flag, iv, told, found.public)?;
+    Ok(Judged { settings, seed, iv })
+}
