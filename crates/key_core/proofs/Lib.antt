@@ -1,1 +1,5 @@
+mod Base64Keys
+mod Roots
+mod Steps
+mod Trims
 mod Turns

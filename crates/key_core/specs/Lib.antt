@@ -1,2 +1,6 @@
 pub mod Kdf
+pub mod KeyDocument
+pub mod KeyFile
+pub mod KeyTexts
 pub mod Keys
+pub mod Reading

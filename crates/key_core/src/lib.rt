@@ -4,13 +4,20 @@
 mod composition;
 mod files;
 mod kdf;
+mod key_document;
+mod key_file;
+mod key_texts;
+mod reading;
 mod transformation;
 
 pub use argon_core::ArgonKind;
 pub use composition::composite;
 pub use files::{FileKeys, file_keys};
 pub use kdf::{Kdf, KdfFail, KdfField, check_kdf};
+pub use key_file::{KeyFileFail, read_key_file};
 pub use transformation::transform;
 
+#[cfg(test)]
+mod key_file_tests;
 #[cfg(test)]
 mod tests;
