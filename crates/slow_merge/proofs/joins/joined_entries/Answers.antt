@@ -1,0 +1,18 @@
+-- Filled at each known id, the table is that of the join.
+use Rattle.std.proofs.Common.{◌≤◌, length, arith, ap, sym, ◌∙◌}
+use Rattle.std.specs.FinMap.{get}
+use Rattle.std.specs.List.{list_any}
+use Rattle.vault_model.specs.Join.{is_id, join}
+use Rattle.slow_merge.specs.Databases.{databases}
+use Rattle.slow_merge.proofs.Joining.{filled, filled_whole, dropped_all, entries_known}
+use Rattle.slow_merge.proofs.joins.joined_entries.Goals as goal
+
+pub returns : goal.returns
+returns c =
+    let S = databases c.args.members.now in
+    let J = (join S).entries in
+    let known = c.args.known.now in
+    let end : length known ≤ c.loop-id.id-index = omega arith in
+    sym (ap (filled (get J) c.loop-id.entries) (dropped_all known c.loop-id.id-index end))
+    ∙ sym c.loop-id.invariant
+    ∙ filled_whole J known (λ q h. entries_known S q (ap (list_any (is_id q)) (sym c.requires.known) ∙ h))
