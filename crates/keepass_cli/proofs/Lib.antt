@@ -1,4 +1,1 @@
-pub mod Document
-pub mod Kids
-pub mod Steps
-mod Tried
+pub mod Completeness

@@ -3,7 +3,6 @@ pub mod Listing
 pub mod Messages
 pub mod Outcome
 pub mod Phases
-pub mod Reading
+pub mod SaidWords
 pub mod Telling
-pub mod Thin
 pub mod Words

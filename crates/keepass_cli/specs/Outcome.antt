@@ -1,22 +1,24 @@
 -- What a call comes to: its phases one after another, and all that is seen of it.
-use Rattle.std.specs.Prelude.{◌≡◌, ◌≢◌, ℕ, List, [], ◌++◌, Contains, Option, None, Some, option_map, ◌⊎◌, Result, Ok, Err, codes}
+use Rattle.std.specs.Prelude.{◌≡◌, ◌≢◌, ◌≤◌, ℕ, List, [], ◌++◌, length, Contains, Option, None, Some, option_map, ◌⊎◌, Result, Ok, Err, codes}
+use Rattle.std.specs.FinMap as map
 use Rattle.outside_core.specs.Counts.{Rose}
 use Rattle.outside_core.specs.Files.{FileMap}
 use Rattle.outside_core.specs.Streams.{GainsFront}
+use Rattle.vault_model.specs.Tree.{BareDoc}
+use Rattle.doc_read.specs.Documents.{Read}
 use Rattle.keepass_cli.specs.declared.answers.Refusal.{Refusal}
 use Rattle.keepass_cli.specs.declared.listing.Done.{Done}
 use Rattle.keepass_cli.specs.declared.words.Command.{Command}
 use Rattle.keepass_cli.specs.declared.words.Command.TheVariants.{Ls}
-use Rattle.keepass_cli.specs.Databases.{database_of}
+use Rattle.keepass_cli.specs.Databases.{database_of, file_limit, plain_document}
 use Rattle.keepass_cli.specs.Listing.{listing}
 use Rattle.keepass_cli.specs.Messages.{status_of, words_of, told_line}
 use Rattle.keepass_cli.specs.Phases.{◌>>=◌}
-use Rattle.keepass_cli.specs.Thin.{Root}
 use Rattle.keepass_cli.specs.Words.{command_of}
 
 -- What a command gives on its database.
-abbrev pub done_of : Command → Root → Result Done Refusal
-done_of (Ls file) root = Ok (record { text = listing root })
+abbrev pub done_of : Command → BareDoc → Result Done Refusal
+done_of (Ls file) doc = Ok (record { text = listing doc })
 
 -- The words, the database that they name, and the command. No command reads a line, draws an id or writes a file yet.
 unfoldable pub answer_of : List (List ℕ) → FileMap → Result Done Refusal
@@ -128,3 +130,18 @@ pub record IsSafe (result : ℕ) (before now : Seen) (counts counts' : Counts) :
   pub input : result ≡ 11 → Rose counts.input counts'.input ⊎ Rose counts.dice counts'.dice
   pub files : result ≢ 0 → result ≢ 9 → result ≢ 10 → now.files ≡ before.files
   pub draft : SameDraft before now ⊎ (now.draft_name ≡ None)
+
+-- The words are a command whose file is there, within the limit, and a document.
+pub record IsAble (words : List (List ℕ)) (files : FileMap) : Type 0 where
+  pub file : List ℕ
+  pub bytes : List ℕ
+  pub read : Read
+  pub is_command : command_of words ≡ Ok (Ls file)
+  pub is_there : map.get files file ≡ Some bytes
+  pub is_within : length bytes ≤ file_limit
+  pub is_document : plain_document bytes ≡ Ok read
+
+-- Where the words can be carried out and no count of faults rose, the status is 0, or memory ran out.
+abbrev pub IsCarriedOut : List (List ℕ) → FileMap → ℕ → Counts → Counts → Type 0
+IsCarriedOut words files result before now =
+    IsAble words files → IsCalm before now → (result ≡ 0) ⊎ (result ≡ 9)

@@ -3,9 +3,9 @@
 
 mod answers;
 mod databases;
-mod laws;
 mod listing;
-mod plain;
+#[cfg(test)]
+mod reader_tests;
 mod run;
 #[cfg(test)]
 mod tests;

@@ -1,13 +1,13 @@
 //! The one call of the program: from its words, and the objects of the outside, to its status.
 ghost use Rattle.std.specs.Prelude.{◌≡◌, ◌≢◌, ◌≤◌, ◌⊎◌, ℕ, Some, IfErr, map, string_bytes};
 ghost use Rattle.outside_core.specs.Files.{FileMap};
-ghost use Rattle.keepass_cli.specs.Outcome.{answer_of, outcome, IsCalm, IsAsSaid, IsNear, IsSafe, counts, seen};
-ghost use Rattle.keepass_cli.specs.Messages.{told_line};
+ghost use Rattle.keepass_cli.specs.Outcome.{answer_of, outcome, IsAsSaid, IsCalm, IsCarriedOut, IsNear, IsSafe, counts, seen};
+ghost use Rattle.keepass_cli.specs.Messages.{status_of, told_line, words_of};
 ghost use Rattle.keepass_cli.specs.Phases.{Gives, IsCaused};
 ghost use Rattle.keepass_cli.specs.Telling.{IsTold, IsUnwritten, TellsLine};
 ghost use Rattle.keepass_cli.specs.Words.{command_of, files_named};
 
-use crate::answers::{Stop, line, status, words_for};
+use crate::answers::{Answer, Stop, line, status, words_for};
 use crate::databases::open;
 use crate::listing::{Done, perform};
 use crate::words::read_words;
@@ -34,8 +34,8 @@ fn answer<F: FileStore>(alloc: Global, words: &[String], files: &mut F) -> Resul
     ensures draft_bytes { F.draft_bytes files.new ≡ F.draft_bytes files.old }
 {
     let command = read_words(alloc, words)?;
-    let root = open(alloc, files, &command)?;
-    perform(alloc, &command, &root)
+    let doc = open(alloc, files, &command)?;
+    perform(alloc, &command, &doc)
 }
 
 // The status of a call whose text or line was not written.
@@ -61,20 +61,26 @@ fn tell_line<E: Sink>(alloc: Global, err: &mut E, own: u8, subject: &str, text: 
     }
 }
 
+// Writes the line of an answer about a subject, and gives the answer's status.
+fn tell_answer<E: Sink>(alloc: Global, err: &mut E, answer: &Answer, subject: &str) -> u8
+    ensures { TellsLine (status_of answer.now) (told_line subject.now (words_of answer.now)) result (E.written err.old) (E.written err.new) (E.faults err.old) (E.faults err.new) }
+{
+    match words_for(alloc, answer) {
+        Ok(text) => tell_line(alloc, err, status(answer), subject, text.as_str()),
+        Err(_none) => OUT_OF_MEMORY,
+    }
+}
+
 // Tells on standard error why a call stopped, and gives its status.
 fn tell<E: Sink>(alloc: Global, err: &mut E, stop: Stop) -> u8
     ensures { IsTold stop result (E.written err.old) (E.written err.new) (E.faults err.old) (E.faults err.new) }
 {
     match stop {
-        Stop::Refused(refusal) => tell_line(
-            alloc,
-            err,
-            status(refusal.answer),
-            refusal.subject.as_str(),
-            words_for(refusal.answer),
-        ),
+        Stop::Refused(refusal) => {
+            tell_answer(alloc, err, &refusal.answer, refusal.subject.as_str())
+        }
         Stop::FileFault(name) => tell_line(alloc, err, FILE_FAULT, name.as_str(), "file fault"),
-        Stop::NoMemory => tell_line(alloc, err, OUT_OF_MEMORY, "words", "out of memory"),
+        Stop::NoMemory => tell_answer(alloc, err, &Answer::OutOfMemory, "words"),
     }
 }
 
@@ -83,7 +89,7 @@ fn tell<E: Sink>(alloc: Global, err: &mut E, stop: Stop) -> u8
 ///
 /// Where no object of the outside fails and memory does not run out, all that is seen of the call is what `outcome`
 /// says of its words and files. Where one fails, no file is changed, what was printed is a front part of the outcome's
-/// text, and the status tells of the failure.
+/// text, and the status tells of the failure. Words that can be carried out come to status 0 where nothing fails.
 pub fn keepass<F: FileStore, S: Source, O: Sink, E: Sink, D: Dice>(
     alloc: Global,
     words: &[String],
@@ -99,6 +105,8 @@ pub fn keepass<F: FileStore, S: Source, O: Sink, E: Sink, D: Dice>(
         → IsAsSaid (outcome (map string_bytes words.now) m) result (seen (O.written out.old) (E.written err.old) (F.files files.old) (F.draft_name files.old) (F.draft_bytes files.old) (S.left input.old) (D.stream dice.old)) (seen (O.written out.new) (E.written err.new) (F.files files.new) (F.draft_name files.new) (F.draft_bytes files.new) (S.left input.new) (D.stream dice.new)) }
     ensures near { (m : FileMap) → F.files files.old ≡ Some m
         → IsNear (files_named (command_of (map string_bytes words.now))) (outcome (map string_bytes words.now) m) result (seen (O.written out.old) (E.written err.old) (F.files files.old) (F.draft_name files.old) (F.draft_bytes files.old) (S.left input.old) (D.stream dice.old)) (seen (O.written out.new) (E.written err.new) (F.files files.new) (F.draft_name files.new) (F.draft_bytes files.new) (S.left input.new) (D.stream dice.new)) (counts (F.faults files.old) (F.absences files.old) (S.faults input.old) (O.faults out.old) (E.faults err.old) (D.faults dice.old)) (counts (F.faults files.new) (F.absences files.new) (S.faults input.new) (O.faults out.new) (E.faults err.new) (D.faults dice.new)) }
+    ensures complete { (m : FileMap) → F.files files.old ≡ Some m
+        → IsCarriedOut (map string_bytes words.now) m result (counts (F.faults files.old) (F.absences files.old) (S.faults input.old) (O.faults out.old) (E.faults err.old) (D.faults dice.old)) (counts (F.faults files.new) (F.absences files.new) (S.faults input.new) (O.faults out.new) (E.faults err.new) (D.faults dice.new)) }
     ensures safe { IsSafe result (seen (O.written out.old) (E.written err.old) (F.files files.old) (F.draft_name files.old) (F.draft_bytes files.old) (S.left input.old) (D.stream dice.old)) (seen (O.written out.new) (E.written err.new) (F.files files.new) (F.draft_name files.new) (F.draft_bytes files.new) (S.left input.new) (D.stream dice.new)) (counts (F.faults files.old) (F.absences files.old) (S.faults input.old) (O.faults out.old) (E.faults err.old) (D.faults dice.old)) (counts (F.faults files.new) (F.absences files.new) (S.faults input.new) (O.faults out.new) (E.faults err.new) (D.faults dice.new)) }
 {
     match answer(alloc, words, files) {

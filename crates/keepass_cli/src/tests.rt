@@ -1,5 +1,4 @@
 // Calls over objects in memory: what is printed, and what happens where an object fails.
-use crate::laws::thin_texts;
 use crate::run::keepass;
 use outside_core::{CountingDice, MemoryFiles, MemorySink, MemorySource};
 use std::alloc::Global;
@@ -10,13 +9,17 @@ use std::test::Fail;
 const TWO_AND_ONE: &[u8] =
     b"<KeePassFile><Root><Group><UUID>AQEBAQEBAQEBAQEBAQEBAQ==</UUID><Name>Root</Name><Entry><UUID>AgICAgICAgICAgICAgICAg==</UUID><String><Key>Title</Key><Value>Bank</Value></String></Entry><Entry><UUID>AwMDAwMDAwMDAwMDAwMDAw==</UUID><String><Key>Title</Key><Value>Mail</Value></String></Entry><Group><UUID>BAQEBAQEBAQEBAQEBAQEBA==</UUID><Name>Work</Name></Group></Group></Root></KeePassFile>";
 
+/// The same with the first entry's id at the second entry too.
+const TWO_OF_ONE_ID: &[u8] =
+    b"<KeePassFile><Root><Group><UUID>AQEBAQEBAQEBAQEBAQEBAQ==</UUID><Name>Root</Name><Entry><UUID>AgICAgICAgICAgICAgICAg==</UUID><String><Key>Title</Key><Value>Bank</Value></String></Entry><Entry><UUID>AgICAgICAgICAgICAgICAg==</UUID><String><Key>Title</Key><Value>Mail</Value></String></Entry><Group><UUID>BAQEBAQEBAQEBAQEBAQEBA==</UUID><Name>Work</Name></Group></Group></Root></KeePassFile>";
+
 /// A root group without children.
 const NO_CHILDREN: &[u8] =
     b"<KeePassFile><Root><Group><UUID>AQEBAQEBAQEBAQEBAQEBAQ==</UUID><Name>Root</Name></Group></Root></KeePassFile>";
 
-/// Two titles of which the last stands, a field of another name, an entry without a title, and white space.
-const SPACED: &[u8] =
-    b"<KeePassFile>\r\n\t<Root>\n<Group><UUID></UUID> <Name>Root</Name>\n<Entry><UUID></UUID><String><Key>Title</Key><Value>old</Value></String>\n<String><Key>Title</Key><Value>new one</Value></String><String><Key>title</Key><Value>no</Value></String></Entry><Entry><UUID></UUID></Entry>\n</Group></Root>\n</KeePassFile>\n";
+/// An entry whose history has another title, and one without a title but with a field of another name.
+const OLD_TITLE: &[u8] =
+    b"<KeePassFile>\r\n\t<Root>\n<Group><UUID>AQEBAQEBAQEBAQEBAQEBAQ==</UUID><Entry><UUID>AgICAgICAgICAgICAgICAg==</UUID><String><Key>URL</Key><Value>u</Value></String><String><Key>Title</Key><Value>new &amp; one</Value></String><History><Entry><UUID>AgICAgICAgICAgICAgICAg==</UUID><String><Key>Title</Key><Value>old</Value></String></Entry></History></Entry><Entry><UUID>AwMDAwMDAwMDAwMDAwMDAw==</UUID><String><Key>title</Key><Value>no</Value></String></Entry>\n</Group></Root>\n</KeePassFile>\n";
 
 /// What a call is made over, and what it wrote.
 #[derive(Drop)]
@@ -91,17 +94,31 @@ fn a_root_group_is_listed(rt: HostRuntime) -> Result<(), Fail> {
     let ls = ["ls", "--plain", "P"];
     comes_to(&rt, &ls, TWO_AND_ONE, 0, b"Bank\nMail\nWork/\n", b"")?;
     comes_to(&rt, &ls, NO_CHILDREN, 0, b"", b"")?;
-    comes_to(&rt, &ls, SPACED, 0, b"new one\n\n", b"")?;
+    comes_to(&rt, &ls, OLD_TITLE, 0, b"new & one\n\n", b"")
+}
+
+#[test]
+fn a_file_that_is_no_document_is_refused(rt: HostRuntime) -> Result<(), Fail> {
+    let ls = ["ls", "--plain", "P"];
+    let malformed = b"keepass: P: malformed text at 13\n";
+    comes_to(&rt, &ls, b"<KeePassFile>", 4, b"", malformed)?;
+    let twice = b"keepass: P: duplicate id 02020202-0202-0202-0202-020202020202\n";
+    comes_to(&rt, &ls, TWO_OF_ONE_ID, 4, b"", twice)
+}
+
+#[test]
+fn options_stand_in_any_order(rt: HostRuntime) -> Result<(), Fail> {
+    let text = b"Bank\nMail\nWork/\n";
     comes_to(
         &rt,
-        &ls,
-        b"<KeePassFile>",
-        5,
+        &["ls", "P", "-q", "--plain"],
+        TWO_AND_ONE,
+        0,
+        text,
         b"",
-        b"keepass: P: not built\n",
     )?;
-    thin_texts();
-    Ok(())
+    let behind = ["ls", "--quiet", "--plain", "--", "P"];
+    comes_to(&rt, &behind, TWO_AND_ONE, 0, text, b"")
 }
 
 #[test]
@@ -109,24 +126,34 @@ fn words_that_are_no_command_are_refused(rt: HostRuntime) -> Result<(), Fail> {
     let wrong = b"keepass: words: wrong words\n";
     comes_to(&rt, &["ls"], TWO_AND_ONE, 1, b"", wrong)?;
     comes_to(&rt, &["--plain", "ls", "P"], TWO_AND_ONE, 1, b"", wrong)?;
-    comes_to(&rt, &["ls", "--plain", "-x"], TWO_AND_ONE, 1, b"", wrong)?;
+    comes_to(&rt, &["ls", "P"], TWO_AND_ONE, 1, b"", wrong)?;
+    let twice = ["ls", "-q", "P", "--plain", "--quiet"];
+    comes_to(&rt, &twice, TWO_AND_ONE, 1, b"", wrong)?;
     comes_to(
         &rt,
-        &["ls", "--plain", "Q"],
+        &["ls", "--plain", "P", "P"],
+        TWO_AND_ONE,
+        1,
+        b"",
+        wrong,
+    )
+}
+
+#[test]
+fn a_missing_file_is_named(rt: HostRuntime) -> Result<(), Fail> {
+    let q = b"keepass: Q: no such file\n";
+    comes_to(&rt, &["ls", "--plain", "Q"], TWO_AND_ONE, 7, b"", q)?;
+    let dash = b"keepass: -: no such file\n";
+    comes_to(&rt, &["ls", "--plain", "-"], TWO_AND_ONE, 7, b"", dash)?;
+    let option = b"keepass: -x: no such file\n";
+    comes_to(
+        &rt,
+        &["ls", "--plain", "--", "-x"],
         TWO_AND_ONE,
         7,
         b"",
-        b"keepass: Q: no such file\n",
-    )?;
-    comes_to(
-        &rt,
-        &["ls", "--plain", "-"],
-        TWO_AND_ONE,
-        7,
-        b"",
-        b"keepass: -: no such file\n",
-    )?;
-    Ok(())
+        option,
+    )
 }
 
 #[test]

@@ -26,14 +26,4 @@ pub use forms::{DocForm, PoolItem};
 pub use iso::{iso_of, stamp_of_iso};
 pub use metas::{Bin, Icon, Meta, MetaSettings, MetaView, Protection, Timed};
 pub use nodes::{Entry, Group, GroupState, GroupView, Tombstone, Version, entry_stamp};
-use outside_core::{List, Text};
-use secret_core::Secret;
 pub use times::Stamp;
-
-/// The root group of a thin document: the titles of its entries and the names of its groups, each in the document's
-/// order. A title is what the entry's last `String` of the key `Title` says, and empty where there is none.
-#[derive(Drop)]
-pub struct ThinRoot {
-    pub titles: List<Secret>,
-    pub names: List<Text>,
-}

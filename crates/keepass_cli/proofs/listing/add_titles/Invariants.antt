@@ -1,7 +1,9 @@
 use Rattle.std.proofs.Common.{◌≡◌, ◌++◌, drop}
 use Rattle.std.specs.Prelude.{map}
+use Rattle.vault_model.specs.SeenNodes.{entry_row}
 use Rattle.keepass_cli.specs.Listing.{title_lines}
 use Rattle.keepass_cli.proofs.listing.add_titles.Given as goal
 
-abbrev pub invariant-loop-title : goal.invariant-loop-title
-invariant-loop-title l = l.text ++ title_lines (map (λ title. title.bytes) (drop l.title-index l.titles)) ≡ l.fn.text ++ title_lines (map (λ title. title.bytes) l.titles)
+abbrev pub invariant-loop-entry : goal.invariant-loop-entry
+invariant-loop-entry l =
+    l.text ++ title_lines (map entry_row (drop l.entry-index l.entries)) ≡ l.fn.text ++ title_lines (map entry_row l.entries)

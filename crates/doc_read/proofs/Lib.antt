@@ -1,0 +1,25 @@
+pub mod PoolLookups
+pub mod Buried
+pub mod Containers
+pub mod EntryPuts
+mod Examples
+pub mod Found
+pub mod FoundTrees
+pub mod GroupWalks
+pub mod Keeping
+pub mod KeptEntries
+pub mod KeptGroups
+pub mod KeptLaw
+pub mod KeptMetas
+pub mod MetIds
+pub mod MissingTrees
+pub mod NodeIds
+pub mod Numbers
+pub mod Pieces
+pub mod Puts
+pub mod Rising
+pub mod RisingTombs
+pub mod Rows
+pub mod SettledDocs
+pub mod TimeTexts
+pub mod Walks

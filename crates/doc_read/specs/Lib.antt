@@ -1,0 +1,16 @@
+pub mod Documents
+pub mod Entries
+pub mod FoundFiles
+pub mod Groups
+pub mod Kept
+pub mod Metas
+pub mod Passing
+pub mod Places
+pub mod Refusals
+pub mod Seen
+pub mod SeenDrafts
+pub mod SeenRead
+pub mod SeenTombs
+pub mod SettledTree
+pub mod Tables
+pub mod Values

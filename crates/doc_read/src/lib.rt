@@ -1,0 +1,34 @@
+//! Reading the document of a vault: from markup to the tree of groups and entries.
+#![tactic(auto)]
+
+mod attachments;
+mod binaries;
+mod container;
+pub mod cursor;
+mod drafts;
+mod entries;
+mod fails;
+mod fields;
+mod files;
+mod group_rows;
+mod groups;
+mod icons;
+mod ids;
+mod kinds;
+mod metas;
+mod nodes;
+mod parts;
+pub mod passing;
+mod pools;
+mod protection;
+mod reading;
+mod roots;
+mod settling;
+mod tables;
+mod through;
+mod typing;
+pub mod values;
+mod versions;
+
+pub use fails::{DocFail, Needed, ReadDoc};
+pub use reading::read_doc;

@@ -1,9 +1,0 @@
-pub mod Answers
-pub mod Bytes
-pub mod Machine
-pub mod Next
-pub mod Places
-pub mod Reader
-pub mod Spans
-pub mod Tokens
-pub mod Tree
