@@ -1,6 +1,7 @@
 mod AesVectors
 mod TwofishVectors
 pub mod ByteTables
+pub mod AesColumns
 pub mod AesRounds
 pub mod KeyWords
 pub mod CbcSteps

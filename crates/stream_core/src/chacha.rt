@@ -7,7 +7,7 @@ ghost use Rattle.stream_core.specs.Stream.{StreamCipher, xored, IsWindowAt};
 use crate::chacha_blocks::four_blocks;
 use crate::state::{BlockFunction, State};
 use std::marker::Model;
-use std::simd::u32x4;
+use std::simd::{u8x16, u32x4};
 
 /// ChaCha20 with a key of 32 bytes and a nonce of 12 (RFC 8439, 2.4), whose stream starts with
 /// block 0.
@@ -31,8 +31,14 @@ impl BlockFunction<12> for ChaCha20 {
     ghost word = { chacha_word };
 
     #[inline(always)]
-    fn four_blocks(key: &[u8; 32], nonce: &[u8; 12], counter: u64) -> [u32x4; 16] {
-        four_blocks(key, nonce, counter as u32)
+    fn four_blocks(
+        by_16: u8x16,
+        by_8: u8x16,
+        key: &[u8; 32],
+        nonce: &[u8; 12],
+        counter: u64,
+    ) -> [u32x4; 16] {
+        four_blocks(by_16, by_8, key, nonce, counter as u32)
     }
 }
 

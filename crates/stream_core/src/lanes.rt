@@ -1,11 +1,11 @@
 // Four blocks side by side: word `i` of block `j` is lane `j` of vector `i`.
 
-ghost use Rattle.std.specs.Prelude.{◌≡◌, ℕ, ◌+◌, ◌*◌, ◌/◌, ◌%◌, ◌^◌, ◌<◌, ◌≤◌, length, slice_index, bit_xor};
+ghost use Rattle.std.specs.Prelude.{◌≡◌, ℕ, ◌+◌, ◌*◌, ◌/◌, ◌%◌, ◌^◌, ◌<◌, ◌≤◌, [], length, slice_index, slice_index_or, bit_xor};
 ghost use Rattle.std.specs.Int.{w32, rotate_left};
 ghost use Rattle.stream_core.specs.Words.{add32, word_at};
-ghost use Rattle.stream_core.specs.Lanes.{lane_word};
+ghost use Rattle.stream_core.specs.Lanes.{lane_word, IsTurn, AreTurns};
 
-use std::simd::u32x4;
+use std::simd::{u8x16, u32x4};
 
 // Word `i` of a key or a nonce, low byte first.
 #[inline(always)]
@@ -42,6 +42,30 @@ pub(crate) fn rotate(x: u32x4, k: u32) -> u32x4
     ensures { (j : ℕ) → j < 4 → slice_index result j ≡ rotate_left w32 (slice_index x j) k }
 {
     (x << u32x4::splat(k)) | (x >> u32x4::splat(32 - k))
+}
+
+// Where the bytes of a vector come from as its lanes are rotated left by 16 bits, and by 8.
+//
+// They are told by a call, so that LLVM doesn't know them where they are used: it moves a shuffle that
+// it knows over the XOR before it, and so makes two of it.
+#[inline(never)]
+#[tactic(auto, unfolding(crate::specs::Lanes::AreTurns))]
+pub(crate) fn turns() -> [u8x16; 2]
+    ensures { AreTurns (slice_index_or result 0 []) (slice_index_or result 1 []) }
+{
+    [
+        u8x16::from_array([2, 3, 0, 1, 6, 7, 4, 5, 10, 11, 8, 9, 14, 15, 12, 13]),
+        u8x16::from_array([3, 0, 1, 2, 7, 4, 5, 6, 11, 8, 9, 10, 15, 12, 13, 14]),
+    ]
+}
+
+// Each lane rotated left by `k` bits, which are whole bytes.
+#[inline(always)]
+pub(crate) fn turned(x: u32x4, k: u32, turn: u8x16) -> u32x4
+    requires { IsTurn k turn }
+    ensures { (j : ℕ) → j < 4 → slice_index result j ≡ rotate_left w32 (slice_index x j) k }
+{
+    u32x4::from_le_bytes(x.to_le_bytes().swizzle_dyn(turn))
 }
 
 // Each word of four states, plus the word that it started from.

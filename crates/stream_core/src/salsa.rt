@@ -7,7 +7,7 @@ ghost use Rattle.stream_core.specs.Stream.{StreamCipher, xored, IsWindowAt};
 use crate::salsa_blocks::four_blocks;
 use crate::state::{BlockFunction, State};
 use std::marker::Model;
-use std::simd::u32x4;
+use std::simd::{u8x16, u32x4};
 
 /// Salsa20 with a key of 32 bytes and a nonce of 8 (Bernstein, "Salsa20 specification", section 10), whose stream starts with
 /// block 0.
@@ -31,7 +31,13 @@ impl BlockFunction<8> for Salsa20 {
     ghost word = { salsa_word };
 
     #[inline(always)]
-    fn four_blocks(key: &[u8; 32], nonce: &[u8; 8], counter: u64) -> [u32x4; 16] {
+    fn four_blocks(
+        _: u8x16,
+        _: u8x16,
+        key: &[u8; 32],
+        nonce: &[u8; 8],
+        counter: u64,
+    ) -> [u32x4; 16] {
         four_blocks(key, nonce, counter)
     }
 }

@@ -3,19 +3,27 @@
 
 ghost use Rattle.std.specs.Prelude.{◌≡◌, ℕ, ◌+◌, ◌*◌, ◌/◌, ◌%◌, ◌^◌, ◌<◌, ◌≤◌, List, length, slice_index, replicate};
 ghost use Rattle.stream_core.specs.Words.{byte_in};
-ghost use Rattle.stream_core.specs.Lanes.{lane_word};
+ghost use Rattle.stream_core.specs.Lanes.{lane_word, AreTurns};
 ghost use Rattle.stream_core.specs.Stream.{xored, IsWindowAt};
 
+use crate::lanes::turns;
 use crate::window::put_blocks;
-use std::simd::u32x4;
+use std::simd::{u8x16, u32x4};
 
 // A cipher's block function, on four blocks at a time: `word key nonce counter i` is word `i` of the
-// block with that number.
+// block with that number. The turns of bytes are those of `lanes::turns`, for a cipher that rotates by them.
 pub(crate) trait BlockFunction<const N: usize> {
     ghost word: { List ℕ → List ℕ → ℕ → ℕ → ℕ };
 
-    fn four_blocks(key: &[u8; 32], nonce: &[u8; N], counter: u64) -> [u32x4; 16]
-        requires { counter + 4 ≤ 2 ^ 32 }
+    fn four_blocks(
+        by_16: u8x16,
+        by_8: u8x16,
+        key: &[u8; 32],
+        nonce: &[u8; N],
+        counter: u64,
+    ) -> [u32x4; 16]
+        requires turns { AreTurns by_16 by_8 }
+        requires limit { counter + 4 ≤ 2 ^ 32 }
         ensures { (j i : ℕ) → j < 4 → i < 16 → lane_word result j i ≡ word key.now nonce.now (counter + j) i };
 }
 
@@ -65,7 +73,8 @@ impl<const N: usize> State<N> {
     }
 
     // Makes the window the one that `place` is in.
-    fn prepare<B: BlockFunction<N>>(&mut self, place: u64)
+    fn prepare<B: BlockFunction<N>>(&mut self, by_16: u8x16, by_8: u8x16, place: u64)
+        requires turns { AreTurns by_16 by_8 }
         requires limit { place < 2 ^ 38 }
         requires window { IsWindowAt (byte_in (B.word self.old.key self.old.nonce)) self.old.window place }
         ensures key { self.new.key ≡ self.old.key }
@@ -74,7 +83,7 @@ impl<const N: usize> State<N> {
             → slice_index self.new.window i ≡ byte_in (B.word self.old.key self.old.nonce) (256 * (place / 256) + i) }
     {
         if place % 256 == 0 {
-            let words = B::four_blocks(&self.key, &self.nonce, place / 64);
+            let words = B::four_blocks(by_16, by_8, &self.key, &self.nonce, place / 64);
             put_blocks(&mut self.window, &words);
         }
     }
@@ -88,10 +97,11 @@ impl<const N: usize> State<N> {
         ensures nonce { self.new.nonce ≡ self.old.nonce }
         ensures window { IsWindowAt (byte_in (B.word self.old.key self.old.nonce)) self.new.window (place + length text.old) }
     {
+        let [by_16, by_8] = turns();
         let mut done = 0;
         'pieces: while done < text.len() {
             let at = place + done as u64;
-            self.prepare::<B>(at);
+            self.prepare::<B>(by_16, by_8, at);
             let from = (at % 256) as usize;
             let count = (text.len() - done).min(256 - from);
             xor_window(&mut text[done..done + count], &self.window, from);

@@ -5,12 +5,12 @@ pub returns : goal.returns
 unfolding diagonal_round
 returns c j h =
     rw (
-      ← c.half_round.ensures j h,
-      ← c.half_round-2.ensures j h,
-      ← c.half_round-3.ensures j h,
-      ← c.half_round-4.ensures j h,
-      ← c.half_round-5.ensures j h,
-      ← c.half_round-6.ensures j h,
-      ← c.half_round-7.ensures j h,
-      ← c.half_round-8.ensures j h,
+      ← c.half_rounds.ensures.one j h,
+      ← c.half_rounds.ensures.two j h,
+      ← c.half_rounds-2.ensures.one j h,
+      ← c.half_rounds-2.ensures.two j h,
+      ← c.half_rounds-3.ensures.one j h,
+      ← c.half_rounds-3.ensures.two j h,
+      ← c.half_rounds-4.ensures.one j h,
+      ← c.half_rounds-4.ensures.two j h,
     )
