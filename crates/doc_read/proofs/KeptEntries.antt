@@ -17,7 +17,7 @@ use Rattle.doc_read.specs.declared.fails.DocFail.TheVariants.{Compressed, NilId}
 use Rattle.doc_read.specs.declared.parts.Times.{Times}
 use Rattle.doc_read.specs.Entries.{no_field, field_rows, File, source_in, is_compressed, no_file, file_value, file_rows, no_typing, no_pair, pair_rows, typing_rows, ReadVersion, EntryParts, no_entry, id_or_none, version_rows, version_of, past_rows, item_at, history_item, history_rows, history, ReadEntry, node_id, own_id, entry_rows, entry_at, entry}
 use Rattle.doc_read.specs.Kept.{is_kept_version, is_kept_entry}
-use Rattle.doc_read.specs.Passing.{Setting, is_hidden, read, by_name, value, within, counted}
+use Rattle.doc_read.specs.Passing.{Setting, is_hidden, read, by_name, within, counted}
 use Rattle.doc_read.specs.Refusals.{valued}
 use Rattle.doc_read.specs.Tables.{no_times, times_rows, times, no_item, item_rows, items_rows, custom_data, put}
 use Rattle.doc_read.specs.Values.{text_in}

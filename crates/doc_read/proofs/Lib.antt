@@ -13,6 +13,7 @@ pub mod KeptLaw
 pub mod KeptMetas
 pub mod MetIds
 pub mod MissingTrees
+pub mod Moved
 pub mod NodeIds
 pub mod Numbers
 pub mod Pieces

@@ -44,7 +44,7 @@ put_done key x list rest new at is within r n =
 
 -- ---- what stands at a place
 
-drop_at : {A : Type 0} (list : List A) (i : ℕ) (x : A) → slice_get list i ≡ Some x → drop i list ≡ x ∷ drop (suc i) list
+pub drop_at : {A : Type 0} (list : List A) (i : ℕ) (x : A) → slice_get list i ≡ Some x → drop i list ≡ x ∷ drop (suc i) list
 drop_at [] i x e = cc
 drop_at (y ∷ ys) zero x e = cc
 drop_at (y ∷ ys) (suc i) x e = drop_at ys i x e

@@ -9,6 +9,7 @@ pub mod Places
 pub mod Refusals
 pub mod Seen
 pub mod SeenDrafts
+pub mod SeenParts
 pub mod SeenRead
 pub mod SeenTombs
 pub mod SettledTree

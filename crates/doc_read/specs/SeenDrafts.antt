@@ -1,6 +1,6 @@
 -- What is seen of the parts of a document in memory: the same without memory.
 use Rattle.std.specs.Prelude.{List, [], ◌∷◌, map, option_map}
-use Rattle.vault_model.specs.Seen.{bare_content}
+use Rattle.vault_model.specs.Seen.{bare_content, bare_field}
 use Rattle.doc_read.specs.declared.drafts.SourceDraft.{SourceDraft}
 use Rattle.doc_read.specs.declared.drafts.SourceDraft.TheVariants.{Own, Pooled}
 use Rattle.doc_read.specs.declared.drafts.FileDraft.{FileDraft}
@@ -31,7 +31,12 @@ file_seen f = record { name = f.name; source = source_seen f.source; hidden = f.
 
 -- a version
 abbrev pub version_seen : VersionDraft → ReadVersion
-version_seen v = record { modified = v.modified; content = bare_content v.content; files = map file_seen v.files; stats = v.stats }
+version_seen v = record {
+  modified = v.modified;
+  content = record (bare_content v.content) { fields = map bare_field v.fields.items };
+  files = map file_seen v.files;
+  stats = v.stats;
+}
 
 -- an entry
 abbrev pub entry_seen : EntryDraft → ReadEntry

@@ -16,7 +16,7 @@ use outside_core::{List, NoMemory, Text};
 use secret_core::Secret;
 use std::alloc::Global;
 use std::rc::Rc;
-use vault_model::{Attachment, DocForm, Entry, Group, PoolItem, Version};
+use vault_model::{Attachment, DocForm, Entry, Field, Group, PoolItem, Version};
 
 /// The first reference in a text to a binary that is not there: the place of the element that refers, and the number.
 type Missing = Option<(usize, u64)>;
@@ -130,6 +130,17 @@ fn found_files(
     Ok((found, missing))
 }
 
+/// Fields as a version keeps them.
+fn kept_fields(alloc: Global, fields: Vec<Field>) -> Result<List<Field>, NoMemory>
+    ensures { IfOk result (λ l. l ≡ fields.items) }
+{
+    let mut kept = List::new(alloc);
+    for field in fields {
+        put_last(&mut kept, field)?;
+    }
+    Ok(kept)
+}
+
 /// A version with the bytes of its attachments.
 fn found_version(
     alloc: Global,
@@ -142,9 +153,11 @@ fn found_version(
     let VersionDraft {
         modified,
         mut content,
+        fields,
         files,
         stats,
     } = draft;
+    content.fields = kept_fields(alloc, fields)?;
     let (attachments, missing) = found_files(alloc, pool, files.as_slice())?;
     content.attachments = attachments;
     Ok((

@@ -5,7 +5,9 @@ use outside_core::{List, Text};
 use secret_core::Secret;
 use std::rc::Rc;
 use uuid::Uuid;
-use vault_model::{Content, GroupContent, GroupState, GroupView, Meta, Stamp, Stats, Tombstone};
+use vault_model::{
+    Content, Field, GroupContent, GroupState, GroupView, Meta, Stamp, Stats, Tombstone,
+};
 
 /// Where an attachment's bytes are.
 #[derive(Drop)]
@@ -24,11 +26,13 @@ pub(crate) struct FileDraft {
     pub(crate) hidden: bool,
 }
 
-/// A version of an entry. Its content has no attachments: they stand beside it.
+/// A version of an entry. Its content has no fields and no attachments: they stand beside it, the fields in memory that
+/// has room for them alone.
 #[derive(Drop)]
 pub(crate) struct VersionDraft {
     pub(crate) modified: Stamp,
     pub(crate) content: Content,
+    pub(crate) fields: Vec<Field>,
     pub(crate) files: List<FileDraft>,
     pub(crate) stats: Stats,
 }

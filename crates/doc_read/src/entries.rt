@@ -51,8 +51,9 @@ impl Parts for ItemBuilder {
             let (_, behind) = valued::<IdOrNone>(alloc, form, reader, stream, at, place, attrs)?;
             return Ok((self, behind));
         }
-        let (parts, behind) = version_child(
-            self.parts, alloc, form, reader, stream, at, name, place, attrs,
+        let mut parts = self.parts;
+        let behind = version_child(
+            &mut parts, alloc, form, reader, stream, at, name, place, attrs,
         )?;
         Ok((ItemBuilder { parts }, behind))
     }
@@ -83,7 +84,8 @@ fn history_item(
     let behind = counted(behind)?;
     let parts = item.parts;
     let times = parts.times;
-    Ok((version_of(times, parts.content, parts.files), behind))
+    let version = version_of(alloc, times, parts.content, parts.files)?;
+    Ok((version, behind))
 }
 
 /// The versions of a history that are read so far.
@@ -153,7 +155,42 @@ fn history(
         versions: Vec::new(alloc),
     };
     let (history, behind) = contents(alloc, form, reader, stream, at, place, attrs, first)?;
-    Ok((history.versions, behind))
+    let mut versions = history.versions;
+    versions.shrink_to_fit();
+    Ok((versions, behind))
+}
+
+/// Reads what stands in an entry.
+fn entry_child(
+    parts: &mut EntryBuilder,
+    alloc: Global,
+    form: DocForm,
+    reader: &mut Reader<'_>,
+    stream: &mut InnerStream,
+    at: Cursor,
+    name: &str,
+    place: usize,
+    attrs: &Attrs<'_>,
+) -> Result<Cursor, DocFail>
+    requires { IsAt stream.old at.place }
+    ensures gives { Gives (λ c. (entry_parts parts.new, c)) result
+        (by_name (setting_of form stream.old) (spec.entry_rows (setting_of form stream.old)) (entry_parts parts.old) (element place name.now attrs.now.raw.now (inner (left reader.old))) at) }
+    ensures left { OnOk result (left reader.new ≡ outer (left reader.old)) }
+    ensures shorter { OnOk result (length reader.new < length reader.old) }
+    ensures at { IfOk result (λ c. IsAt stream.new c.place) }
+    ensures keystream { keystream stream.new ≡ keystream stream.old }
+{
+    if name == "UUID" {
+        let (id, behind) = valued::<OwnId>(alloc, form, reader, stream, at, place, attrs)?;
+        parts.id = Some(id);
+        return Ok(behind);
+    }
+    if name == "History" {
+        let (history, behind) = history(alloc, form, reader, stream, at, place, attrs)?;
+        parts.history = history;
+        return Ok(behind);
+    }
+    version_child(parts, alloc, form, reader, stream, at, name, place, attrs)
 }
 
 impl Parts for EntryBuilder {
@@ -174,21 +211,11 @@ impl Parts for EntryBuilder {
         place: usize,
         attrs: &Attrs<'_>,
     ) -> Result<(Self, Cursor), DocFail> {
-        if name == "UUID" {
-            let (id, behind) = valued::<OwnId>(alloc, form, reader, stream, at, place, attrs)?;
-            return Ok((
-                EntryBuilder {
-                    id: Some(id),
-                    ..self
-                },
-                behind,
-            ));
-        }
-        if name == "History" {
-            let (history, behind) = history(alloc, form, reader, stream, at, place, attrs)?;
-            return Ok((EntryBuilder { history, ..self }, behind));
-        }
-        version_child(self, alloc, form, reader, stream, at, name, place, attrs)
+        let mut parts = self;
+        let behind = entry_child(
+            &mut parts, alloc, form, reader, stream, at, name, place, attrs,
+        )?;
+        Ok((parts, behind))
     }
 }
 
@@ -228,10 +255,13 @@ pub(crate) fn entry(
         files,
         history,
     } = parts;
+    let id = node_id(place, id)?;
+    let placed = times.placed;
+    let current = version_of(alloc, times, content, files)?;
     let entry = EntryDraft {
-        id: node_id(place, id)?,
-        placed: times.placed,
-        current: version_of(times, content, files),
+        id,
+        placed,
+        current,
         history,
     };
     Ok((entry, behind))

@@ -4,6 +4,7 @@ use uuid::Uuid;
 use vault_model::Doc;
 
 /// A document, and the header's hash that it names.
+#[derive(Drop)]
 pub struct ReadDoc {
     pub doc: Doc,
     /// The SHA-256 of the file's header, where a document of KDBX 3.1 names one.

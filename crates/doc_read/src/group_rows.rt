@@ -34,36 +34,35 @@ pub(crate) fn read_child(
     name: &str,
     place: usize,
     attrs: &Attrs<'_>,
-    builder: GroupBuilder,
-) -> Result<(GroupBuilder, Cursor), DocFail>
+    builder: &mut GroupBuilder,
+) -> Result<Cursor, DocFail>
     requires { IsAt stream.old at.place }
-    ensures gives { Gives (λ x. (group_parts_seen x.0, x.1)) result
-        (by_name (setting_of form stream.old) (spec.group_rows (setting_of form stream.old)) (group_parts_seen builder) (element place name.now attrs.now.raw.now (inner (left reader.old))) at) }
+    ensures gives { Gives (λ c. (group_parts_seen builder.new, c)) result
+        (by_name (setting_of form stream.old) (spec.group_rows (setting_of form stream.old)) (group_parts_seen builder.old) (element place name.now attrs.now.raw.now (inner (left reader.old))) at) }
     ensures left { OnOk result (left reader.new ≡ outer (left reader.old)) }
     ensures shorter { OnOk result (length reader.new < length reader.old) }
-    ensures at { IfOk result (λ x. IsAt stream.new x.1.place) }
+    ensures at { IfOk result (λ c. IsAt stream.new c.place) }
     ensures keystream { keystream stream.new ≡ keystream stream.old }
 {
-    let mut builder = builder;
     if name == "UUID" {
         let (id, behind) = valued::<OwnId>(alloc, form, reader, stream, at, place, attrs)?;
         builder.id = Some(id);
-        return Ok((builder, behind));
+        return Ok(behind);
     }
     if name == "Name" {
         let (text, behind) = valued::<TextValue>(alloc, form, reader, stream, at, place, attrs)?;
         builder.content.name = text;
-        return Ok((builder, behind));
+        return Ok(behind);
     }
     if name == "Notes" {
         let (text, behind) = valued::<TextValue>(alloc, form, reader, stream, at, place, attrs)?;
         builder.content.notes = text;
-        return Ok((builder, behind));
+        return Ok(behind);
     }
     if name == "IconID" {
         let (icon, behind) = valued::<Number32<48>>(alloc, form, reader, stream, at, place, attrs)?;
         builder.content.icon = icon;
-        return Ok((builder, behind));
+        return Ok(behind);
     }
     read_state(alloc, form, reader, stream, at, name, place, attrs, builder)
 }
@@ -78,38 +77,37 @@ fn read_state(
     name: &str,
     place: usize,
     attrs: &Attrs<'_>,
-    builder: GroupBuilder,
-) -> Result<(GroupBuilder, Cursor), DocFail>
+    builder: &mut GroupBuilder,
+) -> Result<Cursor, DocFail>
     requires { IsAt stream.old at.place }
-    ensures gives { Gives (λ x. (group_parts_seen x.0, x.1)) result
-        (by_name (setting_of form stream.old) (drop 4 (spec.group_rows (setting_of form stream.old))) (group_parts_seen builder) (element place name.now attrs.now.raw.now (inner (left reader.old))) at) }
+    ensures gives { Gives (λ c. (group_parts_seen builder.new, c)) result
+        (by_name (setting_of form stream.old) (drop 4 (spec.group_rows (setting_of form stream.old))) (group_parts_seen builder.old) (element place name.now attrs.now.raw.now (inner (left reader.old))) at) }
     ensures left { OnOk result (left reader.new ≡ outer (left reader.old)) }
     ensures shorter { OnOk result (length reader.new < length reader.old) }
-    ensures at { IfOk result (λ x. IsAt stream.new x.1.place) }
+    ensures at { IfOk result (λ c. IsAt stream.new c.place) }
     ensures keystream { keystream stream.new ≡ keystream stream.old }
 {
-    let mut builder = builder;
     if name == "CustomIconUUID" {
         let (icon, behind) = valued::<IdOrNone>(alloc, form, reader, stream, at, place, attrs)?;
         builder.content.custom_icon = icon;
-        return Ok((builder, behind));
+        return Ok(behind);
     }
     if name == "Times" {
         let (told, behind) = times(alloc, form, reader, stream, at, place, attrs)?;
         builder.times = told;
-        return Ok((builder, behind));
+        return Ok(behind);
     }
     if name == "IsExpanded" {
         let (yes, behind) = valued::<TrueUnlessFalse>(
             alloc, form, reader, stream, at, place, attrs,
         )?;
         builder.view.expanded = yes;
-        return Ok((builder, behind));
+        return Ok(behind);
     }
     if name == "DefaultAutoTypeSequence" {
         let (text, behind) = valued::<TextValue>(alloc, form, reader, stream, at, place, attrs)?;
         builder.content.sequence = text;
-        return Ok((builder, behind));
+        return Ok(behind);
     }
     read_choices(alloc, form, reader, stream, at, name, place, attrs, builder)
 }
@@ -124,35 +122,34 @@ fn read_choices(
     name: &str,
     place: usize,
     attrs: &Attrs<'_>,
-    builder: GroupBuilder,
-) -> Result<(GroupBuilder, Cursor), DocFail>
+    builder: &mut GroupBuilder,
+) -> Result<Cursor, DocFail>
     requires { IsAt stream.old at.place }
-    ensures gives { Gives (λ x. (group_parts_seen x.0, x.1)) result
-        (by_name (setting_of form stream.old) (drop 8 (spec.group_rows (setting_of form stream.old))) (group_parts_seen builder) (element place name.now attrs.now.raw.now (inner (left reader.old))) at) }
+    ensures gives { Gives (λ c. (group_parts_seen builder.new, c)) result
+        (by_name (setting_of form stream.old) (drop 8 (spec.group_rows (setting_of form stream.old))) (group_parts_seen builder.old) (element place name.now attrs.now.raw.now (inner (left reader.old))) at) }
     ensures left { OnOk result (left reader.new ≡ outer (left reader.old)) }
     ensures shorter { OnOk result (length reader.new < length reader.old) }
-    ensures at { IfOk result (λ x. IsAt stream.new x.1.place) }
+    ensures at { IfOk result (λ c. IsAt stream.new c.place) }
     ensures keystream { keystream stream.new ≡ keystream stream.old }
 {
-    let mut builder = builder;
     if name == "EnableAutoType" {
         let (choice, behind) = valued::<ChoiceValue>(
             alloc, form, reader, stream, at, place, attrs,
         )?;
         builder.content.auto_type = choice;
-        return Ok((builder, behind));
+        return Ok(behind);
     }
     if name == "EnableSearching" {
         let (choice, behind) = valued::<ChoiceValue>(
             alloc, form, reader, stream, at, place, attrs,
         )?;
         builder.content.searching = choice;
-        return Ok((builder, behind));
+        return Ok(behind);
     }
     if name == "LastTopVisibleEntry" {
         let (id, behind) = valued::<IdValue>(alloc, form, reader, stream, at, place, attrs)?;
         builder.view.top_entry = id;
-        return Ok((builder, behind));
+        return Ok(behind);
     }
     read_kept(alloc, form, reader, stream, at, name, place, attrs, builder)
 }
@@ -167,29 +164,28 @@ fn read_kept(
     name: &str,
     place: usize,
     attrs: &Attrs<'_>,
-    builder: GroupBuilder,
-) -> Result<(GroupBuilder, Cursor), DocFail>
+    builder: &mut GroupBuilder,
+) -> Result<Cursor, DocFail>
     requires { IsAt stream.old at.place }
-    ensures gives { Gives (λ x. (group_parts_seen x.0, x.1)) result
-        (by_name (setting_of form stream.old) (drop 11 (spec.group_rows (setting_of form stream.old))) (group_parts_seen builder) (element place name.now attrs.now.raw.now (inner (left reader.old))) at) }
+    ensures gives { Gives (λ c. (group_parts_seen builder.new, c)) result
+        (by_name (setting_of form stream.old) (drop 11 (spec.group_rows (setting_of form stream.old))) (group_parts_seen builder.old) (element place name.now attrs.now.raw.now (inner (left reader.old))) at) }
     ensures left { OnOk result (left reader.new ≡ outer (left reader.old)) }
     ensures shorter { OnOk result (length reader.new < length reader.old) }
-    ensures at { IfOk result (λ x. IsAt stream.new x.1.place) }
+    ensures at { IfOk result (λ c. IsAt stream.new c.place) }
     ensures keystream { keystream stream.new ≡ keystream stream.old }
 {
-    let mut builder = builder;
     if name == "CustomData" {
         let (items, behind) = custom_data(alloc, form, reader, stream, at, place, attrs)?;
         builder.content.items = items;
-        return Ok((builder, behind));
+        return Ok(behind);
     }
     if name == "Entry" {
         let (entry, behind) = entry(alloc, form, reader, stream, at, place, attrs)?;
         if builder.entries.push(entry).is_err() {
             return Err(DocFail::NoMemory);
         }
-        return Ok((builder, behind));
+        return Ok(behind);
     }
     let (_, behind) = read(alloc, form, reader, stream, at, place, attrs)?;
-    Ok((builder, behind))
+    Ok(behind)
 }

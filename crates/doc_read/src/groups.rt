@@ -148,7 +148,19 @@ fn group_child(
     ensures keystream { keystream stream.new ≡ keystream stream.old }
 {
     if name != "Group" {
-        return read_child(alloc, form, reader, stream, at, name, place, attrs, builder);
+        let mut builder = builder;
+        let behind = read_child(
+            alloc,
+            form,
+            reader,
+            stream,
+            at,
+            name,
+            place,
+            attrs,
+            &mut builder,
+        )?;
+        return Ok((builder, behind));
     }
     if levels == 0 {
         return Err(DocFail::TooDeep(place));

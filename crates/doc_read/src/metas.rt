@@ -36,7 +36,7 @@ const NO_LIMIT: i64 = -1;
 
 /// An element of `Meta` where binaries stand in the document: `Binaries`, behind those that [`limit_child`] reads.
 fn binaries_child(
-    parts: MetaBuilder,
+    parts: &mut MetaBuilder,
     alloc: Global,
     form: DocForm,
     reader: &mut Reader<'_>,
@@ -45,35 +45,34 @@ fn binaries_child(
     name: &str,
     place: usize,
     attrs: &Attrs<'_>,
-) -> Result<(MetaBuilder, Cursor), DocFail>
+) -> Result<Cursor, DocFail>
     requires { IsAt stream.old at.place }
-    ensures gives { Gives (λ x. (meta_parts x.0, x.1)) result
-        (by_name (setting_of form stream.old) ((codes "Binaries", container (setting_of form stream.old) ((codes "Binary", spec.binary (setting_of form stream.old)) ∷ []) [] (λ p v. record p { binaries = v })) ∷ []) (meta_parts parts) (element place name.now attrs.now.raw.now (inner (left reader.old))) at) }
+    ensures gives { Gives (λ c. (meta_parts parts.new, c)) result
+        (by_name (setting_of form stream.old) ((codes "Binaries", container (setting_of form stream.old) ((codes "Binary", spec.binary (setting_of form stream.old)) ∷ []) [] (λ p v. record p { binaries = v })) ∷ []) (meta_parts parts.old) (element place name.now attrs.now.raw.now (inner (left reader.old))) at) }
     ensures left { OnOk result (left reader.new ≡ outer (left reader.old)) }
     ensures shorter { OnOk result (length reader.new < length reader.old) }
-    ensures at { IfOk result (λ x. IsAt stream.new x.1.place) }
+    ensures at { IfOk result (λ c. IsAt stream.new c.place) }
     ensures keystream { keystream stream.new ≡ keystream stream.old }
 {
-    let mut parts = parts;
     macro_rules! hold {
         ($read:ident, $($field:ident).+) => {{
             let (value, behind) = $read(alloc, form, reader, stream, at, place, attrs)?;
             parts.$($field).+ = value;
-            Ok((parts, behind))
+            Ok(behind)
         }};
     }
     match name {
         "Binaries" => hold!(binaries, binaries),
         _ => {
             let (_, behind) = read(alloc, form, reader, stream, at, place, attrs)?;
-            Ok((parts, behind))
+            Ok(behind)
         },
     }
 }
 
 /// An element behind those that [`limit_child`] reads. A file of version 4 keeps its binaries elsewhere.
 fn last_child(
-    parts: MetaBuilder,
+    parts: &mut MetaBuilder,
     alloc: Global,
     form: DocForm,
     reader: &mut Reader<'_>,
@@ -82,19 +81,19 @@ fn last_child(
     name: &str,
     place: usize,
     attrs: &Attrs<'_>,
-) -> Result<(MetaBuilder, Cursor), DocFail>
+) -> Result<Cursor, DocFail>
     requires { IsAt stream.old at.place }
-    ensures gives { Gives (λ x. (meta_parts x.0, x.1)) result
-        (by_name (setting_of form stream.old) (spec.binaries_rows form (setting_of form stream.old)) (meta_parts parts) (element place name.now attrs.now.raw.now (inner (left reader.old))) at) }
+    ensures gives { Gives (λ c. (meta_parts parts.new, c)) result
+        (by_name (setting_of form stream.old) (spec.binaries_rows form (setting_of form stream.old)) (meta_parts parts.old) (element place name.now attrs.now.raw.now (inner (left reader.old))) at) }
     ensures left { OnOk result (left reader.new ≡ outer (left reader.old)) }
     ensures shorter { OnOk result (length reader.new < length reader.old) }
-    ensures at { IfOk result (λ x. IsAt stream.new x.1.place) }
+    ensures at { IfOk result (λ c. IsAt stream.new c.place) }
     ensures keystream { keystream stream.new ≡ keystream stream.old }
 {
     match form {
         DocForm::V4 => {
             let (_, behind) = read(alloc, form, reader, stream, at, place, attrs)?;
-            Ok((parts, behind))
+            Ok(behind)
         }
         DocForm::V3 | DocForm::Plain => binaries_child(
             parts, alloc, form, reader, stream, at, name, place, attrs,
@@ -104,7 +103,7 @@ fn last_child(
 
 /// An element behind those that [`bin_child`] reads: the bounds of histories, and custom items.
 fn limit_child(
-    parts: MetaBuilder,
+    parts: &mut MetaBuilder,
     alloc: Global,
     form: DocForm,
     reader: &mut Reader<'_>,
@@ -113,28 +112,27 @@ fn limit_child(
     name: &str,
     place: usize,
     attrs: &Attrs<'_>,
-) -> Result<(MetaBuilder, Cursor), DocFail>
+) -> Result<Cursor, DocFail>
     requires { IsAt stream.old at.place }
-    ensures gives { Gives (λ x. (meta_parts x.0, x.1)) result
-        (by_name (setting_of form stream.old) (drop 23 (spec.meta_rows (setting_of form stream.old))) (meta_parts parts) (element place name.now attrs.now.raw.now (inner (left reader.old))) at) }
+    ensures gives { Gives (λ c. (meta_parts parts.new, c)) result
+        (by_name (setting_of form stream.old) (drop 23 (spec.meta_rows (setting_of form stream.old))) (meta_parts parts.old) (element place name.now attrs.now.raw.now (inner (left reader.old))) at) }
     ensures left { OnOk result (left reader.new ≡ outer (left reader.old)) }
     ensures shorter { OnOk result (length reader.new < length reader.old) }
-    ensures at { IfOk result (λ x. IsAt stream.new x.1.place) }
+    ensures at { IfOk result (λ c. IsAt stream.new c.place) }
     ensures keystream { keystream stream.new ≡ keystream stream.old }
 {
-    let mut parts = parts;
     macro_rules! keep {
         ($kind:ty, $($field:ident).+) => {{
             let (value, behind) = valued::<$kind>(alloc, form, reader, stream, at, place, attrs)?;
             parts.$($field).+ = value;
-            Ok((parts, behind))
+            Ok(behind)
         }};
     }
     macro_rules! hold {
         ($read:ident, $($field:ident).+) => {{
             let (value, behind) = $read(alloc, form, reader, stream, at, place, attrs)?;
             parts.$($field).+ = value;
-            Ok((parts, behind))
+            Ok(behind)
         }};
     }
     match name {
@@ -147,7 +145,7 @@ fn limit_child(
 
 /// An element behind those that [`setting_child`] reads: the bin, the templates, and where one looked last.
 fn bin_child(
-    parts: MetaBuilder,
+    parts: &mut MetaBuilder,
     alloc: Global,
     form: DocForm,
     reader: &mut Reader<'_>,
@@ -156,21 +154,20 @@ fn bin_child(
     name: &str,
     place: usize,
     attrs: &Attrs<'_>,
-) -> Result<(MetaBuilder, Cursor), DocFail>
+) -> Result<Cursor, DocFail>
     requires { IsAt stream.old at.place }
-    ensures gives { Gives (λ x. (meta_parts x.0, x.1)) result
-        (by_name (setting_of form stream.old) (drop 16 (spec.meta_rows (setting_of form stream.old))) (meta_parts parts) (element place name.now attrs.now.raw.now (inner (left reader.old))) at) }
+    ensures gives { Gives (λ c. (meta_parts parts.new, c)) result
+        (by_name (setting_of form stream.old) (drop 16 (spec.meta_rows (setting_of form stream.old))) (meta_parts parts.old) (element place name.now attrs.now.raw.now (inner (left reader.old))) at) }
     ensures left { OnOk result (left reader.new ≡ outer (left reader.old)) }
     ensures shorter { OnOk result (length reader.new < length reader.old) }
-    ensures at { IfOk result (λ x. IsAt stream.new x.1.place) }
+    ensures at { IfOk result (λ c. IsAt stream.new c.place) }
     ensures keystream { keystream stream.new ≡ keystream stream.old }
 {
-    let mut parts = parts;
     macro_rules! keep {
         ($kind:ty, $($field:ident).+) => {{
             let (value, behind) = valued::<$kind>(alloc, form, reader, stream, at, place, attrs)?;
             parts.$($field).+ = value;
-            Ok((parts, behind))
+            Ok(behind)
         }};
     }
     match name {
@@ -187,7 +184,7 @@ fn bin_child(
 
 /// An element behind those that [`name_child`] reads: settings, and icons.
 fn setting_child(
-    parts: MetaBuilder,
+    parts: &mut MetaBuilder,
     alloc: Global,
     form: DocForm,
     reader: &mut Reader<'_>,
@@ -196,28 +193,27 @@ fn setting_child(
     name: &str,
     place: usize,
     attrs: &Attrs<'_>,
-) -> Result<(MetaBuilder, Cursor), DocFail>
+) -> Result<Cursor, DocFail>
     requires { IsAt stream.old at.place }
-    ensures gives { Gives (λ x. (meta_parts x.0, x.1)) result
-        (by_name (setting_of form stream.old) (drop 9 (spec.meta_rows (setting_of form stream.old))) (meta_parts parts) (element place name.now attrs.now.raw.now (inner (left reader.old))) at) }
+    ensures gives { Gives (λ c. (meta_parts parts.new, c)) result
+        (by_name (setting_of form stream.old) (drop 9 (spec.meta_rows (setting_of form stream.old))) (meta_parts parts.old) (element place name.now attrs.now.raw.now (inner (left reader.old))) at) }
     ensures left { OnOk result (left reader.new ≡ outer (left reader.old)) }
     ensures shorter { OnOk result (length reader.new < length reader.old) }
-    ensures at { IfOk result (λ x. IsAt stream.new x.1.place) }
+    ensures at { IfOk result (λ c. IsAt stream.new c.place) }
     ensures keystream { keystream stream.new ≡ keystream stream.old }
 {
-    let mut parts = parts;
     macro_rules! keep {
         ($kind:ty, $($field:ident).+) => {{
             let (value, behind) = valued::<$kind>(alloc, form, reader, stream, at, place, attrs)?;
             parts.$($field).+ = value;
-            Ok((parts, behind))
+            Ok(behind)
         }};
     }
     macro_rules! hold {
         ($read:ident, $($field:ident).+) => {{
             let (value, behind) = $read(alloc, form, reader, stream, at, place, attrs)?;
             parts.$($field).+ = value;
-            Ok((parts, behind))
+            Ok(behind)
         }};
     }
     match name {
@@ -234,7 +230,7 @@ fn setting_child(
 
 /// An element of `Meta`: the texts that name a database, and when they changed.
 fn name_child(
-    parts: MetaBuilder,
+    parts: &mut MetaBuilder,
     alloc: Global,
     form: DocForm,
     reader: &mut Reader<'_>,
@@ -243,27 +239,26 @@ fn name_child(
     name: &str,
     place: usize,
     attrs: &Attrs<'_>,
-) -> Result<(MetaBuilder, Cursor), DocFail>
+) -> Result<Cursor, DocFail>
     requires { IsAt stream.old at.place }
-    ensures gives { Gives (λ x. (meta_parts x.0, x.1)) result
-        (by_name (setting_of form stream.old) (spec.meta_rows (setting_of form stream.old)) (meta_parts parts) (element place name.now attrs.now.raw.now (inner (left reader.old))) at) }
+    ensures gives { Gives (λ c. (meta_parts parts.new, c)) result
+        (by_name (setting_of form stream.old) (spec.meta_rows (setting_of form stream.old)) (meta_parts parts.old) (element place name.now attrs.now.raw.now (inner (left reader.old))) at) }
     ensures left { OnOk result (left reader.new ≡ outer (left reader.old)) }
     ensures shorter { OnOk result (length reader.new < length reader.old) }
-    ensures at { IfOk result (λ x. IsAt stream.new x.1.place) }
+    ensures at { IfOk result (λ c. IsAt stream.new c.place) }
     ensures keystream { keystream stream.new ≡ keystream stream.old }
 {
-    let mut parts = parts;
     macro_rules! keep {
         ($kind:ty, $($field:ident).+) => {{
             let (value, behind) = valued::<$kind>(alloc, form, reader, stream, at, place, attrs)?;
             parts.$($field).+ = value;
-            Ok((parts, behind))
+            Ok(behind)
         }};
     }
     match name {
         "Generator" => {
             let (_, behind) = valued::<TextValue>(alloc, form, reader, stream, at, place, attrs)?;
-            Ok((parts, behind))
+            Ok(behind)
         },
         "HeaderHash" => keep!(HashOrNone, hash),
         "SettingsChanged" => keep!(TimeValue, meta.settings.changed),
@@ -294,8 +289,12 @@ impl Parts for MetaBuilder {
         name: &str,
         place: usize,
         attrs: &Attrs<'_>,
-    ) -> Result<(MetaBuilder, Cursor), DocFail> {
-        name_child(self, alloc, form, reader, stream, at, name, place, attrs)
+    ) -> Result<(Self, Cursor), DocFail> {
+        let mut parts = self;
+        let behind = name_child(
+            &mut parts, alloc, form, reader, stream, at, name, place, attrs,
+        )?;
+        Ok((parts, behind))
     }
 }
 

@@ -22,9 +22,9 @@ const STREAM_END: u64 = 274_877_906_944;
 
 /// What an element says: its text, or the bytes that its text hid.
 #[derive(Drop)]
-pub struct Told {
-    pub bytes: Secret,
-    pub is_hidden: bool,
+pub(crate) struct Told {
+    pub(crate) bytes: Secret,
+    pub(crate) is_hidden: bool,
 }
 
 /// The same bytes in memory with room for so many more.
@@ -49,7 +49,7 @@ fn with_spare(alloc: Global, text: Secret, spare: usize) -> Result<Secret, DocFa
 }
 
 /// A text with the text for which a raw run stands behind it.
-pub fn appended(alloc: Global, text: Secret, raw: &str) -> Result<Secret, DocFail>
+pub(crate) fn appended(alloc: Global, text: Secret, raw: &str) -> Result<Secret, DocFail>
     ensures { Gives (λ t. t.bytes) result (Ok (text.bytes ++ unescaped raw.now)) }
 {
     let mut text = with_spare(alloc, text, unescaped_len(raw))?;
@@ -68,7 +68,7 @@ pub(crate) fn no_text(alloc: Global) -> Result<Secret, DocFail>
 }
 
 /// Whether the tag's attribute of this name is `True`, in any case of its letters.
-pub fn is_marked(alloc: Global, attrs: &Attrs<'_>, name: &str) -> Result<bool, DocFail>
+pub(crate) fn is_marked(alloc: Global, attrs: &Attrs<'_>, name: &str) -> Result<bool, DocFail>
     ensures { Gives (λ b. b) result (Ok (spec.is_marked name.now attrs.now.raw.now)) }
 {
     let Some(raw) = attrs.get(name) else {
@@ -153,7 +153,7 @@ pub(crate) fn said_by(
 
 /// What the element at a place says whose start tag the reader has given. Its children are passed over, and the
 /// reader stands behind its end.
-pub fn read(
+pub(crate) fn read(
     alloc: Global,
     form: DocForm,
     reader: &mut Reader<'_>,

@@ -42,7 +42,7 @@ fn end_space_len(bytes: &[u8]) -> usize
 
 /// The bytes without white space at their ends.
 #[tactic(auto, unfolding(crate::specs::Values::trimmed))]
-pub fn trimmed(bytes: &[u8]) -> &[u8]
+pub(crate) fn trimmed(bytes: &[u8]) -> &[u8]
     ensures { result.now ≡ spec.trimmed bytes.now }
 {
     let rest = &bytes[space_len(bytes)..];
@@ -50,14 +50,14 @@ pub fn trimmed(bytes: &[u8]) -> &[u8]
 }
 
 /// Whether a text is this word, in any case of its letters.
-pub fn is_word(text: &[u8], word: &[u8]) -> bool
+pub(crate) fn is_word(text: &[u8], word: &[u8]) -> bool
     ensures { result ≡ str_eq_ignore_ascii_case text.now word.now }
 {
     text.eq_ignore_ascii_case(word)
 }
 
 /// `True` or `False`, in any case of their letters.
-pub fn boolean(text: &[u8]) -> Option<bool>
+pub(crate) fn boolean(text: &[u8]) -> Option<bool>
     ensures { result ≡ spec.boolean text.now }
 {
     if is_word(text, b"True") {
@@ -70,7 +70,7 @@ pub fn boolean(text: &[u8]) -> Option<bool>
 }
 
 /// The same, or `null`.
-pub fn choice(text: &[u8]) -> Option<Tri>
+pub(crate) fn choice(text: &[u8]) -> Option<Tri>
     ensures { result ≡ spec.choice text.now }
 {
     if is_word(text, b"null") {
@@ -124,14 +124,14 @@ fn up_to(text: &[u8], most: u64) -> Option<u64>
 }
 
 /// A whole number of 32 bits.
-pub fn number32(text: &[u8]) -> Option<u32>
+pub(crate) fn number32(text: &[u8]) -> Option<u32>
     ensures { result ≡ spec.number32 text.now }
 {
     Some(up_to(text, 4_294_967_295)? as u32)
 }
 
 /// A whole number of 64 bits.
-pub fn number64(text: &[u8]) -> Option<u64>
+pub(crate) fn number64(text: &[u8]) -> Option<u64>
     ensures { result ≡ spec.number64 text.now }
 {
     up_to(text, u64::MAX)
@@ -139,7 +139,7 @@ pub fn number64(text: &[u8]) -> Option<u64>
 
 /// The bytes that base64 spells, where it does.
 #[tactic(auto, unfolding(crate::specs::Values::decoded))]
-pub fn decoded(alloc: Global, text: &[u8]) -> Result<Option<Vec<u8>>, DocFail>
+pub(crate) fn decoded(alloc: Global, text: &[u8]) -> Result<Option<Vec<u8>>, DocFail>
     ensures { Gives (λ o. option_map (λ v. v.items) o) result (Ok (spec.decoded text.now)) }
 {
     match STANDARD.decode(alloc, text) {
@@ -150,7 +150,7 @@ pub fn decoded(alloc: Global, text: &[u8]) -> Result<Option<Vec<u8>>, DocFail>
 }
 
 /// So many bytes, by base64.
-pub fn sized<const N: usize>(alloc: Global, text: &[u8]) -> Result<Option<[u8; N]>, DocFail>
+pub(crate) fn sized<const N: usize>(alloc: Global, text: &[u8]) -> Result<Option<[u8; N]>, DocFail>
     ensures { Gives (λ o. o) result (Ok (spec.sized N text.now)) }
 {
     let Some(bytes) = decoded(alloc, text)? else {
@@ -177,7 +177,7 @@ fn negated(size: u64) -> i64
 }
 
 /// A whole number of 64 bits with a sign.
-pub fn signed64(text: &[u8]) -> Option<i64>
+pub(crate) fn signed64(text: &[u8]) -> Option<i64>
     ensures { result ≡ spec.signed64 text.now }
 {
     match without_sign(text) {
@@ -187,7 +187,7 @@ pub fn signed64(text: &[u8]) -> Option<i64>
 }
 
 /// A whole number of 32 bits with a sign.
-pub fn signed32(text: &[u8]) -> Option<i32>
+pub(crate) fn signed32(text: &[u8]) -> Option<i32>
     ensures { result ≡ spec.signed32 text.now }
 {
     match without_sign(text) {
@@ -197,7 +197,7 @@ pub fn signed32(text: &[u8]) -> Option<i32>
 }
 
 /// The 16 bytes of an id, by base64.
-pub fn id(alloc: Global, text: &[u8]) -> Result<Option<Uuid>, DocFail>
+pub(crate) fn id(alloc: Global, text: &[u8]) -> Result<Option<Uuid>, DocFail>
     ensures { Gives (λ o. o) result (Ok (spec.id text.now)) }
 {
     match sized::<16>(alloc, text)? {
@@ -231,7 +231,7 @@ fn stamp_from(bytes: [u8; 8]) -> Option<Stamp>
 }
 
 /// A time, in either form.
-pub fn time(alloc: Global, text: &[u8]) -> Result<Option<Stamp>, DocFail>
+pub(crate) fn time(alloc: Global, text: &[u8]) -> Result<Option<Stamp>, DocFail>
     ensures { Gives (λ o. o) result (Ok (spec.time text.now)) }
 {
     match iso_time(text) {

@@ -1,6 +1,6 @@
 //! What entries and history items have in common: versions.
 
-ghost use Rattle.std.specs.Prelude.{◌≡◌, ◌<◌, [], length, map, None, Ok, IfOk, OnOk};
+ghost use Rattle.std.specs.Prelude.{◌≡◌, ◌<◌, [], ◌∷◌, ◌++◌, length, map, None, Ok, IfOk, OnOk};
 ghost use Rattle.markup_grammar.specs.Elements.{element, inner, outer, left};
 ghost use Rattle.stream_core.specs.InnerStream.{keystream, IsAt};
 ghost use Rattle.vault_model.specs.Seen.{bare_content, bare_field};
@@ -23,6 +23,7 @@ use crate::typing::{auto_type, no_typing};
 use markup_core::{Attrs, Reader};
 use outside_core::{List, Text};
 use std::alloc::Global;
+use std::mem;
 use stream_core::InnerStream;
 use vault_model::{Content, DocForm, Field, Stats};
 
@@ -60,27 +61,29 @@ pub(crate) fn no_entry(alloc: Global) -> EntryBuilder
     }
 }
 
-/// An entry with one field more, in the place of that of its key.
-fn with_field(parts: EntryBuilder, field: Field) -> Result<EntryBuilder, DocFail>
-    ensures { Gives entry_parts result (Ok (spec.with_field (entry_parts parts) (bare_field field))) }
+/// Puts a field into an entry, in the place of that of its key.
+fn put_field(alloc: Global, parts: &mut EntryBuilder, field: Field) -> Result<(), DocFail>
+    ensures { Gives (λ u. entry_parts parts.new) result (Ok (spec.with_field (entry_parts parts.old) (bare_field field))) }
 {
-    let content = parts.content;
-    let fields = put(content.fields, field)?;
-    let content = Content { fields, ..content };
-    Ok(EntryBuilder { content, ..parts })
+    let others = mem::replace(&mut parts.content.fields, List::new(alloc));
+    let fields = put(others, field)?;
+    parts.content.fields = fields;
+    Ok(())
 }
 
-/// An entry with one attachment more, in the place of that of its name.
-fn with_file(parts: EntryBuilder, file: FileDraft) -> Result<EntryBuilder, DocFail>
-    ensures { Gives entry_parts result (Ok (spec.with_file (entry_parts parts) (file_seen file))) }
+/// Puts an attachment into an entry, in the place of that of its name.
+fn put_file(alloc: Global, parts: &mut EntryBuilder, file: FileDraft) -> Result<(), DocFail>
+    ensures { Gives (λ u. entry_parts parts.new) result (Ok (spec.with_file (entry_parts parts.old) (file_seen file))) }
 {
-    let files = put(parts.files, file)?;
-    Ok(EntryBuilder { files, ..parts })
+    let others = mem::replace(&mut parts.files, List::new(alloc));
+    let files = put(others, file)?;
+    parts.files = files;
+    Ok(())
 }
 
 /// Reads how an entry is typed, or its custom items, or passes over an unknown element.
 fn held_child(
-    parts: EntryBuilder,
+    parts: &mut EntryBuilder,
     alloc: Global,
     form: DocForm,
     reader: &mut Reader<'_>,
@@ -89,33 +92,32 @@ fn held_child(
     name: &str,
     place: usize,
     attrs: &Attrs<'_>,
-) -> Result<(EntryBuilder, Cursor), DocFail>
+) -> Result<Cursor, DocFail>
     requires { IsAt stream.old at.place }
-    ensures gives { Gives (λ x. (entry_parts x.0, x.1)) result
-        (by_name (setting_of form stream.old) (spec.held_rows (setting_of form stream.old)) (entry_parts parts) (element place name.now attrs.now.raw.now (inner (left reader.old))) at) }
+    ensures gives { Gives (λ c. (entry_parts parts.new, c)) result
+        (by_name (setting_of form stream.old) (spec.held_rows (setting_of form stream.old)) (entry_parts parts.old) (element place name.now attrs.now.raw.now (inner (left reader.old))) at) }
     ensures left { OnOk result (left reader.new ≡ outer (left reader.old)) }
     ensures shorter { OnOk result (length reader.new < length reader.old) }
-    ensures at { IfOk result (λ x. IsAt stream.new x.1.place) }
+    ensures at { IfOk result (λ c. IsAt stream.new c.place) }
     ensures keystream { keystream stream.new ≡ keystream stream.old }
 {
-    let mut parts = parts;
     if name == "AutoType" {
         let (typing, behind) = auto_type(alloc, form, reader, stream, at, place, attrs)?;
         parts.content.auto_type = typing;
-        return Ok((parts, behind));
+        return Ok(behind);
     }
     if name == "CustomData" {
         let (items, behind) = custom_data(alloc, form, reader, stream, at, place, attrs)?;
         parts.content.items = items;
-        return Ok((parts, behind));
+        return Ok(behind);
     }
     let (_, behind) = read(alloc, form, reader, stream, at, place, attrs)?;
-    Ok((parts, behind))
+    Ok(behind)
 }
 
 /// Reads the times, a field or an attachment of an entry, or what else stands in it.
 fn part_child(
-    parts: EntryBuilder,
+    parts: &mut EntryBuilder,
     alloc: Global,
     form: DocForm,
     reader: &mut Reader<'_>,
@@ -124,35 +126,36 @@ fn part_child(
     name: &str,
     place: usize,
     attrs: &Attrs<'_>,
-) -> Result<(EntryBuilder, Cursor), DocFail>
+) -> Result<Cursor, DocFail>
     requires { IsAt stream.old at.place }
-    ensures gives { Gives (λ x. (entry_parts x.0, x.1)) result
-        (by_name (setting_of form stream.old) (spec.part_rows (setting_of form stream.old)) (entry_parts parts) (element place name.now attrs.now.raw.now (inner (left reader.old))) at) }
+    ensures gives { Gives (λ c. (entry_parts parts.new, c)) result
+        (by_name (setting_of form stream.old) (spec.part_rows (setting_of form stream.old)) (entry_parts parts.old) (element place name.now attrs.now.raw.now (inner (left reader.old))) at) }
     ensures left { OnOk result (left reader.new ≡ outer (left reader.old)) }
     ensures shorter { OnOk result (length reader.new < length reader.old) }
-    ensures at { IfOk result (λ x. IsAt stream.new x.1.place) }
+    ensures at { IfOk result (λ c. IsAt stream.new c.place) }
     ensures keystream { keystream stream.new ≡ keystream stream.old }
 {
-    let mut parts = parts;
     if name == "Times" {
         let (told, behind) = times(alloc, form, reader, stream, at, place, attrs)?;
         parts.times = told;
-        return Ok((parts, behind));
+        return Ok(behind);
     }
     if name == "String" {
         let (field, behind) = field(alloc, form, reader, stream, at, place, attrs)?;
-        return Ok((with_field(parts, field)?, behind));
+        put_field(alloc, parts, field)?;
+        return Ok(behind);
     }
     if name == "Binary" {
         let (file, behind) = file(alloc, form, reader, stream, at, place, attrs)?;
-        return Ok((with_file(parts, file)?, behind));
+        put_file(alloc, parts, file)?;
+        return Ok(behind);
     }
     held_child(parts, alloc, form, reader, stream, at, name, place, attrs)
 }
 
 /// Reads a text in an entry, or what else stands in it.
 fn text_child(
-    parts: EntryBuilder,
+    parts: &mut EntryBuilder,
     alloc: Global,
     form: DocForm,
     reader: &mut Reader<'_>,
@@ -161,44 +164,43 @@ fn text_child(
     name: &str,
     place: usize,
     attrs: &Attrs<'_>,
-) -> Result<(EntryBuilder, Cursor), DocFail>
+) -> Result<Cursor, DocFail>
     requires { IsAt stream.old at.place }
-    ensures gives { Gives (λ x. (entry_parts x.0, x.1)) result
-        (by_name (setting_of form stream.old) (spec.text_rows (setting_of form stream.old)) (entry_parts parts) (element place name.now attrs.now.raw.now (inner (left reader.old))) at) }
+    ensures gives { Gives (λ c. (entry_parts parts.new, c)) result
+        (by_name (setting_of form stream.old) (spec.text_rows (setting_of form stream.old)) (entry_parts parts.old) (element place name.now attrs.now.raw.now (inner (left reader.old))) at) }
     ensures left { OnOk result (left reader.new ≡ outer (left reader.old)) }
     ensures shorter { OnOk result (length reader.new < length reader.old) }
-    ensures at { IfOk result (λ x. IsAt stream.new x.1.place) }
+    ensures at { IfOk result (λ c. IsAt stream.new c.place) }
     ensures keystream { keystream stream.new ≡ keystream stream.old }
 {
-    let mut parts = parts;
     if name == "ForegroundColor" {
         let (fore, behind) = valued::<TextValue>(alloc, form, reader, stream, at, place, attrs)?;
         parts.content.fore = fore;
-        return Ok((parts, behind));
+        return Ok(behind);
     }
     if name == "BackgroundColor" {
         let (back, behind) = valued::<TextValue>(alloc, form, reader, stream, at, place, attrs)?;
         parts.content.back = back;
-        return Ok((parts, behind));
+        return Ok(behind);
     }
     if name == "OverrideURL" {
         let (url_override, behind) = valued::<TextValue>(
             alloc, form, reader, stream, at, place, attrs,
         )?;
         parts.content.url_override = url_override;
-        return Ok((parts, behind));
+        return Ok(behind);
     }
     if name == "Tags" {
         let (tags, behind) = valued::<TextValue>(alloc, form, reader, stream, at, place, attrs)?;
         parts.content.tags = tags;
-        return Ok((parts, behind));
+        return Ok(behind);
     }
     part_child(parts, alloc, form, reader, stream, at, name, place, attrs)
 }
 
 /// Reads what stands in an entry or in a history item alike.
 pub(crate) fn version_child(
-    parts: EntryBuilder,
+    parts: &mut EntryBuilder,
     alloc: Global,
     form: DocForm,
     reader: &mut Reader<'_>,
@@ -207,53 +209,84 @@ pub(crate) fn version_child(
     name: &str,
     place: usize,
     attrs: &Attrs<'_>,
-) -> Result<(EntryBuilder, Cursor), DocFail>
+) -> Result<Cursor, DocFail>
     requires { IsAt stream.old at.place }
-    ensures gives { Gives (λ x. (entry_parts x.0, x.1)) result
-        (by_name (setting_of form stream.old) (spec.version_rows (setting_of form stream.old)) (entry_parts parts) (element place name.now attrs.now.raw.now (inner (left reader.old))) at) }
+    ensures gives { Gives (λ c. (entry_parts parts.new, c)) result
+        (by_name (setting_of form stream.old) (spec.version_rows (setting_of form stream.old)) (entry_parts parts.old) (element place name.now attrs.now.raw.now (inner (left reader.old))) at) }
     ensures left { OnOk result (left reader.new ≡ outer (left reader.old)) }
     ensures shorter { OnOk result (length reader.new < length reader.old) }
-    ensures at { IfOk result (λ x. IsAt stream.new x.1.place) }
+    ensures at { IfOk result (λ c. IsAt stream.new c.place) }
     ensures keystream { keystream stream.new ≡ keystream stream.old }
 {
-    let mut parts = parts;
     if name == "IconID" {
         let (icon, behind) = valued::<Number32<0>>(alloc, form, reader, stream, at, place, attrs)?;
         parts.content.icon = icon;
-        return Ok((parts, behind));
+        return Ok(behind);
     }
     if name == "CustomIconUUID" {
         let (custom_icon, behind) = valued::<IdOrNone>(
             alloc, form, reader, stream, at, place, attrs,
         )?;
         parts.content.custom_icon = custom_icon;
-        return Ok((parts, behind));
+        return Ok(behind);
     }
     text_child(parts, alloc, form, reader, stream, at, name, place, attrs)
 }
 
+/// Puts a field behind the others.
+fn add_last(fields: &mut Vec<Field>, field: Field) -> Result<(), DocFail>
+    ensures { Gives (λ u. fields.new.items) result (Ok (fields.old.items ++ field ∷ [])) }
+{
+    match fields.push(field) {
+        Ok(()) => Ok(()),
+        Err(_) => Err(DocFail::NoMemory),
+    }
+}
+
+/// Fields in memory that has room for them alone.
+fn packed(alloc: Global, fields: List<Field>) -> Result<Vec<Field>, DocFail>
+    ensures { Gives (λ v. v.items) result (Ok fields) }
+{
+    let mut rest = fields;
+    let Ok(mut packed) = Vec::with_capacity(alloc, rest.len()) else {
+        return Err(DocFail::NoMemory);
+    };
+    while rest.len() > 0 {
+        add_last(&mut packed, rest.remove(0))?;
+    }
+    Ok(packed)
+}
+
 /// The version that has these times, says this, and has these attachments.
-pub(crate) fn version_of(times: Times, content: Content, files: List<FileDraft>) -> VersionDraft
-    ensures { version_seen result ≡ spec.version_of (record {
+pub(crate) fn version_of(
+    alloc: Global,
+    times: Times,
+    content: Content,
+    files: List<FileDraft>,
+) -> Result<VersionDraft, DocFail>
+    ensures { Gives version_seen result (Ok (spec.version_of (record {
       id = None;
       times = times;
       content = bare_content content;
       files = map file_seen files;
       history = [];
-    }) }
+    }))) }
 {
-    VersionDraft {
+    let fields = packed(alloc, content.fields)?;
+    Ok(VersionDraft {
         modified: times.modified,
         content: Content {
             created: times.created,
             expiry: times.expiry,
             expires: times.expires,
+            fields: List::new(alloc),
             ..content
         },
+        fields,
         files,
         stats: Stats {
             accessed: times.accessed,
             usage: times.usage,
         },
-    }
+    })
 }

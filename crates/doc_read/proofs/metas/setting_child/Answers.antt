@@ -1,7 +1,6 @@
 use Rattle.std.proofs.Common.{take, drop}
 use Rattle.markup_grammar.specs.Elements.{element, inner, left}
 use Rattle.doc_read.specs.declared.cursor.Cursor.{Cursor}
-use Rattle.doc_read.specs.declared.drafts.MetaBuilder.{MetaBuilder}
 use Rattle.doc_read.specs.Metas.{meta_rows}
 use Rattle.doc_read.specs.Seen.{setting_of}
 use Rattle.doc_read.specs.SeenDrafts.{meta_parts}
@@ -13,7 +12,7 @@ pub returns-in_default-clause-gives : goal.returns-in_default-clause-gives
 returns-in_default-clause-gives c =
     let s = setting_of c.args.form c.args.stream.now in
     let e = element c.args.place c.args.name.now c.args.attrs.now.raw.now (inner (left c.args.reader.now)) in
-    given_same (λ (x : MetaBuilder × Cursor). (meta_parts x.0, x.1)) c.bin_child.result _ _
-    (past_rows s (take 7 (drop 9 (meta_rows s))) (drop 16 (meta_rows s)) (meta_parts c.args.parts) e c.args.at
+    given_same (λ (x : Cursor). (meta_parts c.bin_child.new.parts, x)) c.bin_child.result _ _
+    (past_rows s (take 7 (drop 9 (meta_rows s))) (drop 16 (meta_rows s)) (meta_parts c.args.parts.now) e c.args.at
     (c.in_default.not-MaintenanceHistoryDays, (c.in_default.not-Color, (c.in_default.not-MasterKeyChanged, (c.in_default.not-MasterKeyChangeRec, (c.in_default.not-MasterKeyChangeForce, (c.in_default.not-MemoryProtection, (c.in_default.not-CustomIcons, tt))))))))
     c.bin_child.ensures.gives
