@@ -1,0 +1,10 @@
+pub mod Causes
+pub mod Contents
+pub mod Lent
+pub mod OneAnswer
+pub mod Parts
+pub mod Pools
+pub mod ReadFiles
+pub mod SealedFiles
+pub mod Steps
+pub mod Under

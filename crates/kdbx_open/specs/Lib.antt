@@ -1,0 +1,8 @@
+pub mod Causes
+pub mod Documents
+pub mod Files
+pub mod Opening
+pub mod Parts
+pub mod Readings
+pub mod Sealed
+pub mod Seen

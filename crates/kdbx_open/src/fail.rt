@@ -1,0 +1,96 @@
+// Why a file is not opened.
+
+ghost use Rattle.std.specs.Prelude.{◌≡◌};
+ghost use Rattle.kdbx_open.specs.Causes.{of_document, of_frame, of_read};
+ghost use Rattle.kdbx_open.specs.declared.fail.OpenFail.TheVariants as fail;
+
+use doc_read::DocFail;
+use kdbx_frame::FrameFail;
+use mac_core::BlockFail;
+use outside_core::NoMemory;
+use secret_core::ReadFail;
+use stream_core::StreamUnknown;
+
+/// Why a file is not opened. The first that holds comes, in the order of these variants; but Frame is tried twice, of
+/// the header at its place, and of the inner fields behind BadPadding.
+#[derive(Clone, Copy, Debug, PartialEq, Eq)]
+pub enum OpenFail {
+    /// The file was not read.
+    File(ReadFail),
+    /// The header is refused, before any key is derived; or the inner fields in front of the document are.
+    Frame(FrameFail),
+    /// The header's HMAC is not right: the composite key is another, or the header was changed.
+    KeyOrHeader {
+        /// The code that the file keeps.
+        kept: [u8; 32],
+        /// The code of the header as it stands, under the composite key.
+        found: [u8; 32],
+    },
+    /// A block's MAC is not right, or the file ends before its end block does.
+    Block(BlockFail),
+    /// The content is not made up of whole blocks of the cipher, or its padding is not right.
+    BadPadding,
+    /// The inner stream of this number is not known.
+    StreamUnknown(u32),
+    /// The text behind the inner fields is no document.
+    Doc(DocFail),
+    /// Memory ran out.
+    NoMemory,
+}
+
+impl From<ReadFail> for OpenFail {
+    ghost from_gives = { λ refusal e. e ≡ of_read refusal };
+
+    fn from(refusal: ReadFail) -> OpenFail {
+        match refusal {
+            ReadFail::NoMemory => OpenFail::NoMemory,
+            other => OpenFail::File(other),
+        }
+    }
+}
+
+impl From<FrameFail> for OpenFail {
+    ghost from_gives = { λ refusal e. e ≡ of_frame refusal };
+
+    fn from(refusal: FrameFail) -> OpenFail {
+        match refusal {
+            FrameFail::NoMemory => OpenFail::NoMemory,
+            other => OpenFail::Frame(other),
+        }
+    }
+}
+
+impl From<DocFail> for OpenFail {
+    ghost from_gives = { λ refusal e. e ≡ of_document refusal };
+
+    fn from(refusal: DocFail) -> OpenFail {
+        match refusal {
+            DocFail::NoMemory => OpenFail::NoMemory,
+            other => OpenFail::Doc(other),
+        }
+    }
+}
+
+impl From<BlockFail> for OpenFail {
+    ghost from_gives = { λ refusal e. e ≡ fail.Block refusal };
+
+    fn from(refusal: BlockFail) -> OpenFail {
+        OpenFail::Block(refusal)
+    }
+}
+
+impl From<StreamUnknown> for OpenFail {
+    ghost from_gives = { λ unknown e. e ≡ fail.StreamUnknown unknown.0 };
+
+    fn from(unknown: StreamUnknown) -> OpenFail {
+        OpenFail::StreamUnknown(unknown.0)
+    }
+}
+
+impl From<NoMemory> for OpenFail {
+    ghost from_gives = { λ _ e. e ≡ fail.NoMemory };
+
+    fn from(_none: NoMemory) -> OpenFail {
+        OpenFail::NoMemory
+    }
+}

@@ -1,0 +1,51 @@
+-- Which entry and which group a text names.
+use Rattle.std.specs.Prelude.{ℕ, ◌||◌, ◌==◌, if◌then◌else◌, cond, List, [], ◌∷◌, ◌++◌, codes, Option, None, Some, bytes_eq}
+use Rattle.std.specs.Io.BufRead.{strip_last}
+use Rattle.vault_model.specs.Db.{NodeId}
+use Rattle.vault_model.specs.Tree.{BareDoc}
+use Rattle.vault_model.specs.Walk.{Node, Walked, an_entry, a_group, walk}
+
+-- a first choice, or else another
+abbrev pub or_else : {A : Type 0} → Option A → Option A → Option A
+or_else None other = other
+or_else (Some x) other = Some x
+
+-- what is found first along a list
+abbrev pub first : {A B : Type 0} → (A → Option B) → List A → Option B
+first found [] = None
+first found (x ∷ xs) = or_else (found x) (first found xs)
+
+-- the id of an entry, where it is one
+abbrev pub entry_id : Node → Option NodeId
+entry_id (an_entry id entry) = Some id
+entry_id (a_group id group) = None
+
+-- the id of a group, where it is one
+abbrev pub group_id : Node → Option NodeId
+group_id (an_entry id entry) = None
+group_id (a_group id group) = Some id
+
+-- an entry that a text names: the text is its path, or a slash and its path
+abbrev pub entry_named : List ℕ → Walked → Option NodeId
+entry_named text w = cond (bytes_eq text w.path || bytes_eq text (codes "/" ++ w.path)) (entry_id w.found) None
+
+-- the entry that a text names: the first in document order
+unfoldable pub entry_found : BareDoc → List ℕ → Option NodeId
+entry_found doc text = first (entry_named text) (walk doc)
+
+-- a text without one slash in front
+abbrev pub without_front : List ℕ → List ℕ
+without_front [] = []
+without_front (b ∷ bs) = if b == 47 then bs else b ∷ bs
+
+-- a text without one slash in front and one at its end
+abbrev pub without_slashes : List ℕ → List ℕ
+without_slashes text = strip_last 47 (without_front text)
+
+-- a group whose path is a text
+abbrev pub group_named : List ℕ → Walked → Option NodeId
+group_named text w = cond (bytes_eq text w.path) (group_id w.found) None
+
+-- the group that a text names, but for slashes: the first in document order. No text is the root's path.
+unfoldable pub group_found : BareDoc → List ℕ → Option NodeId
+group_found doc text = first (group_named (without_slashes text)) (walk doc)

@@ -1,0 +1,43 @@
+//! What is left of a text behind the names of groups that lead to a node.
+
+ghost use Rattle.std.specs.Prelude.{◌≡◌, ◌||◌, option_map};
+ghost use Rattle.tree_core.specs.Finding as named;
+ghost use Rattle.tree_core.specs.Rests as spec;
+
+// A text behind a front part of it, where it begins so.
+pub(crate) fn behind<'a>(front: &[u8], text: &'a [u8]) -> Option<&'a [u8]>
+    ensures { option_map (λ rest. rest.now) result ≡ spec.behind front.now text.now }
+{
+    text.strip_prefix(front)
+}
+
+// What is left behind a name and a slash.
+pub(crate) fn below<'a>(name: &[u8], rest: Option<&'a [u8]>) -> Option<&'a [u8]>
+    ensures { option_map (λ rest. rest.now) result ≡ spec.below name.now (option_map (λ rest. rest.now) rest.entry) }
+{
+    behind(b"/", behind(name, rest?)?)
+}
+
+// Tells whether a name is left, and nothing else.
+pub(crate) fn is_left(name: &[u8], rest: Option<&[u8]>) -> bool
+    ensures { result ≡ spec.is_left name.now (option_map (λ rest. rest.now) rest.entry) }
+{
+    match rest {
+        Some(rest) => rest == name,
+        None => false,
+    }
+}
+
+// A text without one slash in front and one at its end.
+pub(crate) fn without_slashes(text: &[u8]) -> &[u8]
+    ensures { result.now ≡ named.without_slashes text.now }
+{
+    let text = match text {
+        [b'/', rest @ ..] => rest,
+        _ => text,
+    };
+    match text {
+        [rest @ .., b'/'] => rest,
+        _ => text,
+    }
+}
