@@ -1,1 +1,8 @@
-pub mod Completeness
+pub mod Bytes
+pub mod Endings
+pub mod Fronts
+pub mod Groups
+pub mod HeldFiles
+pub mod Inputs
+pub mod OneAnswer
+pub mod Steps

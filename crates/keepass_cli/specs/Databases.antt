@@ -1,61 +1,158 @@
 -- The databases of a call: what the file that its command names holds.
-use Rattle.std.specs.Prelude.{◌≡◌, ◌≢◌, ℕ, List, [], codes, length, nat_le, cond, Option, None, Some, Result, Ok, Err}
+use Rattle.std.specs.Prelude.{◌≡◌, ℕ, Bool, true, false, List, [], length, nat_le, cond, Option, None, Some, Result, Ok, Err}
 use Rattle.std.specs.FinMap as map
 use Rattle.outside_core.specs.Files.{FileMap}
 use Rattle.secret_core.specs.declared.files.ReadFail.{ReadFail}
 use Rattle.secret_core.specs.declared.files.ReadFail.TheVariants as read
+use Rattle.key_core.specs.KeyFile.{key_file_key}
+use Rattle.key_core.specs.Keys.{composite_key}
+use Rattle.key_core.specs.declared.key_file.KeyFileFail.{KeyFileFail}
+use Rattle.key_core.specs.declared.key_file.KeyFileFail.TheVariants as key
+use Rattle.mac_core.specs.declared.fail.BlockFail.{BlockFail}
+use Rattle.mac_core.specs.declared.fail.BlockFail.TheVariants as block
 use Rattle.stream_core.specs.InnerStream.{NoKeystream}
 use Rattle.vault_model.specs.Tree.{BareDoc}
 use Rattle.vault_model.specs.declared.forms.DocForm.TheVariants.{Plain}
 use Rattle.doc_read.specs.Documents.{Read, document}
 use Rattle.doc_read.specs.declared.fails.DocFail.{DocFail}
 use Rattle.doc_read.specs.declared.fails.DocFail.TheVariants as doc
+use Rattle.kdbx_frame.specs.declared.fail.FrameFail.{FrameFail}
+use Rattle.kdbx_frame.specs.declared.fail.FrameFail.TheVariants as frame
+use Rattle.kdbx_open.specs.declared.fail.OpenFail.{OpenFail}
+use Rattle.kdbx_open.specs.declared.fail.OpenFail.TheVariants as sealed
+use Rattle.kdbx_open.specs.Files.{opening_of}
+use Rattle.kdbx_open.specs.Opening.{Vault}
+use Rattle.kdbx_open.specs.Readings.{Reading}
 use Rattle.keepass_cli.specs.declared.answers.Answer.{Answer}
 use Rattle.keepass_cli.specs.declared.answers.Answer.TheVariants as answer
 use Rattle.keepass_cli.specs.declared.answers.Answer.TheVariants.{NoSuchFile, TooLarge, OutOfMemory}
 use Rattle.keepass_cli.specs.declared.answers.Refusal.{Refusal}
 use Rattle.keepass_cli.specs.declared.answers.Stop.{Stop}
-use Rattle.keepass_cli.specs.declared.answers.Stop.TheVariants.{Refused, FileFault, NoMemory}
-use Rattle.keepass_cli.specs.declared.words.Command.{Command}
-use Rattle.keepass_cli.specs.declared.words.Command.TheVariants.{Ls}
+use Rattle.keepass_cli.specs.declared.command.Command.{Command}
+use Rattle.keepass_cli.specs.declared.command.Command.TheVariants.{Ls}
 use Rattle.keepass_cli.specs.Messages.{refusal_of, Refuses}
-use Rattle.keepass_cli.specs.Phases.{IsMemoryStop, IsFault}
+use Rattle.keepass_cli.specs.Phases.{IsFault, IsMemoryStop, Phase, only, then_result, ◌>>=◌}
 
--- What a text says as a plain document, which hides nothing and has no binaries beside it.
-unfoldable pub plain_document : List ℕ → Result Read DocFail
-plain_document text = document (record { form = Plain; keystream = NoKeystream }) [] text
+-- ---- refusals of the crates below, as answers
 
--- The answer that a refusal of the reader is.
-abbrev pub answer_to : DocFail → Answer
-answer_to (doc.Form place) = answer.Form place
-answer_to (doc.Depth place) = answer.Depth
-answer_to (doc.BadValue place) = answer.BadValue place
-answer_to (doc.Compressed place) = answer.Compressed
-answer_to (doc.TooDeep place) = answer.TooDeep
-answer_to (doc.TooMany count) = answer.TooMany
-answer_to (doc.NilId place) = answer.NilId place
-answer_to (doc.MissingElement which place) = answer.MissingElement place
-answer_to (doc.DuplicateId id) = answer.DuplicateId id
-answer_to (doc.BinaryRef number) = answer.BinaryRef number
-answer_to doc.NoMemory = OutOfMemory
+-- A refusal of the document's reader.
+abbrev pub document_answer : DocFail → Answer
+document_answer (doc.Form place) = answer.Form place
+document_answer (doc.Depth place) = answer.Depth
+document_answer (doc.BadValue place) = answer.BadValue place
+document_answer (doc.Compressed place) = answer.Compressed
+document_answer (doc.TooDeep place) = answer.TooDeep
+document_answer (doc.TooMany count) = answer.TooMany
+document_answer (doc.NilId place) = answer.NilId place
+document_answer (doc.MissingElement which place) = answer.MissingElement place
+document_answer (doc.DuplicateId id) = answer.DuplicateId id
+document_answer (doc.BinaryRef number) = answer.BinaryRef number
+document_answer doc.NoMemory = OutOfMemory
 
--- The document that the file of this name holds, or the refusal.
-abbrev pub built : List ℕ → Result Read DocFail → Result BareDoc Refusal
-built name (Ok read) = Ok read.0
-built name (Err fail) = Err (refusal_of (answer_to fail) name)
+-- A refusal of the reader of headers and inner fields.
+abbrev pub frame_answer : FrameFail → Answer
+frame_answer frame.NotKdbx = answer.NotKdbx
+frame_answer (frame.Version number) = answer.Version number
+frame_answer (frame.Truncated place) = answer.EndsEarly place
+frame_answer (frame.TooLarge place) = TooLarge
+frame_answer (frame.FieldTwice id) = answer.BadHeaderField id
+frame_answer (frame.FieldLength id len) = answer.BadHeaderField id
+frame_answer (frame.Dictionary place) = answer.BadDictionary place
+frame_answer (frame.HeaderHash kept found) = answer.DamagedOrWrongKey kept found
+frame_answer (frame.FieldMissing id) = answer.BadHeaderField id
+frame_answer (frame.CipherUnknown id) = answer.UnknownId id
+frame_answer (frame.Compressed flag) = answer.Compressed
+frame_answer (frame.KdfUnknown id) = answer.UnknownId id
+frame_answer (frame.Variant number) = answer.Variant number
+frame_answer (frame.KdfLimit field number) = answer.KdfLimit
+frame_answer frame.NoMemory = OutOfMemory
+
+-- A refusal of the reader of blocks.
+abbrev pub block_answer : BlockFail → Answer
+block_answer (block.Truncated place) = answer.EndsEarly place
+block_answer (block.BlockMac number) = answer.DamagedBlock number
+
+-- A refusal to read a file. A fault of the store is no refusal of this kind.
+abbrev pub file_answer : ReadFail → Answer
+file_answer (read.TooLarge size) = TooLarge
+file_answer read.NoSuchFile = NoSuchFile
+file_answer read.FileFault = OutOfMemory
+file_answer read.NoMemory = OutOfMemory
+
+-- A refusal to open a file.
+abbrev pub open_answer : OpenFail → Answer
+open_answer (sealed.File fail) = file_answer fail
+open_answer (sealed.Frame fail) = frame_answer fail
+open_answer (sealed.KeyOrHeader kept found) = answer.DamagedOrWrongKey kept found
+open_answer (sealed.Block fail) = block_answer fail
+open_answer sealed.BadPadding = answer.WrongKeyOrDamaged
+open_answer (sealed.StreamUnknown number) = answer.StreamUnknown number
+open_answer (sealed.Doc fail) = document_answer fail
+open_answer sealed.NoMemory = OutOfMemory
+
+-- A refusal of a key file.
+abbrev pub key_answer : KeyFileFail → Answer
+key_answer (key.KeyFileForm place) = answer.BadKeyFile place
+key_answer (key.KeyFileHash kept found) = answer.KeyFileHash kept found
+key_answer key.NoMemory = OutOfMemory
+
+-- ---- files
 
 -- The most bytes of a file that is read: 128 MiB.
 abbrev pub file_limit : ℕ
 file_limit = 134217728
 
+-- What is made of the bytes of the file of this name, which is there and not too large.
+abbrev pub of_file : {A : Type 0} → List ℕ → (List ℕ → Result A Refusal) → Option (List ℕ) → Result A Refusal
+of_file name made None = Err (refusal_of NoSuchFile name)
+of_file name made (Some bytes) = cond (nat_le (length bytes) file_limit) (made bytes) (Err (refusal_of TooLarge name))
+
+-- What a text says as a plain document, which hides nothing and has no binaries beside it.
+unfoldable pub plain_document : List ℕ → Result Read DocFail
+plain_document text = document (record { form = Plain; keystream = NoKeystream }) [] text
+
+-- The document that the file of this name holds, or the refusal.
+abbrev pub built : List ℕ → Result Read DocFail → Result BareDoc Refusal
+built name (Ok read) = Ok read.0
+built name (Err fail) = Err (refusal_of (document_answer fail) name)
+
 -- What a file of this name holds as a plain document.
 abbrev pub plain_of : List ℕ → Option (List ℕ) → Result BareDoc Refusal
-plain_of name None = Err (refusal_of NoSuchFile name)
-plain_of name (Some bytes) = cond (nat_le (length bytes) file_limit) (built name (plain_document bytes)) (Err (refusal_of TooLarge name))
+plain_of name = of_file name (λ bytes. built name (plain_document bytes))
 
--- The database of a command.
-abbrev pub database_of : Command → FileMap → Result BareDoc Refusal
-database_of (Ls file) files = plain_of file (map.get files file)
+-- The key that the key file of this name gives, or the refusal.
+abbrev pub keyed : List ℕ → Result (List ℕ) KeyFileFail → Result (List ℕ) Refusal
+keyed name (Ok key) = Ok key
+keyed name (Err fail) = Err (refusal_of (key_answer fail) name)
+
+-- The key of the key file of this name.
+abbrev pub key_in : List ℕ → Option (List ℕ) → Result (List ℕ) Refusal
+key_in name = of_file name (λ bytes. keyed name (key_file_key bytes))
+
+-- The key of the key file, where one is named.
+abbrev pub key_of : Option (List ℕ) → FileMap → Result (Option (List ℕ)) Refusal
+key_of None files = Ok None
+key_of (Some name) files = then_result (key_in name (map.get files name)) (λ key. Ok (Some key))
+
+-- What is held by the file of this name, by what opening it reads.
+abbrev pub opened : List ℕ → Reading Vault → Phase BareDoc
+opened name reading (Ok doc) = (vault : Vault) × (reading (Ok vault) × (vault.doc ≡ doc))
+opened name reading (Err refusal) = (fail : OpenFail) × (reading (Err fail) × (refusal_of (open_answer fail) name ≡ refusal))
+
+-- What a file holds under the composite key of a password and a key file's key.
+unfoldable pub sealed_in : List ℕ → FileMap → Option (List ℕ) → Option (List ℕ) → Phase BareDoc
+sealed_in file files password key = opened file (opening_of (map.get files file) (composite_key password key))
+
+-- The document that a file holds: by itself, or else sealed, the key file being read first.
+abbrev pub held_in : Bool → Option (List ℕ) → List ℕ → Option (List ℕ) → FileMap → Phase BareDoc
+held_in true key_file file password files = only (plain_of file (map.get files file))
+held_in false key_file file password files = only (key_of key_file files) >>= sealed_in file files password
+
+-- The database of a command, whose password is given.
+abbrev pub database_of : Command → Option (List ℕ) → FileMap → Phase BareDoc
+database_of (Ls access file group recursive flat) password files = held_in access.plain access.key_file file password files
+
+-- ---- stops
 
 -- The stop of a call that could not read the file of this name.
 abbrev pub IsUnread : ReadFail → List ℕ → Stop → Type 0
@@ -64,8 +161,8 @@ IsUnread read.NoSuchFile name stop = Refuses stop (refusal_of NoSuchFile name)
 IsUnread read.FileFault name stop = IsFault stop name
 IsUnread read.NoMemory name stop = IsMemoryStop stop
 
--- The stop of a call that could not build what the bytes of a file hold.
-abbrev pub IsBuildStop : Stop → Type 0
-IsBuildStop (Refused refusal) = refusal.answer ≢ NoSuchFile
-IsBuildStop (FileFault name) = ⊥
-IsBuildStop NoMemory = Unit {0}
+-- The stop of a call that could not open the file of this name.
+abbrev pub IsUnopened : OpenFail → List ℕ → Stop → Type 0
+IsUnopened (sealed.File fail) name stop = IsUnread fail name stop
+IsUnopened sealed.NoMemory name stop = IsMemoryStop stop
+IsUnopened fail name stop = Refuses stop (refusal_of (open_answer fail) name)

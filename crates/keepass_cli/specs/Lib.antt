@@ -1,6 +1,10 @@
+pub mod Cutting
 pub mod Databases
+pub mod Held
+pub mod Lines
 pub mod Listing
 pub mod Messages
+pub mod Opening
 pub mod Outcome
 pub mod Phases
 pub mod SaidWords

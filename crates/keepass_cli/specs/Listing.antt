@@ -1,36 +1,44 @@
 -- What `ls` prints.
-use Rattle.std.specs.Prelude.{ℕ, List, [], ◌++◌, codes, bytes_eq, option_map, unwrap_or, flat_map}
-use Rattle.std.specs.List.{find}
-use Rattle.vault_model.specs.Bare.{BareField}
+use Rattle.std.specs.Prelude.{ℕ, Bool, true, false, cond, List, [], ◌++◌, bytes_eq, codes, flat_map, Option, None, Some, option_and_then}
+use Rattle.tree_core.specs.Finding.{group_found, or_else}
 use Rattle.vault_model.specs.Db.{NodeId}
-use Rattle.vault_model.specs.Shape.{BareVersion, EntryRecord}
+use Rattle.vault_model.specs.Shape.{EntryRecord}
 use Rattle.vault_model.specs.Tree.{BareDoc, Tree, Trees, node, none, beside}
+use Rattle.vault_model.specs.Walk.{name_of, title_of}
 
--- The value of the field of this key, and empty without one.
-abbrev pub value_of : List ℕ → List BareField → List ℕ
-value_of key fields = unwrap_or (option_map (λ (f : BareField). f.value) (find (λ (f : BareField). bytes_eq f.key key) fields)) []
+-- What stands in front of the names in a group: two spaces for each level, or the path.
+abbrev pub front_below : Bool → List ℕ → List ℕ → List ℕ
+front_below true front name = (front ++ name) ++ codes "/"
+front_below false front name = front ++ codes "  "
 
--- The title that a version says.
-abbrev pub title_of : BareVersion → List ℕ
-title_of version = value_of (codes "Title") version.mark.content.fields
+-- The titles of entries, each on a line.
+abbrev pub title_lines : List ℕ → List (NodeId × EntryRecord) → List ℕ
+title_lines front entries = flat_map (λ (e : NodeId × EntryRecord). (front ++ title_of e.1) ++ codes "\n") entries
 
--- The titles of entries, which their current versions say, each on a line.
-abbrev pub title_lines : List (NodeId × EntryRecord) → List ℕ
-title_lines entries = flat_map (λ (e : NodeId × EntryRecord). title_of e.1.current ++ codes "\n") entries
+-- The titles of a group's entries, then the names of its groups, each with a slash and on a line, and behind each, where
+-- the listing goes down, what is listed of it.
+abbrev mutual
+  pub group_lines : (recursive flat : Bool) → List ℕ → Tree → List ℕ
+  group_lines recursive flat front (node id group entries groups) = title_lines front entries ++ name_lines recursive flat front groups
 
--- The name of a group.
-abbrev pub name_of : Tree → List ℕ
-name_of (node id group entries groups) = group.state.content.name
+  -- the same of groups side by side
+  pub name_lines : (recursive flat : Bool) → List ℕ → Trees → List ℕ
+  name_lines recursive flat front none = []
+  name_lines recursive flat front (beside tree trees) =
+      (((front ++ name_of tree) ++ codes "/\n") ++ cond recursive (group_lines recursive flat (front_below flat front (name_of tree)) tree) [])
+      ++ name_lines recursive flat front trees
 
--- The names of groups, each with a slash and on a line.
-abbrev pub name_lines : Trees → List ℕ
-name_lines none = []
-name_lines (beside tree trees) = (name_of tree ++ codes "/\n") ++ name_lines trees
+-- The group of this id in a tree: the first in document order.
+abbrev mutual
+  pub tree_with : NodeId → Tree → Option Tree
+  tree_with id (node u group entries groups) = cond (bytes_eq u id) (Some (node u group entries groups)) (tree_among id groups)
 
--- The titles of a group's entries, then the names of its groups.
-abbrev pub group_lines : Tree → List ℕ
-group_lines (node id group entries groups) = title_lines entries ++ name_lines groups
+  -- the same of groups side by side
+  pub tree_among : NodeId → Trees → Option Tree
+  tree_among id none = None
+  tree_among id (beside tree trees) = or_else (tree_with id tree) (tree_among id trees)
 
--- What `ls` prints of a document: its root group.
-abbrev pub listing : BareDoc → List ℕ
-listing doc = group_lines doc.tree
+-- The group that is listed: the root, or the one that a path names.
+abbrev pub tree_listed : Option (List ℕ) → BareDoc → Option Tree
+tree_listed None doc = Some doc.tree
+tree_listed (Some path) doc = option_and_then (λ id. tree_with id doc.tree) (group_found doc path)

@@ -1,48 +1,72 @@
 -- What a call comes to: its phases one after another, and all that is seen of it.
-use Rattle.std.specs.Prelude.{◌≡◌, ◌≢◌, ◌≤◌, ℕ, List, [], ◌++◌, length, Contains, Option, None, Some, option_map, ◌⊎◌, Result, Ok, Err, codes}
-use Rattle.std.specs.FinMap as map
+use Rattle.std.specs.Prelude.{◌≡◌, ◌≢◌, ℕ, List, [], ◌++◌, Contains, Option, None, Some, option_map, ◌⊎◌, Result, Ok, Err, codes, Bool, false}
 use Rattle.outside_core.specs.Counts.{Rose}
 use Rattle.outside_core.specs.Files.{FileMap}
 use Rattle.outside_core.specs.Streams.{GainsFront}
-use Rattle.vault_model.specs.Tree.{BareDoc}
-use Rattle.doc_read.specs.Documents.{Read}
+use Rattle.vault_model.specs.Tree.{BareDoc, Tree}
+use Rattle.keepass_cli.specs.declared.answers.Answer.TheVariants.{NoSuchPath}
 use Rattle.keepass_cli.specs.declared.answers.Refusal.{Refusal}
+use Rattle.keepass_cli.specs.declared.command.Command.{Command}
+use Rattle.keepass_cli.specs.declared.command.Command.TheVariants.{Ls}
 use Rattle.keepass_cli.specs.declared.listing.Done.{Done}
-use Rattle.keepass_cli.specs.declared.words.Command.{Command}
-use Rattle.keepass_cli.specs.declared.words.Command.TheVariants.{Ls}
-use Rattle.keepass_cli.specs.Databases.{database_of, file_limit, plain_document}
-use Rattle.keepass_cli.specs.Listing.{listing}
-use Rattle.keepass_cli.specs.Messages.{status_of, words_of, told_line}
-use Rattle.keepass_cli.specs.Phases.{◌>>=◌}
-use Rattle.keepass_cli.specs.Words.{command_of}
+use Rattle.keepass_cli.specs.Databases.{database_of}
+use Rattle.keepass_cli.specs.Lines.{asks, password_of}
+use Rattle.keepass_cli.specs.Listing.{group_lines, tree_listed}
+use Rattle.keepass_cli.specs.Messages.{refusal_of, status_of, words_of, told_line}
+use Rattle.keepass_cli.specs.Phases.{IsLeft, Phase, only, ◌>>=◌}
+use Rattle.keepass_cli.specs.Words.{command_of, files_named}
+
+-- The lines of the group that is listed, or that the path names none of the file's groups.
+abbrev pub listing_of : List ℕ → (recursive flat : Bool) → Option Tree → Result Done Refusal
+listing_of file recursive flat None = Err (refusal_of NoSuchPath file)
+listing_of file recursive flat (Some tree) = Ok (record { text = group_lines recursive flat [] tree })
 
 -- What a command gives on its database.
 abbrev pub done_of : Command → BareDoc → Result Done Refusal
-done_of (Ls file) doc = Ok (record { text = listing doc })
+done_of (Ls access file group recursive flat) doc = listing_of file recursive flat (tree_listed group doc)
 
--- The words, the database that they name, and the command. No command reads a line, draws an id or writes a file yet.
-unfoldable pub answer_of : List (List ℕ) → FileMap → Result Done Refusal
-answer_of words files = do
-  command ← command_of words
-  database ← database_of command files
-  done_of command database
+-- What these words may give over this input and these files: the command, the password that is due, the database that
+-- the command names, and what the command gives on it. No command draws an id or writes a file yet.
+unfoldable pub answer_of : List (List ℕ) → List ℕ → FileMap → Phase Done
+answer_of words input files = do
+  command ← only (command_of words)
+  password ← only (password_of command input).answer
+  database ← database_of command password files
+  only (done_of command database)
 
--- What a call comes to where nothing of the outside fails: its status, what it prints, its line on standard error, and
--- the files after it.
+-- Whether words ask for a line.
+abbrev pub asked_by : Result Command Refusal → Bool
+asked_by (Ok command) = asks command
+asked_by (Err refusal) = false
+
+-- What is left of the input behind the lines that a command asks for.
+abbrev pub left_behind : Result Command Refusal → List ℕ → List ℕ
+left_behind (Ok command) input = (password_of command input).left
+left_behind (Err refusal) input = input
+
+-- What is left of the input behind the lines that the words ask for.
+abbrev pub left_of : List (List ℕ) → List ℕ → List ℕ
+left_of words input = left_behind (command_of words) input
+
+-- What a call comes to where nothing of the outside fails: its status, what it prints, its line on standard error, the
+-- files after it, and what is left of the input.
 pub record Outcome : Type 0 where
   pub status : ℕ
   pub text : List ℕ
   pub line : List ℕ
   pub files : FileMap
+  pub left : List ℕ
 
 -- A call that was carried out, or refused. None writes a file yet.
-abbrev pub ended : FileMap → Result Done Refusal → Outcome
-ended files (Ok done) = record { status = 0; text = done.text; line = []; files = files }
-ended files (Err refusal) = record { status = status_of refusal.answer; text = []; line = told_line refusal.subject (words_of refusal.answer); files = files }
+abbrev pub ended : FileMap → List ℕ → Result Done Refusal → Outcome
+ended files left (Ok done) = record { status = 0; text = done.text; line = []; files = files; left = left }
+ended files left (Err refusal) =
+    record { status = status_of refusal.answer; text = []; line = told_line refusal.subject (words_of refusal.answer); files = files; left = left }
 
--- What these words come to over these files.
-abbrev pub outcome : List (List ℕ) → FileMap → Outcome
-outcome words files = ended files (answer_of words files)
+-- The words come to this outcome over this input and these files. They come to no other (the law `one_outcome`).
+abbrev pub ComesTo : List (List ℕ) → List ℕ → FileMap → Outcome → Type 0
+ComesTo words input files outcome =
+    (answer : Result Done Refusal) × (answer_of words input files answer × (outcome ≡ ended files (left_of words input) answer))
 
 -- What the outside tells at one moment: what was written to standard output and to standard error, the files and the
 -- draft, and what is left of the input and of the dice.
@@ -98,8 +122,13 @@ pub record IsAsSaid (said : Outcome) (result : ℕ) (before now : Seen) : Type 0
   pub line : Gains before.errors now.errors said.line
   pub files : now.files ≡ Some said.files
   pub draft : SameDraft before now
-  pub left : now.left ≡ before.left
+  pub left : IsLeft before.left now.left said.left
   pub stream : now.stream ≡ before.stream
+
+-- All is as the outcome says to which the words come.
+abbrev pub IsAsOutcome : List (List ℕ) → List ℕ → FileMap → ℕ → Seen → Seen → Type 0
+IsAsOutcome words input files result before now =
+    (said : Outcome) × (ComesTo words input files said × IsAsSaid said result before now)
 
 -- A status that may stand in the place of the outcome's: want of memory, or a fault of an object whose count rose.
 abbrev pub IsOther : ℕ → Counts → Counts → Type 0
@@ -122,26 +151,33 @@ pub record IsNear (names : List (List ℕ)) (said : Outcome) (result : ℕ) (bef
   pub line : result ≢ 0 → result ≢ 9 → result ≢ 10 → Gains before.errors now.errors said.line ⊎ TellsFault names result before now counts counts'
   pub files : (now.files ≡ before.files) ⊎ (now.files ≡ Some said.files)
 
--- Whatever is told: statuses 7, 10 and 11 have their causes, a refusal leaves the files as they were, and the draft is
--- the one of before, or none stands.
+-- A failure ended the call before it came to anything: nothing was printed, no file changed, and status and line tell the
+-- failure.
+pub record IsCutShort (names : List (List ℕ)) (result : ℕ) (before now : Seen) (counts counts' : Counts) : Type 0 where
+  pub status : IsOther result counts counts'
+  pub text : now.written ≡ before.written
+  pub line : result ≢ 9 → result ≢ 10 → TellsFault names result before now counts counts'
+  pub files : now.files ≡ before.files
+
+-- So much is as an outcome says to which the words come, or a failure ended the call.
+abbrev pub IsNearOutcome : List (List ℕ) → List ℕ → FileMap → ℕ → Seen → Seen → Counts → Counts → Type 0
+IsNearOutcome words input files result before now counts counts' =
+    ((said : Outcome) × (ComesTo words input files said × IsNear (files_named (command_of words)) said result before now counts counts'))
+    ⊎ IsCutShort (files_named (command_of words)) result before now counts counts'
+
+-- A refusal is the one of the outcome to which the words come, or it tells a fault whose count rose.
+abbrev pub IsRefused : List (List ℕ) → List ℕ → FileMap → ℕ → Seen → Seen → Counts → Counts → Type 0
+IsRefused words input files result before now counts counts' =
+    result ≢ 0 → result ≢ 9 → result ≢ 10
+    → IsAsOutcome words input files result before now ⊎ TellsFault (files_named (command_of words)) result before now counts counts'
+
+-- Whatever is told: statuses 7, 10 and 11 have their causes, a refusal prints nothing, and files, draft and dice are as
+-- they were, since no command writes a file yet.
 pub record IsSafe (result : ℕ) (before now : Seen) (counts counts' : Counts) : Type 0 where
   pub store : result ≡ 7 → Rose counts.absences counts'.absences ⊎ Rose counts.files counts'.files
   pub output : result ≡ 10 → Rose counts.out counts'.out ⊎ Rose counts.err counts'.err
   pub input : result ≡ 11 → Rose counts.input counts'.input ⊎ Rose counts.dice counts'.dice
-  pub files : result ≢ 0 → result ≢ 9 → result ≢ 10 → now.files ≡ before.files
-  pub draft : SameDraft before now ⊎ (now.draft_name ≡ None)
-
--- The words are a command whose file is there, within the limit, and a document.
-pub record IsAble (words : List (List ℕ)) (files : FileMap) : Type 0 where
-  pub file : List ℕ
-  pub bytes : List ℕ
-  pub read : Read
-  pub is_command : command_of words ≡ Ok (Ls file)
-  pub is_there : map.get files file ≡ Some bytes
-  pub is_within : length bytes ≤ file_limit
-  pub is_document : plain_document bytes ≡ Ok read
-
--- Where the words can be carried out and no count of faults rose, the status is 0, or memory ran out.
-abbrev pub IsCarriedOut : List (List ℕ) → FileMap → ℕ → Counts → Counts → Type 0
-IsCarriedOut words files result before now =
-    IsAble words files → IsCalm before now → (result ≡ 0) ⊎ (result ≡ 9)
+  pub text : result ≢ 0 → result ≢ 9 → result ≢ 10 → now.written ≡ before.written
+  pub files : now.files ≡ before.files
+  pub draft : SameDraft before now
+  pub stream : now.stream ≡ before.stream

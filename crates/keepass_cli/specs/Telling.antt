@@ -1,10 +1,11 @@
--- How a call that stopped tells why.
+-- How a call tells what it came to.
 use Rattle.std.specs.Prelude.{◌≡◌, ℕ, List, Option, codes, ◌⊎◌}
 use Rattle.outside_core.specs.Counts.{Rose}
+use Rattle.outside_core.specs.Streams.{GainsFront}
 use Rattle.outside_core.specs.declared.fails.SinkFail.{SinkFail}
 use Rattle.outside_core.specs.declared.fails.SinkFail.TheVariants as sink
 use Rattle.keepass_cli.specs.declared.answers.Stop.{Stop}
-use Rattle.keepass_cli.specs.declared.answers.Stop.TheVariants.{Refused, FileFault, NoMemory}
+use Rattle.keepass_cli.specs.declared.answers.Stop.TheVariants.{Refused, FileFault, InputFault, NoMemory}
 use Rattle.keepass_cli.specs.Messages.{status_of, words_of, told_line}
 use Rattle.keepass_cli.specs.Outcome.{Gains}
 
@@ -12,6 +13,13 @@ use Rattle.keepass_cli.specs.Outcome.{Gains}
 abbrev pub IsUnwritten : SinkFail → ℕ → Type 0
 IsUnwritten sink.Failed status = status ≡ 10
 IsUnwritten sink.NoMemory status = status ≡ 9
+
+-- A text was written, and the status is 0; or want of memory came, or a fault of standard output, and a front part of it
+-- was written.
+abbrev pub IsPrinted : List ℕ → ℕ → (written written' : Option (List ℕ)) → (faults faults' : ℕ) → Type 0
+IsPrinted text result written written' faults faults' =
+    ((result ≡ 0) × Gains written written' text)
+    ⊎ (((result ≡ 9) ⊎ ((result ≡ 10) × Rose faults faults')) × GainsFront written written' text)
 
 -- A line was written and its status given; or want of memory came, or a fault of standard error.
 abbrev pub TellsLine : ℕ → List ℕ → ℕ → (errors errors' : Option (List ℕ)) → (faults faults' : ℕ) → Type 0
@@ -22,4 +30,5 @@ TellsLine own line result errors errors' faults faults' =
 abbrev pub IsTold : Stop → ℕ → (errors errors' : Option (List ℕ)) → (faults faults' : ℕ) → Type 0
 IsTold (Refused refusal) = TellsLine (status_of refusal.answer) (told_line refusal.subject (words_of refusal.answer))
 IsTold (FileFault name) = TellsLine 7 (told_line name (codes "file fault"))
+IsTold InputFault = TellsLine 11 (told_line (codes "input") (codes "fault"))
 IsTold NoMemory = λ result errors errors' faults faults'. (result ≡ 9) ⊎ ((result ≡ 10) × Rose faults faults')

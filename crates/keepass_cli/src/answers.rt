@@ -1,45 +1,83 @@
 //! What the program refuses with: the answers, their statuses and their texts.
-ghost use Rattle.std.specs.Prelude.{◌≡◌, IfOk, string_bytes};
+ghost use Rattle.std.specs.Prelude.{◌≡◌, ◌++◌, IfOk, codes, string_bytes};
+ghost use Rattle.std.specs.Fmt.{decimal};
+ghost use Rattle.hex.specs.Hex.{encode_lower};
 ghost use Rattle.keepass_cli.specs.Messages.{status_of, words_of, told_line, refusal_of, Refuses};
 
 use outside_core::{Bytes, NoMemory, Text};
 use std::alloc::{AllocError, Global};
 use uuid::Uuid;
 
-/// Why a call of the program is refused. A place is in bytes from the start of the file.
+/// Why a call of the program is refused. A place is in bytes from the start of the file, or of its deciphered text.
 #[derive(Clone, Copy, Debug, PartialEq, Eq)]
 pub enum Answer {
     /// The words are no command.
     WrongWords,
-    /// There is no file of the name.
-    NoSuchFile,
-    /// The file is longer than a file that is read may be.
-    TooLarge,
+    /// The path names no group.
+    NoSuchPath,
+    /// The file keeps another hash or code of its header than the header has under the key.
+    DamagedOrWrongKey { kept: [u8; 32], found: [u8; 32] },
+    /// The block of this number is not the one that was written.
+    DamagedBlock(u64),
+    /// The deciphered text does not end as every text does.
+    WrongKeyOrDamaged,
+    /// The key file keeps another hash than its key has.
+    KeyFileHash { kept: [u8; 4], found: [u8; 4] },
+    /// The file is not a KDBX file.
+    NotKdbx,
+    /// The file, or its deciphered text, ends before a part of it does, at the place.
+    EndsEarly(u64),
+    /// The field of this number is missing, stands twice or has a wrong length.
+    BadHeaderField(u8),
+    /// The dictionary of the key derivation is malformed at the place.
+    BadDictionary(u64),
     /// The document leaves the grammar of markup at the place.
     Form(usize),
-    /// Too many elements of the document are open at once.
-    Depth,
     /// The document lacks an element that must be there: of a group or an entry at the place, or of the whole at 0.
     MissingElement(usize),
     /// The element at the place says what its kind cannot say.
     BadValue(usize),
-    /// Bytes in the document are compressed.
-    Compressed,
-    /// The document has a group below the last level.
-    TooDeep,
-    /// The document has too many groups, entries and history items.
-    TooMany,
     /// The group or the entry at the place has the nil id.
     NilId(usize),
     /// Two nodes of the document have this id.
     DuplicateId(Uuid),
     /// An attachment refers to the binary of this number, and there is none.
     BinaryRef(u64),
+    /// The key file is a key document that is malformed at the place.
+    BadKeyFile(usize),
+    /// The line of this number is not UTF-8.
+    LineForm(u64),
+    /// Files of this version are not read.
+    Version(u32),
+    /// The cipher or the key derivation of this id is not known.
+    UnknownId(Uuid),
+    /// The inner stream of this number is not known.
+    StreamUnknown(u32),
+    /// The file, or bytes in the document, are compressed.
+    Compressed,
+    /// The key derivation is of this variant, which is not read.
+    Variant(u64),
+    /// There is no file of the name.
+    NoSuchFile,
+    /// The file, or the header in it, is longer than one that is read may be.
+    TooLarge,
+    /// Too many elements of the document are open at once.
+    Depth,
+    /// The document has a group below the last level.
+    TooDeep,
+    /// The document has too many groups, entries and history items.
+    TooMany,
+    /// The file asks for more work to derive its key than is done.
+    KdfLimit,
+    /// A line of the input is too long.
+    LineLimit,
     /// Memory ran out.
     OutOfMemory,
+    /// The input ended before the line of this number, which is due.
+    InputEnded(u64),
 }
 
-/// An answer and what it is about: a file by its name, or `words`.
+/// An answer and what it is about: a file by its name, `input` or `words`.
 #[derive(Drop)]
 pub struct Refusal {
     pub answer: Answer,
@@ -53,6 +91,8 @@ pub enum Stop {
     Refused(Refusal),
     /// The store failed at the file of this name.
     FileFault(Text),
+    /// The input failed.
+    InputFault,
     /// Memory ran out.
     NoMemory,
 }
@@ -63,41 +103,104 @@ pub fn status(answer: &Answer) -> u8
 {
     match *answer {
         Answer::WrongWords => 1,
+        Answer::NoSuchPath => 2,
+        Answer::DamagedOrWrongKey { .. } => 3,
+        Answer::DamagedBlock(_) => 3,
+        Answer::WrongKeyOrDamaged => 3,
+        Answer::KeyFileHash { .. } => 3,
+        Answer::NotKdbx => 4,
+        Answer::EndsEarly(_) => 4,
+        Answer::BadHeaderField(_) => 4,
+        Answer::BadDictionary(_) => 4,
         Answer::Form(_) => 4,
         Answer::MissingElement(_) => 4,
         Answer::BadValue(_) => 4,
         Answer::NilId(_) => 4,
         Answer::DuplicateId(_) => 4,
         Answer::BinaryRef(_) => 4,
+        Answer::BadKeyFile(_) => 4,
+        Answer::LineForm(_) => 4,
+        Answer::Version(_) => 5,
+        Answer::UnknownId(_) => 5,
+        Answer::StreamUnknown(_) => 5,
         Answer::Compressed => 5,
+        Answer::Variant(_) => 5,
         Answer::NoSuchFile => 7,
         Answer::TooLarge => 8,
         Answer::Depth => 8,
         Answer::TooDeep => 8,
         Answer::TooMany => 8,
+        Answer::KdfLimit => 8,
+        Answer::LineLimit => 8,
         Answer::OutOfMemory => 9,
+        Answer::InputEnded(_) => 12,
     }
 }
 
-/// The text of an answer: numbers in decimal, ids in lower case with hyphens.
+// Bytes that are kept and bytes that are found, behind a text.
+fn compared<const N: usize>(
+    alloc: Global,
+    front: &str,
+    kept: [u8; N],
+    found: [u8; N],
+) -> Result<String, AllocError>
+    ensures { IfOk result (λ text. string_bytes text ≡ front.now ++ encode_lower kept.entry ++ codes " found " ++ encode_lower found.entry) }
+{
+    let mut text = String::from_str(alloc, front)?;
+    text.push_str(hex::encode(alloc, kept)?.as_str())?;
+    text.push_str(" found ")?;
+    text.push_str(hex::encode(alloc, found)?.as_str())?;
+    Ok(text)
+}
+
+// A line by its number, and what is wrong with it.
+fn line_is(alloc: Global, number: u64, wrong: &str) -> Result<String, AllocError>
+    ensures { IfOk result (λ text. string_bytes text ≡ codes "line " ++ decimal number ++ wrong.now) }
+{
+    let mut text = format!(in alloc; "line {number}")?;
+    text.push_str(wrong)?;
+    Ok(text)
+}
+
+/// The text of an answer: numbers in decimal, ids in lower case with hyphens, bytes in lower-case hexadecimal.
 pub fn words_for(alloc: Global, answer: &Answer) -> Result<String, AllocError>
     ensures { IfOk result (λ text. string_bytes text ≡ words_of answer.now) }
 {
     match *answer {
         Answer::WrongWords => String::from_str(alloc, "wrong words"),
-        Answer::NoSuchFile => String::from_str(alloc, "no such file"),
-        Answer::TooLarge => String::from_str(alloc, "limit passed"),
-        Answer::Depth => String::from_str(alloc, "limit passed"),
-        Answer::TooDeep => String::from_str(alloc, "limit passed"),
-        Answer::TooMany => String::from_str(alloc, "limit passed"),
+        Answer::NoSuchPath => String::from_str(alloc, "not found"),
+        Answer::DamagedOrWrongKey { kept, found } => {
+            compared(alloc, "damaged or wrong key: kept ", kept, found)
+        }
+        Answer::DamagedBlock(number) => format!(in alloc; "damaged block {number}"),
+        Answer::WrongKeyOrDamaged => String::from_str(alloc, "wrong key or damaged"),
+        Answer::KeyFileHash { kept, found } => { compared(alloc, "key file: kept ", kept, found) }
+        Answer::NotKdbx => String::from_str(alloc, "not a KDBX file"),
+        Answer::EndsEarly(at) => format!(in alloc; "ends early at {at}"),
+        Answer::BadHeaderField(id) => format!(in alloc; "bad header field {id}"),
+        Answer::BadDictionary(at) => format!(in alloc; "bad dictionary at {at}"),
         Answer::Form(at) => format!(in alloc; "malformed text at {at}"),
         Answer::MissingElement(at) => format!(in alloc; "missing element at {at}"),
         Answer::BadValue(at) => format!(in alloc; "bad value at {at}"),
         Answer::NilId(at) => format!(in alloc; "nil id at {at}"),
         Answer::DuplicateId(id) => format!(in alloc; "duplicate id {id}"),
         Answer::BinaryRef(number) => format!(in alloc; "no binary {number}"),
+        Answer::BadKeyFile(at) => format!(in alloc; "bad key file at {at}"),
+        Answer::LineForm(number) => line_is(alloc, number, " is not UTF-8"),
+        Answer::Version(number) => format!(in alloc; "version {number}"),
+        Answer::UnknownId(id) => format!(in alloc; "unknown {id}"),
+        Answer::StreamUnknown(number) => format!(in alloc; "stream {number}"),
         Answer::Compressed => String::from_str(alloc, "compressed"),
+        Answer::Variant(number) => format!(in alloc; "variant {number}"),
+        Answer::NoSuchFile => String::from_str(alloc, "no such file"),
+        Answer::TooLarge => String::from_str(alloc, "limit passed"),
+        Answer::Depth => String::from_str(alloc, "limit passed"),
+        Answer::TooDeep => String::from_str(alloc, "limit passed"),
+        Answer::TooMany => String::from_str(alloc, "limit passed"),
+        Answer::KdfLimit => String::from_str(alloc, "limit passed"),
+        Answer::LineLimit => String::from_str(alloc, "limit passed"),
         Answer::OutOfMemory => String::from_str(alloc, "out of memory"),
+        Answer::InputEnded(number) => line_is(alloc, number, " missing"),
     }
 }
 

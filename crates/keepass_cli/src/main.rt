@@ -2,11 +2,18 @@
 #![tactic(auto)]
 
 mod answers;
+#[cfg(test)]
+mod calls;
+mod command;
 mod databases;
+pub mod laws;
+mod lines;
 mod listing;
 #[cfg(test)]
 mod reader_tests;
 mod run;
+#[cfg(test)]
+mod sealed_tests;
 #[cfg(test)]
 mod tests;
 mod words;

@@ -1,17 +1,20 @@
 //! The one call of the program: from its words, and the objects of the outside, to its status.
-ghost use Rattle.std.specs.Prelude.{◌≡◌, ◌≢◌, ◌≤◌, ◌⊎◌, ℕ, Some, IfErr, map, string_bytes};
+ghost use Rattle.std.specs.Prelude.{◌≡◌, ◌≢◌, ◌≤◌, ◌⊎◌, ℕ, List, Some, IfErr, map, option_map, string_bytes};
 ghost use Rattle.outside_core.specs.Files.{FileMap};
-ghost use Rattle.keepass_cli.specs.Outcome.{answer_of, outcome, IsAsSaid, IsCalm, IsCarriedOut, IsNear, IsSafe, counts, seen};
+ghost use Rattle.keepass_cli.specs.Held.{IsAuthentic, IsCarriedOut};
 ghost use Rattle.keepass_cli.specs.Messages.{status_of, told_line, words_of};
-ghost use Rattle.keepass_cli.specs.Phases.{Gives, IsCaused};
-ghost use Rattle.keepass_cli.specs.Telling.{IsTold, IsUnwritten, TellsLine};
+ghost use Rattle.keepass_cli.specs.Outcome.{ComesTo, IsAsOutcome, IsCalm, IsNear, IsNearOutcome, IsRefused, IsSafe, Outcome, answer_of, asked_by, counts, left_of, seen};
+ghost use Rattle.keepass_cli.specs.Phases.{GivesAs, IsCaused, Leaves, TellsInput};
+ghost use Rattle.keepass_cli.specs.Telling.{IsPrinted, IsTold, IsUnwritten, TellsLine};
 ghost use Rattle.keepass_cli.specs.Words.{command_of, files_named};
 
 use crate::answers::{Answer, Stop, line, status, words_for};
 use crate::databases::open;
+use crate::lines::read_password;
 use crate::listing::{Done, perform};
 use crate::words::read_words;
 use outside_core::{Dice, FileStore, NoMemory, Sink, SinkFail, Source, write_all};
+use secret_core::Secret;
 use std::alloc::Global;
 
 /// The status of a call at which the store failed.
@@ -23,18 +26,39 @@ const OUT_OF_MEMORY: u8 = 9;
 /// The status of a call whose output failed.
 const OUTPUT_FAULT: u8 = 10;
 
+/// The status of a call whose input failed.
+const INPUT_FAULT: u8 = 11;
+
+// The bytes of a password, where there is one.
+fn bytes_in(password: &Option<Secret>) -> Option<&[u8]>
+    ensures { option_map (λ bytes. bytes.now) result ≡ option_map (λ secret. secret.bytes) password.now }
+{
+    match password {
+        Some(password) => Some(password.lend(0, password.len())),
+        None => None,
+    }
+}
+
 // The phases of a call, one after another.
 #[tactic(auto, unfolding(crate::specs::Outcome::answer_of))]
-fn answer<F: FileStore>(alloc: Global, words: &[String], files: &mut F) -> Result<Done, Stop>
-    ensures told { (m : FileMap) → F.files files.old ≡ Some m → Gives (λ done. done) result (answer_of (map string_bytes words.now) m) }
-    ensures cause { IfErr result (IsCaused (files_named (command_of (map string_bytes words.now))) (F.faults files.old) (F.faults files.new) (F.absences files.old) (F.absences files.new)) }
+fn answer<F: FileStore, S: Source>(
+    alloc: Global,
+    words: &[String],
+    files: &mut F,
+    input: &mut S,
+) -> Result<Done, Stop>
+    ensures told { (m : FileMap) (i : List ℕ) → F.files files.old ≡ Some m → TellsInput (asked_by (command_of (map string_bytes words.now))) (S.left input.old) i → GivesAs (λ done. done) result (answer_of (map string_bytes words.now) i m) }
+    ensures left { (i : List ℕ) → TellsInput (asked_by (command_of (map string_bytes words.now))) (S.left input.old) i → Leaves result (S.left input.old) (S.left input.new) (left_of (map string_bytes words.now) i) }
+    ensures cause { IfErr result (IsCaused (files_named (command_of (map string_bytes words.now))) (F.faults files.old) (F.faults files.new) (F.absences files.old) (F.absences files.new) (S.faults input.old) (S.faults input.new)) }
     ensures faults { F.faults files.old ≤ F.faults files.new }
+    ensures input { S.faults input.old ≤ S.faults input.new }
     ensures files { F.files files.new ≡ F.files files.old }
     ensures draft_name { F.draft_name files.new ≡ F.draft_name files.old }
     ensures draft_bytes { F.draft_bytes files.new ≡ F.draft_bytes files.old }
 {
     let command = read_words(alloc, words)?;
-    let doc = open(alloc, files, &command)?;
+    let password = read_password(alloc, input, &command)?;
+    let doc = open(alloc, files, &command, bytes_in(&password))?;
     perform(alloc, &command, &doc)
 }
 
@@ -45,6 +69,16 @@ fn unwritten(fail: SinkFail) -> u8
     match fail {
         SinkFail::Failed => OUTPUT_FAULT,
         SinkFail::NoMemory => OUT_OF_MEMORY,
+    }
+}
+
+// Writes what a call gave, and gives the status that goes with it.
+fn print<O: Sink>(out: &mut O, text: &[u8]) -> u8
+    ensures { IsPrinted text.now result (O.written out.old) (O.written out.new) (O.faults out.old) (O.faults out.new) }
+{
+    match write_all(out, text) {
+        Ok(()) => 0,
+        Err(fail) => unwritten(fail),
     }
 }
 
@@ -80,6 +114,7 @@ fn tell<E: Sink>(alloc: Global, err: &mut E, stop: Stop) -> u8
             tell_answer(alloc, err, &refusal.answer, refusal.subject.as_str())
         }
         Stop::FileFault(name) => tell_line(alloc, err, FILE_FAULT, name.as_str(), "file fault"),
+        Stop::InputFault => tell_line(alloc, err, INPUT_FAULT, "input", "fault"),
         Stop::NoMemory => tell_answer(alloc, err, &Answer::OutOfMemory, "words"),
     }
 }
@@ -87,9 +122,11 @@ fn tell<E: Sink>(alloc: Global, err: &mut E, stop: Stop) -> u8
 /// One call of the program, whose words are those after its name; `now` is in seconds since the year 1. Gives the
 /// program's status.
 ///
-/// Where no object of the outside fails and memory does not run out, all that is seen of the call is what `outcome`
-/// says of its words and files. Where one fails, no file is changed, what was printed is a front part of the outcome's
-/// text, and the status tells of the failure. Words that can be carried out come to status 0 where nothing fails.
+/// Where no object of the outside fails and memory does not run out, all that is seen of the call is what the outcome
+/// says to which its words come over its input and its files; they come to one alone. What is listed at status 0 is a
+/// document that the file holds: by itself, or sealed under the composite key of the line of input and the key file.
+/// Where an object fails, no file is changed, what was printed is a front part of the outcome's text, and the status
+/// tells of the failure. Words that can be carried out come to status 0 where nothing fails.
 pub fn keepass<F: FileStore, S: Source, O: Sink, E: Sink, D: Dice>(
     alloc: Global,
     words: &[String],
@@ -100,20 +137,23 @@ pub fn keepass<F: FileStore, S: Source, O: Sink, E: Sink, D: Dice>(
     dice: &mut D,
     now: u64,
 ) -> u8
-    ensures as_said { (m : FileMap) → F.files files.old ≡ Some m
+    ensures as_said { (m : FileMap) (i : List ℕ) → F.files files.old ≡ Some m → TellsInput (asked_by (command_of (map string_bytes words.now))) (S.left input.old) i
         → (result ≡ 0) ⊎ ((result ≢ 9) × IsCalm (counts (F.faults files.old) (F.absences files.old) (S.faults input.old) (O.faults out.old) (E.faults err.old) (D.faults dice.old)) (counts (F.faults files.new) (F.absences files.new) (S.faults input.new) (O.faults out.new) (E.faults err.new) (D.faults dice.new)))
-        → IsAsSaid (outcome (map string_bytes words.now) m) result (seen (O.written out.old) (E.written err.old) (F.files files.old) (F.draft_name files.old) (F.draft_bytes files.old) (S.left input.old) (D.stream dice.old)) (seen (O.written out.new) (E.written err.new) (F.files files.new) (F.draft_name files.new) (F.draft_bytes files.new) (S.left input.new) (D.stream dice.new)) }
-    ensures near { (m : FileMap) → F.files files.old ≡ Some m
-        → IsNear (files_named (command_of (map string_bytes words.now))) (outcome (map string_bytes words.now) m) result (seen (O.written out.old) (E.written err.old) (F.files files.old) (F.draft_name files.old) (F.draft_bytes files.old) (S.left input.old) (D.stream dice.old)) (seen (O.written out.new) (E.written err.new) (F.files files.new) (F.draft_name files.new) (F.draft_bytes files.new) (S.left input.new) (D.stream dice.new)) (counts (F.faults files.old) (F.absences files.old) (S.faults input.old) (O.faults out.old) (E.faults err.old) (D.faults dice.old)) (counts (F.faults files.new) (F.absences files.new) (S.faults input.new) (O.faults out.new) (E.faults err.new) (D.faults dice.new)) }
-    ensures complete { (m : FileMap) → F.files files.old ≡ Some m
-        → IsCarriedOut (map string_bytes words.now) m result (counts (F.faults files.old) (F.absences files.old) (S.faults input.old) (O.faults out.old) (E.faults err.old) (D.faults dice.old)) (counts (F.faults files.new) (F.absences files.new) (S.faults input.new) (O.faults out.new) (E.faults err.new) (D.faults dice.new)) }
+        → IsAsOutcome (map string_bytes words.now) i m result (seen (O.written out.old) (E.written err.old) (F.files files.old) (F.draft_name files.old) (F.draft_bytes files.old) (S.left input.old) (D.stream dice.old)) (seen (O.written out.new) (E.written err.new) (F.files files.new) (F.draft_name files.new) (F.draft_bytes files.new) (S.left input.new) (D.stream dice.new)) }
+    ensures near { (m : FileMap) (i : List ℕ) → F.files files.old ≡ Some m → TellsInput (asked_by (command_of (map string_bytes words.now))) (S.left input.old) i → (said : Outcome) → ComesTo (map string_bytes words.now) i m said
+        → IsNear (files_named (command_of (map string_bytes words.now))) said result (seen (O.written out.old) (E.written err.old) (F.files files.old) (F.draft_name files.old) (F.draft_bytes files.old) (S.left input.old) (D.stream dice.old)) (seen (O.written out.new) (E.written err.new) (F.files files.new) (F.draft_name files.new) (F.draft_bytes files.new) (S.left input.new) (D.stream dice.new)) (counts (F.faults files.old) (F.absences files.old) (S.faults input.old) (O.faults out.old) (E.faults err.old) (D.faults dice.old)) (counts (F.faults files.new) (F.absences files.new) (S.faults input.new) (O.faults out.new) (E.faults err.new) (D.faults dice.new)) }
+    ensures ended { (m : FileMap) (i : List ℕ) → F.files files.old ≡ Some m → TellsInput (asked_by (command_of (map string_bytes words.now))) (S.left input.old) i
+        → IsNearOutcome (map string_bytes words.now) i m result (seen (O.written out.old) (E.written err.old) (F.files files.old) (F.draft_name files.old) (F.draft_bytes files.old) (S.left input.old) (D.stream dice.old)) (seen (O.written out.new) (E.written err.new) (F.files files.new) (F.draft_name files.new) (F.draft_bytes files.new) (S.left input.new) (D.stream dice.new)) (counts (F.faults files.old) (F.absences files.old) (S.faults input.old) (O.faults out.old) (E.faults err.old) (D.faults dice.old)) (counts (F.faults files.new) (F.absences files.new) (S.faults input.new) (O.faults out.new) (E.faults err.new) (D.faults dice.new)) }
+    ensures refused { (m : FileMap) (i : List ℕ) → F.files files.old ≡ Some m → TellsInput (asked_by (command_of (map string_bytes words.now))) (S.left input.old) i
+        → IsRefused (map string_bytes words.now) i m result (seen (O.written out.old) (E.written err.old) (F.files files.old) (F.draft_name files.old) (F.draft_bytes files.old) (S.left input.old) (D.stream dice.old)) (seen (O.written out.new) (E.written err.new) (F.files files.new) (F.draft_name files.new) (F.draft_bytes files.new) (S.left input.new) (D.stream dice.new)) (counts (F.faults files.old) (F.absences files.old) (S.faults input.old) (O.faults out.old) (E.faults err.old) (D.faults dice.old)) (counts (F.faults files.new) (F.absences files.new) (S.faults input.new) (O.faults out.new) (E.faults err.new) (D.faults dice.new)) }
+    ensures authentic { (m : FileMap) (i : List ℕ) → F.files files.old ≡ Some m → TellsInput (asked_by (command_of (map string_bytes words.now))) (S.left input.old) i → result ≡ 0
+        → IsAuthentic (map string_bytes words.now) i m (O.written out.old) (O.written out.new) }
+    ensures complete { (m : FileMap) (i : List ℕ) → F.files files.old ≡ Some m → TellsInput (asked_by (command_of (map string_bytes words.now))) (S.left input.old) i
+        → IsCarriedOut (map string_bytes words.now) i m result (counts (F.faults files.old) (F.absences files.old) (S.faults input.old) (O.faults out.old) (E.faults err.old) (D.faults dice.old)) (counts (F.faults files.new) (F.absences files.new) (S.faults input.new) (O.faults out.new) (E.faults err.new) (D.faults dice.new)) }
     ensures safe { IsSafe result (seen (O.written out.old) (E.written err.old) (F.files files.old) (F.draft_name files.old) (F.draft_bytes files.old) (S.left input.old) (D.stream dice.old)) (seen (O.written out.new) (E.written err.new) (F.files files.new) (F.draft_name files.new) (F.draft_bytes files.new) (S.left input.new) (D.stream dice.new)) (counts (F.faults files.old) (F.absences files.old) (S.faults input.old) (O.faults out.old) (E.faults err.old) (D.faults dice.old)) (counts (F.faults files.new) (F.absences files.new) (S.faults input.new) (O.faults out.new) (E.faults err.new) (D.faults dice.new)) }
 {
-    match answer(alloc, words, files) {
-        Ok(done) => match write_all(out, done.text.as_slice()) {
-            Ok(()) => 0,
-            Err(fail) => unwritten(fail),
-        },
+    match answer(alloc, words, files, input) {
+        Ok(done) => print(out, done.text.as_slice()),
         Err(stop) => tell(alloc, err, stop),
     }
 }

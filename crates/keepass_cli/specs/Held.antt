@@ -1,0 +1,81 @@
+-- What a call that was carried out rests on: files that hold what was used of them, told of all their bytes.
+use Rattle.std.specs.Prelude.{◌≡◌, ◌≤◌, ℕ, Bool, true, false, List, length, Option, None, Some, ◌⊎◌, Ok}
+use Rattle.std.specs.FinMap as map
+use Rattle.outside_core.specs.Files.{FileMap}
+use Rattle.key_core.specs.KeyFile.{key_file_key}
+use Rattle.key_core.specs.Keys.{composite_key}
+use Rattle.vault_model.specs.Tree.{BareDoc}
+use Rattle.doc_read.specs.Documents.{Read}
+use Rattle.kdbx_open.specs.Opening.{Vault}
+use Rattle.kdbx_open.specs.Sealed.{Sealed}
+use Rattle.keepass_cli.specs.declared.command.Command.{Command}
+use Rattle.keepass_cli.specs.declared.command.Command.TheVariants.{Ls}
+use Rattle.keepass_cli.specs.declared.listing.Done.{Done}
+use Rattle.keepass_cli.specs.Databases.{file_limit, plain_document}
+use Rattle.keepass_cli.specs.Lines.{password_of}
+use Rattle.keepass_cli.specs.Outcome.{Counts, Gains, IsCalm, done_of}
+use Rattle.keepass_cli.specs.Words.{command_of}
+
+-- The file of this name is there and within the limit, and these are its bytes.
+pub record IsThere (files : FileMap) (name bytes : List ℕ) : Type 0 where
+  pub found : map.get files name ≡ Some bytes
+  pub within : length bytes ≤ file_limit
+
+-- The file of this name is a plain document.
+pub record IsPlain (file : List ℕ) (files : FileMap) (doc : BareDoc) : Type 0 where
+  pub bytes : List ℕ
+  pub there : IsThere files file bytes
+  pub read : Read
+  pub says : plain_document bytes ≡ Ok read
+  pub is : read.0 ≡ doc
+
+-- The key file of this name gives this key.
+pub record IsKeyFile (name : List ℕ) (files : FileMap) (key : List ℕ) : Type 0 where
+  pub bytes : List ℕ
+  pub there : IsThere files name bytes
+  pub gives : key_file_key bytes ≡ Ok key
+
+-- The key file gives this key, where one is named.
+abbrev pub GivesKey : Option (List ℕ) → FileMap → Option (List ℕ) → Type 0
+GivesKey None files key = key ≡ None
+GivesKey (Some name) files key = (k : List ℕ) × (IsKeyFile name files k × (key ≡ Some k))
+
+-- The file of this name holds the document sealed under the composite key of the password and the key file.
+pub record IsSealed (key_file : Option (List ℕ)) (file : List ℕ) (password : Option (List ℕ)) (files : FileMap) (doc : BareDoc) : Type 0 where
+  pub key : Option (List ℕ)
+  pub gives_key : GivesKey key_file files key
+  pub bytes : List ℕ
+  pub there : IsThere files file bytes
+  pub vault : Vault
+  pub sealed : Sealed bytes (composite_key password key) vault
+  pub is : vault.doc ≡ doc
+
+-- A file holds the document: by itself, or sealed.
+abbrev pub HoldsBy : Bool → Option (List ℕ) → List ℕ → Option (List ℕ) → FileMap → BareDoc → Type 0
+HoldsBy true key_file file password files doc = IsPlain file files doc
+HoldsBy false key_file file password files doc = IsSealed key_file file password files doc
+
+-- The database of a command holds the document.
+abbrev pub Holds : Command → Option (List ℕ) → FileMap → BareDoc → Type 0
+Holds (Ls access file group recursive flat) password files doc = HoldsBy access.plain access.key_file file password files doc
+
+-- The words are a command, the line that is due is there, the database holds a document by it, and on that the command
+-- gives this.
+pub record IsHeld (words : List (List ℕ)) (input : List ℕ) (files : FileMap) (done : Done) : Type 0 where
+  pub command : Command
+  pub is_command : command_of words ≡ Ok command
+  pub password : Option (List ℕ)
+  pub is_password : (password_of command input).answer ≡ Ok password
+  pub doc : BareDoc
+  pub holds : Holds command password files doc
+  pub gives : done_of command doc ≡ Ok done
+
+-- What was printed is what the command gives on a document that the database holds.
+abbrev pub IsAuthentic : List (List ℕ) → List ℕ → FileMap → (written written' : Option (List ℕ)) → Type 0
+IsAuthentic words input files written written' =
+    (done : Done) × (IsHeld words input files done × Gains written written' done.text)
+
+-- Where the words can be carried out and no count of faults rose, the status is 0, or memory ran out.
+abbrev pub IsCarriedOut : List (List ℕ) → List ℕ → FileMap → ℕ → Counts → Counts → Type 0
+IsCarriedOut words input files result before now =
+    (done : Done) → IsHeld words input files done → IsCalm before now → (result ≡ 0) ⊎ (result ≡ 9)
