@@ -4,11 +4,19 @@ use outside_objects::{MemoryFiles, SureFiles};
 use std::alloc::Global;
 use std::process::Abort;
 
+/// Whether just these bytes were found.
+pub(crate) fn are_found(found: Option<&[u8]>, bytes: &[u8]) -> bool {
+    match found {
+        Some(found) => found == bytes,
+        None => false,
+    }
+}
+
 /// Whether these are the bytes of a file from an offset on, of eight that are asked for.
 pub(crate) fn reads<F: FileStore>(files: &mut F, name: &str, from: u64, bytes: &[u8]) -> bool {
     let mut room = [0; 8];
     match files.read_at(name, from, &mut room) {
-        Ok(n) => room.get(..n) == Some(bytes),
+        Ok(n) => are_found(room.get(..n), bytes),
         Err(_fail) => false,
     }
 }
@@ -30,9 +38,9 @@ fn a_sure_store_keeps_files(rt: HostRuntime) {
     let mut files = SureFiles::new(rt.alloc());
     keeps_a_file(&rt, &mut files, "vault");
     assert_eq!(rt; files.put("other", b"x"), Ok(()));
-    assert_eq!(rt; files.bytes("other"), Some(b"x".as_slice()));
-    assert_eq!(rt; files.bytes("vault"), Some(b"bye".as_slice()));
-    assert_eq!(rt; files.bytes("none"), None);
+    assert!(rt; are_found(files.bytes("other"), b"x"));
+    assert!(rt; are_found(files.bytes("vault"), b"bye"));
+    assert!(rt; files.bytes("none").is_none());
 }
 
 #[test]
@@ -51,7 +59,7 @@ fn failing_at(alloc: Global, call: u64) -> Result<MemoryFiles, FileFail> {
 /// What `write_file` answers, and the file after it: whether it is the new one.
 fn written(files: &mut MemoryFiles) -> (Result<(), FileFail>, bool) {
     let answer = write_file(files, "vault", b"new");
-    (answer, files.bytes("vault") == Some(b"new".as_slice()))
+    (answer, are_found(files.bytes("vault"), b"new"))
 }
 
 /// `write_file` begins, appends and publishes: calls 0 to 2. Whichever fails, the old file remains.

@@ -1,4 +1,5 @@
 //! Sources and sinks in memory: bytes come and go in order, and a planned failure takes none.
+use crate::files::are_found;
 use outside_core::{Bytes, Sink, SinkFail, Source, SourceFail, write_all};
 use outside_objects::{MemorySink, MemorySource, SureSink, SureSource};
 
@@ -6,7 +7,7 @@ use outside_objects::{MemorySink, MemorySource, SureSink, SureSource};
 pub(crate) fn gives<S: Source>(source: &mut S, bytes: &[u8]) -> bool {
     let mut room = [0; 3];
     match source.read(&mut room) {
-        Ok(n) => room.get(..n) == Some(bytes),
+        Ok(n) => are_found(room.get(..n), bytes),
         Err(_fail) => false,
     }
 }

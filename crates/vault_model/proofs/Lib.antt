@@ -4,8 +4,6 @@ pub mod EmptyLaws
 pub mod Facts
 pub mod Joins
 pub mod Laid
-pub mod MomentTests
-pub mod Moments
 pub mod Orders
 pub mod Paths
 pub mod Semilattice

@@ -8,7 +8,7 @@ ghost use Rattle.vault_model.specs.TotalOrders.{attachment_cmp_total, field_cmp_
 
 pub mod laws;
 
-use crate::times::Stamp;
+use time_core::Stamp;
 use outside_core::{List, Text};
 use secret_core::Secret;
 use std::cmp::Ordering;

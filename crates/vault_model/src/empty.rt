@@ -8,7 +8,7 @@ use crate::contents::{GroupContent, Stats, Tri};
 use crate::documents::Doc;
 use crate::metas::{Bin, Meta, MetaSettings, MetaView, Protection, Timed};
 use crate::nodes::{Group, GroupState, GroupView};
-use crate::times::Stamp;
+use time_core::Stamp;
 use outside_core::{List, NoMemory, Text};
 use std::alloc::Global;
 use uuid::Uuid;

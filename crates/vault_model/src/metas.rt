@@ -1,5 +1,5 @@
 use crate::contents::Item;
-use crate::times::Stamp;
+use time_core::Stamp;
 use outside_core::{Bytes, List, Text};
 use uuid::Uuid;
 

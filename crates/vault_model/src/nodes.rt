@@ -2,7 +2,7 @@ ghost use Rattle.std.specs.Prelude.{◌≡◌};
 ghost use Rattle.vault_model.specs.SeenNodes.{entry_record, entry_time};
 
 use crate::contents::{Content, GroupContent, Stats};
-use crate::times::Stamp;
+use time_core::Stamp;
 use outside_core::List;
 use uuid::Uuid;
 

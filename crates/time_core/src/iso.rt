@@ -1,9 +1,9 @@
 //! Stamps as texts of ISO 8601, `YYYY-MM-DDThh:mm:ssZ`, in the form of RFC 3339, section 5.6.
 ghost use Rattle.std.specs.Prelude.{◌≡◌, ◌≢◌, ◌↔◌, ℕ, ◌+◌, ◌*◌, ◌/◌, ◌%◌, ◌<◌, ◌≤◌, [], ◌∷◌, length, IsTrue, MatchOption, pos, ◌+ℤ◌, ◌≤ℤ◌};
 ghost use Rattle.jiff.specs.Words.{epoch_day, IsYmd};
-ghost use Rattle.vault_model.specs.Times.{last_stamp, two_digits, iso_text, IsDay, days_before, IsMoment, IsTimeOfDay, seconds_of, IsIso};
-ghost use Rattle.vault_model.specs.Spelled.{HasSeparators, HasDigits, first_day_number};
-ghost use Rattle.vault_model.specs.declared.iso.Moment.{Moment};
+ghost use Rattle.time_core.specs.Times.{last_stamp, two_digits, iso_text, IsDay, days_before, IsMoment, IsTimeOfDay, seconds_of, IsIso};
+ghost use Rattle.time_core.specs.Spelled.{HasSeparators, HasDigits, first_day_number};
+ghost use Rattle.time_core.specs.declared.iso.Moment.{Moment};
 
 use crate::times::Stamp;
 use jiff::ToSpan;

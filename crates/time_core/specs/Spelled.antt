@@ -1,7 +1,7 @@
 -- What the reader of times knows of a text before it asks the calendar and the clock.
 use Rattle.std.specs.Prelude.{◌≡◌, ℕ, ℤ, pos, ◌<◌, List, slice_index}
 use Rattle.jiff_core.specs.Calendar.{days_from_civil}
-use Rattle.vault_model.specs.declared.iso.Moment.{Moment}
+use Rattle.time_core.specs.declared.iso.Moment.{Moment}
 
 -- the year has four digits at most, and every other part two
 pub record HasDigits (m : Moment) : Type 0 where

@@ -1,8 +1,8 @@
 -- The day's number counts the days before it, and the time of day the rest.
 use Rattle.std.proofs.Common.{FitsSigned, arith, rules, ◌∙◌, w8}
 use Rattle.std.proofs.lemmas.Int.{to_z-of_z}
-use Rattle.vault_model.proofs.Moments.{days_before-parts}
-use Rattle.vault_model.proofs.iso.moment_of.Goals as goal
+use Rattle.time_core.proofs.Moments.{days_before-parts}
+use Rattle.time_core.proofs.iso.moment_of.Goals as goal
 use mir.Syntax.{w16}
 
 pub returns-clause-counted : goal.returns-clause-counted

@@ -16,9 +16,9 @@ use Rattle.jiff_core.proofs.CalendarLemmas.{days_from_civil-day_count, day_count
 use Rattle.jiff_core.proofs.MarchLemmas.{day_count-early}
 use Rattle.jiff_core.proofs.DateLemmas.{civil, epoch_day-lt, epoch_day_injective}
 use Rattle.jiff_core.proofs.SignedLemmas.{signed_arith}
-use Rattle.vault_model.specs.Times.{last_stamp, IsDay, days_before, IsMoment, seconds_of, two_digits, iso_text, IsIso}
-use Rattle.vault_model.specs.Spelled.{HasSeparators, first_day_number}
-use Rattle.vault_model.specs.declared.iso.Moment.{Moment}
+use Rattle.time_core.specs.Times.{last_stamp, IsDay, days_before, IsMoment, seconds_of, two_digits, iso_text, IsIso}
+use Rattle.time_core.specs.Spelled.{HasSeparators, first_day_number}
+use Rattle.time_core.specs.declared.iso.Moment.{Moment}
 
 -- the days from -10000-01-01 to 0001-01-01
 pub day_count-first : day_count (pos 1) 1 1 ≡ 3_652_791

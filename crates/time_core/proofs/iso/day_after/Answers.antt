@@ -1,8 +1,8 @@
 -- Each day up to the last of the year 9999 is one that the library has, and no such day lies before the year 1.
 use Rattle.std.proofs.Common.{w64, ◌∙◌, arith}
 use Rattle.std.proofs.lemmas.Int.{to_z_pos}
-use Rattle.vault_model.proofs.Moments.{can_add-first, date_add-first, year_from_first}
-use Rattle.vault_model.proofs.iso.day_after.Goals as goal
+use Rattle.time_core.proofs.Moments.{can_add-first, date_add-first, year_from_first}
+use Rattle.time_core.proofs.iso.day_after.Goals as goal
 
 pub unwrap-requires : goal.unwrap-requires
 unwrap-requires c =

@@ -1,3 +1,5 @@
+//! The type of stamps.
+
 pub mod laws;
 
 use std::marker::Model;
@@ -22,7 +24,7 @@ impl Model for Stamp {
 
 impl Stamp {
     ghost use Rattle.std.specs.Prelude.{◌≡◌, ◌<◌, ◌≤◌, MatchOption};
-    ghost use Rattle.vault_model.specs.Times.{last_stamp};
+    ghost use Rattle.time_core.specs.Times.{last_stamp};
 
     /// The moment that many seconds after 0001-01-01T00:00:00Z, or `None` after the year 9999.
     pub fn of(seconds: u64) -> Option<Stamp>

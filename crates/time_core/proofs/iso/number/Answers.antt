@@ -1,6 +1,6 @@
 -- Where one of the bytes is no digit, no number has them as its two digits.
 use Rattle.std.proofs.Common.{◌/◌, ◌%◌, get_or, ap, arith}
-use Rattle.vault_model.proofs.iso.number.Goals as goal
+use Rattle.time_core.proofs.iso.number.Goals as goal
 
 pub returns-in_err-digit : goal.returns-in_err-digit
 returns-in_err-digit c =

@@ -1,8 +1,8 @@
 -- The definition of a written time, tried on dates whose seconds python's datetime gives.
 use Rattle.std.proofs.Common.{pos, refl, arith, rules, codes}
 use Rattle.jiff_core.proofs.MarchLemmas.{day_count-early, day_count-late}
-use Rattle.vault_model.specs.Times.{IsIso}
-use Rattle.vault_model.proofs.Moments.{day_count-first}
+use Rattle.time_core.specs.Times.{IsIso}
+use Rattle.time_core.proofs.Moments.{day_count-first}
 
 first_second : IsIso (codes "0001-01-01T00:00:00Z") 0
 first_second = record {

@@ -1,7 +1,7 @@
 -- The days and the time of a moment stay below the last stamp, and are its seconds.
 use Rattle.std.proofs.Common.{arith}
-use Rattle.vault_model.proofs.Moments.{days_before_bound, stamp_found}
-use Rattle.vault_model.proofs.iso.stamp_of_iso.Goals as goal
+use Rattle.time_core.proofs.Moments.{days_before_bound, stamp_found}
+use Rattle.time_core.proofs.iso.stamp_of_iso.Goals as goal
 
 pub overflow_mul-days : goal.overflow_mul-days
 overflow_mul-days c =

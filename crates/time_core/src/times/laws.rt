@@ -1,6 +1,6 @@
 //! That texts and stamps name each other.
 ghost use Rattle.std.specs.Prelude.{◌≡◌, ℕ, ◌≤◌, List};
-ghost use Rattle.vault_model.specs.Times.{last_stamp, IsIso};
+ghost use Rattle.time_core.specs.Times.{last_stamp, IsIso};
 
 /// Each text is the time of at most one stamp, and each stamp's time has at most one text, so that
 /// [`iso_of`](crate::iso_of) and [`stamp_of_iso`](crate::stamp_of_iso) undo each other. No text is a

@@ -1,7 +1,7 @@
 -- The seconds of a moment name its parts, and those its text.
 use Rattle.std.proofs.Common.{sym, ◌∙◌}
-use Rattle.vault_model.proofs.Moments.{same_moment, same_text, iso_in_range}
-use Rattle.vault_model.proofs.times.laws.one_reading.Goals as goal
+use Rattle.time_core.proofs.Moments.{same_moment, same_text, iso_in_range}
+use Rattle.time_core.proofs.times.laws.one_reading.Goals as goal
 
 pub returns-clause-one_text : goal.returns-clause-one_text
 returns-clause-one_text c a b seconds h k =

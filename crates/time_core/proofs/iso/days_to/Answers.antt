@@ -4,9 +4,9 @@ use Rattle.std.proofs.lemmas.Int.{to_z_pos}
 use Rattle.jiff_core.proofs.SignedLemmas.{back_small}
 use Rattle.jiff_core.specs.Date.{epoch_day, IsYmd}
 use Rattle.jiff_core.specs.declared.civil.date.Date.{Date}
-use Rattle.vault_model.specs.Times.{IsDay, days_before}
-use Rattle.vault_model.proofs.Moments.{days_before_bound, until_date}
-use Rattle.vault_model.proofs.iso.days_to.Goals as goal
+use Rattle.time_core.specs.Times.{IsDay, days_before}
+use Rattle.time_core.proofs.Moments.{days_before_bound, until_date}
+use Rattle.time_core.proofs.iso.days_to.Goals as goal
 use mir.Syntax.{w16}
 
 -- what the distance of a date from 0001-01-01 is, as it is returned

@@ -1,7 +1,7 @@
 -- The bytes that were read, with the separators between them, are the whole text.
 use Rattle.std.proofs.Common.{◌≡◌, ◌+◌, ◌*◌, ◌/◌, ◌%◌, refl, arith}
-use Rattle.vault_model.proofs.Moments.{spelled_text}
-use Rattle.vault_model.proofs.iso.spelled.Goals as goal
+use Rattle.time_core.proofs.Moments.{spelled_text}
+use Rattle.time_core.proofs.iso.spelled.Goals as goal
 
 pub returns : goal.returns
 returns c =
