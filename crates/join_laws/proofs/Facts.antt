@@ -7,20 +7,12 @@ use Rattle.std.specs.List.{list_any}
 use Rattle.vault_model.specs.Db.{NodeId, id_cmp, Place, place_cmp, Db, holds, stamp_in, parent_or, Sound}
 use Rattle.vault_model.specs.Join.{stats_join, state_join, is_id, root_of, latest, above, stamp, is_from, held, buried, own, ids, trail, path, kept, join, IsIn, IsNotEmpty, IsPart, HaveOneRoot, KeepsParents, Compatible}
 use Rattle.vault_model.specs.Unite.{greater, gather, unite, unite_all}
+use Rattle.vault_model.proofs.Ids.{same_id, id_itself}
 use Rattle.vault_model.proofs.Orders.{id_order}
-use Rattle.vault_model.proofs.Semilattice.{gather-selects, greater_one}
+use Rattle.join_laws.proofs.Semilattice.{gather-selects, greater_one}
 use Rattle.vault_model.proofs.Orders.{place_order}
 use Rattle.vault_model.proofs.Tests.{or_cases, or_left, or_right, and_true, and_both, not_true, not_false, apart, some_is, any_true, any_found, any_none, in_front, in_back, in_flat, map_map, greatest_below, from_map}
-use Rattle.vault_model.proofs.Unite.{tie, ties, get-unite_all, in_keys}
-
-pub same_id : (u v : NodeId) → is_id u v ≡ true → u ≡ v
-same_id = tie id_order.total id_order.same
-
-pub id_itself : (u : NodeId) → is_id u u ≡ true
-id_itself = ties id_order.total id_order.same
-
-pub is_same_id : (u v : NodeId) → u ≡ v → is_id u v ≡ true
-is_same_id u v p = subst (λ (w : NodeId). is_id u w ≡ true) p (id_itself u)
+use Rattle.join_laws.proofs.Unite.{get-unite_all, in_keys}
 
 -- ---- the join at an id
 

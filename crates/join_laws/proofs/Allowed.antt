@@ -5,9 +5,10 @@ use Rattle.std.specs.List.{list_any}
 use Rattle.vault_model.specs.Db.{NodeId, Place, place_cmp, Db, parent_or, steps, Reaches, Sound}
 use Rattle.vault_model.specs.Join.{is_id, root_of, latest, above, held, buried, own, ids, trail, path, kept, IsIn, Allowed}
 use Rattle.vault_model.specs.Unite.{greater}
-use Rattle.vault_model.proofs.Facts.{same_id, id_itself, held_by, held_id, latest_found, root_held, trail_head, trail_keeps}
-use Rattle.vault_model.proofs.Paths.{steps_add, reached_within, at_number}
-use Rattle.vault_model.proofs.Semilattice.{none-gather}
+use Rattle.vault_model.proofs.Ids.{same_id, id_itself}
+use Rattle.join_laws.proofs.Facts.{held_by, held_id, latest_found, root_held, trail_head, trail_keeps}
+use Rattle.join_laws.proofs.Paths.{steps_add, reached_within, at_number}
+use Rattle.join_laws.proofs.Semilattice.{none-gather}
 use Rattle.vault_model.proofs.Tests.{or_cases, or_left, or_right, and_true, and_both, apart, any_true, any_found, from_map}
 
 -- what stands on a trail has the next on it too, unless it is where the trail ends

@@ -3,7 +3,7 @@ use Rattle.std.proofs.Common.{◌≡◌, ◌≤◌, ◌<◌, ◌+◌, ◌-◌, �
 use Rattle.std.specs.List.{filter}
 use Rattle.vault_model.specs.Db.{NodeId, steps}
 use Rattle.vault_model.specs.Join.{IsIn, is_id}
-use Rattle.vault_model.proofs.Facts.{same_id, is_same_id}
+use Rattle.vault_model.proofs.Ids.{same_id, is_same_id}
 use Rattle.vault_model.proofs.Tests.{decide, apart, in_filter, is_false, not_false}
 
 pub at_number : {A : Type 0} (f : ℕ → A) (m n : ℕ) → m ≡ n → f m ≡ f n
