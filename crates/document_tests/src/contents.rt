@@ -1,10 +1,6 @@
-// What is expected is worked out by hand from what the documents say: the parts count in their order, texts and
-// bytes by their bytes, false below true, nothing below something, lists as dictionaries order words.
-use crate::{
-    Association, Attachment, AutoType, Content, Entry, Field, Group, GroupContent, Item, Meta,
-    Stamp, Stats, Tri, Version, compare_content, compare_group, copy_version, empty_doc,
-    entry_stamp,
-};
+//! The orders of contents, the newest version of an entry, copies, and a new database. What is expected is worked
+//! out by hand from what the documents say: the parts count in their order, texts and bytes by their bytes, false
+//! below true, nothing below something, lists as dictionaries order words.
 use outside_core::{List, NoMemory, Text};
 use secret_core::Secret;
 use std::alloc::Global;
@@ -12,6 +8,11 @@ use std::cmp::Ordering;
 use std::rc::Rc;
 use std::test::Fail;
 use uuid::Uuid;
+use vault_model::{
+    Association, Attachment, AutoType, Content, Entry, Field, Group, GroupContent, Item, Meta,
+    Stamp, Stats, Tri, Version, compare_content, compare_group, copy_version, empty_doc,
+    entry_stamp,
+};
 
 fn made<T>(answer: Result<T, NoMemory>) -> Result<T, &'static str> {
     match answer {
