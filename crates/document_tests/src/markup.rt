@@ -2,7 +2,6 @@
 //! it finds tags, text and faults at the same offsets.
 use markup_core::{Attrs, MarkupFail, Piece, Reader};
 use std::alloc::{AllocError, Global};
-use std::process::Abort;
 use std::test::Fail;
 
 fn start<'a>(name: &'a str, raw: &'a str, place: usize) -> Piece<'a> {
@@ -21,13 +20,6 @@ fn stop(place: usize) -> Piece<'static> {
     Piece::Stop { place }
 }
 
-fn form(place: usize) -> Result<Piece<'static>, MarkupFail> {
-    Err(MarkupFail::Form(place))
-}
-
-/// A text with the pieces that a reader gives, and the last answer.
-type Row<'a> = (&'a [u8], &'a [Piece<'a>], Result<Piece<'a>, MarkupFail>);
-
 /// Whether a reader on the text gives these pieces, and then the last answer twice.
 fn reads(text: &[u8], pieces: &[Piece<'_>], last: Result<Piece<'_>, MarkupFail>) -> bool {
     let mut reader = Reader::new(text);
@@ -39,10 +31,14 @@ fn reads(text: &[u8], pieces: &[Piece<'_>], last: Result<Piece<'_>, MarkupFail>)
     reader.next() == last && reader.next() == last
 }
 
-fn assert_reads(rt: &impl Abort, rows: &[Row<'_>]) {
-    for (text, pieces, last) in rows {
-        assert!(rt; reads(text, pieces, *last), "{text:?}");
-    }
+/// Whether a reader on the text gives these pieces, and then its end.
+fn is_whole(text: &[u8], pieces: &[Piece<'_>]) -> bool {
+    reads(text, pieces, Ok(Piece::Finish))
+}
+
+/// Whether a reader on the text gives these pieces, and then refuses it at the offset.
+fn is_refused(text: &[u8], pieces: &[Piece<'_>], place: usize) -> bool {
+    reads(text, pieces, Err(MarkupFail::Form(place)))
 }
 
 #[test]
@@ -56,69 +52,61 @@ fn texts_of_the_grammar(rt: HostRuntime) {
     ];
     let signs = [start("a:Z", " ", 0), words("\t]]> ~\x7f\r\n", 6), stop(15)];
     let empty = [start("_r", "", 0), start("e", " ", 4), stop(7), stop(9)];
-    assert_reads(
-        &rt,
-        &[
-            (b" <a>x<b></b></a>\n", &nested, Ok(Piece::Finish)),
-            (b"<a:Z >\t]]> ~\x7f\r\n</a:Z \t>", &signs, Ok(Piece::Finish)),
-            (b"<_r><e /></_r>", &empty, Ok(Piece::Finish)),
-            (b"<a/>", &[start("a", "", 0), stop(2)], Ok(Piece::Finish)),
-        ],
-    );
+    assert!(rt; is_whole(b" <a>x<b></b></a>\n", &nested));
+    assert!(rt; is_whole(b"<a:Z >\t]]> ~\x7f\r\n</a:Z \t>", &signs));
+    assert!(rt; is_whole(b"<_r><e /></_r>", &empty));
+    assert!(rt; is_whole(b"<a/>", &[start("a", "", 0), stop(2)]));
 }
 
 #[test]
 fn what_gives_no_piece(rt: HostRuntime) {
     let marked = b"\xEF\xBB\xBF<?xml version=\"1.0\"?> <!-- - <b> -- --> <a/><!----><??>\n";
-    assert_reads(
-        &rt,
-        &[
-            (marked, &[start("a", "", 43), stop(45)], Ok(Piece::Finish)),
-            (
-                b"<a>x<!--&\x01<--->y<?i ? >?><!----><b/><!--?--></a>",
-                &[
-                    start("a", "", 0),
-                    words("x", 3),
-                    words("y", 15),
-                    start("b", "", 32),
-                    stop(34),
-                    stop(44),
-                ],
-                Ok(Piece::Finish),
-            ),
-            (b"<!--><a/>", &[], form(9)),
-            (b"<?><a/>", &[], form(7)),
-            (b"<!-<a/>", &[], form(3)),
-            (b"<!DOCTYPE a><a/>", &[], form(2)),
-            (b"<a><![CDATA[x]]></a>", &[start("a", "", 0)], form(5)),
-            (b"\xEF\xBB<a/>", &[], form(2)),
-            (b" \xEF\xBB\xBF<a/>", &[], form(1)),
-        ],
+    assert!(rt; is_whole(marked, &[start("a", "", 43), stop(45)]));
+    assert!(rt;
+        is_whole(
+            b"<a>x<!--&\x01<--->y<?i ? >?><!----><b/><!--?--></a>",
+            &[
+                start("a", "", 0),
+                words("x", 3),
+                words("y", 15),
+                start("b", "", 32),
+                stop(34),
+                stop(44),
+            ]
+        )
     );
+    let texts: [(&[u8], usize); 6] = [
+        (b"<!--><a/>", 9),
+        (b"<?><a/>", 7),
+        (b"<!-<a/>", 3),
+        (b"<!DOCTYPE a><a/>", 2),
+        (b"\xEF\xBB<a/>", 2),
+        (b" \xEF\xBB\xBF<a/>", 1),
+    ];
+    for (text, place) in texts {
+        assert!(rt; is_refused(text, &[], place), "{text:?}");
+    }
+    assert!(rt; is_refused(b"<a><![CDATA[x]]></a>", &[start("a", "", 0)], 5));
 }
 
 #[test]
 fn attributes(rt: HostRuntime) {
     let raw = " b=\"c'>/\" d = '\"&lt;' b=''\n";
     let all = [start("a", raw, 0), stop(29)];
-    assert_reads(
-        &rt,
-        &[
-            (
-                b"<a b=\"c'>/\" d = '\"&lt;' b=''\n/>",
-                &all,
-                Ok(Piece::Finish),
-            ),
-            (b"<a b></a>", &[], form(4)),
-            (b"<a b=c></a>", &[], form(5)),
-            (b"<a b='c'd='e'/>", &[], form(8)),
-            (b"<a b='<'/>", &[], form(6)),
-            (b"<a b='\x01'/>", &[], form(6)),
-            (b"<a b='c", &[], form(7)),
-            (b"<a / >", &[], form(4)),
-            (b"<a =''/>", &[], form(3)),
-        ],
-    );
+    assert!(rt; is_whole(b"<a b=\"c'>/\" d = '\"&lt;' b=''\n/>", &all));
+    let texts: [(&[u8], usize); 8] = [
+        (b"<a b></a>", 4),
+        (b"<a b=c></a>", 5),
+        (b"<a b='c'd='e'/>", 8),
+        (b"<a b='<'/>", 6),
+        (b"<a b='\x01'/>", 6),
+        (b"<a b='c", 7),
+        (b"<a / >", 4),
+        (b"<a =''/>", 3),
+    ];
+    for (text, place) in texts {
+        assert!(rt; is_refused(text, &[], place), "{text:?}");
+    }
 }
 
 #[test]
@@ -134,74 +122,72 @@ fn references(rt: HostRuntime) {
         stop(38),
     ];
     let before = [start("a", "", 0)];
-    assert_reads(
-        &rt,
-        &[
-            (
-                b"<a>&amp;&lt;&gt;&quot;&apos;</a>",
-                &five,
-                Ok(Piece::Finish),
-            ),
-            (
-                b"<a>&#0;&#xd7FF;&#0001114111;&#x10FfFf;</a>",
-                &numbers,
-                Ok(Piece::Finish),
-            ),
-            (b"<a>&;</a>", &before, form(4)),
-            (b"<a>&amp</a>", &before, form(7)),
-            (b"<a>&abc;</a>", &before, form(5)),
-            (b"<a>&apo;</a>", &before, form(7)),
-            (b"<a>&nbsp;</a>", &before, form(4)),
-            (b"<a>&#;</a>", &before, form(5)),
-            (b"<a>&#x;</a>", &before, form(6)),
-            (b"<a>&#X41;</a>", &before, form(5)),
-            (b"<a>&#4A;</a>", &before, form(6)),
-            (b"<a>&#xD800;</a>", &before, form(10)),
-            (b"<a>&#57343;</a>", &before, form(10)),
-            (b"<a>&#x110000;</a>", &before, form(11)),
-            (b"<a>&#1114112;</a>", &before, form(11)),
-            (b"<a>x&y</a>", &before, form(5)),
-        ],
-    );
+    assert!(rt; is_whole(b"<a>&amp;&lt;&gt;&quot;&apos;</a>", &five));
+    assert!(rt; is_whole(b"<a>&#0;&#xd7FF;&#0001114111;&#x10FfFf;</a>", &numbers));
+    let texts: [(&[u8], usize); 14] = [
+        (b"<a>&;</a>", 4),
+        (b"<a>&amp</a>", 7),
+        (b"<a>&abc;</a>", 5),
+        (b"<a>&apo;</a>", 7),
+        (b"<a>&nbsp;</a>", 4),
+        (b"<a>&#;</a>", 5),
+        (b"<a>&#x;</a>", 6),
+        (b"<a>&#X41;</a>", 5),
+        (b"<a>&#4A;</a>", 6),
+        (b"<a>&#xD800;</a>", 10),
+        (b"<a>&#57343;</a>", 10),
+        (b"<a>&#x110000;</a>", 11),
+        (b"<a>&#1114112;</a>", 11),
+        (b"<a>x&y</a>", 5),
+    ];
+    for (text, place) in texts {
+        assert!(rt; is_refused(text, &before, place), "{text:?}");
+    }
 }
 
 #[test]
 fn texts_without_a_whole_element(rt: HostRuntime) {
     let controls = [start("a", "", 0), words("x", 3), stop(4)];
-    assert_reads(
-        &rt,
-        &[
-            (b"", &[], form(0)),
-            (b" ", &[], form(1)),
-            (b"<", &[], form(1)),
-            (b"x<a></a>", &[], form(0)),
-            (b"</a>", &[], form(1)),
-            (b"<>x</>", &[], form(1)),
-            (b"<1a/>", &[], form(1)),
-            (b"<a></a>x", &[start("a", "", 0), stop(3)], form(7)),
-            (b"<a/>&lt;", &[start("a", "", 0), stop(2)], form(4)),
-            (b"<a></a><", &[start("a", "", 0), stop(3)], form(8)),
-            (b"<a></a><b></b>", &[start("a", "", 0), stop(3)], form(8)),
-            (b"<KeePassFile>", &[start("KeePassFile", "", 0)], form(13)),
-            (b"<a>x", &[start("a", "", 0)], form(4)),
-            (b"<a>x</a>\0", &controls, form(8)),
-            (b"<a>x\x0C</a>", &[start("a", "", 0)], form(4)),
-        ],
-    );
+    let texts: [(&[u8], usize); 7] = [
+        (b"", 0),
+        (b" ", 1),
+        (b"<", 1),
+        (b"x<a></a>", 0),
+        (b"</a>", 1),
+        (b"<>x</>", 1),
+        (b"<1a/>", 1),
+    ];
+    for (text, place) in texts {
+        assert!(rt; is_refused(text, &[], place), "{text:?}");
+    }
+    let texts: [(&[u8], usize); 3] = [(b"<a></a>x", 7), (b"<a></a><", 8), (b"<a></a><b></b>", 8)];
+    for (text, place) in texts {
+        assert!(rt;
+            is_refused(text, &[start("a", "", 0), stop(3)], place),
+            "{text:?}"
+        );
+    }
+    assert!(rt; is_refused(b"<a/>&lt;", &[start("a", "", 0), stop(2)], 4));
+    assert!(rt; is_refused(b"<KeePassFile>", &[start("KeePassFile", "", 0)], 13));
+    let texts: [(&[u8], usize); 2] = [(b"<a>x", 4), (b"<a>x\x0C</a>", 4)];
+    for (text, place) in texts {
+        assert!(rt; is_refused(text, &[start("a", "", 0)], place), "{text:?}");
+    }
+    assert!(rt; is_refused(b"<a>x</a>\0", &controls, 8));
 }
 
 #[test]
 fn end_tags_of_other_names(rt: HostRuntime) {
-    assert_reads(
-        &rt,
-        &[
-            (b"<a></b>", &[start("a", "", 0)], form(5)),
-            (b"<a></ab>", &[start("a", "", 0)], form(6)),
-            (b"<ab></a>", &[start("ab", "", 0)], form(7)),
-            (b"<a></ a>", &[start("a", "", 0)], form(5)),
-            (b"<a></a b=''>", &[start("a", "", 0)], form(7)),
-        ],
-    );
+    let texts: [(&[u8], usize); 4] = [
+        (b"<a></b>", 5),
+        (b"<a></ab>", 6),
+        (b"<a></ a>", 5),
+        (b"<a></a b=''>", 7),
+    ];
+    for (text, place) in texts {
+        assert!(rt; is_refused(text, &[start("a", "", 0)], place), "{text:?}");
+    }
+    assert!(rt; is_refused(b"<ab></a>", &[start("ab", "", 0)], 7));
 }
 
 #[test]
@@ -211,26 +197,30 @@ fn characters_past_ascii(rt: HostRuntime) {
     let name = "\u{e9}\u{300}";
     let pieces = [start(name, raw, 0), words("\u{20ac}&lt;", 17), stop(24)];
     let before = [start("a", "", 0)];
-    assert_reads(
-        &rt,
-        &[
-            (whole.as_bytes(), &pieces, Ok(Piece::Finish)),
-            (b"<a>x\x80</a>", &before, form(4)),
-            (b"<a>\xC0\x80</a>", &before, form(3)),
-            (b"<a>\xED\xA0\x80</a>", &before, form(4)),
-            (b"<a>\xE2\x82</a>", &before, form(5)),
-            (b"<a>\xE2\x82", &before, form(5)),
-            (b"<a>\xF4\x90\x80\x80</a>", &before, form(4)),
-            (b"<a>\xFF</a>", &before, form(3)),
-            (b"<a/>\xE2\x82\xAC", &[start("a", "", 0), stop(2)], form(4)),
-            (
-                b"<a/><!--\xE2\x82--> ",
-                &[start("a", "", 0), stop(2)],
-                form(10),
-            ),
-            (b"<a/> \xFF", &[start("a", "", 0), stop(2)], form(5)),
-        ],
-    );
+    assert!(rt; is_whole(whole.as_bytes(), &pieces));
+    let texts: [(&[u8], usize); 7] = [
+        (b"<a>x\x80</a>", 4),
+        (b"<a>\xC0\x80</a>", 3),
+        (b"<a>\xED\xA0\x80</a>", 4),
+        (b"<a>\xE2\x82</a>", 5),
+        (b"<a>\xE2\x82", 5),
+        (b"<a>\xF4\x90\x80\x80</a>", 4),
+        (b"<a>\xFF</a>", 3),
+    ];
+    for (text, place) in texts {
+        assert!(rt; is_refused(text, &before, place), "{text:?}");
+    }
+    let texts: [(&[u8], usize); 3] = [
+        (b"<a/>\xE2\x82\xAC", 4),
+        (b"<a/><!--\xE2\x82--> ", 10),
+        (b"<a/> \xFF", 5),
+    ];
+    for (text, place) in texts {
+        assert!(rt;
+            is_refused(text, &[start("a", "", 0), stop(2)], place),
+            "{text:?}"
+        );
+    }
 }
 
 /// This many elements in one another, and then this.
