@@ -7,8 +7,8 @@ use Rattle.std.proofs.lemmas.Slice.Eq.{bytes_eq-Decides}
 use Rattle.std.specs.Int.{from_le_bytes, w64}
 use Rattle.std.specs.Str.{bytes_eq}
 use Rattle.jiff_core.specs.Calendar.{IsYear, days_in_month, is_leap_year}
-use Rattle.vault_model.specs.Times.{last_stamp, IsMoment, seconds_of, iso_text, IsIso}
-use Rattle.vault_model.specs.declared.iso.Moment.{Moment}
+use Rattle.time_core.specs.Times.{last_stamp, IsMoment, seconds_of, iso_text, IsIso}
+use Rattle.time_core.specs.declared.iso.Moment.{Moment}
 use Rattle.doc_read.specs.Values.{moment_in, is_moment, iso_time, little, within_time}
 
 -- ---- the calendar's form

@@ -3,7 +3,7 @@ use Rattle.std.proofs.Common.{◌≡◌, ℕ, ◌-◌, ◌%◌, ◌<◌, List, l
 use Rattle.std.proofs.lemmas.Bool.{eq-eqb}
 use Rattle.block_core.specs.Cbc.{cbc_deciphered}
 use Rattle.block_core.specs.Padding.{IsPadded}
-use Rattle.secret_core.specs.Secret.{Held}
+use Rattle.secret_core.specs.Secret.{SecretBuffer}
 use Rattle.kdbx_open.specs.declared.fail.OpenFail.{OpenFail}
 use Rattle.kdbx_open.specs.declared.fail.OpenFail.TheVariants.{BadPadding}
 use Rattle.kdbx_open.specs.Parts.{in_blocks, unchained, unpadded}
@@ -32,9 +32,9 @@ in_whole_blocks content whole =
     ap (λ (b : Bool). cond b (Ok tt) (Err BadPadding)) (eq-eqb (length content % 16) 0 whole)
 
 -- whole blocks that are deciphered are a text, whose padding is looked at
-pub padded_text : (decipher : List ℕ → List ℕ) (iv content text : List ℕ) (result : Result Held OpenFail) → length content % 16 ≡ 0
-    → text ≡ cbc_deciphered decipher iv content → Answers (λ (s : Held). s.bytes) result (unpadded text)
-    → Answers (λ (s : Held). s.bytes) result (unchained decipher iv content)
+pub padded_text : (decipher : List ℕ → List ℕ) (iv content text : List ℕ) (result : Result SecretBuffer OpenFail) → length content % 16 ≡ 0
+    → text ≡ cbc_deciphered decipher iv content → Answers (λ (s : SecretBuffer). s.bytes) result (unpadded text)
+    → Answers (λ (s : SecretBuffer). s.bytes) result (unchained decipher iv content)
 padded_text decipher iv content text result whole is h =
-    goes_on (λ (s : Held). s.bytes) result _ _ tt (in_whole_blocks content whole)
-    (subst (λ (x : List ℕ). Answers (λ (s : Held). s.bytes) result (unpadded x)) is h)
+    goes_on (λ (s : SecretBuffer). s.bytes) result _ _ tt (in_whole_blocks content whole)
+    (subst (λ (x : List ℕ). Answers (λ (s : SecretBuffer). s.bytes) result (unpadded x)) is h)

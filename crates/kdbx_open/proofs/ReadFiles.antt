@@ -4,7 +4,7 @@ use Rattle.std.proofs.lemmas.Bool.{lt-ltb, le-ltb}
 use Rattle.std.proofs.lemmas.Option.{none-some, same_Some}
 use Rattle.std.specs.FinMap as map
 use Rattle.outside_core.specs.Files.{FileMap}
-use Rattle.secret_core.specs.Secret.{Held}
+use Rattle.secret_core.specs.Secret.{SecretBuffer}
 use Rattle.secret_core.specs.ReadFail.{IsRead}
 use Rattle.secret_core.specs.declared.files.ReadFail.{ReadFail}
 use Rattle.secret_core.specs.declared.files.ReadFail.TheVariants.{TooLarge, NoSuchFile, FileFault}
@@ -47,7 +47,7 @@ found_is (Some there) bytes h = ap Some (found_in (nat_lt limit (length there)) 
 -- ---- a file that is not read, and one that is
 
 not_read_of : (file : Option (List ℕ)) (composite : List ℕ) (fail : ReadFail) → IsRead file limit (Err fail)
-    → ((n : ℕ) → ◌≡◌ {A = Result Held ReadFail} (Err fail) (Err (TooLarge n)) → limit < n)
+    → ((n : ℕ) → ◌≡◌ {A = Result SecretBuffer ReadFail} (Err fail) (Err (TooLarge n)) → limit < n)
     → Tells unsealed_seen (Err (of_read fail)) (opening_of file composite)
 unfolding opening_of followed
 not_read_of file composite (TooLarge n) h large = inl (too_large file n h (large n refl))
@@ -57,12 +57,12 @@ not_read_of file composite read.NoMemory h large = tt
 
 pub not_read : (files : Option FileMap) (name composite : List ℕ) (fail : ReadFail)
     → IfSome files (λ m. IsRead (map.get m name) limit (Err fail))
-    → ((n : ℕ) → ◌≡◌ {A = Result Held ReadFail} (Err fail) (Err (TooLarge n)) → limit < n)
+    → ((n : ℕ) → ◌≡◌ {A = Result SecretBuffer ReadFail} (Err fail) (Err (TooLarge n)) → limit < n)
     → IfSome files (λ m. Tells unsealed_seen (Err (of_read fail)) (opening_of (map.get m name) composite))
 not_read None name composite fail h large = tt
 not_read (Some m) name composite fail h large = not_read_of (map.get m name) composite fail h large
 
-read_of : (file : Option (List ℕ)) (composite : List ℕ) (secret : Held) (result : Result Unsealed OpenFail)
+read_of : (file : Option (List ℕ)) (composite : List ℕ) (secret : SecretBuffer) (result : Result Unsealed OpenFail)
     → IsRead file limit (Ok secret) → Answers unsealed_seen result (opening secret.bytes composite)
     → Tells unsealed_seen result (opening_of file composite)
 unfolding opening_of
@@ -71,7 +71,7 @@ read_of file composite secret result is h =
     (goes_on unsealed_seen result (only (bytes_of file)) (λ bytes. opening bytes composite) secret.bytes
     (ap bytes_of is.0 ∙ found secret.bytes is.1) h)
 
-pub read_told : (files : Option FileMap) (name composite : List ℕ) (secret : Held) (result : Result Unsealed OpenFail)
+pub read_told : (files : Option FileMap) (name composite : List ℕ) (secret : SecretBuffer) (result : Result Unsealed OpenFail)
     → IfSome files (λ m. IsRead (map.get m name) limit (Ok secret)) → Answers unsealed_seen result (opening secret.bytes composite)
     → IfSome files (λ m. Tells unsealed_seen result (opening_of (map.get m name) composite))
 read_told None name composite secret result is h = tt

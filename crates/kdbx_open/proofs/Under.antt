@@ -1,6 +1,6 @@
 -- What the parts of a file answer together: the first that is refused, or the last.
 use Rattle.std.proofs.Common.{◌≡◌, ℕ, List, length, take, drop, refl, sym, ◌∙◌, ap, subst, Result, Ok, Err}
-use Rattle.secret_core.specs.Secret.{Held}
+use Rattle.secret_core.specs.Secret.{SecretBuffer}
 use Rattle.kdbx_frame.specs.declared.fail.FrameFail.{FrameFail}
 use Rattle.kdbx_frame.specs.declared.header.Header.{Header}
 use Rattle.kdbx_frame.specs.Header.{header_of}
@@ -52,7 +52,7 @@ module _ (text : List ℕ) (inner : InnerFields) (fields : inner_of text ≡ Ok 
 
 -- ---- behind a header
 
-abbrev bytes_seen : Held → List ℕ
+abbrev bytes_seen : SecretBuffer → List ℕ
 bytes_seen s = s.bytes
 
 module _ (base key : List ℕ) (header : Header) (file : List ℕ) where
@@ -80,7 +80,7 @@ module _ (base key : List ℕ) (header : Header) (file : List ℕ) where
         (refused bytes_seen bytes_seen fail _ _
         (subst (λ (x : List ℕ). Answers bytes_seen (Err fail) (contents base (length file) x)) is h))
 
-    pub with_content : (content : List ℕ) → contents base (length file) blocks (Ok content) → (result : Result Held OpenFail)
+    pub with_content : (content : List ℕ) → contents base (length file) blocks (Ok content) → (result : Result SecretBuffer OpenFail)
         → Answers bytes_seen result (deciphered header.settings.cipher key header.iv content)
         → Answers bytes_seen result (text_under base key header file)
     unfolding text_under
@@ -91,7 +91,7 @@ module _ (base key : List ℕ) (header : Header) (file : List ℕ) where
 -- ---- the keys
 
 -- keys that are those of the header and the composite key, and a file that is lent whole
-pub under_keys : (base key its_base its_key : List ℕ) (header : Header) (lent file : List ℕ) (result : Result Held OpenFail)
+pub under_keys : (base key its_base its_key : List ℕ) (header : Header) (lent file : List ℕ) (result : Result SecretBuffer OpenFail)
     → base ≡ its_base → key ≡ its_key → lent ≡ file → Answers bytes_seen result (text_under base key header lent)
     → Answers bytes_seen result (text_under its_base its_key header file)
 under_keys base key its_base its_key header lent file result same same_key whole h =

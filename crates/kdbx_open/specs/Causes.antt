@@ -1,6 +1,6 @@
 -- Refusals of the crates below as refusals to open a file, and what a refusal shows of the store's counts.
 use Rattle.std.specs.Prelude.{ℕ, ◌≤◌, ◌<◌, Result, IsErrOf}
-use Rattle.outside_core.specs.Counts.{Rose}
+use Rattle.outside_core.specs.Counts.{Increased}
 use Rattle.secret_core.specs.declared.files.ReadFail.{ReadFail}
 use Rattle.secret_core.specs.declared.files.ReadFail.TheVariants as read
 use Rattle.kdbx_frame.specs.declared.fail.FrameFail.{FrameFail}
@@ -33,6 +33,6 @@ of_document fail = Doc fail
 pub record HasOpenCause {X : Type 0} (faults_before faults_now absences_before absences_now : ℕ) (result : Result X OpenFail) : Type 0 where
   pub faults_later : faults_before ≤ faults_now
   pub absences_later : absences_before ≤ absences_now
-  pub fault : IsErrOf result (File read.FileFault) → Rose faults_before faults_now
-  pub missing : IsErrOf result (File read.NoSuchFile) → Rose absences_before absences_now
+  pub fault : IsErrOf result (File read.FileFault) → Increased faults_before faults_now
+  pub missing : IsErrOf result (File read.NoSuchFile) → Increased absences_before absences_now
   pub large : (n : ℕ) → IsErrOf result (File (read.TooLarge n)) → limit < n

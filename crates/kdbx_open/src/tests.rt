@@ -3,7 +3,7 @@ use super::*;
 use kdbx_frame::FrameFail;
 use key_core::composite;
 use mac_core::BlockFail;
-use outside_core::MemoryFiles;
+use outside_objects::MemoryFiles;
 use sha2::{Digest, Sha256};
 use std::alloc::Global;
 use std::test::Fail;

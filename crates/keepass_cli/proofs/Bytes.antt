@@ -3,7 +3,7 @@ use Rattle.std.proofs.Common.{◌≡◌, ◌≢◌, ◌<◌, ◌≤◌, ◌+◌,
 use Rattle.std.specs.Prelude.{Ok, Err, codes}
 use Rattle.std.proofs.lemmas.Bool.{le-ltb, lt-ltb, ne_eqb}
 use Rattle.std.proofs.lemmas.List.{length-append}
-use Rattle.secret_core.specs.Secret.{Held}
+use Rattle.secret_core.specs.Secret.{SecretBuffer}
 use Rattle.std.specs.Str.{is_utf8}
 use Rattle.keepass_cli.specs.declared.answers.Answer.TheVariants.{InputEnded, LineForm, LineLimit}
 use Rattle.keepass_cli.specs.declared.answers.Refusal.{Refusal}
@@ -100,7 +100,7 @@ too_long_at_end line full =
     ∙ still_long line []
 
 -- a line that ends where the input does, behind a carriage return that has room or has none
-pub ended : (fits : Bool) (before now : Held) → IsPushed fits 13 before now → length before.bytes + before.spare ≡ 4096
+pub ended : (fits : Bool) (before now : SecretBuffer) → IsPushed fits 13 before now → length before.bytes + before.spare ≡ 4096
     → Ends fits now.bytes (cut before.bytes true []) []
 ended true before now h room =
     let less : length before.bytes < 4096 = omega (arith, h.1) in
@@ -110,17 +110,17 @@ ended false before now h room =
     subst (λ (bs : List ℕ). Ends false bs (cut before.bytes true []) []) (sym h.1) (too_long_at_end before.bytes full)
 
 -- What is known before a byte is put, when a carriage return that waited was put.
-pub record Ready (old now : Held) (returned : Bool) (byte : ℕ) : Type 0 where
+pub record Ready (old now : SecretBuffer) (returned : Bool) (byte : ℕ) : Type 0 where
   pub room : length now.bytes + now.spare ≡ 4096
   pub cuts : (rest : List ℕ) → cut old.bytes returned (byte ∷ rest) ≡ cut now.bytes false (byte ∷ rest)
 
-pub return_put : (old now pushed : Held) (returned fits : Bool) (byte : ℕ) → returned ≡ true → fits ≡ true → IsPushed fits 13 old pushed
+pub return_put : (old now pushed : SecretBuffer) (returned fits : Bool) (byte : ℕ) → returned ≡ true → fits ≡ true → IsPushed fits 13 old pushed
     → now ≡ pushed → length old.bytes + old.spare ≡ 4096 → byte ≢ 10 → Ready old now returned byte
 return_put old now pushed returned fits byte r f h is room other =
     let p = subst (λ (b : Bool). IsPushed b 13 old pushed) f h in
     let less : length old.bytes < 4096 = omega (arith, p.1) in
     let longer : length pushed.bytes ≡ length old.bytes + 1 = ap length p.0 ∙ length-append old.bytes (13 ∷ []) in
-    subst (λ (x : Held). Ready old x returned byte) (sym is) (record {
+    subst (λ (x : SecretBuffer). Ready old x returned byte) (sym is) (record {
       room = omega (arith, p.1);
       cuts = λ rest.
           ap (λ (b : Bool). cut old.bytes b (byte ∷ rest)) r
@@ -128,20 +128,20 @@ return_put old now pushed returned fits byte r f h is room other =
           ∙ ap (λ (bs : List ℕ). cut bs false (byte ∷ rest)) (sym p.0);
     })
 
-pub no_return_put : (old now : Held) (returned : Bool) (byte : ℕ) → returned ≡ false → now ≡ old → length old.bytes + old.spare ≡ 4096
+pub no_return_put : (old now : SecretBuffer) (returned : Bool) (byte : ℕ) → returned ≡ false → now ≡ old → length old.bytes + old.spare ≡ 4096
     → Ready old now returned byte
 no_return_put old now returned byte r is room =
-    subst (λ (x : Held). Ready old x returned byte) (sym is) (record {
+    subst (λ (x : SecretBuffer). Ready old x returned byte) (sym is) (record {
       room = room;
       cuts = λ rest. ap (λ (b : Bool). cut old.bytes b (byte ∷ rest)) r;
     })
 
 -- the byte is a carriage return, or it was put, or there was no room
-pub return_waits : (old now : Held) (returned : Bool) (byte : ℕ) → Ready old now returned byte → byte ≡ 13
+pub return_waits : (old now : SecretBuffer) (returned : Bool) (byte : ℕ) → Ready old now returned byte → byte ≡ 13
     → (rest : List ℕ) → cut old.bytes returned (byte ∷ rest) ≡ cut now.bytes true rest
 return_waits old now returned byte ready is rest = ready.cuts rest ∙ ap (λ (b : ℕ). cut now.bytes false (b ∷ rest)) is
 
-pub byte_put : (old now pushed : Held) (returned fits : Bool) (byte : ℕ) → Ready old now returned byte → byte ≢ 10 → byte ≢ 13
+pub byte_put : (old now pushed : SecretBuffer) (returned fits : Bool) (byte : ℕ) → Ready old now returned byte → byte ≢ 10 → byte ≢ 13
     → fits ≡ true → IsPushed fits byte now pushed
     → (rest : List ℕ) → cut old.bytes returned (byte ∷ rest) ≡ cut pushed.bytes false rest
 byte_put old now pushed returned fits byte ready feed other f h rest =
@@ -149,7 +149,7 @@ byte_put old now pushed returned fits byte ready feed other f h rest =
     let less : length now.bytes < 4096 = omega (arith, p.1, ready.room) in
     ready.cuts rest ∙ byte_kept now.bytes byte rest feed other less ∙ ap (λ (bs : List ℕ). cut bs false rest) (sym p.0)
 
-pub byte_refused : (old now pushed : Held) (returned fits : Bool) (byte : ℕ) → Ready old now returned byte → byte ≢ 10 → byte ≢ 13
+pub byte_refused : (old now pushed : SecretBuffer) (returned fits : Bool) (byte : ℕ) → Ready old now returned byte → byte ≢ 10 → byte ≢ 13
     → fits ≡ false → IsPushed fits byte now pushed
     → (rest : List ℕ) → cut old.bytes returned (byte ∷ rest) ≡ too_long rest
 byte_refused old now pushed returned fits byte ready feed other f h rest =

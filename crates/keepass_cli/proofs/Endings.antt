@@ -2,9 +2,9 @@
 use Rattle.std.proofs.Common.{◌≡◌, ◌≢◌, ℕ, List, [], length, refl, sym, ◌∙◌, ap, subst, inl, inr, Option, Some, None, arith, append-nil}
 use Rattle.std.specs.Prelude.{◌⊎◌, ◌++◌, Ok, Err, option_map}
 use Rattle.std.proofs.Math.Seq.{take-length}
-use Rattle.outside_core.specs.Counts.{Rose}
+use Rattle.outside_core.specs.Counts.{Increased}
 use Rattle.outside_core.specs.Files.{FileMap}
-use Rattle.outside_core.specs.Streams.{GainsFront}
+use Rattle.outside_core.specs.Streams.{GainsPrefix}
 use Rattle.keepass_cli.specs.declared.answers.Answer.{Answer}
 use Rattle.keepass_cli.specs.declared.answers.Answer.TheVariants.{WrongWords, NoSuchPath, DamagedOrWrongKey, DamagedBlock, WrongKeyOrDamaged, KeyFileHash, NotKdbx, EndsEarly, BadHeaderField, BadDictionary, Form, MissingElement, BadValue, NilId, DuplicateId, BinaryRef, BadKeyFile, LineForm, Version, UnknownId, StreamUnknown, Compressed, Variant, NoSuchFile, TooLarge, Depth, TooDeep, TooMany, KdfLimit, LineLimit, OutOfMemory, InputEnded}
 use Rattle.keepass_cli.specs.declared.answers.Refusal.{Refusal}
@@ -13,7 +13,7 @@ use Rattle.keepass_cli.specs.declared.answers.Stop.TheVariants.{Refused, FileFau
 use Rattle.keepass_cli.specs.declared.listing.Done.{Done}
 use Rattle.keepass_cli.specs.Held.{IsAuthentic, IsCarriedOut}
 use Rattle.keepass_cli.specs.Messages.{status_of, told_line, words_of}
-use Rattle.keepass_cli.specs.Outcome.{ComesTo, Counts, Gains, IsAsOutcome, IsCalm, IsCutShort, IsNear, IsNearOutcome, IsRefused, Outcome, SameDraft, Seen, TellsFault, answer_of, ended, left_of}
+use Rattle.keepass_cli.specs.Outcome.{ComesTo, Counts, Gains, IsAsOutcome, NoFaults, IsCutShort, AgreesUpToFailure, IsNearOutcome, IsRefused, Outcome, SameDraft, Seen, TellsFault, answer_of, ended, left_of}
 use Rattle.keepass_cli.specs.Phases.{IsCaused, IsLeft, Leaves, StopsAs}
 use Rattle.keepass_cli.specs.Telling.{IsPrinted, IsTold}
 use Rattle.keepass_cli.specs.Words.{command_of, files_named}
@@ -29,18 +29,18 @@ no_gain (Some w) = ap Some (sym (append-nil w))
 unwritten : (before now : Option (List ℕ)) → now ≡ before → Gains before now []
 unwritten before now same = same ∙ no_gain before
 
-no_front : (before now : Option (List ℕ)) (text : List ℕ) → now ≡ before → GainsFront before now text
+no_front : (before now : Option (List ℕ)) (text : List ℕ) → now ≡ before → GainsPrefix before now text
 no_front before now text same = (0, omega arith, unwritten before now same)
 
-whole_front : (before now : Option (List ℕ)) (text : List ℕ) → Gains before now text → GainsFront before now text
+whole_front : (before now : Option (List ℕ)) (text : List ℕ) → Gains before now text → GainsPrefix before now text
 whole_front before now text gains =
     (length text, omega arith, gains ∙ ap (λ (t : List ℕ). option_map (λ w. w ++ t) before) (sym (take-length text)))
 
 -- ---- statuses
 
 -- where a call was not done and not without a failure
-refute : (result : ℕ) (counts counts' : Counts) → (result ≡ 0 → ⊥) → (result ≢ 9 → IsCalm counts counts' → ⊥)
-    → (result ≡ 0) ⊎ ((result ≢ 9) × IsCalm counts counts') → ⊥
+refute : (result : ℕ) (counts counts' : Counts) → (result ≡ 0 → ⊥) → (result ≢ 9 → NoFaults counts counts' → ⊥)
+    → (result ≡ 0) ⊎ ((result ≢ 9) × NoFaults counts counts') → ⊥
 refute result counts counts' f g (inl zero) = f zero
 refute result counts counts' f g (inr other) = g other.0 other.1
 
@@ -220,7 +220,7 @@ module _ (words : List (List ℕ)) (input : List ℕ) (files : FileMap) (done : 
     ),
   )
 
-  pub printed_as_said : (result ≡ 0) ⊎ ((result ≢ 9) × IsCalm counts counts') → IsAsOutcome words input files result before now
+  pub printed_as_said : (result ≡ 0) ⊎ ((result ≢ 9) × NoFaults counts counts') → IsAsOutcome words input files result before now
   printed_as_said when =
       elim p.printed [
         | inl whole ↦ done_as_said whole.0 whole.1
@@ -230,7 +230,7 @@ module _ (words : List (List ℕ)) (input : List ℕ) (files : FileMap) (done : 
         ])
       ]
 
-  near_done : (names : List (List ℕ)) → IsNear names (ended files (left_of words input) (Ok done)) result before now counts counts'
+  near_done : (names : List (List ℕ)) → AgreesUpToFailure names (ended files (left_of words input) (Ok done)) result before now counts counts'
   near_done names =
       elim p.printed [
         | inl whole ↦ record {
@@ -255,9 +255,9 @@ module _ (words : List (List ℕ)) (input : List ℕ) (files : FileMap) (done : 
         ]
       ]
 
-  pub printed_near : (names : List (List ℕ)) (said : Outcome) → ComesTo words input files said → IsNear names said result before now counts counts'
+  pub printed_near : (names : List (List ℕ)) (said : Outcome) → ComesTo words input files said → AgreesUpToFailure names said result before now counts counts'
   printed_near names said h =
-      subst (λ (o : Outcome). IsNear names o result before now counts counts') (sym (its_outcome words input files (Ok done) said p.gives h)) (near_done names)
+      subst (λ (o : Outcome). AgreesUpToFailure names o result before now counts counts') (sym (its_outcome words input files (Ok done) said p.gives h)) (near_done names)
 
   pub printed_ended : IsNearOutcome words input files result before now counts counts'
   printed_ended =
@@ -292,14 +292,14 @@ pub record Stopped (words : List (List ℕ)) (input : List ℕ) (files : FileMap
   pub told : IsTold stop result before.errors now.errors counts.err counts'.err
 
 -- the line was not written: memory ran out, or standard error failed
-untold : (result : ℕ) (counts counts' : Counts) → (result ≡ 9) ⊎ ((result ≡ 10) × Rose counts.err counts'.err)
-    → (result ≡ 0) ⊎ ((result ≢ 9) × IsCalm counts counts') → ⊥
+untold : (result : ℕ) (counts counts' : Counts) → (result ≡ 9) ⊎ ((result ≡ 10) × Increased counts.err counts'.err)
+    → (result ≡ 0) ⊎ ((result ≢ 9) × NoFaults counts counts') → ⊥
 untold result counts counts' (inl nine) = refute result counts counts' (λ zero. omega arith) (λ other calm. other nine)
 untold result counts counts' (inr ten) = refute result counts counts' (λ zero. omega (arith, ten.0)) (λ other calm. calm.err ten.1)
 
 untold_near : (names : List (List ℕ)) (said : Outcome) (result : ℕ) (before now : Seen) (counts counts' : Counts)
-    → (result ≡ 9) ⊎ ((result ≡ 10) × Rose counts.err counts'.err) → now.written ≡ before.written → now.files ≡ before.files
-    → IsNear names said result before now counts counts'
+    → (result ≡ 9) ⊎ ((result ≡ 10) × Increased counts.err counts'.err) → now.written ≡ before.written → now.files ≡ before.files
+    → AgreesUpToFailure names said result before now counts counts'
 untold_near names said result before now counts counts' (inl is) written files =
     record {
       status = inr (inl is);
@@ -316,7 +316,7 @@ untold_near names said result before now counts counts' (inr is) written files =
     }
 
 cut_short : (names : List (List ℕ)) (result : ℕ) (before now : Seen) (counts counts' : Counts)
-    → (result ≡ 9) ⊎ ((result ≡ 10) × Rose counts.err counts'.err) → now.written ≡ before.written → now.files ≡ before.files
+    → (result ≡ 9) ⊎ ((result ≡ 10) × Increased counts.err counts'.err) → now.written ≡ before.written → now.files ≡ before.files
     → IsCutShort names result before now counts counts'
 cut_short names result before now counts counts' (inl is) written files =
     record { status = inl is; text = written; line = λ nine ten. absurd (nine is); files = files }
@@ -344,7 +344,7 @@ module _ (words : List (List ℕ)) (input : List ℕ) (files : FileMap) (names :
   )
 
   pub stopped_as_said : (stop : Stop) → Stopped words input files names stop result before now counts counts'
-      → (result ≡ 0) ⊎ ((result ≢ 9) × IsCalm counts counts') → IsAsOutcome words input files result before now
+      → (result ≡ 0) ⊎ ((result ≢ 9) × NoFaults counts counts') → IsAsOutcome words input files result before now
   stopped_as_said (Refused refusal) s when =
       elim s.told [ inl own ↦ refused_as_said refusal s own.0 own.1 | inr other ↦ absurd (untold result counts counts' other when) ]
   stopped_as_said (FileFault name) s when =
@@ -360,7 +360,7 @@ module _ (words : List (List ℕ)) (input : List ℕ) (files : FileMap) (names :
   stopped_as_said NoMemory s when = absurd (untold result counts counts' s.told when)
 
   refused_near : (refusal : Refusal) → Stopped words input files names (Refused refusal) result before now counts counts'
-      → IsNear names (ended files (left_of words input) (Err refusal)) result before now counts counts'
+      → AgreesUpToFailure names (ended files (left_of words input) (Err refusal)) result before now counts counts'
   refused_near refusal s =
       elim s.told [
         | inl own ↦ record {
@@ -373,9 +373,9 @@ module _ (words : List (List ℕ)) (input : List ℕ) (files : FileMap) (names :
       ]
 
   pub stopped_near : (stop : Stop) → Stopped words input files names stop result before now counts counts'
-      → (said : Outcome) → ComesTo words input files said → IsNear names said result before now counts counts'
+      → (said : Outcome) → ComesTo words input files said → AgreesUpToFailure names said result before now counts counts'
   stopped_near (Refused refusal) s said h =
-      subst (λ (o : Outcome). IsNear names o result before now counts counts') (sym (its_outcome words input files (Err refusal) said s.gives h)) (refused_near refusal s)
+      subst (λ (o : Outcome). AgreesUpToFailure names o result before now counts counts') (sym (its_outcome words input files (Err refusal) said s.gives h)) (refused_near refusal s)
   stopped_near (FileFault name) s said h =
       elim s.told [
         | inl own ↦ record {
@@ -399,7 +399,7 @@ module _ (words : List (List ℕ)) (input : List ℕ) (files : FileMap) (names :
   stopped_near NoMemory s said h = untold_near names said result before now counts counts' s.told s.written s.quiet.same
 
   pub stopped_ended : (stop : Stop) → Stopped words input files names stop result before now counts counts'
-      → ((said : Outcome) × (ComesTo words input files said × IsNear names said result before now counts counts'))
+      → ((said : Outcome) × (ComesTo words input files said × AgreesUpToFailure names said result before now counts counts'))
       ⊎ IsCutShort names result before now counts counts'
   stopped_ended (Refused refusal) s =
       inl (ended files (left_of words input) (Err refusal), ((Err refusal, (s.gives, refl)), refused_near refusal s))
@@ -445,7 +445,7 @@ module _ (words : List (List ℕ)) (input : List ℕ) (files : FileMap) (names :
   stopped_complete NoMemory s done held calm = elim s.told [ inl nine ↦ inr nine | inr ten ↦ absurd (calm.err ten.1) ]
 
 -- a call that stopped is not done
-not_told : (result : ℕ) (counts counts' : Counts) → (result ≡ 9) ⊎ ((result ≡ 10) × Rose counts.err counts'.err) → result ≡ 0 → ⊥
+not_told : (result : ℕ) (counts counts' : Counts) → (result ≡ 9) ⊎ ((result ≡ 10) × Increased counts.err counts'.err) → result ≡ 0 → ⊥
 not_told result counts counts' (inl nine) zero = omega arith
 not_told result counts counts' (inr ten) zero = omega (arith, ten.0)
 

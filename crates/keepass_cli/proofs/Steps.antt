@@ -2,7 +2,7 @@
 use Rattle.std.proofs.Common.{◌≡◌, ◌≤◌, ℕ, List, [], ◌∷◌, ◌++◌, inl, inr, sym, subst, arith, Option, Result, Ok, Err}
 use Rattle.std.specs.Prelude.{Contains, IfErr}
 use Rattle.std.proofs.lemmas.List.Elements.{Contains-append_right}
-use Rattle.outside_core.specs.Counts.{Rose}
+use Rattle.outside_core.specs.Counts.{Increased}
 use Rattle.keepass_cli.specs.declared.answers.Refusal.{Refusal}
 use Rattle.keepass_cli.specs.declared.answers.Stop.{Stop}
 use Rattle.keepass_cli.specs.declared.answers.Stop.TheVariants.{Refused, FileFault, InputFault, NoMemory}
@@ -58,11 +58,11 @@ taking_stops NoMemory before now taken h = tt
 
 -- ---- causes
 
-pub rose_before : (before mid now : ℕ) → before ≤ mid → Rose mid now → Rose before now
+pub rose_before : (before mid now : ℕ) → before ≤ mid → Increased mid now → Increased before now
 rose_before before mid now h (inl less) = inl (omega arith)
 rose_before before mid now h (inr last) = inr last
 
-pub rose_behind : (before mid now : ℕ) → mid ≤ now → Rose before mid → Rose before now
+pub rose_behind : (before mid now : ℕ) → mid ≤ now → Increased before mid → Increased before now
 rose_behind before mid now h (inl less) = inl (omega arith)
 rose_behind before mid now h (inr last) = inr (omega arith)
 
@@ -83,7 +83,7 @@ later_at_file (Err stop) front name f f' f'' a a' a'' p q h = at_file front name
 pub at_words : (command : Command) (words : Result Command Refusal) (f f' a a' i i' : ℕ) (stop : Stop) → words ≡ Ok command
     → IsFileStop (files_of command) f f' a a' stop → IsCaused (files_named words) f f' a a' i i' stop
 at_words command words f f' a a' i i' (Refused refusal) is h = h
-at_words command words f f' a a' i i' (FileFault name) is h = subst (λ (w : Result Command Refusal). Rose f f' × Contains (files_named w) name) (sym is) h
+at_words command words f f' a a' i i' (FileFault name) is h = subst (λ (w : Result Command Refusal). Increased f f' × Contains (files_named w) name) (sym is) h
 at_words command words f f' a a' i i' InputFault is h = absurd h
 at_words command words f f' a a' i i' NoMemory is h = tt
 

@@ -1,7 +1,7 @@
 -- How a line is cut from the input byte by byte.
 use Rattle.std.specs.Prelude.{◌≡◌, ℕ, ◌+◌, ◌*◌, Bool, true, false, List, [], ◌∷◌, ◌++◌, length, Option, None, Some, Result, Ok, Err}
 use Rattle.outside_core.specs.declared.fails.SourceFail.{SourceFail}
-use Rattle.secret_core.specs.Secret.{Held}
+use Rattle.secret_core.specs.Secret.{SecretBuffer}
 use Rattle.keepass_cli.specs.Lines.{line_from, too_long, with_byte}
 use Rattle.keepass_cli.specs.Phases.{Taken}
 
@@ -46,6 +46,6 @@ Cuts (Ok fits) line left taken = (rest : List ℕ) × ((left ≡ Some rest) × E
 Cuts (Err fail) line left taken = Unit {0}
 
 -- A byte was put behind a line that had room for it, or the line was full and is as it was.
-abbrev pub IsPushed : Bool → ℕ → Held → Held → Type 0
+abbrev pub IsPushed : Bool → ℕ → SecretBuffer → SecretBuffer → Type 0
 IsPushed true b before now = (now.bytes ≡ before.bytes ++ b ∷ []) × (now.spare + 1 ≡ before.spare)
 IsPushed false b before now = (before.spare ≡ 0) × (now.bytes ≡ before.bytes) × (now.spare ≡ before.spare)

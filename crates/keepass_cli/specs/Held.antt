@@ -13,7 +13,7 @@ use Rattle.keepass_cli.specs.declared.command.Command.TheVariants.{Ls}
 use Rattle.keepass_cli.specs.declared.listing.Done.{Done}
 use Rattle.keepass_cli.specs.Databases.{file_limit, plain_document}
 use Rattle.keepass_cli.specs.Lines.{password_of}
-use Rattle.keepass_cli.specs.Outcome.{Counts, Gains, IsCalm, done_of}
+use Rattle.keepass_cli.specs.Outcome.{Counts, Gains, NoFaults, done_of}
 use Rattle.keepass_cli.specs.Words.{command_of}
 
 -- The file of this name is there and within the limit, and these are its bytes.
@@ -78,4 +78,4 @@ IsAuthentic words input files written written' =
 -- Where the words can be carried out and no count of faults rose, the status is 0, or memory ran out.
 abbrev pub IsCarriedOut : List (List ℕ) → List ℕ → FileMap → ℕ → Counts → Counts → Type 0
 IsCarriedOut words input files result before now =
-    (done : Done) → IsHeld words input files done → IsCalm before now → (result ≡ 0) ⊎ (result ≡ 9)
+    (done : Done) → IsHeld words input files done → NoFaults before now → (result ≡ 0) ⊎ (result ≡ 9)

@@ -1,8 +1,8 @@
 -- What a call comes to: its phases one after another, and all that is seen of it.
 use Rattle.std.specs.Prelude.{◌≡◌, ◌≢◌, ℕ, List, [], ◌++◌, Contains, Option, None, Some, option_map, ◌⊎◌, Result, Ok, Err, codes, Bool, false}
-use Rattle.outside_core.specs.Counts.{Rose}
+use Rattle.outside_core.specs.Counts.{Increased}
 use Rattle.outside_core.specs.Files.{FileMap}
-use Rattle.outside_core.specs.Streams.{GainsFront}
+use Rattle.outside_core.specs.Streams.{GainsPrefix}
 use Rattle.vault_model.specs.Tree.{BareDoc, Tree}
 use Rattle.keepass_cli.specs.declared.answers.Answer.TheVariants.{NoSuchPath}
 use Rattle.keepass_cli.specs.declared.answers.Refusal.{Refusal}
@@ -99,12 +99,12 @@ counts files absences input out err dice =
     record { files = files; absences = absences; input = input; out = out; err = err; dice = dice }
 
 -- No count of faults rose.
-pub record IsCalm (before now : Counts) : Type 0 where
-  pub files : ¬ (Rose before.files now.files)
-  pub input : ¬ (Rose before.input now.input)
-  pub out : ¬ (Rose before.out now.out)
-  pub err : ¬ (Rose before.err now.err)
-  pub dice : ¬ (Rose before.dice now.dice)
+pub record NoFaults (before now : Counts) : Type 0 where
+  pub files : ¬ (Increased before.files now.files)
+  pub input : ¬ (Increased before.input now.input)
+  pub out : ¬ (Increased before.out now.out)
+  pub err : ¬ (Increased before.err now.err)
+  pub dice : ¬ (Increased before.dice now.dice)
 
 -- The text was written.
 abbrev pub Gains : Option (List ℕ) → Option (List ℕ) → List ℕ → Type 0
@@ -134,20 +134,20 @@ IsAsOutcome words input files result before now =
 abbrev pub IsOther : ℕ → Counts → Counts → Type 0
 IsOther result before now =
     (result ≡ 9)
-    ⊎ ((result ≡ 7) × Rose before.files now.files)
-    ⊎ ((result ≡ 10) × (Rose before.out now.out ⊎ Rose before.err now.err))
-    ⊎ ((result ≡ 11) × (Rose before.input now.input ⊎ Rose before.dice now.dice))
+    ⊎ ((result ≡ 7) × Increased before.files now.files)
+    ⊎ ((result ≡ 10) × (Increased before.out now.out ⊎ Increased before.err now.err))
+    ⊎ ((result ≡ 11) × (Increased before.input now.input ⊎ Increased before.dice now.dice))
 
 -- The line of a fault: of the store at one of these files, or of the input or the dice.
 abbrev pub TellsFault : List (List ℕ) → ℕ → Seen → Seen → Counts → Counts → Type 0
 TellsFault names result before now counts counts' =
-    ((result ≡ 7) × Rose counts.files counts'.files × ((name : List ℕ) × Contains names name × Gains before.errors now.errors (told_line name (codes "file fault"))))
+    ((result ≡ 7) × Increased counts.files counts'.files × ((name : List ℕ) × Contains names name × Gains before.errors now.errors (told_line name (codes "file fault"))))
     ⊎ ((result ≡ 11) × Gains before.errors now.errors (told_line (codes "input") (codes "fault")))
 
 -- Whatever failed, this much is as the outcome says.
-pub record IsNear (names : List (List ℕ)) (said : Outcome) (result : ℕ) (before now : Seen) (counts counts' : Counts) : Type 0 where
+pub record AgreesUpToFailure (names : List (List ℕ)) (said : Outcome) (result : ℕ) (before now : Seen) (counts counts' : Counts) : Type 0 where
   pub status : (result ≡ said.status) ⊎ IsOther result counts counts'
-  pub text : GainsFront before.written now.written said.text
+  pub text : GainsPrefix before.written now.written said.text
   pub line : result ≢ 0 → result ≢ 9 → result ≢ 10 → Gains before.errors now.errors said.line ⊎ TellsFault names result before now counts counts'
   pub files : (now.files ≡ before.files) ⊎ (now.files ≡ Some said.files)
 
@@ -162,7 +162,7 @@ pub record IsCutShort (names : List (List ℕ)) (result : ℕ) (before now : See
 -- So much is as an outcome says to which the words come, or a failure ended the call.
 abbrev pub IsNearOutcome : List (List ℕ) → List ℕ → FileMap → ℕ → Seen → Seen → Counts → Counts → Type 0
 IsNearOutcome words input files result before now counts counts' =
-    ((said : Outcome) × (ComesTo words input files said × IsNear (files_named (command_of words)) said result before now counts counts'))
+    ((said : Outcome) × (ComesTo words input files said × AgreesUpToFailure (files_named (command_of words)) said result before now counts counts'))
     ⊎ IsCutShort (files_named (command_of words)) result before now counts counts'
 
 -- A refusal is the one of the outcome to which the words come, or it tells a fault whose count rose.
@@ -174,9 +174,9 @@ IsRefused words input files result before now counts counts' =
 -- Whatever is told: statuses 7, 10 and 11 have their causes, a refusal prints nothing, and files, draft and dice are as
 -- they were, since no command writes a file yet.
 pub record IsSafe (result : ℕ) (before now : Seen) (counts counts' : Counts) : Type 0 where
-  pub store : result ≡ 7 → Rose counts.absences counts'.absences ⊎ Rose counts.files counts'.files
-  pub output : result ≡ 10 → Rose counts.out counts'.out ⊎ Rose counts.err counts'.err
-  pub input : result ≡ 11 → Rose counts.input counts'.input ⊎ Rose counts.dice counts'.dice
+  pub store : result ≡ 7 → Increased counts.absences counts'.absences ⊎ Increased counts.files counts'.files
+  pub output : result ≡ 10 → Increased counts.out counts'.out ⊎ Increased counts.err counts'.err
+  pub input : result ≡ 11 → Increased counts.input counts'.input ⊎ Increased counts.dice counts'.dice
   pub text : result ≢ 0 → result ≢ 9 → result ≢ 10 → now.written ≡ before.written
   pub files : now.files ≡ before.files
   pub draft : SameDraft before now

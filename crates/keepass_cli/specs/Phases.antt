@@ -1,6 +1,6 @@
 -- A call goes through phases. What each of them gives, how it may stop, and what causes the stop.
 use Rattle.std.specs.Prelude.{None, Some, ◌≡◌, ℕ, List, Contains, Option, Result, Ok, Err, ◌⊎◌, Bool, false, option_map}
-use Rattle.outside_core.specs.Counts.{Rose}
+use Rattle.outside_core.specs.Counts.{Increased}
 use Rattle.keepass_cli.specs.declared.answers.Answer.TheVariants.{WrongWords, NoSuchFile}
 use Rattle.keepass_cli.specs.declared.answers.Refusal.{Refusal}
 use Rattle.keepass_cli.specs.declared.answers.Stop.{Stop}
@@ -115,7 +115,7 @@ IsWordsStop NoMemory = Unit {0}
 abbrev pub IsLineStop : (faults faults' : ℕ) → Stop → Type 0
 IsLineStop faults faults' (Refused refusal) = ¬ (refusal.answer ≡ NoSuchFile)
 IsLineStop faults faults' (FileFault name) = ⊥
-IsLineStop faults faults' InputFault = Rose faults faults'
+IsLineStop faults faults' InputFault = Increased faults faults'
 IsLineStop faults faults' NoMemory = Unit {0}
 
 -- A fault of the store at the file of this name.
@@ -142,14 +142,14 @@ IsPlainStop NoMemory = Unit {0}
 -- A stop at a file: it is called missing only where the store's count of absences rose, and a fault is told only where
 -- its count of faults rose, and of one of these files.
 abbrev pub IsFileStop : List (List ℕ) → (faults faults' absences absences' : ℕ) → Stop → Type 0
-IsFileStop names faults faults' absences absences' (Refused refusal) = refusal.answer ≡ NoSuchFile → Rose absences absences'
-IsFileStop names faults faults' absences absences' (FileFault name) = Rose faults faults' × Contains names name
+IsFileStop names faults faults' absences absences' (Refused refusal) = refusal.answer ≡ NoSuchFile → Increased absences absences'
+IsFileStop names faults faults' absences absences' (FileFault name) = Increased faults faults' × Contains names name
 IsFileStop names faults faults' absences absences' InputFault = ⊥
 IsFileStop names faults faults' absences absences' NoMemory = Unit {0}
 
 -- A stop of a call: at a file, or of the input, which failed only where its count of faults rose.
 abbrev pub IsCaused : List (List ℕ) → (faults faults' absences absences' input input' : ℕ) → Stop → Type 0
-IsCaused names faults faults' absences absences' input input' (Refused refusal) = refusal.answer ≡ NoSuchFile → Rose absences absences'
-IsCaused names faults faults' absences absences' input input' (FileFault name) = Rose faults faults' × Contains names name
-IsCaused names faults faults' absences absences' input input' InputFault = Rose input input'
+IsCaused names faults faults' absences absences' input input' (Refused refusal) = refusal.answer ≡ NoSuchFile → Increased absences absences'
+IsCaused names faults faults' absences absences' input input' (FileFault name) = Increased faults faults' × Contains names name
+IsCaused names faults faults' absences absences' input input' InputFault = Increased input input'
 IsCaused names faults faults' absences absences' input input' NoMemory = Unit {0}

@@ -1,7 +1,7 @@
 -- How a call tells what it came to.
 use Rattle.std.specs.Prelude.{◌≡◌, ℕ, List, Option, codes, ◌⊎◌}
-use Rattle.outside_core.specs.Counts.{Rose}
-use Rattle.outside_core.specs.Streams.{GainsFront}
+use Rattle.outside_core.specs.Counts.{Increased}
+use Rattle.outside_core.specs.Streams.{GainsPrefix}
 use Rattle.outside_core.specs.declared.fails.SinkFail.{SinkFail}
 use Rattle.outside_core.specs.declared.fails.SinkFail.TheVariants as sink
 use Rattle.keepass_cli.specs.declared.answers.Stop.{Stop}
@@ -19,16 +19,16 @@ IsUnwritten sink.NoMemory status = status ≡ 9
 abbrev pub IsPrinted : List ℕ → ℕ → (written written' : Option (List ℕ)) → (faults faults' : ℕ) → Type 0
 IsPrinted text result written written' faults faults' =
     ((result ≡ 0) × Gains written written' text)
-    ⊎ (((result ≡ 9) ⊎ ((result ≡ 10) × Rose faults faults')) × GainsFront written written' text)
+    ⊎ (((result ≡ 9) ⊎ ((result ≡ 10) × Increased faults faults')) × GainsPrefix written written' text)
 
 -- A line was written and its status given; or want of memory came, or a fault of standard error.
 abbrev pub TellsLine : ℕ → List ℕ → ℕ → (errors errors' : Option (List ℕ)) → (faults faults' : ℕ) → Type 0
 TellsLine own line result errors errors' faults faults' =
-    ((result ≡ own) × Gains errors errors' line) ⊎ (result ≡ 9) ⊎ ((result ≡ 10) × Rose faults faults')
+    ((result ≡ own) × Gains errors errors' line) ⊎ (result ≡ 9) ⊎ ((result ≡ 10) × Increased faults faults')
 
 -- The stop has its own status and its own line, or want of memory came, or a fault of standard error.
 abbrev pub IsTold : Stop → ℕ → (errors errors' : Option (List ℕ)) → (faults faults' : ℕ) → Type 0
 IsTold (Refused refusal) = TellsLine (status_of refusal.answer) (told_line refusal.subject (words_of refusal.answer))
 IsTold (FileFault name) = TellsLine 7 (told_line name (codes "file fault"))
 IsTold InputFault = TellsLine 11 (told_line (codes "input") (codes "fault"))
-IsTold NoMemory = λ result errors errors' faults faults'. (result ≡ 9) ⊎ ((result ≡ 10) × Rose faults faults')
+IsTold NoMemory = λ result errors errors' faults faults'. (result ≡ 9) ⊎ ((result ≡ 10) × Increased faults faults')

@@ -1,6 +1,6 @@
 // Calls over objects in memory, for tests.
 use crate::run::keepass;
-use outside_core::{CountingDice, MemoryFiles, MemorySink, MemorySource};
+use outside_objects::{CountingDice, MemoryFiles, MemorySink, MemorySource};
 use std::alloc::{AllocGlobal, Global};
 use std::process::Abort;
 use std::test::Fail;

@@ -19,7 +19,7 @@ mod tests;
 mod words;
 
 use crate::run::keepass;
-use outside_core::{HostDice, HostFiles, HostInput, HostOutput};
+use outside_host::{HostDice, HostFiles, HostInput, HostOutput};
 use std::alloc::AllocGlobal;
 use std::env;
 use std::process::ExitCode;

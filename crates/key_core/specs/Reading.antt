@@ -1,6 +1,6 @@
 -- What reading the innermost open element up to its end answers, and what it leaves.
 use Rattle.std.specs.Prelude.{ℕ, ◌≡◌, ◌<◌, Bool, true, false, ◌&&◌, if◌then◌else◌, bytes_eq, codes, Option, Some, None, option_map, List, [], length, Result, Ok, Err}
-use Rattle.secret_core.specs.Secret.{Held}
+use Rattle.secret_core.specs.Secret.{SecretBuffer}
 use Rattle.markup_grammar.specs.Answers.{Answer}
 use Rattle.markup_grammar.specs.Elements.{element, Content, last, also, inner, outer, left, prepended, joined}
 use Rattle.markup_grammar.specs.Escapes.{unescaped}
@@ -43,7 +43,7 @@ Reads view says old (Err NoMemory) new = Unit {0}
 
 -- a key as it is told, from the bytes of what holds it
 abbrev pub told_by : Data → Told
-told_by d = record { place = d.place; hash = option_map (λ (held : Held). held.bytes) d.hash; text = d.text.bytes }
+told_by d = record { place = d.place; hash = option_map (λ (held : SecretBuffer). held.bytes) d.hash; text = d.text.bytes }
 
 -- the version past an element of a Meta, of this name, at this place and with this content
 abbrev pub version_or : List ℕ → ℕ → Option Version → Content → Option Version

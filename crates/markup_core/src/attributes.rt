@@ -10,10 +10,11 @@ ghost use Rattle.markup_core.specs.AttributeRuns.{IsCut, IsFirst};
 use crate::fronts::after;
 use std::str;
 
-/// The attributes of a start tag, as they stand in it: all between its name and its `>` or `/>`.
+/// The attributes of a start tag.
 #[derive(Clone, Copy, Debug, PartialEq, Eq)]
 pub struct Attrs<'a> {
-    pub(crate) raw: &'a str,
+    /// The attributes as they are written: all between the tag's name and its `>` or `/>`.
+    pub raw: &'a str,
 }
 
 impl<'a> Attrs<'a> {
@@ -159,31 +160,5 @@ fn text_of(bytes: &[u8]) -> &str
     match str::from_utf8(bytes) {
         Ok(text) => text,
         Err(_) => unreachable!(),
-    }
-}
-
-#[cfg(test)]
-mod tests {
-    use super::*;
-
-    /// Python's `xml.parsers.expat` reads the same names and values from a tag with this text; it refuses a
-    /// name that stands twice, of which the last stands here.
-    #[test]
-    fn attributes_are_found_by_name(rt: HostRuntime) {
-        let attrs = Attrs {
-            raw: " A='x&lt;\"' b = \"y'&#x41;\"\n long-name.1:é='' b='' ",
-        };
-        assert_eq!(rt; attrs.get("A"), Some("x&lt;\""));
-        assert_eq!(rt; attrs.get("long-name.1:é"), Some(""));
-        assert_eq!(rt; attrs.get("b"), Some(""));
-        assert_eq!(rt; attrs.get("B"), None);
-        assert_eq!(rt;
-            Attrs {
-                raw: " b = \"y'&#x41;\""
-            }
-            .get("b"),
-            Some("y'&#x41;")
-        );
-        assert_eq!(rt; Attrs { raw: "" }.get(""), None);
     }
 }

@@ -10,12 +10,8 @@ mod fronts;
 mod piece;
 mod reader;
 mod reference;
-#[cfg(test)]
-mod refusal_tests;
 mod run;
 mod tag;
-#[cfg(test)]
-mod tests;
 mod token;
 
 pub use attributes::Attrs;

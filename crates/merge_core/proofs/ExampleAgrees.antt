@@ -11,13 +11,13 @@ use Rattle.vault_model.specs.Join.{is_id, root_of, IsIn, Compatible, Agreed}
 use Rattle.vault_model.specs.Proper.{is_proper_content, is_proper_group_content}
 use Rattle.vault_model.specs.Shape.{BareVersion, EntryRecord, GroupRecord, Children}
 use Rattle.vault_model.specs.Tree.{BareDoc, id_of, entry_rows, group_rows, child_rows, IsDoc, db_in}
-use Rattle.vault_model.proofs.Facts.{same_id, id_itself}
-use Rattle.vault_model.proofs.SoundDoc.{all_in, version_marks, entry_at, group_at, place_kid, db_tomb, db_root, document_sound, IsKid}
+use Rattle.vault_model.proofs.Ids.{same_id, id_itself}
+use Rattle.join_laws.proofs.SoundDoc.{all_in, version_marks, entry_at, group_at, place_kid, db_tomb, db_root, document_sound, IsKid}
 use Rattle.vault_model.proofs.Tests.{not_true, apart, is_false, some_of, from_map, greatest_below}
-use Rattle.vault_model.proofs.Tables.{find_in}
+use Rattle.join_laws.proofs.Tables.{find_in}
 use Rattle.vault_model.proofs.Orders.{id_order, mark_order}
-use Rattle.vault_model.proofs.Unite.{from_keys}
-use Rattle.vault_model.proofs.Versions.{never}
+use Rattle.join_laws.proofs.Unite.{from_keys}
+use Rattle.join_laws.proofs.Versions.{never}
 use Rattle.merge_core.specs.Example.{root, bank, mail, as_it_was, edited, moved, copies}
 use Rattle.merge_core.proofs.Ranked.{ranked_agreed}
 

@@ -5,10 +5,11 @@ use Rattle.std.specs.FinMap.{get, contains_key}
 use Rattle.vault_model.specs.Db.{NodeId, Place, place_cmp, Db, holds, parent_or, Reaches, Sound}
 use Rattle.vault_model.specs.Join.{is_id, root_of, latest, above, held, own, IsIn, IsPart, KeepsParents, IsAcyclic, Compatible, Agreed}
 use Rattle.vault_model.specs.Unite.{greater}
-use Rattle.vault_model.proofs.Facts.{same_id, is_same_id, latest_found, part_sound, part_roots, alive_from_own, next_own}
-use Rattle.vault_model.proofs.SoundJoin.{some_column}
+use Rattle.vault_model.proofs.Ids.{same_id, is_same_id}
+use Rattle.join_laws.proofs.Facts.{latest_found, part_sound, part_roots, alive_from_own, next_own}
+use Rattle.join_laws.proofs.SoundJoin.{some_column}
 use Rattle.vault_model.proofs.Tests.{apart, any_found, decide}
-use Rattle.vault_model.proofs.Versions.{never}
+use Rattle.join_laws.proofs.Versions.{never}
 
 module _ (S : List Db) (a : Compatible S)
     (closed : (m n : Db) (u : NodeId) (p : Place) (d : ℕ) → IsIn m S → IsIn n S → get m.places u ≡ Some p → get n.tombs p.parent ≡ Some d → (e : ℕ) × (get n.tombs u ≡ Some e))

@@ -90,11 +90,6 @@ abbrev pub MergesAgain : Type 0
 MergesAgain = (n : ℕ) (S R : List Db) (Rs : List (List Db)) (t : BareDoc) → Agreed S → IsPart R S → AreParts Rs R
     → db_in t ≡ join R → IsSettled n t → lay_doc n (join (db_in t ∷ map join Rs)) t ≡ t
 
--- a laid document has the database that was laid, and is settled
-abbrev pub LaysSettle : Type 0
-LaysSettle = (n : ℕ) (m : Db) (t : BareDoc) → Sound m → m.root ≡ id_of t.tree → FitsLevels n m
-    → (db_in (lay_doc n m t) ≡ m) × IsSettled n (lay_doc n m t)
-
 -- ---- schedules
 
 -- what is learned anywhere is within a set
@@ -116,14 +111,6 @@ SameLearnedSameDb = (n : ℕ) (S : List Db) (docs : ℕ → BareDoc) (done rest 
     → db_in (run n (begin docs) done i).doc ≡ db_in (run n (begin docs) done j).doc
 
 -- ---- beside the laws
-
--- the database of every document is sound
-abbrev pub DocumentsAreSound : Type 0
-DocumentsAreSound = (d : BareDoc) → IsDoc d → Sound (db_in d)
-
--- the join of sound databases that can be joined is sound, agreed or not
-abbrev pub JoinsAreSound : Type 0
-JoinsAreSound = (S : List Db) → Allowed S → ((m : Db) → IsIn m S → Sound m) → Sound (join S)
 
 -- a sound database alone is agreed
 abbrev pub OneIsAgreed : Type 0

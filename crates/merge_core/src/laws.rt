@@ -2,8 +2,9 @@
 //! plan or schedule; it does nothing, and takes no memory.
 
 ghost use Rattle.vault_model.specs.Join.{Agreed};
+ghost use Rattle.join_laws.specs.Laws.{DocumentsAreSound, JoinsAreSound, LaysSettle};
 ghost use Rattle.merge_core.specs.Example.{copies};
-ghost use Rattle.merge_core.specs.JoinLaws.{OwnIsAlive, ParentsAreOwn, KeptIsOwn, JoinHoldsOwn, JoinKeepsTombs, JoinsAgree, JoinOfJoins, PlansAgree, DocumentsAgree, VersionsStay, MergesAgain, LaysSettle, SchedulesAgree, SameLearnedSameDb, DocumentsAreSound, JoinsAreSound, OneIsAgreed};
+ghost use Rattle.merge_core.specs.JoinLaws.{OwnIsAlive, ParentsAreOwn, KeptIsOwn, JoinHoldsOwn, JoinKeepsTombs, JoinsAgree, JoinOfJoins, PlansAgree, DocumentsAgree, VersionsStay, MergesAgain, SchedulesAgree, SameLearnedSameDb, OneIsAgreed};
 
 /// What every part of an agreed set inherits: an id is own exactly where a member holds it and none has a
 /// tombstone of it; the latest parent of an own node is own, so the kept nodes are the own ones; the join

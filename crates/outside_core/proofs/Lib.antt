@@ -1,3 +1,2 @@
-pub mod Counted
 pub mod Fronts
-pub mod Lookup
+pub mod Results

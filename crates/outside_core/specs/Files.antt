@@ -8,6 +8,6 @@ use Rattle.std.specs.FinMap.{FinMap, get}
 abbrev pub FileMap : Type 0
 FileMap = FinMap (slice_cmp nat_cmp) (List ℕ)
 
--- What stands in a file from an offset on, cut to the room that there is; nothing where the file is missing.
+-- The bytes of a file from an offset on, cut to the room that there is; nothing where the file is missing.
 abbrev pub window_of : FileMap → List ℕ → ℕ → ℕ → Option (List ℕ)
 window_of files name from room = option_map (λ bytes. take room (drop from bytes)) (get files name)

@@ -2,9 +2,9 @@
 use Rattle.std.specs.Prelude.{◌≡◌, ℕ, ◌≤◌, List, ◌++◌, Option, take, drop, length, option_map}
 
 -- Some bytes are gone from the front of the stream, and the rest is left.
-abbrev pub LosesFront : Option (List ℕ) → Option (List ℕ) → Type 0
-LosesFront before now = (gone : ℕ) × (now ≡ option_map (drop gone) before)
+abbrev pub LosesPrefix : Option (List ℕ) → Option (List ℕ) → Type 0
+LosesPrefix before now = (gone : ℕ) × (now ≡ option_map (drop gone) before)
 
--- A front part of the text was written, and nothing else.
-abbrev pub GainsFront : Option (List ℕ) → Option (List ℕ) → List ℕ → Type 0
-GainsFront before now text = (n : ℕ) × (n ≤ length text) × (now ≡ option_map (λ w. w ++ take n text) before)
+-- A prefix of the text was written, and nothing else.
+abbrev pub GainsPrefix : Option (List ℕ) → Option (List ℕ) → List ℕ → Type 0
+GainsPrefix before now text = (n : ℕ) × (n ≤ length text) × (now ≡ option_map (λ w. w ++ take n text) before)

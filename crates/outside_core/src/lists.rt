@@ -1,3 +1,4 @@
+//! Lists and byte strings that grow.
 ghost use Rattle.std.specs.Prelude.{◌≡◌, [], ◌∷◌, ◌++◌, ◌<◌, ◌≤◌, length, slice_get, insert, remove, swap, IfOk, IfErr, OnOk, OnErr};
 ghost use Rattle.std.specs.Option.{option_copied, option_copied_mut};
 ghost use Rattle.std.specs.Borrow.{sem};
@@ -58,6 +59,13 @@ impl<T> List<T> {
         }
     }
 
+    /// Gives memory that no item needs back, as far as that can be done without new memory.
+    pub fn fit(&mut self)
+        ensures { self.new ≡ self.old }
+    {
+        self.items.shrink_to_fit();
+    }
+
     /// The items as a slice.
     pub fn as_slice(&self) -> &[T]
         ensures { result.now ≡ self.now }
@@ -65,14 +73,14 @@ impl<T> List<T> {
         self.items.as_slice()
     }
 
-    /// The item at a place, or `None` past the end.
+    /// The item at an index, or `None` past the end.
     pub fn get(&self, at: usize) -> Option<&T>
         ensures { option_copied result ≡ slice_get self.now at }
     {
         self.items.get(at)
     }
 
-    /// The item at a place, lent for writing, or `None` past the end.
+    /// The item at an index, lent for writing, or `None` past the end.
     pub fn get_mut(&mut self, at: usize) -> Option<&mut T>
         ensures* lends { sem 𝓛 (lends_item T.row self.entry at result) }
         ensures item { option_copied_mut result ≡ slice_get self.old at }
@@ -80,7 +88,7 @@ impl<T> List<T> {
         self.items.get_mut(at)
     }
 
-    /// Puts an item before the one at a place. A refusal is want of memory, changes nothing, and hands the item
+    /// Puts an item before the one at an index. A refusal is want of memory, changes nothing, and hands the item
     /// back.
     pub fn insert(&mut self, at: usize, item: T) -> Result<(), T>
         requires { at ≤ length self.old }
@@ -94,7 +102,7 @@ impl<T> List<T> {
         }
     }
 
-    /// Takes out the item at a place; those behind it move up.
+    /// Takes out the item at an index; those after it move up.
     pub fn remove(&mut self, at: usize) -> T
         requires { at < length self.old }
         ensures value { slice_get self.old at ≡ Some result }
@@ -103,7 +111,7 @@ impl<T> List<T> {
         self.items.remove(at)
     }
 
-    /// Exchanges the items at two places.
+    /// Exchanges the items at two indexes.
     pub fn swap(&mut self, one: usize, other: usize)
         requires one { one < length self.old }
         requires other { other < length self.old }
@@ -246,66 +254,5 @@ impl Ord for Bytes {
 
     fn cmp(&self, other: &Bytes) -> Ordering {
         self.as_slice().cmp(other.as_slice())
-    }
-}
-
-#[cfg(test)]
-mod tests {
-    use super::*;
-    use std::alloc::Global;
-    use std::test::Fail;
-
-    /// A tree: a type that leads back to itself through a `List`.
-    #[derive(Debug, Drop)]
-    struct Folder {
-        name: u8,
-        folders: List<Folder>,
-    }
-
-    fn named(alloc: Global, name: u8) -> Folder {
-        Folder {
-            name,
-            folders: List::new(alloc),
-        }
-    }
-
-    #[test]
-    fn a_folder_holds_folders(rt: HostRuntime) -> Result<(), Fail> {
-        let alloc = rt.alloc();
-        let mut outer = named(alloc, 1);
-        assert!(rt; outer.folders.push(named(alloc, 2)).is_ok());
-        assert!(rt; outer.folders.insert(0, named(alloc, 3)).is_ok());
-        outer.folders.swap(0, 1);
-        if let Some(inner) = outer.folders.get_mut(0) {
-            inner.name = 7;
-        }
-        assert_eq!(rt; outer.folders.get(0).map(|f| f.name), Some(7));
-        let gone = outer.folders.remove(0);
-        assert_eq!(rt; gone.name, 7);
-        assert_eq!(rt; outer.folders.as_slice().len(), 1);
-        assert_eq!(rt; outer.folders.len(), 1);
-        Ok(())
-    }
-
-    #[test]
-    fn lists_compare_by_their_items(rt: HostRuntime) -> Result<(), Fail> {
-        let alloc = rt.alloc();
-        let mut one = Bytes::new(alloc);
-        one.add(b"abc").map_err(|_| "memory ran out")?;
-        let mut other = Bytes::new(alloc);
-        other.add(b"ab").map_err(|_| "memory ran out")?;
-        assert!(rt; other < one);
-        assert!(rt; other.push(b'c').is_ok());
-        assert!(rt; other == one);
-        assert_eq!(rt; other.as_slice(), b"abc".as_slice());
-        assert_eq!(rt; other.len(), 3);
-        let mut few: List<Bytes> = List::new(alloc);
-        assert!(rt; few.push(one).is_ok());
-        let mut more: List<Bytes> = List::new(alloc);
-        assert!(rt; more.push(other).is_ok());
-        assert!(rt; few == more);
-        assert!(rt; more.push(Bytes::new(alloc)).is_ok());
-        assert!(rt; few < more);
-        Ok(())
     }
 }

@@ -1,3 +1,4 @@
+//! Texts that grow.
 ghost use Rattle.std.specs.Prelude.{◌≡◌, [], ◌++◌, length, IfOk, IfErr, OnOk, OnErr, encode_utf8};
 ghost use Rattle.std.specs.Str.{bytes_eq};
 ghost use Rattle.std.specs.Ordering.{nat_cmp, as_partial_cmp};

@@ -1,21 +1,21 @@
-// The four ways to the outside. What an object holds may be told (its ghost member is `Some`) or not (`None`,
-// as at a real disk); clauses on content speak where it is told, clauses on counts always.
+//! The four ways to the outside. What an object holds may be reported (its ghost member is `Some`) or not (`None`,
+//! as at a real disk). Clauses on content speak where it is reported, clauses on counts always.
 ghost use Rattle.std.specs.Prelude.{◌≡◌, ℕ, ◌≤◌, ◌<◌, List, [], ◌++◌, Option, length, take, option_map, IfOk, OnOk, OnErr, IfSome, IsSome, IsErrOf};
 ghost use Rattle.std.specs.FinMap as map;
 ghost use Rattle.outside_core.specs.Counts.{HasCause};
 ghost use Rattle.outside_core.specs.Files.{FileMap, window_of};
-ghost use Rattle.outside_core.specs.Streams.{LosesFront};
+ghost use Rattle.outside_core.specs.Streams.{LosesPrefix};
 
 use crate::fails::{DiceFail, FileFail, SinkFail, SourceFail};
 
 /// Files by name, and at most one draft: a file in the making, which replaces the file of its name once it is
 /// published. Only `publish` changes what the store holds.
 pub trait FileStore {
-    /// The files by the bytes of their names, where the store tells them.
+    /// The files by the bytes of their names, where the store reports them.
     ghost files: { Self → Option FileMap };
-    /// The name that the standing draft is for; every store tells it.
+    /// The name that the draft is for, if there is one; every store reports it.
     ghost draft_name: { Self → Option (List ℕ) };
-    /// The bytes of the standing draft; they mean something where the files are told.
+    /// The bytes of the draft; they mean something where the files are reported.
     ghost draft_bytes: { Self → List ℕ };
     /// How often something went wrong; it sticks at 2^64 - 1.
     ghost faults: { Self → ℕ };
@@ -43,7 +43,7 @@ pub trait FileStore {
         ensures faults { HasCause FileFail.Failed (faults self.old) (faults self.new) result }
         ensures absences { HasCause FileFail.NoSuchFile (absences self.old) (absences self.new) result };
 
-    /// Gives up a standing draft and starts an empty one for `name`. After a refusal no draft stands.
+    /// Gives up the draft, if there is one, and starts an empty one for `name`. After a refusal there is none.
     fn begin(&mut self, name: &str) -> Result<(), FileFail>
         ensures name { OnOk result (draft_name self.new ≡ Some name.now) }
         ensures bytes { OnOk result (draft_bytes self.new ≡ []) }
@@ -53,7 +53,7 @@ pub trait FileStore {
         ensures faults { HasCause FileFail.Failed (faults self.old) (faults self.new) result }
         ensures absences { absences self.old ≤ absences self.new };
 
-    /// Appends the whole piece to the draft. After a refusal the draft stands, and its bytes are not known.
+    /// Appends the whole piece to the draft. After a refusal the draft is still there, and its bytes are not known.
     fn append(&mut self, piece: &[u8]) -> Result<(), FileFail>
         requires { IsSome (draft_name self.old) }
         ensures bytes { OnOk result (IfSome (files self.old) (λ _. draft_bytes self.new ≡ draft_bytes self.old ++ piece.now)) }
@@ -63,8 +63,8 @@ pub trait FileStore {
         ensures faults { HasCause FileFail.Failed (faults self.old) (faults self.new) result }
         ensures absences { absences self.old ≤ absences self.new };
 
-    /// Puts the draft under its name, in the place of any file that stood there. A refusal leaves the files as
-    /// they were. No draft stands afterwards, whatever the answer.
+    /// Puts the draft under its name, in the place of any file of that name. A refusal leaves the files as they
+    /// were. There is no draft afterwards, whatever the answer.
     fn publish(&mut self) -> Result<(), FileFail>
         requires { IsSome (draft_name self.old) }
         ensures ok { OnOk result (IfSome (draft_name self.old) (λ name. files self.new ≡ option_map (λ m. map.insert m name (draft_bytes self.old)) (files self.old))) }
@@ -74,7 +74,7 @@ pub trait FileStore {
         ensures faults { HasCause FileFail.Failed (faults self.old) (faults self.new) result }
         ensures absences { absences self.old ≤ absences self.new };
 
-    /// Gives up the draft, if one stands.
+    /// Gives up the draft, if there is one.
     fn discard(&mut self)
         ensures no_draft { draft_name self.new ≡ None }
         ensures files { files self.new ≡ files self.old }
@@ -84,7 +84,7 @@ pub trait FileStore {
 
 /// Bytes that come in one after another, as standard input gives them.
 pub trait Source {
-    /// The bytes that are still to come, where the source tells them.
+    /// The bytes that are still to come, where the source reports them.
     ghost left: { Self → Option (List ℕ) };
     /// How often something went wrong; it sticks at 2^64 - 1.
     ghost faults: { Self → ℕ };
@@ -100,7 +100,7 @@ pub trait Source {
 
 /// A place that takes bytes one after another, as standard output does.
 pub trait Sink {
-    /// The bytes taken so far, where the sink tells them.
+    /// The bytes taken so far, where the sink reports them.
     ghost written: { Self → Option (List ℕ) };
     /// How often something went wrong; it sticks at 2^64 - 1.
     ghost faults: { Self → ℕ };
@@ -117,7 +117,7 @@ pub trait Sink {
 
 /// A stream of bytes that keys, seeds and ids are drawn from.
 pub trait Dice {
-    /// The bytes that are still to be drawn, where the dice tell them.
+    /// The bytes that are still to be drawn, where the dice report them.
     ghost stream: { Self → Option (List ℕ) };
     /// How often something went wrong; it sticks at 2^64 - 1.
     ghost faults: { Self → ℕ };
@@ -126,6 +126,6 @@ pub trait Dice {
     /// from the front of the stream.
     fn fill(&mut self, out: &mut [u8]) -> Result<(), DiceFail>
         ensures ok { OnOk result (stream self.old ≡ option_map (λ rest. out.new ++ rest) (stream self.new)) }
-        ensures err { OnErr result (LosesFront (stream self.old) (stream self.new)) }
+        ensures err { OnErr result (LosesPrefix (stream self.old) (stream self.new)) }
         ensures faults { HasCause DiceFail.Failed (faults self.old) (faults self.new) result };
 }

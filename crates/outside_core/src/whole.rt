@@ -1,15 +1,16 @@
+//! Writing as a whole: a text to a sink, a file to a store.
 ghost use Rattle.std.specs.Prelude.{◌≡◌, ◌≤◌, ◌++◌, option_map, OnOk, OnErr, IsErrOf};
 ghost use Rattle.std.specs.FinMap as map;
 ghost use Rattle.outside_core.specs.Counts.{HasCause};
-ghost use Rattle.outside_core.specs.Streams.{GainsFront};
+ghost use Rattle.outside_core.specs.Streams.{GainsPrefix};
 
 use crate::fails::{FileFail, SinkFail};
 use crate::traits::{FileStore, Sink};
 
-/// Writes a whole text. After a refusal a front part of it was written.
+/// Writes a whole text. After a refusal a prefix of it was written.
 pub fn write_all<O: Sink>(out: &mut O, text: &[u8]) -> Result<(), SinkFail>
     ensures ok { OnOk result (O.written out.new ≡ option_map (λ w. w ++ text.now) (O.written out.old)) }
-    ensures err { OnErr result (GainsFront (O.written out.old) (O.written out.new) text.now) }
+    ensures err { OnErr result (GainsPrefix (O.written out.old) (O.written out.new) text.now) }
     ensures faults { HasCause SinkFail.Failed (O.faults out.old) (O.faults out.new) result }
 {
     let mut done = 0;
@@ -19,7 +20,7 @@ pub fn write_all<O: Sink>(out: &mut O, text: &[u8]) -> Result<(), SinkFail>
     Ok(())
 }
 
-/// Makes a whole file and puts it under its name. After a refusal the files are as they were. No draft stands
+/// Makes a whole file and puts it under its name. After a refusal the files are as they were. There is no draft
 /// afterwards, whatever the answer.
 pub fn write_file<F: FileStore>(files: &mut F, name: &str, bytes: &[u8]) -> Result<(), FileFail>
     ensures ok { OnOk result (F.files files.new ≡ option_map (λ m. map.insert m name.now bytes.now) (F.files files.old)) }

@@ -1,2 +1,3 @@
+pub mod SomeFiles
 pub mod Windows
 pub mod Written

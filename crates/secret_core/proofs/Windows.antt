@@ -6,7 +6,7 @@ use Rattle.std.proofs.lemmas.List.{take_all, length-take, length-take-le, take-a
 use Rattle.std.proofs.lemmas.Option.{none-some, same_Some}
 use Rattle.std.proofs.lemmas.Slice.{take-put_mid_below}
 use Rattle.outside_core.specs.Files.{FileMap, window_of}
-use Rattle.secret_core.specs.Secret.{Held}
+use Rattle.secret_core.specs.Secret.{SecretBuffer}
 use Rattle.secret_core.specs.ReadFail.{IsRead}
 use borrow.Rule.Slice.PartMut.{put_mid, mid_of, post_of, same_len_mid, mid_len}
 
@@ -60,7 +60,7 @@ window_empty bytes xs ys a k room within reach some front window =
     ∙ sym (take-put_mid_below a k xs ys a (omega arith) within)
 
 -- A file that is there, has the given size and is read to that size is read whole.
-whole : (file : Option (List ℕ)) (size limit : ℕ) (secret : Held) → option_map length file ≡ Some size
+whole : (file : Option (List ℕ)) (size limit : ℕ) (secret : SecretBuffer) → option_map length file ≡ Some size
     → ((bytes : List ℕ) → file ≡ Some bytes → secret.bytes ≡ take size bytes) → size ≤ limit
     → IsRead file limit (Ok secret)
 whole None size limit secret sized reads within = absurd (none-some size sized)
@@ -70,7 +70,7 @@ whole (Some bytes) size limit secret sized reads within =
     (ap (λ l. Some l) (sym all), omega (arith, within, long, ap length all))
 
 -- The same of a file of a store that may tell its files.
-pub whole_told : (files : Option FileMap) (name : List ℕ) (size limit : ℕ) (secret : Held)
+pub whole_told : (files : Option FileMap) (name : List ℕ) (size limit : ℕ) (secret : SecretBuffer)
     → IfSome files (λ m. option_map length (map.get m name) ≡ Some size)
     → ((m : FileMap) (bytes : List ℕ) → files ≡ Some m → map.get m name ≡ Some bytes → secret.bytes ≡ take size bytes)
     → size ≤ limit

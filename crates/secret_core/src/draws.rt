@@ -1,14 +1,14 @@
-// Random bytes that are drawn for one use.
+//! Random bytes that are drawn for one use.
 ghost use Rattle.std.specs.Prelude.{◌≡◌, ◌-◌, ◌≤◌, ◌++◌, IfOk, IsOk, OnErr, drop, option_map, replicate, take};
 ghost use Rattle.outside_core.specs.Counts.{HasCause};
-ghost use Rattle.outside_core.specs.Streams.{LosesFront};
+ghost use Rattle.outside_core.specs.Streams.{LosesPrefix};
 
 use outside_core::{Dice, DiceFail};
 use std::marker::Model;
 
 /// Bytes that were drawn from the dice and not used yet: a key's seed, an initialization vector, an id.
 ///
-/// It can't be copied, and `take` uses it up, so that no draw serves twice.
+/// It cannot be copied, and `take` uses it up, so that no draw serves twice.
 #[derive(Drop)]
 pub struct Fresh<const N: usize> {
     bytes: [u8; N],
@@ -31,7 +31,7 @@ impl<const N: usize> Fresh<N> {
         ensures front { IfOk result (λ fresh. D.stream dice.old ≡ option_map (λ rest. take n fresh ++ rest) (D.stream dice.new)) }
         ensures rest { IfOk result (λ fresh. drop n fresh ≡ replicate (N - n) 0) }
         ensures none { n ≡ 0 → IsOk result × (dice.new ≡ dice.old) }
-        ensures err { OnErr result (LosesFront (D.stream dice.old) (D.stream dice.new)) }
+        ensures err { OnErr result (LosesPrefix (D.stream dice.old) (D.stream dice.new)) }
         ensures faults { HasCause DiceFail.Failed (D.faults dice.old) (D.faults dice.new) result }
     {
         let mut bytes = [0; N];
@@ -53,46 +53,5 @@ impl<const N: usize> Fresh<N> {
         ensures { result ≡ self.entry }
     {
         self.bytes
-    }
-}
-
-#[cfg(test)]
-mod tests {
-    use super::*;
-    use outside_core::{CountingDice, MemoryDice};
-    use std::test::Fail;
-
-    #[test]
-    fn each_draw_takes_the_next_bytes(rt: HostRuntime) -> Result<(), Fail> {
-        let mut dice = CountingDice::new(rt.alloc());
-        let first = Fresh::<4>::draw(&mut dice, 3)?;
-        assert_eq!(rt; first.bytes(), &[0, 1, 2, 0]);
-        let none = Fresh::<4>::draw(&mut dice, 0)?;
-        assert_eq!(rt; none.take(), [0; 4]);
-        let second = Fresh::<4>::draw(&mut dice, 4)?;
-        assert_eq!(rt; second.take(), [3, 4, 5, 6]);
-        Ok(())
-    }
-
-    #[test]
-    fn dice_that_fail_are_not_asked_for_nothing(rt: HostRuntime) -> Result<(), Fail> {
-        let mut dice = MemoryDice::new(rt.alloc());
-        dice.fill_with(&[9, 8])?;
-        dice.fail_at(0)?;
-        let none = Fresh::<2>::draw(&mut dice, 0)?;
-        assert_eq!(rt; none.take(), [0; 2]);
-        assert_eq!(rt;
-            Fresh::<2>::draw(&mut dice, 2).map(|fresh| fresh.take()),
-            Err(DiceFail::Failed)
-        );
-        assert_eq!(rt;
-            Fresh::<2>::draw(&mut dice, 2).map(|fresh| fresh.take()),
-            Ok([9, 8])
-        );
-        assert_eq!(rt;
-            Fresh::<2>::draw(&mut dice, 1).map(|fresh| fresh.take()),
-            Err(DiceFail::Failed)
-        );
-        Ok(())
     }
 }

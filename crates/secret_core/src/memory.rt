@@ -1,4 +1,4 @@
-// Secret bytes in memory of their own, which is all zero again before it is given back.
+//! Secret bytes in memory of their own, which is all zero again before it is given back.
 ghost use Rattle.std.specs.Prelude.{◌≡◌, ◌+◌, ◌-◌, ◌<◌, ◌≤◌, [], ◌∷◌, ◌++◌, IfOk, length, take, slice_range, replicate, vec_len};
 ghost use Rattle.std.specs.Borrow.{sem};
 
@@ -25,7 +25,7 @@ impl Kept {
         }
     }
 
-    // Zeroes every byte from place `n` on, so that the first `n` are in use.
+    // Zeroes every byte from index `n` on, so that the first `n` are in use.
     pub(crate) fn cut(&mut self, n: usize)
         requires { n ≤ vec_len self.old.buffer }
         ensures buffer { self.new.buffer.items
@@ -46,7 +46,7 @@ impl Kept {
 
 /// Secret bytes in memory that was reserved once, for a password, a text or a file's content.
 ///
-/// The memory never moves and never grows, so no growth leaves a copy of the bytes behind, and all of it
+/// The memory never moves and never grows, so no growth leaves a copy of the bytes, and all of it
 /// is zero when it is given back. There is no `Clone`, no `Debug` and no `Display`.
 pub struct Secret {
     pub(crate) kept: Kept,
@@ -54,9 +54,9 @@ pub struct Secret {
 
 impl Model for Secret {
     ghost use Rattle.std.specs.Prelude.{◌-◌, ◌≤◌, take, vec_len};
-    ghost use Rattle.secret_core.specs.Secret.{Held};
+    ghost use Rattle.secret_core.specs.Secret.{SecretBuffer};
 
-    ghost Value = { Held };
+    ghost Value = { SecretBuffer };
 
     ghost view = { λ s. record { bytes = take s.kept.len s.kept.buffer.items; spare = vec_len s.kept.buffer - s.kept.len } };
 
@@ -153,34 +153,5 @@ impl Secret {
         let mut copy = Secret::with_room(alloc, self.len())?;
         copy.extend(self.lend(0, self.len()));
         Ok(copy)
-    }
-}
-
-#[cfg(test)]
-mod tests {
-    use super::*;
-    use std::test::Fail;
-
-    #[test]
-    fn a_secret_is_filled_changed_in_place_cut_and_copied(rt: HostRuntime) -> Result<(), Fail> {
-        let mut secret = Secret::with_room(rt.alloc(), 6).map_err(|_| "no memory")?;
-        assert_eq!(rt; (secret.len(), secret.spare()), (0, 6));
-        assert!(rt; secret.spare() >= 5);
-        secret.push(b'p');
-        secret.extend(b"assw");
-        assert_eq!(rt; (secret.len(), secret.spare()), (5, 1));
-        assert_eq!(rt; secret.lend(0, secret.len()), b"passw".as_slice());
-        assert_eq!(rt; secret.lend(1, 3), b"as".as_slice());
-        for byte in secret.lend_mut() {
-            *byte ^= 0x20;
-        }
-        assert_eq!(rt; secret.lend(0, secret.len()), b"PASSW".as_slice());
-        assert!(rt; secret.len() >= 2);
-        secret.cut(2);
-        assert_eq!(rt; (secret.len(), secret.spare()), (2, 4));
-        let copy = secret.copy(rt.alloc()).map_err(|_| "no memory")?;
-        assert_eq!(rt; copy.lend(0, copy.len()), b"PA".as_slice());
-        assert_eq!(rt; copy.spare(), 0);
-        Ok(())
     }
 }

@@ -7,10 +7,10 @@ use Rattle.vault_model.specs.Db.{NodeId, id_cmp, Mark}
 use Rattle.vault_model.specs.Join.{IsIn}
 use Rattle.vault_model.specs.Shape.{but_last, last_of, record_of, version_of}
 use Rattle.vault_model.specs.Unite.{put_some, tabulate}
-use Rattle.vault_model.proofs.Laid.{list_in}
+use Rattle.join_laws.proofs.Laid.{list_in}
 use Rattle.vault_model.proofs.Orders.{id_order}
 use Rattle.vault_model.proofs.Tests.{none_of}
-use Rattle.vault_model.proofs.Unite.{get-tabulate}
+use Rattle.join_laws.proofs.Unite.{get-tabulate}
 use Rattle.slow_merge.proofs.Joining.{filled, filled_whole}
 
 -- ---- a list with those of another that are wanted

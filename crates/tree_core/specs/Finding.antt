@@ -46,6 +46,6 @@ without_slashes text = strip_last 47 (without_front text)
 abbrev pub group_named : List ℕ → Walked → Option NodeId
 group_named text w = cond (bytes_eq text w.path) (group_id w.found) None
 
--- the group that a text names, but for slashes: the first in document order. No text is the root's path.
+-- the group that a text names, but for slashes: the first in document order. The empty text is the root's path.
 unfoldable pub group_found : BareDoc → List ℕ → Option NodeId
 group_found doc text = first (group_named (without_slashes text)) (walk doc)

@@ -3,7 +3,5 @@
 
 mod finding;
 mod rests;
-#[cfg(test)]
-mod tests;
 
 pub use finding::{find_entry, find_group, title};

@@ -7,7 +7,7 @@ use Rattle.vault_model.specs.Empty.{empty_bare}
 use Rattle.vault_model.specs.Join.{is_id}
 use Rattle.vault_model.specs.Proper.{is_proper_group_content}
 use Rattle.vault_model.specs.Tree.{IsDoc}
-use Rattle.vault_model.proofs.Facts.{same_id}
+use Rattle.vault_model.proofs.Ids.{same_id}
 use Rattle.vault_model.proofs.Tests.{is_false, not_false}
 
 -- an id that is not nil is another id

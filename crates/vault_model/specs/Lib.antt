@@ -9,8 +9,6 @@ pub mod Seen
 pub mod SeenDoc
 pub mod SeenNodes
 pub mod Shape
-pub mod Spelled
-pub mod Times
 pub mod TotalOrders
 pub mod Tree
 pub mod Unite

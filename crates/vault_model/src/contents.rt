@@ -8,11 +8,11 @@ ghost use Rattle.vault_model.specs.TotalOrders.{attachment_cmp_total, field_cmp_
 
 pub mod laws;
 
-use crate::times::Stamp;
 use outside_core::{List, Text};
 use secret_core::Secret;
 use std::cmp::Ordering;
 use std::rc::Rc;
+use time_core::Stamp;
 use uuid::Uuid;
 
 /// A custom item: a key with its value, and when it was changed.

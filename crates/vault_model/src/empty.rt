@@ -8,9 +8,9 @@ use crate::contents::{GroupContent, Stats, Tri};
 use crate::documents::Doc;
 use crate::metas::{Bin, Meta, MetaSettings, MetaView, Protection, Timed};
 use crate::nodes::{Group, GroupState, GroupView};
-use crate::times::Stamp;
 use outside_core::{List, NoMemory, Text};
 use std::alloc::Global;
+use time_core::Stamp;
 use uuid::Uuid;
 
 // The first second of the year 1, the time of what was never done.

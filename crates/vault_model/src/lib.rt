@@ -3,17 +3,11 @@
 
 pub mod contents;
 pub mod copies;
-#[cfg(test)]
-mod document_tests;
 pub mod documents;
 pub mod empty;
 pub mod forms;
-pub mod iso;
 pub mod metas;
 pub mod nodes;
-pub mod times;
-#[cfg(test)]
-mod times_tests;
 
 pub use contents::{
     Association, Attachment, AutoType, Content, Field, GroupContent, Item, Stats, Tri,
@@ -23,7 +17,6 @@ pub use copies::copy_version;
 pub use documents::Doc;
 pub use empty::empty_doc;
 pub use forms::{DocForm, PoolItem};
-pub use iso::{iso_of, stamp_of_iso};
 pub use metas::{Bin, Icon, Meta, MetaSettings, MetaView, Protection, Timed};
 pub use nodes::{Entry, Group, GroupState, GroupView, Tombstone, Version, entry_stamp};
-pub use times::Stamp;
+pub use time_core::{Stamp, iso_of, stamp_of_iso};

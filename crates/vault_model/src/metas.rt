@@ -1,6 +1,6 @@
 use crate::contents::Item;
-use crate::times::Stamp;
 use outside_core::{Bytes, List, Text};
+use time_core::Stamp;
 use uuid::Uuid;
 
 /// A value with the time of its last change.

@@ -2,8 +2,8 @@ ghost use Rattle.std.specs.Prelude.{◌≡◌};
 ghost use Rattle.vault_model.specs.SeenNodes.{entry_record, entry_time};
 
 use crate::contents::{Content, GroupContent, Stats};
-use crate::times::Stamp;
 use outside_core::List;
+use time_core::Stamp;
 use uuid::Uuid;
 
 /// What a group is at one moment: when it was changed, what it says, and how it was used.

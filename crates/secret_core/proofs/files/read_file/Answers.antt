@@ -1,4 +1,6 @@
-use Rattle.std.proofs.Common.{◌≡◌, ◌+◌, length, take, ap, ◌∙◌, arith}
+use Rattle.std.proofs.Common.{◌≡◌, ◌+◌, Err, length, take, ap, ◌∙◌, arith}
+use Rattle.secret_core.specs.declared.files.ReadFail.TheVariants.{TooLarge}
+use Rattle.secret_core.proofs.SomeFiles.{some_file}
 use Rattle.secret_core.proofs.Windows.{whole_told}
 use Rattle.secret_core.proofs.files.read_file.Goals as goal
 
@@ -12,3 +14,6 @@ returns-clause-told g c =
     c.in_ok-fill_secret.ensures.told m bytes (c.in_ok-size.ensures.files ∙ told) found
     ∙ ap (λ n. take n bytes) room)
     (omega (arith, c.if-size-limit.false))
+
+pub returns-then-size-limit-clause-some_file : goal.returns-then-size-limit-clause-some_file
+returns-then-size-limit-clause-some_file g c = some_file c.args.limit (Err (TooLarge c.in_ok-size.size)) tt

@@ -5,7 +5,7 @@ use Rattle.vault_model.specs.declared.metas.Icon.{Icon}
 use Rattle.vault_model.specs.Orders.{bytes_cmp, icon_cmp}
 use Rattle.vault_model.specs.Unite.{greater, unite}
 use Rattle.vault_model.proofs.Orders.{id_order, icon_order}
-use Rattle.vault_model.proofs.Semilattice.{greater_join}
+use Rattle.join_laws.proofs.Semilattice.{greater_join}
 use Rattle.slow_merge.proofs.Joining.{loose, loose_entries, unite_next, unite_none, dropped, dropped_all}
 use Rattle.slow_merge.proofs.icons.add_icons.Goals as goal
 

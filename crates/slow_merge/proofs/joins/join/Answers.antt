@@ -1,6 +1,6 @@
 -- Part by part.
 use Rattle.std.proofs.Common.{sym, ◌∙◌}
-use Rattle.vault_model.proofs.Facts.{join_root}
+use Rattle.join_laws.proofs.Facts.{join_root}
 use Rattle.slow_merge.specs.Databases.{databases}
 use Rattle.slow_merge.proofs.Joining.{root_first}
 use Rattle.slow_merge.proofs.joins.join.Goals as goal

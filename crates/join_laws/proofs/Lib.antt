@@ -1,0 +1,12 @@
+pub mod Allowed
+pub mod Facts
+pub mod Joins
+pub mod Laid
+pub mod Paths
+pub mod Semilattice
+pub mod SoundDoc
+pub mod SoundJoin
+pub mod Tables
+pub mod TreeShape
+pub mod Unite
+pub mod Versions

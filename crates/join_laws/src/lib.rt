@@ -1,0 +1,4 @@
+//! Laws of joining databases and of laying the join over a document: the lemmas that the merge stands on.
+#![tactic(auto)]
+
+pub mod laws;

@@ -1,0 +1,361 @@
+//! The adapters to the host. They report no content, so that nothing is promised of what a disk, a pipe or the
+//! system's random bytes give; each error raises their count of faults.
+ghost use Rattle.std.specs.Prelude.{◌≡◌, ◌≤◌, None, [], length, IfOk};
+ghost use Rattle.outside_core.specs.Counts.{HasCause, Increased, increment};
+
+use outside_core::{
+    Dice, DiceFail, FileFail, FileStore, Sink, SinkFail, Source, SourceFail, Text, increment,
+};
+use std::alloc::Global;
+use std::fs::{Files, OpenFile, OpenOptions};
+use std::io::{ErrorKind, Read, Seek, SeekFrom, Write};
+use std::marker::Model;
+use std::os::unix::fs::OpenOptionsExt;
+use std::random::RandomSource;
+use std::{fs, io};
+
+/// A file that is open for reading, with the name that it was opened by.
+#[derive(Drop)]
+struct OpenedFile<F> {
+    name: Text,
+    file: F,
+}
+
+/// A file in the making: the name that it is for, and the name that it is written under until then.
+#[derive(Drop)]
+struct HostDraft<F> {
+    name: Text,
+    part: String,
+    file: F,
+}
+
+/// The length of a regular file in bytes. A folder, a pipe or a device has none to go by.
+fn file_len<F: OpenFile>(file: &F) -> io::Result<u64> {
+    let metadata = file.metadata()?;
+    if metadata.is_file() {
+        Ok(metadata.len())
+    } else {
+        Err(io::Error::from(ErrorKind::InvalidInput))
+    }
+}
+
+/// Opens a regular file for reading. Anything else is refused before it is opened, because opening a pipe waits
+/// until some process writes to it.
+fn open_regular<R: Files>(rt: &R, name: &str) -> io::Result<R::File> {
+    if fs::metadata(rt, name)?.is_file() {
+        fs::open(rt, name)
+    } else {
+        Err(io::Error::from(ErrorKind::InvalidInput))
+    }
+}
+
+/// Reads a file from an offset on.
+fn read_from<F: Read + Seek>(file: &mut F, from: u64, out: &mut [u8]) -> io::Result<usize>
+    ensures { IfOk result (λ n. n ≤ length out.new) }
+{
+    file.seek(SeekFrom::Start(from))?;
+    file.read(out)
+}
+
+/// Makes an empty file that only its owner may read, in the place of any left from a run that was cut off. It
+/// gets the permissions of the file that it is to replace, where there is one.
+fn create_part<R: Files>(rt: &R, name: &str, part: &str) -> io::Result<R::File> {
+    let _ = fs::remove_file(rt, part);
+    let file = OpenOptions::new()
+        .write(true)
+        .create_new(true)
+        .mode(0o600)
+        .open(rt, part)?;
+    if let Ok(replaced) = fs::metadata(rt, name) {
+        let _ = file.set_permissions(replaced.permissions());
+    }
+    Ok(file)
+}
+
+/// Brings a draft to the disk and gives it its name. Where that fails, the draft is removed.
+fn publish_draft<R: Files>(rt: &R, draft: HostDraft<R::File>) -> io::Result<()> {
+    let published = match draft.file.sync_all() {
+        Ok(()) => fs::rename(rt, draft.part.as_str(), draft.name.as_str()),
+        Err(error) => Err(error),
+    };
+    if published.is_err() {
+        let _ = fs::remove_file(rt, draft.part.as_str());
+    }
+    published
+}
+
+/// The files of the host. A draft is written under its name with `.part` appended, and brought to the disk before
+/// it is given its name.
+#[derive(Drop)]
+pub struct HostFiles<'a, R: Files> {
+    rt: &'a R,
+    alloc: Global,
+    reading: Option<OpenedFile<R::File>>,
+    draft: Option<HostDraft<R::File>>,
+    faults: u64,
+    absences: u64,
+}
+
+impl<'a, R: Files> Model for HostFiles<'a, R> {
+    ghost use Rattle.std.specs.Prelude.{option_map};
+    ghost use Rattle.outside_host.specs.Host.{HostStore};
+
+    ghost Value = { HostStore };
+
+    ghost view = { λ s. record { draft_name = option_map (λ d. d.name) s.draft; faults = s.faults; absences = s.absences } };
+}
+
+impl<'a, R: Files> HostFiles<'a, R> {
+    /// The files of the host that `rt` stands for.
+    pub fn new(rt: &'a R, alloc: Global) -> HostFiles<'a, R>
+        ensures { result ≡ record { draft_name = None; faults = 0; absences = 0 } }
+    {
+        HostFiles {
+            rt,
+            alloc,
+            reading: None,
+            draft: None,
+            faults: 0,
+            absences: 0,
+        }
+    }
+
+    /// Counts a fault, and gives the refusal that stands for it.
+    fn fault(&mut self) -> FileFail
+        ensures refusal { result ≡ FileFail.Failed }
+        ensures counted { self.new ≡ record self.old { faults = increment self.old.faults } }
+        ensures later { self.old.faults ≤ self.new.faults }
+        ensures rose { Increased self.old.faults self.new.faults }
+    {
+        self.faults = increment(self.faults);
+        FileFail::Failed
+    }
+
+    /// The file of a name, open: the one that was read last, if it has this name.
+    fn open(&mut self, name: &str) -> Result<OpenedFile<R::File>, FileFail>
+        ensures draft_name { self.new.draft_name ≡ self.old.draft_name }
+        ensures faults { HasCause FileFail.Failed self.old.faults self.new.faults result }
+        ensures absences { HasCause FileFail.NoSuchFile self.old.absences self.new.absences result }
+    {
+        if let Some(opened) = self.reading.take() {
+            if opened.name.as_str() == name {
+                return Ok(opened);
+            }
+        }
+        let kept = Text::of(self.alloc, name)?;
+        match open_regular(self.rt, name) {
+            Ok(file) => Ok(OpenedFile { name: kept, file }),
+            Err(error) if error.kind() == ErrorKind::NotFound => {
+                self.absences = increment(self.absences);
+                Err(FileFail::NoSuchFile)
+            }
+            Err(_error) => Err(self.fault()),
+        }
+    }
+}
+
+impl<'a, R: Files> FileStore for HostFiles<'a, R> {
+    ghost files = { λ _. None };
+
+    ghost draft_name = { λ s. s.draft_name };
+
+    ghost draft_bytes = { λ _. [] };
+
+    ghost faults = { λ s. s.faults };
+
+    ghost absences = { λ s. s.absences };
+
+    fn size(&mut self, name: &str) -> Result<u64, FileFail> {
+        self.reading = None;
+        let opened = self.open(name)?;
+        match file_len(&opened.file) {
+            Ok(len) => {
+                self.reading = Some(opened);
+                Ok(len)
+            }
+            Err(_error) => Err(self.fault()),
+        }
+    }
+
+    fn read_at(&mut self, name: &str, from: u64, out: &mut [u8]) -> Result<usize, FileFail> {
+        let mut opened = self.open(name)?;
+        match read_from(&mut opened.file, from, out) {
+            Ok(n) => {
+                self.reading = Some(opened);
+                Ok(n)
+            }
+            Err(_error) => Err(self.fault()),
+        }
+    }
+
+    fn begin(&mut self, name: &str) -> Result<(), FileFail> {
+        self.discard();
+        let part = match format!(in self.alloc; "{name}.part") {
+            Ok(part) => part,
+            Err(_error) => return Err(FileFail::NoMemory),
+        };
+        let kept = Text::of(self.alloc, name)?;
+        match create_part(self.rt, name, part.as_str()) {
+            Ok(file) => {
+                self.draft = Some(HostDraft {
+                    name: kept,
+                    part,
+                    file,
+                });
+                Ok(())
+            }
+            Err(_error) => Err(self.fault()),
+        }
+    }
+
+    fn append(&mut self, piece: &[u8]) -> Result<(), FileFail> {
+        let Some(mut draft) = self.draft.take() else {
+            unreachable!()
+        };
+        let written = draft.file.write_all(piece);
+        self.draft = Some(draft);
+        match written {
+            Ok(()) => Ok(()),
+            Err(_error) => Err(self.fault()),
+        }
+    }
+
+    fn publish(&mut self) -> Result<(), FileFail> {
+        let Some(draft) = self.draft.take() else {
+            unreachable!()
+        };
+        self.reading = None;
+        match publish_draft(self.rt, draft) {
+            Ok(()) => Ok(()),
+            Err(_error) => Err(self.fault()),
+        }
+    }
+
+    fn discard(&mut self) {
+        if let Some(draft) = self.draft.take() {
+            if fs::remove_file(self.rt, draft.part.as_str()).is_err() {
+                self.faults = increment(self.faults);
+            }
+        }
+    }
+}
+
+/// A reader of the host as a source, such as standard input.
+#[derive(Drop)]
+pub struct HostInput<R: Read + Drop> {
+    reader: R,
+    faults: u64,
+}
+
+impl<R: Read + Drop> Model for HostInput<R> {
+    ghost use Rattle.std.specs.Prelude.{ℕ};
+
+    ghost Value = { ℕ };
+
+    ghost view = { λ s. s.faults };
+}
+
+impl<R: Read + Drop> HostInput<R> {
+    /// A source over this reader, without a fault so far.
+    pub fn new(reader: R) -> HostInput<R>
+        ensures { result ≡ 0 }
+    {
+        HostInput { reader, faults: 0 }
+    }
+}
+
+impl<R: Read + Drop> Source for HostInput<R> {
+    ghost left = { λ _. None };
+
+    ghost faults = { λ s. s };
+
+    fn read(&mut self, out: &mut [u8]) -> Result<usize, SourceFail> {
+        match self.reader.read(out) {
+            Ok(n) => Ok(n),
+            Err(_error) => {
+                self.faults = increment(self.faults);
+                Err(SourceFail::Failed)
+            }
+        }
+    }
+}
+
+/// Standard output or standard error of the host as a sink.
+#[derive(Drop)]
+pub struct HostOutput<'a, P: Print> {
+    print: &'a P,
+    faults: u64,
+}
+
+impl<'a, P: Print> Model for HostOutput<'a, P> {
+    ghost use Rattle.std.specs.Prelude.{ℕ};
+
+    ghost Value = { ℕ };
+
+    ghost view = { λ s. s.faults };
+}
+
+impl<'a, P: Print> HostOutput<'a, P> {
+    /// A sink over this output, without a fault so far.
+    pub fn new(print: &'a P) -> HostOutput<'a, P>
+        ensures { result ≡ 0 }
+    {
+        HostOutput { print, faults: 0 }
+    }
+}
+
+impl<'a, P: Print> Sink for HostOutput<'a, P> {
+    ghost written = { λ _. None };
+
+    ghost faults = { λ s. s };
+
+    fn write(&mut self, piece: &[u8]) -> Result<usize, SinkFail> {
+        match self.print.write_some(piece) {
+            Ok(n) if 0 < n || piece.is_empty() => Ok(n),
+            _ => {
+                self.faults = increment(self.faults);
+                Err(SinkFail::Failed)
+            }
+        }
+    }
+}
+
+/// The random bytes of the host as dice.
+#[derive(Drop)]
+pub struct HostDice<'a, R: RandomSource> {
+    source: &'a R,
+    faults: u64,
+}
+
+impl<'a, R: RandomSource> Model for HostDice<'a, R> {
+    ghost use Rattle.std.specs.Prelude.{ℕ};
+
+    ghost Value = { ℕ };
+
+    ghost view = { λ s. s.faults };
+}
+
+impl<'a, R: RandomSource> HostDice<'a, R> {
+    /// Dice over this source of random bytes, without a fault so far.
+    pub fn new(source: &'a R) -> HostDice<'a, R>
+        ensures { result ≡ 0 }
+    {
+        HostDice { source, faults: 0 }
+    }
+}
+
+impl<'a, R: RandomSource> Dice for HostDice<'a, R> {
+    ghost stream = { λ _. None };
+
+    ghost faults = { λ s. s };
+
+    fn fill(&mut self, out: &mut [u8]) -> Result<(), DiceFail> {
+        match self.source.fill_bytes(out) {
+            Ok(()) => Ok(()),
+            Err(_error) => {
+                self.faults = increment(self.faults);
+                Err(DiceFail::Failed)
+            }
+        }
+    }
+}

@@ -1,0 +1,2 @@
+pub mod MomentTests
+pub mod Moments
