@@ -1,5 +1,5 @@
 -- The hash of 1,024 bytes, half a hash at a time.
-use Rattle.std.proofs.Common.{◌≡◌, ℕ, suc, ◌+◌, ◌*◌, List, [], ◌++◌, length, take, drop, length-drop, sym, ap, ◌∙◌, arith}
+use Rattle.std.proofs.Common.{◌≡◌, ℕ, suc, ◌+◌, ◌*◌, List, [], ◌++◌, length, take, drop, length-drop, refl, sym, ap, ◌∙◌, arith}
 use Rattle.std.proofs.lemmas.List.{append-nil, drop_all}
 use Rattle.argon_core.specs.Blake2b.{blake2b}
 use Rattle.argon_core.specs.VariableHash.{chained, first_halves}
@@ -12,10 +12,10 @@ chained_more v n =
     let next : suc n ≡ n + 1 = omega arith in
     ap (λ (k : ℕ). chained v k) next
 
-pub chained_next : (v : List ℕ) (n : ℕ) (h after : List ℕ) → length h ≡ 64 → h ≡ chained v n → after ≡ blake2b (length h) (h ++ []) → after ≡ chained v (n + 1)
-chained_next v n h after len held e = e ∙ rw (len, append-nil, held) (chained_more v n)
+pub chained_next : (v : List ℕ) (n : ℕ) (h after : List ℕ) → h ≡ chained v n → after ≡ blake2b 64 (h ++ []) → after ≡ chained v (n + 1)
+chained_next v n h after held e = e ∙ rw (append-nil, held) (chained_more v n)
 
--- the first half of the next V behind those before
+-- the first half of the next V after those before
 pub halves_next : (v : List ℕ) (n : ℕ) (h out after : List ℕ) → h ≡ chained v n → take (32 * n) out ≡ first_halves v n
     → take (32 * n + 32) after ≡ take (32 * n) out ++ take 32 h → take (32 * (n + 1)) after ≡ first_halves v (n + 1)
 unfolding first_halves
@@ -24,11 +24,16 @@ halves_next v n h out after held halves put =
     let next : suc n ≡ n + 1 = omega arith in
     rw at (put ∙ rw (halves, held) (ap (λ (m : ℕ). first_halves v m) next))
 
--- all thirty first halves, and the whole last hash
-pub halves_end : (v out part h : List ℕ) (r : ℕ) → length out ≡ 1024 → r ≡ 30 → h ≡ chained v r → take (32 * r) out ≡ first_halves v r → part ≡ h
-    → put_mid 960 64 out part ≡ first_halves v 30 ++ blake2b 64 (chained v 29)
-halves_end v out part h r len done hash halves e =
+-- a hash that is written at the end of 1,024 bytes
+pub put_end : (out part h : List ℕ) → length out ≡ 1024 → part ≡ h → put_mid 960 64 out part ≡ take 960 out ++ h
+put_end out part h len e =
     let after : post_of 960 64 out ≡ [] = drop_all 64 (drop 960 out) (omega (arith, length-drop 960 out)) in
+    rw (after, append-nil, e) refl
+
+-- all thirty first halves, and the whole last hash
+pub halves_end : (v out h : List ℕ) (r : ℕ) → r ≡ 30 → h ≡ chained v r → take (32 * r) out ≡ first_halves v r
+    → take 960 out ++ h ≡ first_halves v 30 ++ blake2b 64 (chained v 29)
+halves_end v out h r done hash halves =
     let front : take 960 out ≡ first_halves v 30 = rw done at halves in
     let last : h ≡ chained v 30 = rw done at hash in
-    rw (after, append-nil, front, e, last) (ap (λ (x : List ℕ). first_halves v 30 ++ x) (sym (chained_more v 29)))
+    rw (front, last) (ap (λ (x : List ℕ). first_halves v 30 ++ x) (sym (chained_more v 29)))

@@ -1,7 +1,7 @@
 //! Argon2d and Argon2id (RFC 9106).
 
 ghost use Rattle.std.specs.Prelude.{◌≡◌, ◌≤◌, IfSome, IfNone, IfOk, IfErr, length};
-ghost use Rattle.argon_core.specs.Argon2.{IsWithinLimits, argon2, first_unmet};
+ghost use Rattle.argon_core.specs.Argon2.{IsWithinLimits, argon2, first_unmet, tag_of};
 
 use crate::hashes::{first_hash, tag};
 use crate::memory::Memory;
@@ -59,12 +59,26 @@ pub fn argon2(
         params: *params,
         first_hash: first_hash(kind, params, password, salt, secret, extra),
     };
+    let key = tag_of(alloc, &instance);
+    instance.spend();
+    key
+}
+
+// The tag of a computation, over memory of its own.
+fn tag_of(alloc: Global, instance: &Instance) -> Result<Key, ArgonFail>
+    requires { IsWithinLimits instance.now.params }
+    ensures tag { IfOk result (λ key. key ≡ tag_of instance.now) }
+    ensures memory { IfErr result (λ fail. fail ≡ ArgonFail.NoMemory) }
+{
     let Ok(mut memory) = Memory::zeros(alloc, instance.memory_len()) else {
         return Err(ArgonFail::NoMemory);
     };
     instance.fill(&mut memory.blocks);
-    let tag = tag(&instance.last_block(&memory.blocks));
+    let mut last = instance.last_block(&memory.blocks);
     memory.wipe();
     memory.release();
-    Ok(Key::of(&tag))
+    let key = tag(&last.words);
+    last.wipe();
+    last.release();
+    Ok(key)
 }

@@ -1,10 +1,11 @@
 //! BLAKE2b without a key (RFC 7693).
 
-ghost use Rattle.std.specs.Prelude.{◌≡◌, ℕ, ◌+◌, ◌*◌, ◌%◌, ◌/◌, ◌^◌, ◌<◌, ◌≤◌, ◌++◌, List, [], length, take};
+ghost use Rattle.std.specs.Prelude.{◌≡◌, ℕ, ◌+◌, ◌*◌, ◌%◌, ◌/◌, ◌^◌, ◌<◌, ◌≤◌, ◌++◌, List, [], length, replicate, take};
 ghost use Rattle.argon_core.specs.Words.{words, bytes_of};
 ghost use Rattle.argon_core.specs.Blake2b.{mix, column_step, diagonal_step, rounds, compress, initial_state, local_vector, blake2b};
 
 use crate::words::{load_words, store_words};
+use secret_core::Key64;
 
 const BLOCK_LEN: usize = 128;
 
@@ -223,8 +224,7 @@ fn compress(state: [u64; 8], block: &[u8; 128], count: u128, is_last: bool) -> [
 }
 
 // A digest in the making: the state after the blocks so far, and the bytes of the block that may be
-// the last.
-#[derive(Drop)]
+// the last. Both may be of a password or a key, so a hasher must be spent, by `finish`.
 pub(crate) struct Hasher {
     state: [u64; 8],
     buffer: [u8; BLOCK_LEN],
@@ -297,6 +297,28 @@ impl Hasher {
         }
     }
 
+    // Zeroes the state and the buffer.
+    fn clear(&mut self)
+        ensures state { self.new.state ≡ replicate 8 0 }
+        ensures buffer { self.new.buffer ≡ replicate 128 0 }
+    {
+        self.state = [0; 8];
+        self.buffer = [0; BLOCK_LEN];
+    }
+
+    // Gives up a hasher that is zero.
+    fn release(self)
+        requires state { self.state ≡ replicate 8 0 }
+        requires buffer { self.buffer ≡ replicate 128 0 }
+    {
+        let Hasher {
+            state: _,
+            buffer: _,
+            filled: _,
+            absorbed: _,
+        } = self;
+    }
+
     // Writes the digest of the message, for whose length the hasher was begun.
     pub(crate) fn finish(mut self, out: &mut [u8])
         requires size { length out.old ≤ 64 }
@@ -307,11 +329,23 @@ impl Hasher {
         let filled = self.filled;
         self.buffer[filled..].fill(0);
         let count = self.absorbed + filled as u128;
-        let state = compress(self.state, &self.buffer, count, true);
-        let mut digest = [0; STATE_LEN];
-        store_words(&mut digest, &state);
-        out.copy_from_slice(&digest[..out.len()]);
+        self.state = compress(self.state, &self.buffer, count, true);
+        let mut digest = bytes_of(&self.state);
+        out.copy_from_slice(&digest.bytes()[..out.len()]);
+        digest.clear();
+        digest.release();
+        self.clear();
+        self.release();
     }
+}
+
+// The bytes of a state.
+fn bytes_of(state: &[u64; 8]) -> Key64
+    ensures { result ≡ bytes_of state.now }
+{
+    let mut digest = Key64::of(&[0; STATE_LEN]);
+    store_words(digest.bytes_mut(), state);
+    digest
 }
 
 /// Writes the BLAKE2b digest (RFC 7693) of `first` followed by `second`, without a key. The digest

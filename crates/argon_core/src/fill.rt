@@ -7,6 +7,7 @@ ghost use Rattle.argon_core.specs.Memory.{HoldsBlocks, place_in, seen_in, segmen
 
 use crate::compression::{Block, LOW_HALF, compress, xor_into};
 use crate::hashes::{first_block, type_number};
+use crate::memory::SingleBlock;
 use crate::params::{ArgonKind, Instance, Segment};
 
 const ADDRESSES_IN_BLOCK: usize = 128;
@@ -305,15 +306,15 @@ impl Instance {
     }
 
     /// The exclusive or of the last blocks of all lanes.
-    pub(crate) fn last_block(&self, memory: &[Block]) -> Block
+    pub(crate) fn last_block(&self, memory: &[Block]) -> SingleBlock
         requires limits { IsWithinLimits self.now.params }
         requires filled { HoldsBlocks self.now memory.now (self.now.params.passes * memory_len self.now.params) }
-        ensures { result ≡ last_blocks self.now self.now.params.lanes }
+        ensures { result.words ≡ last_blocks self.now self.now.params.lanes }
     {
-        let mut last = [0; 128];
+        let mut last = SingleBlock::zeros();
         'lanes: for lane in 0..self.params.lanes as usize {
             let end = self.place_of(lane, self.lane_len() - 1);
-            xor_into(&mut last, &memory[end]);
+            xor_into(&mut last.words, &memory[end]);
         }
         last
     }

@@ -1,6 +1,6 @@
 //! The hashes that a computation of Argon2 begins and ends with (RFC 9106, 3.2 and 3.3).
 
-ghost use Rattle.std.specs.Prelude.{◌≡◌, ℕ, ◌+◌, ◌*◌, ◌^◌, ◌<◌, ◌≤◌, ◌++◌, List, length, take};
+ghost use Rattle.std.specs.Prelude.{◌≡◌, ℕ, ◌+◌, ◌*◌, ◌^◌, ◌<◌, ◌≤◌, [], ◌++◌, List, length, take};
 ghost use Rattle.argon_core.specs.Words.{words, bytes_of};
 ghost use Rattle.argon_core.specs.Hasher.{Holds};
 ghost use Rattle.argon_core.specs.Blake2b.{blake2b};
@@ -9,8 +9,10 @@ ghost use Rattle.argon_core.specs.Argon2.{first_hash, first_block, type_number, 
 
 use crate::blake::{Hasher, blake2b};
 use crate::compression::Block;
+use crate::memory::BlockBytes;
 use crate::params::{ArgonKind, ArgonParams, Instance};
 use crate::words::{load_words, store_words};
+use secret_core::{Key, Key64};
 
 const VERSION: u32 = 0x13;
 
@@ -57,7 +59,7 @@ pub(crate) fn first_hash(
     salt: &[u8],
     secret: &[u8],
     extra: &[u8],
-) -> [u8; 64]
+) -> Key64
     requires password { length password.now < 2 ^ 32 }
     requires salt { length salt.now < 2 ^ 32 }
     requires secret { length secret.now < 2 ^ 32 }
@@ -75,12 +77,30 @@ pub(crate) fn first_hash(
     update_with_len(&mut hasher, salt);
     update_with_len(&mut hasher, secret);
     update_with_len(&mut hasher, extra);
-    let mut hash = [0; 64];
-    hasher.finish(&mut hash);
-    hash
+    digest_of(hasher)
 }
 
-// Writes the first half of a hash at a place of the output.
+// The digest of a hasher that was begun for 64 bytes.
+fn digest_of(hasher: Hasher) -> Key64
+    requires { hasher.absorbed + hasher.filled < 2 ^ 128 }
+    ensures { (message : List ℕ) → Holds 64 hasher message → result ≡ blake2b 64 message }
+{
+    let mut digest = Key64::of(&[0; 64]);
+    hasher.finish(digest.bytes_mut());
+    digest
+}
+
+// Puts the hash of a hash in its place.
+fn rehash(hash: &mut Key64)
+    ensures { hash.new ≡ blake2b 64 (hash.old ++ []) }
+{
+    let mut before = Key64::of(hash.bytes());
+    blake2b(hash.bytes_mut(), before.bytes(), &[]);
+    before.clear();
+    before.release();
+}
+
+// Writes the first half of a hash at an offset of the output.
 fn put_half(out: &mut [u8; 1024], at: usize, hash: &[u8; 64])
     requires { at + 32 ≤ 1024 }
     ensures { take (at + 32) out.new ≡ take at out.old ++ take 32 hash.now }
@@ -88,18 +108,26 @@ fn put_half(out: &mut [u8; 1024], at: usize, hash: &[u8; 64])
     out[at..at + 32].copy_from_slice(&hash[..32]);
 }
 
-// The 1,024 bytes of H' after the first hash V 1: the first halves of V 1 to V 30, and V 31.
-fn lengthen(first: [u8; 64]) -> [u8; 1024]
-    ensures { result ≡ first_halves first 30 ++ blake2b 64 (chained first 29) }
+// Writes a whole hash at the end of the output.
+fn put_last(out: &mut [u8; 1024], hash: &[u8; 64])
+    ensures { out.new ≡ take 960 out.old ++ hash.now }
 {
-    let mut out = [0; 1024];
+    out[960..].copy_from_slice(hash);
+}
+
+// The 1,024 bytes of H' after the first hash V 1: the first halves of V 1 to V 30, and V 31.
+fn lengthen(first: Key64) -> BlockBytes
+    ensures { result.bytes ≡ first_halves first 30 ++ blake2b 64 (chained first 29) }
+{
+    let mut out = BlockBytes::zeros();
     let mut hash = first;
     'halves: for r in 0..30usize {
-        put_half(&mut out, 32 * r, &hash);
-        let before = hash;
-        blake2b(&mut hash, &before, &[]);
+        put_half(&mut out.bytes, 32 * r, hash.bytes());
+        rehash(&mut hash);
     }
-    out[960..].copy_from_slice(&hash);
+    put_last(&mut out.bytes, hash.bytes());
+    hash.clear();
+    hash.release();
     out
 }
 
@@ -109,23 +137,26 @@ pub(crate) fn first_block(instance: &Instance, lane: u32, column: u32) -> Block
 {
     let mut hasher = Hasher::new(64);
     update_number(&mut hasher, 1024);
-    hasher.update(&instance.first_hash);
+    hasher.update(instance.first_hash.bytes());
     update_number(&mut hasher, column);
     update_number(&mut hasher, lane);
-    let mut hash = [0; 64];
-    hasher.finish(&mut hash);
+    let mut bytes = lengthen(digest_of(hasher));
     let mut block = [0; 128];
-    load_words(&mut block, &lengthen(hash));
+    load_words(&mut block, &bytes.bytes);
+    bytes.wipe();
+    bytes.release();
     block
 }
 
 /// The tag, from the exclusive or of the last blocks.
-pub(crate) fn tag(block: &Block) -> [u8; 32]
+pub(crate) fn tag(block: &Block) -> Key
     ensures { result ≡ variable_hash 32 (bytes_of block.now) }
 {
-    let mut bytes = [0; 1024];
-    store_words(&mut bytes, block);
-    let mut tag = [0; 32];
-    blake2b(&mut tag, &TAG_LEN.to_le_bytes(), &bytes);
+    let mut bytes = BlockBytes::zeros();
+    store_words(&mut bytes.bytes, block);
+    let mut tag = Key::of(&[0; 32]);
+    blake2b(tag.bytes_mut(), &TAG_LEN.to_le_bytes(), &bytes.bytes);
+    bytes.wipe();
+    bytes.release();
     tag
 }

@@ -13,6 +13,3 @@ mod words;
 pub use argon::argon2;
 pub use blake::blake2b;
 pub use params::{ArgonFail, ArgonKind, ArgonParams};
-
-#[cfg(test)]
-mod tests;

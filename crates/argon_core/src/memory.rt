@@ -1,6 +1,6 @@
-//! The memory of a computation, which is all zero again before it is given back.
+//! The memory of a computation, and single blocks beside it, which are all zero again before they are given back.
 
-ghost use Rattle.std.specs.Prelude.{◌≡◌, IfOk, length, vec_len};
+ghost use Rattle.std.specs.Prelude.{◌≡◌, IfOk, length, replicate, vec_len};
 ghost use Rattle.argon_core.specs.Memory.{IsWiped};
 
 use crate::compression::Block;
@@ -43,5 +43,61 @@ impl Memory {
     {
         let Memory { blocks } = self;
         drop(blocks);
+    }
+}
+
+/// A block beside the memory, which must be spent as the memory is.
+pub(crate) struct SingleBlock {
+    pub(crate) words: Block,
+}
+
+impl SingleBlock {
+    /// A block of zeros.
+    pub(crate) fn zeros() -> SingleBlock
+        ensures { result.words ≡ replicate 128 0 }
+    {
+        SingleBlock { words: [0; 128] }
+    }
+
+    /// Zeroes every word.
+    pub(crate) fn wipe(&mut self)
+        ensures { self.new.words ≡ replicate 128 0 }
+    {
+        self.words = [0; 128];
+    }
+
+    /// Gives up a block that is zero.
+    pub(crate) fn release(self)
+        requires { self.words ≡ replicate 128 0 }
+    {
+        let SingleBlock { words: _ } = self;
+    }
+}
+
+/// The bytes of a block, which must be spent as the memory is.
+pub(crate) struct BlockBytes {
+    pub(crate) bytes: [u8; 1024],
+}
+
+impl BlockBytes {
+    /// Bytes that are all zero.
+    pub(crate) fn zeros() -> BlockBytes
+        ensures { result.bytes ≡ replicate 1024 0 }
+    {
+        BlockBytes { bytes: [0; 1024] }
+    }
+
+    /// Zeroes every byte.
+    pub(crate) fn wipe(&mut self)
+        ensures { self.new.bytes ≡ replicate 1024 0 }
+    {
+        self.bytes = [0; 1024];
+    }
+
+    /// Gives up bytes that are zero.
+    pub(crate) fn release(self)
+        requires { self.bytes ≡ replicate 1024 0 }
+    {
+        let BlockBytes { bytes: _ } = self;
     }
 }

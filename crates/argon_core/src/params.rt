@@ -1,5 +1,7 @@
 //! The parameters of Argon2 (RFC 9106, 3.1), and what one computation is made of.
 
+use secret_core::Key64;
+
 /// A type of Argon2: how the blocks to mix in are chosen.
 #[derive(Clone, Copy, Debug, PartialEq, Eq)]
 pub enum ArgonKind {
@@ -35,12 +37,25 @@ pub enum ArgonFail {
     NoMemory,
 }
 
-// One computation: its type, its costs, and the hash of all that it was given.
-#[derive(Drop)]
+// One computation: its type, its costs, and the hash of all that it was given. It must be spent by
+// `spend`.
 pub(crate) struct Instance {
     pub(crate) kind: ArgonKind,
     pub(crate) params: ArgonParams,
-    pub(crate) first_hash: [u8; 64],
+    pub(crate) first_hash: Key64,
+}
+
+impl Instance {
+    /// Zeroes the hash, and gives the computation up.
+    pub(crate) fn spend(self) {
+        let Instance {
+            kind: _,
+            params: _,
+            mut first_hash,
+        } = self;
+        first_hash.clear();
+        first_hash.release();
+    }
 }
 
 // A part of a lane that is filled in one go: a lane's columns in one slice, in one pass.

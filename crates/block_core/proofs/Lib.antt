@@ -5,6 +5,7 @@ pub mod AesColumns
 pub mod AesRounds
 pub mod KeyWords
 pub mod CbcSteps
+pub mod PaddingSteps
 pub mod TimesSteps
 pub mod TwofishWords
 pub mod TwofishH

@@ -5,6 +5,7 @@ mod aes;
 mod block;
 mod cbc;
 mod field;
+pub mod laws;
 mod padding;
 mod twofish;
 
@@ -13,6 +14,3 @@ pub use block::Block16;
 pub use cbc::{cbc_decrypt, cbc_encrypt};
 pub use padding::{BadPadding, pad_len, unpad};
 pub use twofish::Twofish256;
-
-#[cfg(test)]
-mod tests;

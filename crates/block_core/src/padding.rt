@@ -1,6 +1,6 @@
-// Padding to whole blocks (RFC 5652, section 6.3).
+//! Padding to whole blocks (RFC 5652, section 6.3).
 ghost use Rattle.std.specs.Prelude.{◌≡◌, ◌-◌, ◌%◌, ℕ, IfOk, OnErr};
-ghost use Rattle.block_core.specs.Padding.{IsPadded};
+ghost use Rattle.block_core.specs.Padding.{IsPadded, text_before, unpadded};
 
 /// A text whose padding is not right: its length is 0 or no multiple of 16, its last byte is not
 /// from 1 to 16, or one of as many last bytes as it says is another byte.
@@ -16,6 +16,15 @@ pub fn pad_len(n: usize) -> usize
 
 /// The length of a text without its padding.
 pub fn unpad(text: &[u8]) -> Result<usize, BadPadding>
+    ensures text { text_before text.now result ≡ unpadded text.now }
+    ensures ok { IfOk result (λ n. IsPadded text.now n) }
+    ensures err { OnErr result ((n : ℕ) → ¬ IsPadded text.now n) }
+{
+    length_before(text)
+}
+
+// The length of a text without its padding.
+fn length_before(text: &[u8]) -> Result<usize, BadPadding>
     ensures ok { IfOk result (λ n. IsPadded text.now n) }
     ensures err { OnErr result ((n : ℕ) → ¬ IsPadded text.now n) }
 {

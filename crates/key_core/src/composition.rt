@@ -1,9 +1,10 @@
-// The composite key.
+//! The composite key.
 
 ghost use Rattle.std.specs.Prelude.{◌≡◌, ◌⊎◌, IsSome};
 ghost use Rattle.std.specs.Option.{option_map};
 ghost use Rattle.key_core.specs.Keys.{composite_key};
 
+use crate::digests::{digest_of, finished};
 use secret_core::Key;
 use sha2::{Digest, Sha256};
 
@@ -17,12 +18,15 @@ pub fn composite(password: Option<&[u8]>, key_file: Option<Key>) -> Key
 {
     let mut hasher = Sha256::new();
     if let Some(password) = password {
-        hasher.update(&Sha256::digest(password));
+        let mut digest = digest_of(password);
+        hasher.update(digest.bytes());
+        digest.clear();
+        digest.release();
     }
     if let Some(mut key) = key_file {
         hasher.update(key.bytes());
         key.clear();
         key.release();
     }
-    Key::of(&hasher.finalize())
+    finished(hasher)
 }

@@ -1,9 +1,10 @@
-// The keys under which a vault file stands.
+//! The keys of a vault file.
 
 ghost use Rattle.std.specs.Prelude.{◌≡◌};
 ghost use Rattle.key_core.specs.Keys.{cipher_key, mac_base};
 ghost use Rattle.secret_core.specs.Secret.{AllZero};
 
+use crate::digests::finished;
 use secret_core::{Key, Key64};
 use sha2::{Digest, Sha256, Sha512};
 
@@ -11,7 +12,7 @@ use sha2::{Digest, Sha256, Sha512};
 pub struct FileKeys {
     /// The key of the cipher.
     pub cipher: Key,
-    /// The key from which the keys of the authentication codes are made.
+    /// The MAC base, from which the keys of the MACs are made.
     pub base: Key64,
 }
 
@@ -53,8 +54,10 @@ pub fn file_keys(mut transformed: Key, seed: &[u8; 32]) -> FileKeys
     long.update(&[1]);
     transformed.clear();
     transformed.release();
+    let mut base = Key64::of(&[0; 64]);
+    *base.bytes_mut() = long.finalize();
     FileKeys {
-        cipher: Key::of(&short.finalize()),
-        base: Key64::of(&long.finalize()),
+        cipher: finished(short),
+        base,
     }
 }

@@ -6,11 +6,11 @@ ghost use Rattle.key_core.specs.KeyFile as spec_of;
 ghost use Rattle.key_core.specs.KeyFile.{Gives, key_file_key};
 ghost use Rattle.key_core.specs.Reading.{told_by};
 
+use crate::digests::digest_of;
 use crate::key_document::{Data, Document, Version, read_document};
 use crate::key_texts::{base64_key, dense, hexadecimal_hash, hexadecimal_key, trimmed};
 use crate::reading::Stopped;
 use secret_core::Key;
-use sha2::{Digest, Sha256};
 use std::alloc::Global;
 
 /// Why a key file gives no key.
@@ -58,7 +58,7 @@ fn plain_key(bytes: &[u8]) -> Key
     if let Some(key) = hexadecimal_key(bytes) {
         return key;
     }
-    Key::of(&Sha256::digest(bytes))
+    digest_of(bytes)
 }
 
 // The key of a key document.
@@ -118,8 +118,11 @@ fn proved(mut key: Key, place: usize, digits: &[u8]) -> Result<Key, KeyFileFail>
 fn compared(mut key: Key, kept: [u8; 4]) -> Result<Key, KeyFileFail>
     ensures { result ≡ spec.compared key kept }
 {
+    let mut digest = digest_of(key.bytes());
     let mut found = [0; 4];
-    found.copy_from_slice(&Sha256::digest(key.bytes())[..4]);
+    found.copy_from_slice(&digest.bytes()[..4]);
+    digest.clear();
+    digest.release();
     if kept == found {
         return Ok(key);
     }

@@ -1,7 +1,8 @@
-//! The keys of a vault file: from a password and a key file to the keys under which the file stands.
+//! The keys of a vault file: from a password and a key file to the keys of its cipher and its MACs.
 #![tactic(auto)]
 
 mod composition;
+mod digests;
 mod files;
 mod kdf;
 mod key_document;
@@ -16,8 +17,3 @@ pub use files::{FileKeys, file_keys};
 pub use kdf::{Kdf, KdfFail, KdfField, check_kdf};
 pub use key_file::{KeyFileFail, read_key_file};
 pub use transformation::transform;
-
-#[cfg(test)]
-mod key_file_tests;
-#[cfg(test)]
-mod tests;

@@ -1,12 +1,14 @@
-// The transformation of the composite key, whose cost is chosen by the file.
+//! The transformation of the composite key, whose cost is chosen by the file.
 
 ghost use Rattle.std.specs.Prelude.{◌≡◌, ◌≤◌, ◌+◌, ◌++◌, IfOk, IfErr, take, drop};
 ghost use Rattle.std.specs.Fn.{iterate};
+ghost use Rattle.secret_core.specs.Secret.{AllZero};
 ghost use Rattle.sha2.specs.Sha256.{sha256};
 ghost use Rattle.block_core.specs.AesCipher.{aes_enciphered};
 ghost use Rattle.key_core.specs.Kdf.{IsChecked};
 ghost use Rattle.key_core.specs.Keys.{aes_transformed, transformed_key};
 
+use crate::digests::finished;
 use crate::kdf::{Kdf, KdfFail};
 use argon_core::{ArgonParams, argon2};
 use block_core::{Aes256, Block16};
@@ -51,17 +53,47 @@ pub fn transform(alloc: Global, composite: &Key, kdf: &Kdf) -> Result<Key, KdfFa
     }
 }
 
-// The halves of a key.
-fn halves(key: &Key) -> ([u8; 16], [u8; 16])
-    ensures first { result.0 ≡ take 16 key.now }
-    ensures second { result.1 ≡ drop 16 key.now }
-{
-    let (front, back) = key.bytes().split_at(16);
-    let mut first = [0; 16];
-    first.copy_from_slice(front);
-    let mut second = [0; 16];
-    second.copy_from_slice(back);
-    (first, second)
+// The halves of a key while they are enciphered, which must be spent by `release`.
+struct Halves {
+    first: [u8; 16],
+    second: [u8; 16],
+}
+
+impl Halves {
+    // The halves of a key.
+    fn of(key: &Key) -> Halves
+        ensures first { result.first ≡ take 16 key.now }
+        ensures second { result.second ≡ drop 16 key.now }
+    {
+        let mut halves = Halves {
+            first: [0; 16],
+            second: [0; 16],
+        };
+        let (first, second) = key.bytes().split_at(16);
+        halves.first.copy_from_slice(first);
+        halves.second.copy_from_slice(second);
+        halves
+    }
+
+    // Zeroes the halves.
+    fn clear(&mut self)
+        ensures first { AllZero self.new.first }
+        ensures second { AllZero self.new.second }
+    {
+        self.first.fill(0);
+        self.second.fill(0);
+    }
+
+    // Gives up halves that are zero.
+    fn release(self)
+        requires first { AllZero self.first }
+        requires second { AllZero self.second }
+    {
+        let Halves {
+            first: _,
+            second: _,
+        } = self;
+    }
 }
 
 // Both halves of a key enciphered again and again under a seed, and their hash.
@@ -72,12 +104,12 @@ fn transform_by_aes(key: &Key, rounds: u64, seed: &[u8; 32]) -> Key
     let cipher = Aes256::new(&cipher_key);
     cipher_key.clear();
     cipher_key.release();
-    let (mut first, mut second) = halves(key);
-    encipher_often(&cipher, rounds, &mut first);
-    encipher_often(&cipher, rounds, &mut second);
-    let transformed = hash_of(&first, &second);
-    first.fill(0);
-    second.fill(0);
+    let mut halves = Halves::of(key);
+    encipher_often(&cipher, rounds, &mut halves.first);
+    encipher_often(&cipher, rounds, &mut halves.second);
+    let transformed = hash_of(&halves.first, &halves.second);
+    halves.clear();
+    halves.release();
     transformed
 }
 
@@ -88,7 +120,7 @@ fn hash_of(first: &[u8; 16], second: &[u8; 16]) -> Key
     let mut hasher = Sha256::new();
     hasher.update(first);
     hasher.update(second);
-    Key::of(&hasher.finalize())
+    finished(hasher)
 }
 
 // Enciphers a block again and again.

@@ -1,6 +1,9 @@
 pub mod AnswerLaws
 pub mod BlockLists
 mod BlockVectors
+pub mod ContentSteps
 mod HmacVectors
+pub mod JoiningSteps
 pub mod OneReading
+pub mod ReaderContents
 pub mod StateSteps

@@ -30,13 +30,13 @@ head_len bytes x = omega (arith, length-append x.mac (size_bytes bytes x), x.mac
 head_first : (bytes : List ℕ) (x : Frame bytes) → bytes ≡ (x.mac ++ size_bytes bytes x) ++ (x.content ++ x.tail)
 head_first bytes x = x.is ∙ append_assoc x.mac (sized x.content) x.tail ∙ sym (append_assoc x.mac (size_bytes bytes x) (x.content ++ x.tail))
 
-frame_size : (bytes : List ℕ) (x : Frame bytes) → size_in bytes ≡ length x.content
+pub frame_size : (bytes : List ℕ) (x : Frame bytes) → size_in bytes ≡ length x.content
 frame_size bytes x =
     ap size_in (head_first bytes x)
     ∙ size_in_head (x.mac ++ size_bytes bytes x) (x.content ++ x.tail) (length x.content) (head_len bytes x) x.size
     (drop_at x.mac (size_bytes bytes x) 32 x.mac_len)
 
-frame_mac : (bytes : List ℕ) (x : Frame bytes) → x.mac ≡ take 32 bytes
+pub frame_mac : (bytes : List ℕ) (x : Frame bytes) → x.mac ≡ take 32 bytes
 frame_mac bytes x =
     sym (ap (λ (b : List ℕ). take 32 b) (x.is ∙ append_assoc x.mac (sized x.content) x.tail) ∙ take_at x.mac (sized x.content ++ x.tail) 32 x.mac_len)
 
@@ -44,11 +44,11 @@ frame_rest : (bytes : List ℕ) (x : Frame bytes) → drop 36 bytes ≡ x.conten
 frame_rest bytes x =
     ap (λ (b : List ℕ). drop 36 b) (head_first bytes x) ∙ drop_at (x.mac ++ size_bytes bytes x) (x.content ++ x.tail) 36 (head_len bytes x)
 
-frame_content : (bytes : List ℕ) (x : Frame bytes) → x.content ≡ take (size_in bytes) (drop 36 bytes)
+pub frame_content : (bytes : List ℕ) (x : Frame bytes) → x.content ≡ take (size_in bytes) (drop 36 bytes)
 frame_content bytes x =
     sym (ap (λ (b : List ℕ). take (size_in bytes) b) (frame_rest bytes x) ∙ take_at x.content x.tail (size_in bytes) (sym (frame_size bytes x)))
 
-frame_tail : (bytes : List ℕ) (x : Frame bytes) → x.tail ≡ drop (size_in bytes) (drop 36 bytes)
+pub frame_tail : (bytes : List ℕ) (x : Frame bytes) → x.tail ≡ drop (size_in bytes) (drop 36 bytes)
 frame_tail bytes x =
     sym (ap (λ (b : List ℕ). drop (size_in bytes) b) (frame_rest bytes x) ∙ drop_at x.content x.tail (size_in bytes) (sym (frame_size bytes x)))
 
@@ -62,12 +62,12 @@ not_part bytes x part =
     omega (arith, part)
 
 -- a MAC has 32 bytes
-mac_len : (base : List ℕ) (i : ℕ) (content : List ℕ) → length (mac_of base i content) ≡ 32
+pub mac_len : (base : List ℕ) (i : ℕ) (content : List ℕ) → length (mac_of base i content) ≡ 32
 unfolding mac_of hmac
 mac_len base i content = length-sha256 _
 
 -- a right block is a whole one
-abbrev right_frame : (base : List ℕ) (i : ℕ) (content tail bytes : List ℕ) → length content < 2 ^ 32 → bytes ≡ block base i content ++ tail → Frame bytes
+abbrev pub right_frame : (base : List ℕ) (i : ℕ) (content tail bytes : List ℕ) → length content < 2 ^ 32 → bytes ≡ block base i content ++ tail → Frame bytes
 right_frame base i content tail bytes small e = record {
   mac = mac_of base i content;
   content = content;

@@ -1,7 +1,10 @@
 pub mod Answers
 pub mod BlockWriter
 pub mod Blocks
+pub mod Contents
 pub mod Hmac
 pub mod Hmac256
+pub mod Joining
+pub mod Results
 pub mod RunningMac
 pub mod State

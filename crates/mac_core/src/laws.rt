@@ -1,8 +1,10 @@
-// What the answers of a block reader say of one another, whatever the pieces were that it was fed with.
+//! What holds of the blocks of a KDBX 4 file, and of the answers of a block reader whatever the pieces were that it was fed
+//! with. Each law is a function whose contract is the law; it computes nothing.
 
-ghost use Rattle.std.specs.Prelude.{◌≡◌, ℕ, List, [], ◌++◌, length, All, Bool, true, Result, OnOk};
+ghost use Rattle.std.specs.Prelude.{◌≡◌, ℕ, ◌<◌, List, [], ◌++◌, length, slice_index, All, Bool, true, Result, OnOk};
 ghost use Rattle.mac_core.specs.Answers.{Answers, Start};
 ghost use Rattle.mac_core.specs.Blocks.{IsContent, block, blocks, joined};
+ghost use Rattle.mac_core.specs.Contents.{AreContents, contents_of};
 ghost use Rattle.mac_core.specs.declared.fail.BlockFail.{BlockFail};
 
 /// The same bytes have one answer, and where it is no refusal one output.
@@ -13,7 +15,7 @@ pub fn one_answer()
         → Answers start out bytes x → Answers start other bytes x → OnOk x (out ≡ other) }
 {}
 
-/// A refusal stands for ever, and so does the end: bytes behind it are passed over.
+/// A refusal lasts for ever, and so does the end: bytes after it are passed over.
 pub fn for_ever()
     ensures refused { (start : Start) (out other bytes more : List ℕ) (fail : BlockFail)
         → Answers start out bytes (Err fail) → Answers start other (bytes ++ more) (Err fail) }
@@ -29,4 +31,14 @@ pub fn read_back()
         → Answers start out
         (blocks start.base 0 contents ++ block start.base (length contents) [] ++ tail) x
         → (x ≡ Ok true) × (out ≡ start.before ++ joined contents) }
+{}
+
+/// `contents_of` has the value that is in the blocks, and where the bytes are bytes what it gives
+/// is in the blocks.
+pub fn contents_of_blocks()
+    ensures value { (base : List ℕ) (size : ℕ) (bytes : List ℕ) (x : Result (List ℕ) BlockFail)
+        → AreContents base size bytes x → contents_of base size bytes ≡ x }
+    ensures meaning { (base : List ℕ) (size : ℕ) (bytes : List ℕ)
+        → ((i : ℕ) → slice_index bytes i < 256)
+        → AreContents base size bytes (contents_of base size bytes) }
 {}

@@ -1,10 +1,14 @@
-// The inner stream of a KDBX file.
+//! The inner stream of a KDBX file.
 
-ghost use Rattle.std.specs.Prelude.{◌≡◌, ◌≢◌, ℕ, ◌+◌, Some, None, ◌↔◌, IfOk, IfErr, IsErr, length, take, drop, ◌≤◌};
+ghost use Rattle.std.specs.Prelude.{◌≡◌, ◌≢◌, ℕ, ◌+◌, Some, None, ◌↔◌, IfOk, IfErr, IsErr, length, take, drop};
+ghost use Rattle.sha2.specs.Sha256.{sha256};
+ghost use Rattle.sha2.specs.Sha512.{sha512};
+ghost use Rattle.stream_core.specs.InnerStream.{kdbx_nonce};
 ghost use Rattle.stream_core.specs.Stream.{xored};
 
 use crate::chacha::ChaCha20;
 use crate::salsa::Salsa20;
+use secret_core::{Key, Key64};
 use sha2::{Digest, Sha256, Sha512};
 
 // The nonce of Salsa20 as an inner stream.
@@ -12,7 +16,7 @@ const KDBX_NONCE: [u8; 8] = [0xe8, 0x30, 0x09, 0x4b, 0x97, 0x20, 0x5d, 0x2a];
 
 /// The stream that hides the protected values of a document.
 ///
-/// A contract sees which keystream it is, and the place of the next byte.
+/// A contract sees which keystream it is, and the offset of the next byte.
 #[derive(Drop)]
 pub enum InnerStream {
     /// ChaCha20.
@@ -38,16 +42,8 @@ impl InnerStream {
         ensures exactly { IsErr result ↔ (id ≢ 2) × (id ≢ 3) }
     {
         match id {
-            2 => {
-                let key = Sha256::digest(stream_key);
-                Ok(InnerStream::Salsa(Salsa20::new(&key, &KDBX_NONCE)))
-            }
-            3 => {
-                let digest = Sha512::digest(stream_key);
-                let key: [u8; 32] = part(&digest, 0);
-                let nonce: [u8; 12] = part(&digest, 32);
-                Ok(InnerStream::ChaCha(ChaCha20::new(&key, &nonce)))
-            }
+            2 => Ok(InnerStream::Salsa(salsa_of(stream_key))),
+            3 => Ok(InnerStream::ChaCha(chacha_of(stream_key))),
             _ => Err(StreamUnknown(id)),
         }
     }
@@ -69,12 +65,38 @@ impl InnerStream {
     }
 }
 
-// The `N` bytes of a digest from `from` on.
-fn part<const N: usize>(digest: &[u8; 64], from: usize) -> [u8; N]
-    requires { from + N ≤ 64 }
-    ensures { result ≡ take N (drop from digest.now) }
+// Salsa20 under the SHA-256 of a stream key.
+fn salsa_of(stream_key: &[u8]) -> Salsa20
+    ensures { result ≡ record { key = sha256 stream_key.now; nonce = kdbx_nonce; position = 0 } }
 {
-    let mut out = [0; N];
-    out.copy_from_slice(&digest[from..from + N]);
-    out
+    let mut key = Key::of(&[0; 32]);
+    *key.bytes_mut() = Sha256::digest(stream_key);
+    let cipher = Salsa20::new(key.bytes(), &KDBX_NONCE);
+    key.clear();
+    key.release();
+    cipher
+}
+
+// ChaCha20 under the first 32 bytes of the SHA-512 of a stream key, with the next 12 as nonce.
+fn chacha_of(stream_key: &[u8]) -> ChaCha20
+    ensures { let digest = sha512 stream_key.now in
+        result ≡ record { key = take 32 digest; nonce = take 12 (drop 32 digest); position = 0 } }
+{
+    let mut digest = Key64::of(&[0; 64]);
+    *digest.bytes_mut() = Sha512::digest(stream_key);
+    let cipher = cipher_of(digest.bytes());
+    digest.clear();
+    digest.release();
+    cipher
+}
+
+// ChaCha20 under the first 32 bytes of a digest, with the next 12 as nonce; they are not copied
+// but into the cipher.
+fn cipher_of(digest: &[u8; 64]) -> ChaCha20
+    ensures { result ≡ record
+        { key = take 32 digest.now; nonce = take 12 (drop 32 digest.now); position = 0 } }
+{
+    let (key, rest) = digest.split_first_chunk::<32>().unwrap();
+    let (nonce, _) = rest.split_first_chunk::<12>().unwrap();
+    ChaCha20::new(key, nonce)
 }

@@ -9,8 +9,6 @@ pub mod laws;
 mod salsa;
 mod salsa_blocks;
 mod state;
-#[cfg(test)]
-mod tests;
 mod window;
 
 pub use chacha::ChaCha20;

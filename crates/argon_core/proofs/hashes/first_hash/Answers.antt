@@ -14,4 +14,4 @@ returns c =
     let salt = c.update_with_len-2.ensures.holds 64 _ password in
     let secret = c.update_with_len-3.ensures.holds 64 _ salt in
     let extra = c.update_with_len-4.ensures.holds 64 _ secret in
-    rw c.type_number.ensures at (c.finish.ensures _ extra)
+    rw c.type_number.ensures at (c.digest_of.ensures _ extra)

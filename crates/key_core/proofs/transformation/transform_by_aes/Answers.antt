@@ -11,5 +11,5 @@ returns c =
     let turned = iterate f c.args.rounds in
     c.hash_of-transformed.ensures
     ∙ halves_hashed f _ _ _ _ c.args.rounds (c.new-cipher.ensures.enciphers ∙ ap aes256_encipher c.of-cipher_key.ensures)
-    (c.encipher_often.ensures ∙ ap turned c.halves.ensures.first)
-    (c.encipher_often-2.ensures ∙ ap turned c.halves.ensures.second)
+    (c.encipher_often.ensures ∙ ap turned c.of-halves.ensures.first)
+    (c.encipher_often-2.ensures ∙ ap turned c.of-halves.ensures.second)

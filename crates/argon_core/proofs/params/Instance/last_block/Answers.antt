@@ -1,4 +1,4 @@
-use Rattle.std.proofs.Common.{◌≡◌, ◌-◌, refl, arith, ◌∙◌, ap, slice_index_or, [], ℕ}
+use Rattle.std.proofs.Common.{◌≡◌, ◌-◌, arith, ◌∙◌, ap, slice_index_or, [], ℕ}
 use Rattle.argon_core.specs.Argon2.{lane_len, last_blocks}
 use Rattle.argon_core.proofs.LastBlocks.{last_blocks_next, last_shown}
 use Rattle.argon_core.proofs.Limits.{segment_len-least}
@@ -6,7 +6,7 @@ use Rattle.argon_core.proofs.params.Instance.last_block.Goals as goal
 
 pub lanes-init : goal.lanes-init
 unfolding last_blocks
-lanes-init c = refl
+lanes-init c = c.zeros-last.ensures
 
 pub overflow_sub-lane_len : goal.overflow_sub-lane_len
 overflow_sub-lane_len c = omega (arith, segment_len-least c.args.self.now.params c.requires.limits, c.lane_len.ensures.len)

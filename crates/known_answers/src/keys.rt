@@ -1,0 +1,152 @@
+//! The keys of a vault file.
+
+ghost use Rattle.std.specs.Prelude.{◌≡◌};
+
+use crate::question::Question;
+use anyhow::bail;
+use key_core::{
+    ArgonKind, FileKeys, Kdf, KeyFileFail, check_kdf, composite, file_keys, read_key_file,
+    transform,
+};
+use outside_core::Bytes;
+use secret_core::Key;
+use std::alloc::Global;
+
+/// What a question about keys computes; this is its name.
+pub fn computed(alloc: Global, name: &str, question: &Question<'_>) -> anyhow::Result<String> {
+    match name {
+        "composite-key" => composite_key(alloc, question),
+        "key-file" => key_of_file(alloc, question),
+        "limits-of-aes" => limits(alloc, &aes_kdf(question, 1)?),
+        "limits-of-argon2" => limits(alloc, &argon_kdf(alloc, ArgonKind::Id, question, 1)?),
+        "key-transformed-by-aes" => transformed(alloc, question, &aes_kdf(question, 2)?),
+        "key-transformed-by-argon2d" => {
+            transformed(
+                alloc,
+                question,
+                &argon_kdf(alloc, ArgonKind::D, question, 2)?,
+            )
+        }
+        "key-transformed-by-argon2id" => {
+            transformed(
+                alloc,
+                question,
+                &argon_kdf(alloc, ArgonKind::Id, question, 2)?,
+            )
+        }
+        "file-keys" => keys_of_file(alloc, question),
+        _ => bail!("there is no primitive of this name"),
+    }
+}
+
+// The digits of a key, which is spent.
+fn spent(alloc: Global, mut key: Key) -> anyhow::Result<String> {
+    let digits = hex::encode(alloc, key.bytes());
+    key.clear();
+    key.release();
+    Ok(digits?)
+}
+
+// The composite key: password, key of the key file; `none` stands for one that is missing.
+fn composite_key(alloc: Global, question: &Question<'_>) -> anyhow::Result<String> {
+    let password = question.word(1)?;
+    let key_file = question.word(2)?;
+    if password == "none" {
+        let key: [u8; 32] = question.array(2)?;
+        return spent(alloc, composite(None, Some(Key::of(&key))));
+    }
+    let password = question.bytes(alloc, 1)?;
+    if key_file == "none" {
+        return spent(alloc, composite(Some(&password), None));
+    }
+    let key: [u8; 32] = question.array(2)?;
+    spent(alloc, composite(Some(&password), Some(Key::of(&key))))
+}
+
+// The key of a key file, or why it has none: the file's bytes.
+fn key_of_file(alloc: Global, question: &Question<'_>) -> anyhow::Result<String> {
+    let file = question.bytes(alloc, 1)?;
+    match read_key_file(alloc, &file) {
+        Ok(key) => spent(alloc, key),
+        Err(KeyFileFail::KeyFileForm(offset)) => Ok(format!(in alloc; "no form at {offset}")?),
+        Err(KeyFileFail::KeyFileHash { kept, found }) => {
+            let kept = hex::encode(alloc, &kept)?;
+            let found = hex::encode(alloc, &found)?;
+            Ok(format!(in alloc; "hash {kept}, found {found}")?)
+        }
+        Err(KeyFileFail::NoMemory) => bail!("no memory"),
+    }
+}
+
+// AES with the rounds and the seed that begin at this word.
+fn aes_kdf(question: &Question<'_>, index: usize) -> anyhow::Result<Kdf> {
+    Ok(Kdf::Aes {
+        rounds: question.number(index)?,
+        seed: question.array(index.saturating_add(1))?,
+    })
+}
+
+// Argon2 with the passes, bytes of memory, lanes and salt that begin at this word.
+fn argon_kdf(
+    alloc: Global,
+    kind: ArgonKind,
+    question: &Question<'_>,
+    index: usize,
+) -> anyhow::Result<Kdf> {
+    let passes = question.number(index)?;
+    let bytes = question.number(index.saturating_add(1))?;
+    let lanes = question.short_number(index.saturating_add(2))?;
+    let text = question.bytes(alloc, index.saturating_add(3))?;
+    let mut salt = Bytes::new(alloc);
+    let Ok(()) = salt.add(&text) else {
+        bail!("no memory");
+    };
+    Ok(Kdf::Argon {
+        kind,
+        passes,
+        bytes,
+        lanes,
+        salt,
+    })
+}
+
+// Whether all numbers of a key derivation function are allowed, or the first that is not.
+fn limits(alloc: Global, kdf: &Kdf) -> anyhow::Result<String> {
+    match check_kdf(kdf) {
+        Ok(()) => Ok(format!(in alloc; "allowed")?),
+        Err(fail) => Ok(format!(in alloc; "{fail:?}")?),
+    }
+}
+
+// The transformed key: key, and what the function takes.
+fn transformed(alloc: Global, question: &Question<'_>, kdf: &Kdf) -> anyhow::Result<String> {
+    if let Err(fail) = check_kdf(kdf) {
+        bail!("{fail:?}");
+    }
+    let mut key = Key::of(&question.array(1)?);
+    let transformed = transform(alloc, &key, kdf);
+    key.clear();
+    key.release();
+    match transformed {
+        Ok(key) => spent(alloc, key),
+        Err(fail) => bail!("{fail:?}"),
+    }
+}
+
+// The digits of a file's keys, cipher key and MAC base, which are lent.
+fn digits(alloc: Global, keys: &FileKeys) -> anyhow::Result<String> {
+    let cipher = hex::encode(alloc, keys.cipher.bytes())?;
+    let base = hex::encode(alloc, keys.base.bytes())?;
+    Ok(format!(in alloc; "{cipher} {base}")?)
+}
+
+// The keys of a file, cipher key and MAC base: transformed key, master seed.
+fn keys_of_file(alloc: Global, question: &Question<'_>) -> anyhow::Result<String> {
+    let transformed: [u8; 32] = question.array(1)?;
+    let seed: [u8; 32] = question.array(2)?;
+    let mut keys = file_keys(Key::of(&transformed), &seed);
+    let digits = digits(alloc, &keys);
+    keys.clear();
+    keys.release();
+    digits
+}

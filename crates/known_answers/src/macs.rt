@@ -1,0 +1,197 @@
+//! HMAC, and the authenticated blocks of a KDBX 4 file.
+
+ghost use Rattle.std.specs.Prelude.{◌≡◌, ℕ, ◌+◌, ◌<◌, ◌≤◌, ◌^◌, length};
+
+use crate::question::Question;
+use anyhow::{bail, ensure};
+use mac_core::{BlockFail, BlockReader, BlockWriter, Hmac256};
+use secret_core::{Key64, Secret};
+use std::alloc::Global;
+
+/// The offset of the first block in the file that is read.
+const OFFSET: u64 = 1000;
+
+/// The most places at which a file is cut.
+const CUTS: usize = 153;
+
+/// The most words of a question about blocks.
+const WORDS: usize = 1000;
+
+/// The lengths of the pieces that a reader is fed with.
+const SIZES: [usize; 3] = [1, 7, 4096];
+
+/// The MAC of a text: key, text. By pieces of seven bytes it must be the same.
+pub fn hmac(alloc: Global, question: &Question<'_>) -> anyhow::Result<String> {
+    let key = question.bytes(alloc, 1)?;
+    let text = question.bytes(alloc, 2)?;
+    let mut whole = Hmac256::new(&key);
+    whole.update(&text);
+    let mac = whole.finish();
+    let mut by_pieces = Hmac256::new(&key);
+    for piece in text.chunks(7) {
+        by_pieces.update(piece);
+    }
+    ensure!(by_pieces.finish() == mac, "by pieces the MAC is another");
+    Ok(hex::encode(alloc, &mac)?)
+}
+
+/// The heads of blocks with these contents and of the end block: MAC base, contents. The file of the blocks must be
+/// read as the contents, however it is cut, and refused where its last MAC is damaged.
+pub fn blocks(alloc: Global, question: &Question<'_>) -> anyhow::Result<String> {
+    let mut base = Key64::of(&question.array(1)?);
+    let answer = written_and_read(alloc, &base, question);
+    base.clear();
+    base.release();
+    answer
+}
+
+// The heads under this base; the blocks are read again.
+fn written_and_read(
+    alloc: Global,
+    base: &Key64,
+    question: &Question<'_>,
+) -> anyhow::Result<String> {
+    let mut file = File {
+        bytes: Vec::new(alloc),
+        heads: Vec::new(alloc),
+        contents: Vec::new(alloc),
+        last: 0,
+    };
+    write(alloc, base, question, &mut file)?;
+    let Ok(mut out) = Secret::with_room(alloc, file.bytes.len().saturating_add(4)) else {
+        bail!("no memory");
+    };
+    read_at_cuts(base, &file, &mut out)?;
+    read_damaged(base, &mut file, &mut out)?;
+    Ok(hex::encode(alloc, file.heads.as_slice())?)
+}
+
+// A file of blocks, and what it is made of.
+#[derive(Drop)]
+struct File {
+    bytes: Vec<u8>,
+    heads: Vec<u8>,
+    contents: Vec<u8>,
+    // the index of the last block
+    last: u64,
+}
+
+impl File {
+    // Puts a block at the end.
+    fn add(&mut self, head: &[u8; 36], content: &[u8]) -> anyhow::Result<()> {
+        self.bytes.extend_from_slice(head)?;
+        self.bytes.extend_from_slice(content)?;
+        self.heads.extend_from_slice(head)?;
+        self.contents.extend_from_slice(content)?;
+        Ok(())
+    }
+}
+
+// Writes the blocks of a question, and the end block.
+fn write(
+    alloc: Global,
+    base: &Key64,
+    question: &Question<'_>,
+    file: &mut File,
+) -> anyhow::Result<()> {
+    let end = question.len();
+    ensure!(end <= WORDS, "there are too many blocks");
+    let mut writer = BlockWriter::new(base);
+    'contents: for index in 2..end {
+        let content = question.bytes(alloc, index)?;
+        let head = writer.head(&content);
+        file.add(&head, &content)?;
+        file.last = index as u64 - 1;
+    }
+    let head = writer.head(b"");
+    file.add(&head, b"")
+}
+
+// Feeds a reader by pieces of this size: what it answers to the last one. Nothing where it answers otherwise than
+// with false to one before, or the output is full.
+fn fed(
+    reader: &mut BlockReader<'_>,
+    bytes: &[u8],
+    size: usize,
+    out: &mut Secret,
+) -> Option<Result<bool, BlockFail>>
+    requires size { 0 < size }
+    requires offset { reader.old.place + length bytes.now < 2 ^ 64 }
+    ensures { reader.new.place ≤ reader.old.place + length bytes.now }
+{
+    let mut rest = bytes;
+    'pieces: while rest.len() > size {
+        let (piece, more) = rest.split_at(size);
+        if piece.len() > out.spare() {
+            return None;
+        }
+        if reader.feed(piece, out) != Ok(false) {
+            return None;
+        }
+        rest = more;
+    }
+    if rest.len() > out.spare() {
+        return None;
+    }
+    Some(reader.feed(rest, out))
+}
+
+// Whether a file that is cut here is read as these contents by pieces of this size: it is unfinished at the cut, and
+// whole at its end and with more bytes behind it.
+fn is_read(base: &Key64, file: &File, cut: usize, size: usize, out: &mut Secret) -> bool
+    requires size { 0 < size }
+{
+    if cut > file.bytes.len() || file.bytes.len() > 1_000_000 {
+        return false;
+    }
+    let (front, back) = file.bytes.split_at(cut);
+    out.cut(0);
+    let mut reader = BlockReader::new(base, OFFSET);
+    fed(&mut reader, front, size, out) == Some(Ok(false))
+        && reader.end() == Err(BlockFail::Truncated(OFFSET + cut as u64))
+        && fed(&mut reader, back, size, out) == Some(Ok(true))
+        && fed(&mut reader, b"more", 4, out) == Some(Ok(true))
+        && reader.end() == Ok(())
+        && out.lend(0, out.len()) == file.contents.as_slice()
+}
+
+// Reads a file that is cut at each of its first places, and whole by pieces of each size.
+fn read_at_cuts(base: &Key64, file: &File, out: &mut Secret) -> anyhow::Result<()> {
+    for size in SIZES {
+        ensure!(
+            is_read(base, file, 0, size, out),
+            "by pieces of {size} bytes the file is read otherwise"
+        );
+    }
+    for cut in 0..file.bytes.len().min(CUTS) {
+        let size = SIZES[cut % 3];
+        ensure!(
+            is_read(base, file, cut, size, out),
+            "cut at {cut} the file is read otherwise"
+        );
+    }
+    Ok(())
+}
+
+// Damages the MAC of the last block of a file, which must then be refused.
+fn read_damaged(base: &Key64, file: &mut File, out: &mut Secret) -> anyhow::Result<()> {
+    let len = file.bytes.len();
+    if len < 36 || len > 1_000_000 {
+        bail!("the file has no end block");
+    }
+    file.bytes[len - 32] ^= 4;
+    let refused = Some(Err(BlockFail::BlockMac(file.last)));
+    for size in SIZES {
+        out.cut(0);
+        let mut reader = BlockReader::new(base, OFFSET);
+        let answer = fed(&mut reader, &file.bytes, size, out);
+        ensure!(answer == refused, "the damaged file is answered {answer:?}");
+        ensure!(
+            fed(&mut reader, b"more", 4, out) == refused,
+            "the refusal does not last"
+        );
+        let end = Err(BlockFail::Truncated(OFFSET + len as u64 + 4));
+        ensure!(reader.end() == end, "the damaged file has an end");
+    }
+    Ok(())
+}

@@ -1,0 +1,324 @@
+-- The contents of authenticated blocks, as a function of their bytes.
+use Rattle.std.proofs.Common.{◌≡◌, ◌≢◌, ◌⊎◌, inl, inr, ℕ, zero, suc, ◌+◌, ◌-◌, ◌<◌, ◌≤◌, ◌^◌, List, [], ◌∷◌, ◌++◌, length, take, drop, refl, sym, ◌∙◌, ap, subst, arith, All, Bool, true, false, cond, Result, Ok, Err, length-append, length-drop, take-take}
+use Rattle.std.specs.Prelude.{nat_lt, bytes_eq, slice_index, ◌==◌}
+use Rattle.std.specs.Int.{w32, to_le_bytes}
+use Rattle.std.proofs.lemmas.Bool.{lt-ltb, le-ltb, ltb-true, ltb-false, eqb-true, eqb-false}
+use Rattle.std.proofs.lemmas.Slice.Eq.{bytes_eq-Decides}
+use Rattle.std.proofs.lemmas.Nat.{le_bytes_4}
+use Rattle.std.proofs.lemmas.List.{append-nil, append_assoc, get_or-drop, get_or-take, get_or_past, length-take-le, length-take, nil_from_length, take-append-drop}
+use Rattle.std.proofs.lemmas.List.Elements.{All-head, All-nil, All-push, All-tail}
+use Rattle.mac_core.specs.Blocks.{IsContent, IsDamaged, IsUnfinished, IsWhole, block, blocks, joined, mac_of, size_in, sized}
+use Rattle.mac_core.specs.Contents.{AreContents, block_at, contents_of, block_read}
+use Rattle.mac_core.specs.Joining.{BlockRead, contents_from, written_blocks}
+use Rattle.mac_core.specs.declared.fail.BlockFail.{BlockFail}
+use Rattle.mac_core.specs.declared.fail.BlockFail.TheVariants.{BlockMac, Truncated}
+use Rattle.mac_core.proofs.BlockLists.{blocks_push}
+use Rattle.mac_core.proofs.JoiningSteps.{ended, goes_on, is_false, contents_from-written_blocks, refused, runs_out}
+use Rattle.mac_core.proofs.OneReading.{Frame, frame_content, frame_mac, frame_size, frame_tail, right_frame}
+
+-- ---- one block
+
+abbrev by_tests : ℕ → ℕ → List ℕ → Bool → Bool → Result BlockRead BlockFail
+by_tests size i bytes short right = cond short (Err (Truncated size)) (cond right (Ok (block_read bytes)) (Err (BlockMac i)))
+
+tested : (base : List ℕ) (size i : ℕ) (bytes : List ℕ) (short right : Bool) → nat_lt (length bytes) (36 + size_in bytes) ≡ short
+    → bytes_eq (take 32 bytes) (mac_of base i (block_read bytes).content) ≡ right → block_at base size i bytes ≡ by_tests size i bytes short right
+unfolding block_at
+tested base size i bytes short right a b =
+    ap (λ (t : Bool). by_tests size i bytes t (bytes_eq (take 32 bytes) (mac_of base i (block_read bytes).content))) a
+    ∙ ap (λ (t : Bool). by_tests size i bytes short t) b
+
+block_short : (base : List ℕ) (size i : ℕ) (bytes : List ℕ) → length bytes < 36 + size_in bytes → block_at base size i bytes ≡ Err (Truncated size)
+block_short base size i bytes short = tested base size i bytes true _ (lt-ltb (length bytes) (36 + size_in bytes) short) refl
+
+block_wrong : (base : List ℕ) (size i : ℕ) (bytes : List ℕ) → 36 + size_in bytes ≤ length bytes
+    → (take 32 bytes ≢ mac_of base i (take (size_in bytes) (drop 36 bytes))) → block_at base size i bytes ≡ Err (BlockMac i)
+block_wrong base size i bytes whole wrong =
+    tested base size i bytes false false (le-ltb (length bytes) (36 + size_in bytes) whole)
+    (is_false _ (λ e. wrong ((bytes_eq-Decides (take 32 bytes) (mac_of base i (block_read bytes).content)).0 e)))
+
+block_right : (base : List ℕ) (size i : ℕ) (bytes : List ℕ) → 36 + size_in bytes ≤ length bytes
+    → take 32 bytes ≡ mac_of base i (take (size_in bytes) (drop 36 bytes)) → block_at base size i bytes ≡ Ok (block_read bytes)
+block_right base size i bytes whole same =
+    tested base size i bytes false true (le-ltb (length bytes) (36 + size_in bytes) whole)
+    ((bytes_eq-Decides (take 32 bytes) (mac_of base i (block_read bytes).content)).1 same)
+
+-- a whole block is as long as its head says
+frame_long : (bytes : List ℕ) (x : Frame bytes) → 36 + size_in bytes ≤ length bytes
+frame_long bytes x = omega (
+  arith,
+  ap length x.is,
+  length-append (x.mac ++ sized x.content) x.tail,
+  length-append x.mac (sized x.content),
+  length-append (to_le_bytes w32 (length x.content)) x.content,
+  x.mac_len,
+  frame_size bytes x,
+)
+
+-- a right block, as it is written
+block_again : (base : List ℕ) (size i : ℕ) (content tail : List ℕ) → length content < 2 ^ 32
+    → block_at base size i (block base i content ++ tail) ≡ Ok (record { content = content; rest = tail })
+block_again base size i content tail small =
+    let bytes = block base i content ++ tail in
+    let x = right_frame base i content tail bytes small refl in
+    let content_is = frame_content bytes x in
+    let tail_is = frame_tail bytes x in
+    block_right base size i bytes (frame_long bytes x) (sym (frame_mac bytes x) ∙ ap (mac_of base i) content_is)
+    ∙ (λ k. Ok (record { content = sym content_is k; rest = sym tail_is k }))
+
+-- ---- from what is in the blocks to the function
+
+blocks-written_blocks : (base : List ℕ) (i : ℕ) (contents : List (List ℕ)) → blocks base i contents ≡ written_blocks (block base) i contents
+unfolding blocks written_blocks
+blocks-written_blocks base i [] = refl
+blocks-written_blocks base i (c ∷ cs) = ap (λ (xs : List ℕ). block base i c ++ xs) (blocks-written_blocks base (suc i) cs)
+
+blocks_long : (base : List ℕ) (i : ℕ) (contents : List (List ℕ)) → All IsContent contents → length contents ≤ length (blocks base i contents)
+unfolding blocks
+blocks_long base i [] fine = omega arith
+blocks_long base i (c ∷ cs) fine = omega (
+  arith,
+  length-append (block base i c) (blocks base (suc i) cs),
+  length-append (mac_of base i c) (sized c),
+  length-append (to_le_bytes w32 (length c)) c,
+  (All-head IsContent c cs fine).0,
+  blocks_long base (suc i) cs (All-tail IsContent c cs fine),
+)
+
+module _ (base : List ℕ) (size : ℕ) where
+  -- right blocks are read one after another
+  passes : (contents : List (List ℕ)) (rest bytes : List ℕ) → All IsContent contents → bytes ≡ blocks base 0 contents ++ rest
+      → contents_of base size bytes ≡ contents_from (block_at base size) (Truncated size) (length bytes - length contents) (length contents) (joined contents) rest
+  passes contents rest bytes fine is =
+      let long = blocks_long base 0 contents fine in
+      let count : length bytes ≡ (length bytes - length contents) + length contents =
+      omega (arith, ap length is, length-append (blocks base 0 contents) rest, long) in
+      ap (λ (xs : List ℕ). contents_from (block_at base size) (Truncated size) (length bytes) 0 [] xs)
+      (is ∙ ap (λ (xs : List ℕ). xs ++ rest) (blocks-written_blocks base 0 contents))
+      ∙ contents_from-written_blocks (block_at base size) (Truncated size) (block base) (length contents)
+      (λ i content tail low fits. block_again base size i content tail fits.1)
+      (length bytes) 0 (length contents) (length bytes - length contents) [] contents rest fine count (omega arith) (omega arith)
+
+  -- a step is left where a byte follows the right blocks
+  steps_left : (contents : List (List ℕ)) (rest bytes : List ℕ) → All IsContent contents → bytes ≡ blocks base 0 contents ++ rest → 0 < length rest
+      → (length bytes - length contents) ≡ suc (length bytes - length contents - 1)
+  steps_left contents rest bytes fine is some =
+      omega (arith, ap length is, length-append (blocks base 0 contents) rest, blocks_long base 0 contents fine)
+
+  contents_of-IsWhole : (bytes : List ℕ) (parts : List (List ℕ)) → IsWhole base bytes parts → contents_of base size bytes ≡ Ok (joined parts)
+  contents_of-IsWhole bytes parts w =
+      let i = length parts in
+      let rest = block base i [] ++ w.tail in
+      let is : bytes ≡ blocks base 0 parts ++ rest = w.is ∙ append_assoc (blocks base 0 parts) (block base i []) w.tail in
+      let some : 0 < length rest =
+      omega (arith, length-append (block base i []) w.tail, length-append (mac_of base i []) (sized []), length-append (to_le_bytes w32 0) []) in
+      let left = length bytes - i - 1 in
+      passes parts rest bytes w.each is
+      ∙ ap (λ (n : ℕ). contents_from (block_at base size) (Truncated size) n i (joined parts) rest) (steps_left parts rest bytes w.each is some)
+      ∙ ended (block_at base size) (Truncated size) left i (joined parts) rest (record { content = []; rest = w.tail })
+      (block_again base size i [] w.tail (omega arith)) refl
+
+  contents_of-IsDamaged : (bytes : List ℕ) (i : ℕ) → IsDamaged base bytes i → contents_of base size bytes ≡ Err (BlockMac i)
+  contents_of-IsDamaged bytes i d =
+      let rest = (d.mac ++ sized d.content) ++ d.tail in
+      let is : bytes ≡ blocks base 0 d.contents ++ rest = d.is ∙ append_assoc (blocks base 0 d.contents) (d.mac ++ sized d.content) d.tail in
+      let x : Frame rest = record { mac = d.mac; content = d.content; tail = d.tail; mac_len = d.mac_len; size = d.size; is = refl } in
+      let long = frame_long rest x in
+      let some : 0 < length rest = omega arith in
+      let left = length bytes - length d.contents - 1 in
+      passes d.contents rest bytes d.each is
+      ∙ ap (λ (n : ℕ). contents_from (block_at base size) (Truncated size) n (length d.contents) (joined d.contents) rest) (steps_left d.contents rest bytes d.each is some)
+      ∙ ap (λ (k : ℕ). contents_from (block_at base size) (Truncated size) (suc left) k (joined d.contents) rest) d.index
+      ∙ refused (block_at base size) (Truncated size) left i (joined d.contents) rest (BlockMac i)
+      (block_wrong base size i rest long (λ e. d.wrong (frame_mac rest x ∙ e ∙ ap (mac_of base i) (sym (frame_content rest x)))))
+
+  contents_of-IsUnfinished : (bytes : List ℕ) (parts : List (List ℕ)) (rest : List ℕ) → IsUnfinished base bytes parts rest
+      → contents_of base size bytes ≡ Err (Truncated size)
+  contents_of-IsUnfinished bytes parts rest u = passes parts rest bytes u.each u.is ∙ by (length bytes - length parts)
+    where
+      by : (n : ℕ) → contents_from (block_at base size) (Truncated size) n (length parts) (joined parts) rest ≡ Err (Truncated size)
+      by zero = runs_out (block_at base size) (Truncated size) (length parts) (joined parts) rest
+      by (suc n) = refused (block_at base size) (Truncated size) n (length parts) (joined parts) rest (Truncated size)
+          (block_short base size (length parts) rest u.part)
+
+  pub contents_of-AreContents : (bytes : List ℕ) (x : Result (List ℕ) BlockFail) → AreContents base size bytes x → contents_of base size bytes ≡ x
+  contents_of-AreContents bytes (Ok content) s = contents_of-IsWhole bytes s.0 s.1.0 ∙ ap Ok (sym s.1.1)
+  contents_of-AreContents bytes (Err (BlockMac i)) s = contents_of-IsDamaged bytes i s
+  contents_of-AreContents bytes (Err (Truncated offset)) s = contents_of-IsUnfinished bytes s.1.0 s.1.1.0 s.1.1.1 ∙ ap (λ (n : ℕ). Err (Truncated n)) (sym s.0)
+
+-- ---- from the function to what is in the blocks, where bytes are bytes
+
+abbrev pub Low : List ℕ → Type 0
+Low bytes = (k : ℕ) → slice_index bytes k < 256
+
+drop_low : (n : ℕ) (bytes : List ℕ) → Low bytes → Low (drop n bytes)
+drop_low n bytes low k = rw (get_or-drop n bytes k 0) (low (n + k))
+
+take_low : (n : ℕ) (bytes : List ℕ) → Low bytes → Low (take n bytes)
+take_low n bytes low k = by (nat_lt k n) refl
+  where
+    by : (t : Bool) → nat_lt k n ≡ t → slice_index (take n bytes) k < 256
+    by true e = rw (get_or-take n bytes k 0 (ltb-true k n e)) (low k)
+    by false e = rw (get_or_past (take n bytes) k 0 (omega (arith, length-take n bytes, ltb-false k n e))) (omega arith)
+
+joined_push : (contents : List (List ℕ)) (content : List ℕ) → joined (contents ++ content ∷ []) ≡ joined contents ++ content
+joined_push [] content = append-nil content
+joined_push (c ∷ cs) content = ap (λ (xs : List ℕ). c ++ xs) (joined_push cs content) ∙ sym (append_assoc c (joined cs) content)
+
+first_rest : (base xs : List ℕ) → xs ≡ blocks base 0 [] ++ xs
+unfolding blocks
+first_rest base xs = refl
+
+-- a whole block is made up of its parts
+module _ (bytes : List ℕ) (low : Low bytes) (whole : 36 + size_in bytes ≤ length bytes) where
+  abbrev size_bytes : List ℕ
+  size_bytes = drop 32 (take 36 bytes)
+
+  size_low : Low size_bytes
+  size_low = drop_low 32 (take 36 bytes) (take_low 36 bytes low)
+
+  long : length (block_read bytes).content ≡ size_in bytes
+  long = length-take-le (size_in bytes) (drop 36 bytes) (omega (arith, length-drop 36 bytes))
+
+  size_long : length size_bytes ≡ 4
+  size_long = omega (arith, length-drop 32 (take 36 bytes), length-take-le 36 bytes (omega arith))
+
+  size_small : size_in bytes < 2 ^ 32
+  size_small = omega (arith, size_low 0, size_low 1, size_low 2, size_low 3)
+
+  size_is : to_le_bytes w32 (length (block_read bytes).content) ≡ size_bytes
+  size_is = ap (to_le_bytes w32) long ∙ le_bytes_4 size_bytes (size_in bytes) size_long size_low refl
+
+  cut : bytes ≡ (take 32 bytes ++ sized (block_read bytes).content) ++ (block_read bytes).rest
+  cut =
+      let mac = take 32 bytes in
+      let content = (block_read bytes).content in
+      let rest = (block_read bytes).rest in
+      let head : take 36 bytes ≡ mac ++ size_bytes =
+      sym (take-append-drop 32 (take 36 bytes)) ∙ ap (λ (xs : List ℕ). xs ++ size_bytes) (take-take 32 36 bytes (omega arith)) in
+      sym (take-append-drop 36 bytes)
+      ∙ ap (λ (xs : List ℕ). xs ++ drop 36 bytes) head
+      ∙ ap (λ (xs : List ℕ). (mac ++ size_bytes) ++ xs) (sym (take-append-drop (size_in bytes) (drop 36 bytes)))
+      ∙ append_assoc mac size_bytes (content ++ rest)
+      ∙ ap (λ (xs : List ℕ). mac ++ xs) (sym (append_assoc size_bytes content rest))
+      ∙ sym (append_assoc mac (size_bytes ++ content) rest)
+      ∙ ap (λ (xs : List ℕ). (mac ++ (xs ++ content)) ++ rest) (sym size_is)
+
+module _ (base : List ℕ) (size : ℕ) where
+  -- what may stand at the parts of bytes
+  abbrev IsShort : ℕ → List ℕ → Type 0
+  IsShort i bytes = (length bytes < 36 + size_in bytes) × (block_at base size i bytes ≡ Err (Truncated size))
+
+  abbrev IsWrongAt : ℕ → List ℕ → Type 0
+  IsWrongAt i bytes =
+      (36 + size_in bytes ≤ length bytes) × (take 32 bytes ≢ mac_of base i (block_read bytes).content) × (block_at base size i bytes ≡ Err (BlockMac i))
+
+  abbrev IsRightAt : ℕ → List ℕ → Type 0
+  IsRightAt i bytes =
+      (36 + size_in bytes ≤ length bytes) × (take 32 bytes ≡ mac_of base i (block_read bytes).content) × (block_at base size i bytes ≡ Ok (block_read bytes))
+
+  block_cases : (i : ℕ) (bytes : List ℕ) → IsShort i bytes ⊎ (IsWrongAt i bytes ⊎ IsRightAt i bytes)
+  block_cases i bytes = by (nat_lt (length bytes) (36 + size_in bytes)) (bytes_eq (take 32 bytes) (mac_of base i (block_read bytes).content)) refl refl
+    where
+      by : (s r : Bool) → nat_lt (length bytes) (36 + size_in bytes) ≡ s → bytes_eq (take 32 bytes) (mac_of base i (block_read bytes).content) ≡ r
+          → IsShort i bytes ⊎ (IsWrongAt i bytes ⊎ IsRightAt i bytes)
+      by true r a b = let short = ltb-true (length bytes) (36 + size_in bytes) a in inl (short, block_short base size i bytes short)
+      by false false a b =
+          let whole = ltb-false (length bytes) (36 + size_in bytes) a in
+          let wrong : take 32 bytes ≢ mac_of base i (block_read bytes).content =
+          λ e. let t = (bytes_eq-Decides (take 32 bytes) (mac_of base i (block_read bytes).content)).1 e in cc in
+          inr (inl (whole, wrong, block_wrong base size i bytes whole wrong))
+      by false true a b =
+          let whole = ltb-false (length bytes) (36 + size_in bytes) a in
+          let same = (bytes_eq-Decides (take 32 bytes) (mac_of base i (block_read bytes).content)).0 b in
+          inr (inr (whole, same, block_right base size i bytes whole same))
+
+  module _ (all : List ℕ) where
+    says : (x y : Result (List ℕ) BlockFail) → x ≡ y → AreContents base size all y → AreContents base size all x
+    says x y e = subst (AreContents base size all) (sym e)
+
+    ends_here : (parts : List (List ℕ)) (bytes : List ℕ) → All IsContent parts → all ≡ blocks base 0 parts ++ bytes
+        → length bytes < 36 + size_in bytes → AreContents base size all (Err (Truncated size))
+    ends_here parts bytes fine is short = (refl, (parts, (bytes, record { each = fine; is = is; part = short })))
+
+    AreContents-contents_from : (n i : ℕ) (parts : List (List ℕ)) (given bytes : List ℕ) → All IsContent parts → length parts ≡ i → given ≡ joined parts
+        → all ≡ blocks base 0 parts ++ bytes → Low bytes → length bytes ≤ n
+        → AreContents base size all (contents_from (block_at base size) (Truncated size) n i given bytes)
+    AreContents-contents_from zero i parts given bytes fine due so_far is low few =
+        says _ _ (runs_out (block_at base size) (Truncated size) i given bytes) (ends_here parts bytes fine is (omega arith))
+    AreContents-contents_from (suc n) i parts given bytes fine due so_far is low few =
+        let content = (block_read bytes).content in
+        let tail = (block_read bytes).rest in
+        let again : IsContent content → bytes ≡ block base i content ++ tail
+        → AreContents base size all (contents_from (block_at base size) (Truncated size) n (suc i) (given ++ content) tail) =
+        λ fits one.
+        let some = fits.0 in
+        AreContents-contents_from n (suc i) (parts ++ content ∷ []) (given ++ content) tail
+        (All-push IsContent parts content fine fits)
+        (omega (arith, length-append parts (content ∷ []), due))
+        (ap (λ (xs : List ℕ). xs ++ content) so_far ∙ sym (joined_push parts content))
+        (is ∙ ap (λ (xs : List ℕ). blocks base 0 parts ++ xs) one
+        ∙ sym (append_assoc (blocks base 0 parts) (block base i content) tail)
+        ∙ ap (λ (xs : List ℕ). xs ++ tail) (sym (blocks_push base 0 i parts content (omega (arith, due)))))
+        (drop_low (size_in bytes) (drop 36 bytes) (drop_low 36 bytes low))
+        (omega (arith, length-drop (size_in bytes) (drop 36 bytes), length-drop 36 bytes, shorter content tail one, few)) in
+        elim (block_cases i bytes) [ inl s ↦ short s | inr (inl w) ↦ wrong w | inr (inr r) ↦ right r (length (block_read bytes).content == 0) refl again ]
+      where
+        shorter : (content tail : List ℕ) → bytes ≡ block base i content ++ tail → suc (length tail) ≤ length bytes
+        shorter content tail one = omega (
+          arith,
+          ap length one,
+          length-append (block base i content) tail,
+          length-append (mac_of base i content) (sized content),
+          length-append (to_le_bytes w32 (length content)) content,
+        )
+
+        short : IsShort i bytes → AreContents base size all (contents_from (block_at base size) (Truncated size) (suc n) i given bytes)
+        short s = says _ _ (refused (block_at base size) (Truncated size) n i given bytes (Truncated size) s.1) (ends_here parts bytes fine is s.0)
+
+        wrong : IsWrongAt i bytes → AreContents base size all (contents_from (block_at base size) (Truncated size) (suc n) i given bytes)
+        wrong w =
+            let damaged : IsDamaged base all i = record {
+              contents = parts;
+              mac = take 32 bytes;
+              content = (block_read bytes).content;
+              tail = (block_read bytes).rest;
+              each = fine;
+              index = due;
+              mac_len = length-take-le 32 bytes (let whole = w.0 in omega (arith, whole));
+              size = rw (long bytes low w.0) (size_small bytes low w.0);
+              wrong = w.1;
+              is = is ∙ ap (λ (xs : List ℕ). blocks base 0 parts ++ xs) (cut bytes low w.0)
+                  ∙ sym (append_assoc (blocks base 0 parts) (take 32 bytes ++ sized (block_read bytes).content) (block_read bytes).rest);
+            } in
+            says _ _ (refused (block_at base size) (Truncated size) n i given bytes (BlockMac i) w.2) damaged
+
+        right : (r : IsRightAt i bytes) (t : Bool) → (length (block_read bytes).content == 0) ≡ t
+            → (IsContent (block_read bytes).content → bytes ≡ block base i (block_read bytes).content ++ (block_read bytes).rest
+            → AreContents base size all (contents_from (block_at base size) (Truncated size) n (suc i) (given ++ (block_read bytes).content) (block_read bytes).rest)) → AreContents base size all (contents_from (block_at base size) (Truncated size) (suc n) i given bytes)
+        right r true e again =
+            let content = (block_read bytes).content in
+            let tail = (block_read bytes).rest in
+            let none : length content ≡ 0 = eqb-true (length content) 0 e in
+            let one : bytes ≡ block base (length parts) [] ++ tail =
+            cut bytes low r.0 ∙ ap (λ (xs : List ℕ). (xs ++ sized content) ++ tail) r.1
+            ∙ ap (λ (c : List ℕ). block base i c ++ tail) (nil_from_length content none)
+            ∙ ap (λ (k : ℕ). block base k [] ++ tail) (sym due) in
+            let whole : IsWhole base all parts = record {
+              tail = tail;
+              each = fine;
+              is = is ∙ ap (λ (xs : List ℕ). blocks base 0 parts ++ xs) one
+                  ∙ sym (append_assoc (blocks base 0 parts) (block base (length parts) []) tail);
+            } in
+            says _ _ (ended (block_at base size) (Truncated size) n i given bytes (block_read bytes) r.2 none) (parts, (whole, so_far))
+        right r false e again =
+            let content = (block_read bytes).content in
+            let tail = (block_read bytes).rest in
+            let some : 0 < length content = omega (arith, eqb-false (length content) 0 e) in
+            let one : bytes ≡ block base i content ++ tail = cut bytes low r.0 ∙ ap (λ (xs : List ℕ). (xs ++ sized content) ++ tail) r.1 in
+            let small : length content < 2 ^ 32 = rw (long bytes low r.0) (size_small bytes low r.0) in
+            says _ _ (goes_on (block_at base size) (Truncated size) n i given bytes (block_read bytes) r.2 some)
+            (again (some, small) one)
+
+  pub AreContents-contents_of : (bytes : List ℕ) → Low bytes → AreContents base size bytes (contents_of base size bytes)
+  AreContents-contents_of bytes low = AreContents-contents_from bytes (length bytes) 0 [] [] bytes (All-nil IsContent) refl refl (first_rest base bytes) low (omega arith)
