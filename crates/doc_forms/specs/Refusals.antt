@@ -1,0 +1,32 @@
+-- Reading in steps, of which the first refusal is the answer.
+use Rattle.std.specs.Prelude.{◌≡◌, ℕ, Option, Some, None, Result, Ok, Err}
+use Rattle.markup_grammar.specs.Answers.{Answer, form, depth}
+use Rattle.doc_forms.specs.declared.fails.DocFail.{DocFail}
+use Rattle.doc_forms.specs.declared.fails.DocFail.TheVariants.{Form, Depth, BadValue, NoMemory}
+
+infixl 10 ◌>>=◌
+-- one step, and then the next with its result
+abbrev pub ◌>>=◌ : {A B : Type 0} → Result A DocFail → (A → Result B DocFail) → Result B DocFail
+Ok x >>= next = next x
+Err e >>= next = Err e
+
+-- a value that the element at this offset must have
+abbrev pub checked_value : {A : Type 0} → ℕ → Option A → Result A DocFail
+checked_value offset (Some x) = Ok x
+checked_value offset None = Err (BadValue offset)
+
+-- a refusal of the markup, as it is passed on
+abbrev pub markup_refusal : {A : Type 0} → Answer → Result A DocFail
+markup_refusal (form offset) = Err (Form offset)
+markup_refusal (depth offset) = Err (Depth offset)
+markup_refusal _ = Err NoMemory
+
+-- a refusal is the defined one; want of memory says nothing
+abbrev pub Fails : {Y : Type 0} → DocFail → Result Y DocFail → Type 0
+Fails NoMemory defined = Unit {0}
+Fails e defined = defined ≡ Err e
+
+-- what a call returns is what is defined, seen without memory
+abbrev pub Returns : {X Y : Type 0} → (X → Y) → Result X DocFail → Result Y DocFail → Type 0
+Returns view (Ok x) defined = defined ≡ Ok (view x)
+Returns view (Err e) defined = Fails e defined
