@@ -8,7 +8,7 @@ use Rattle.std.specs.List.{list_any}
 use Rattle.std.specs.Str.{bytes_eq}
 use Rattle.vault_model.specs.Db.{NodeId, id_cmp}
 use Rattle.vault_model.specs.Join.{is_id}
-use Rattle.vault_model.proofs.Facts.{same_id, is_same_id}
+use Rattle.vault_model.proofs.Ids.{same_id, is_same_id}
 use Rattle.vault_model.proofs.Tests.{any_same}
 use Rattle.doc_forms.specs.Ids.{least_duplicate, lesser_id}
 
