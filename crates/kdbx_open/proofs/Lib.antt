@@ -1,10 +1,7 @@
-pub mod Causes
-pub mod Contents
-pub mod Lent
-pub mod OneAnswer
-pub mod Parts
-pub mod Pools
-pub mod ReadFiles
+mod BlockContents
+mod Causes
+pub mod NamedFiles
+mod Parts
+mod Pools
 pub mod SealedFiles
-pub mod Steps
-pub mod Under
+mod Steps

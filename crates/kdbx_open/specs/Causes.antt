@@ -5,29 +5,35 @@ use Rattle.secret_core.specs.declared.files.ReadFail.{ReadFail}
 use Rattle.secret_core.specs.declared.files.ReadFail.TheVariants as read
 use Rattle.kdbx_frame.specs.declared.fail.FrameFail.{FrameFail}
 use Rattle.kdbx_frame.specs.declared.fail.FrameFail.TheVariants as frame
-use Rattle.doc_read.specs.declared.fails.DocFail.{DocFail}
-use Rattle.doc_read.specs.declared.fails.DocFail.TheVariants as document
+use Rattle.doc_forms.specs.declared.fails.DocFail.{DocFail}
+use Rattle.doc_forms.specs.declared.fails.DocFail.TheVariants as document
 use Rattle.kdbx_open.specs.declared.fail.OpenFail.{OpenFail}
 use Rattle.kdbx_open.specs.declared.fail.OpenFail.TheVariants.{File, Frame, Doc, NoMemory}
 
--- how many bytes a file may have
+-- How many bytes a file may have.
 abbrev pub limit : ℕ
 limit = 134217728
 
--- a refusal to read a file, as one to open it
+-- A refusal to read a file, as one to open it.
 abbrev pub of_read : ReadFail → OpenFail
 of_read read.NoMemory = NoMemory
 of_read fail = File fail
 
--- a refusal of the header or of the inner fields
+-- A refusal of the header or of the inner fields.
 abbrev pub of_frame : FrameFail → OpenFail
 of_frame frame.NoMemory = NoMemory
 of_frame fail = Frame fail
 
--- a refusal of the document
+-- A refusal of the document.
 abbrev pub of_document : DocFail → OpenFail
 of_document document.NoMemory = NoMemory
 of_document fail = Doc fail
+
+-- Want of memory is the outermost answer, and inside no other.
+pub record MemoryIsOutermost {X : Type 0} (result : Result X OpenFail) : Type 0 where
+  pub file : IsErrOf result (File read.NoMemory) → ⊥
+  pub frame : IsErrOf result (Frame frame.NoMemory) → ⊥
+  pub document : IsErrOf result (Doc document.NoMemory) → ⊥
 
 -- What an answer shows of the store's counts, which never fall, whether or not the store tells its files.
 pub record HasOpenCause {X : Type 0} (faults_before faults_now absences_before absences_now : ℕ) (result : Result X OpenFail) : Type 0 where
@@ -36,3 +42,4 @@ pub record HasOpenCause {X : Type 0} (faults_before faults_now absences_before a
   pub fault : IsErrOf result (File read.FileFault) → Increased faults_before faults_now
   pub missing : IsErrOf result (File read.NoSuchFile) → Increased absences_before absences_now
   pub large : (n : ℕ) → IsErrOf result (File (read.TooLarge n)) → limit < n
+  pub memory : MemoryIsOutermost result

@@ -3,6 +3,6 @@ pub mod Documents
 pub mod Files
 pub mod Opening
 pub mod Parts
-pub mod Readings
+pub mod Results
 pub mod Sealed
 pub mod Seen

@@ -7,7 +7,7 @@ use Rattle.mac_core.specs.Blocks.{IsWhole, joined}
 use Rattle.stream_core.specs.InnerStream.{Keystream, keystream_of}
 use Rattle.kdbx_open.specs.Documents.{document_of}
 use Rattle.kdbx_open.specs.Opening.{Vault, base_of, key_of}
-use Rattle.kdbx_open.specs.Parts.{behind, deciphered, header_mac, kept_mac}
+use Rattle.kdbx_open.specs.Parts.{Hides, after_header, header_mac, stored_mac}
 
 -- A file holds these settings and this document under a composite key:
 pub record Sealed (file composite : List ℕ) (vault : Vault) : Type 0 where
@@ -16,13 +16,13 @@ pub record Sealed (file composite : List ℕ) (vault : Vault) : Type 0 where
   pub begins : header_of file ≡ Ok header
   pub settings : header.settings ≡ vault.settings
   -- the header's HMAC is right under the composite key;
-  pub authentic : kept_mac header.size file ≡ header_mac (base_of header composite) (take header.size file)
+  pub authentic : stored_mac header.size file ≡ header_mac (base_of header composite) (take header.size file)
   -- right blocks and a right end block follow, and then anything;
   pub parts : List (List ℕ)
-  pub blocks : IsWhole (base_of header composite) (behind header.size file) parts
-  -- their joined contents decipher to a text, with whole and right padding where blocks are chained;
+  pub blocks : IsWhole (base_of header composite) (after_header header.size file) parts
+  -- their joined contents hide a text, with whole blocks and right padding where blocks are chained;
   pub text : List ℕ
-  pub deciphers : deciphered header.settings.cipher (key_of header composite) header.iv (joined parts) (Ok text)
+  pub hides : Hides header.settings.cipher (key_of header composite) header.iv (joined parts) text
   -- the text begins with inner fields, which ask for a stream that is known;
   pub inner : InnerFields
   pub fields : inner_of text ≡ Ok inner
@@ -34,3 +34,7 @@ pub record Sealed (file composite : List ℕ) (vault : Vault) : Type 0 where
 -- A file is there and holds this.
 abbrev pub Holds : Option (List ℕ) → List ℕ → Vault → Type 0
 Holds file composite vault = (bytes : List ℕ) × ((file ≡ Some bytes) × Sealed bytes composite vault)
+
+-- Some bytes hold this.
+abbrev pub IsHeld : List ℕ → Vault → Type 0
+IsHeld composite vault = (bytes : List ℕ) × Sealed bytes composite vault

@@ -1,16 +1,16 @@
-// What a deciphered text says.
+//! What a deciphered text says.
 
 ghost use Rattle.std.specs.Prelude.{◌≡◌, ◌≤◌, IfOk, drop, length, map};
 ghost use Rattle.stream_core.specs.InnerStream.{IsAt, keystream, keystream_of};
 ghost use Rattle.vault_model.specs.SeenDoc.{doc_seen};
 ghost use Rattle.vault_model.specs.declared.forms.DocForm.TheVariants.{V4};
-ghost use Rattle.doc_read.specs.Documents.{document};
-ghost use Rattle.doc_read.specs.Refusals as reader;
-ghost use Rattle.doc_read.specs.Seen.{setting_of};
-ghost use Rattle.doc_read.specs.SeenRead.{pool_item, read_seen};
+ghost use Rattle.doc_forms.specs.Documents.{document};
+ghost use Rattle.doc_forms.specs.Refusals as reader;
+ghost use Rattle.doc_forms.specs.SeenTexts.{setting_of};
+ghost use Rattle.doc_forms.specs.SeenDocuments.{pool_item, read_seen};
 ghost use Rattle.kdbx_frame.specs.Seen.{binary_seen};
-ghost use Rattle.kdbx_open.specs.Documents.{document_in, document_of, known};
-ghost use Rattle.kdbx_open.specs.Readings.{Answers, only};
+ghost use Rattle.kdbx_open.specs.Documents.{document_after_fields, document_of, known_stream};
+ghost use Rattle.kdbx_open.specs.Results.{Returns};
 
 use crate::OpenFail;
 use doc_read::{DocFail, ReadDoc, read_parts, settle};
@@ -23,14 +23,14 @@ use vault_model::{Doc, DocForm, PoolItem};
 
 // The inner stream of a number and a stream key, at its start.
 fn stream_of(id: u32, key: &[u8]) -> Result<InnerStream, OpenFail>
-    ensures known { Answers keystream result (only (known id (keystream_of id key.now))) }
+    ensures known { Returns keystream result (known_stream id (keystream_of id key.now)) }
     ensures start { IfOk result (λ s. IsAt s 0) }
 {
     Ok(InnerStream::new(id, key)?)
 }
 
-// Reads the document that stands in a text from a place on. The text is let go before the document is made.
-fn read_behind(
+// Reads the document of a text from an offset on. The text is dropped before the document is made.
+fn read_from(
     alloc: Global,
     text: Secret,
     from: usize,
@@ -39,7 +39,8 @@ fn read_behind(
 ) -> Result<ReadDoc, DocFail>
     requires start { IsAt stream.old 0 }
     requires within { from ≤ length text.bytes }
-    ensures { reader.Gives read_seen result (document (setting_of V4 stream.old) (map pool_item pool.now) (drop from text.bytes)) }
+    ensures { reader.Returns read_seen result
+        (document (setting_of V4 stream.old) (map pool_item pool.now) (drop from text.bytes)) }
 {
     let (_fields, document) = text.lend(0, text.len()).split_at(from);
     let parts = read_parts(alloc, document, DocForm::V4, stream)?;
@@ -47,7 +48,7 @@ fn read_behind(
     settle(alloc, DocForm::V4, pool, parts)
 }
 
-// The document of a text from a place on, read with a stream and the attached files.
+// The document of a text from an offset on, read with a stream and the attached files.
 fn document_of(
     alloc: Global,
     mut stream: InnerStream,
@@ -57,19 +58,20 @@ fn document_of(
 ) -> Result<Doc, OpenFail>
     requires start { IsAt stream 0 }
     requires within { from ≤ length text.bytes }
-    ensures { Answers doc_seen result (only (document_of (keystream stream) (map binary_seen pool.now) (drop from text.bytes))) }
+    ensures { Returns doc_seen result
+        (document_of (keystream stream) (map binary_seen pool.now) (drop from text.bytes)) }
 {
     let ReadDoc {
         doc,
         header_hash: _,
-    } = read_behind(alloc, text, from, pool, &mut stream)?;
+    } = read_from(alloc, text, from, pool, &mut stream)?;
     Ok(doc)
 }
 
-/// The document of a deciphered text, behind its inner fields, which have the key of its stream and the attached files.
-#[tactic(auto, unfolding(crate::specs::Documents::document_in))]
-pub fn document_in(alloc: Global, text: Secret) -> Result<Doc, OpenFail>
-    ensures { Answers doc_seen result (document_in text.bytes) }
+/// The document of a deciphered text, after its inner fields, which have the key of its stream and the attached files.
+#[tactic(auto, unfolding(crate::specs::Documents::document_after_fields))]
+pub fn document_after_fields(alloc: Global, text: Secret) -> Result<Doc, OpenFail>
+    ensures { Returns doc_seen result (document_after_fields text.bytes) }
 {
     let inner = read_inner(alloc, text.lend(0, text.len()))?;
     let stream = stream_of(inner.stream_id, inner.stream_key.as_slice())?;

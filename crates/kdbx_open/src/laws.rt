@@ -1,27 +1,26 @@
-// What holds of sealed files and of opening them.
+//! What holds of sealed files and of opening them.
 
-ghost use Rattle.std.specs.Prelude.{◌≡◌, ℕ, ◌≤◌, List, length, Option, IfSome, Result, Ok};
+ghost use Rattle.std.specs.Prelude.{◌≡◌, ℕ, ◌≤◌, List, length, Option, IfSome, Ok};
 ghost use Rattle.kdbx_open.specs.Causes.{limit};
 ghost use Rattle.kdbx_open.specs.Files.{opening_of};
 ghost use Rattle.kdbx_open.specs.Opening.{Vault, opening};
 ghost use Rattle.kdbx_open.specs.Sealed.{Holds, Sealed};
-ghost use Rattle.kdbx_open.specs.declared.fail.OpenFail.{OpenFail};
-
-/// A file and a composite key have one answer: so a file holds one document with one pair of settings under a key, and
-/// each refusal excludes all others.
-pub fn one_answer()
-    ensures { (file composite : List ℕ) (x y : Result Vault OpenFail) → opening file composite x → opening file composite y → x ≡ y }
-{}
 
 /// The sealed files are those that are opened, with what they hold; and a file holds no two things under one key.
 pub fn opened_is_sealed()
-    ensures sealed { (file composite : List ℕ) (vault : Vault) → opening file composite (Ok vault) → Sealed file composite vault }
-    ensures opened { (file composite : List ℕ) (vault : Vault) → Sealed file composite vault → opening file composite (Ok vault) }
-    ensures once { (file composite : List ℕ) (one other : Vault) → Sealed file composite one → Sealed file composite other → one ≡ other }
+    ensures sealed { (file composite : List ℕ) (vault : Vault)
+        → opening file composite ≡ Ok vault → Sealed file composite vault }
+    ensures opened { (file composite : List ℕ) (vault : Vault)
+        → Sealed file composite vault → opening file composite ≡ Ok vault }
+    ensures unique { (file composite : List ℕ) (one other : Vault)
+        → Sealed file composite one → Sealed file composite other → one ≡ other }
 {}
 
 /// A file that is there, is within the limit and holds a document under a composite key is opened with it, and no other is.
 pub fn held_is_opened()
-    ensures held { (file : Option (List ℕ)) (composite : List ℕ) (vault : Vault) → IfSome file (λ bytes. length bytes ≤ limit) → Holds file composite vault → opening_of file composite (Ok vault) }
-    ensures only { (file : Option (List ℕ)) (composite : List ℕ) (vault : Vault) → opening_of file composite (Ok vault) → Holds file composite vault }
+    ensures held { (file : Option (List ℕ)) (composite : List ℕ) (vault : Vault)
+        → IfSome file (λ bytes. length bytes ≤ limit) → Holds file composite vault
+        → opening_of file composite ≡ Ok vault }
+    ensures only { (file : Option (List ℕ)) (composite : List ℕ) (vault : Vault)
+        → opening_of file composite ≡ Ok vault → Holds file composite vault }
 {}

@@ -1,32 +1,12 @@
 //! The command line of a password vault: `main`, and the one call that it makes.
 #![tactic(auto)]
 
-mod answers;
-#[cfg(test)]
-mod calls;
-mod command;
-mod databases;
-pub mod laws;
-mod lines;
-mod listing;
-#[cfg(test)]
-mod reader_tests;
-mod run;
-#[cfg(test)]
-mod sealed_tests;
-#[cfg(test)]
-mod tests;
-mod words;
-
-use crate::run::keepass;
+use keepass_call::keepass;
 use outside_host::{HostDice, HostFiles, HostInput, HostOutput};
 use std::alloc::AllocGlobal;
 use std::env;
 use std::process::ExitCode;
 use std::time::{Clock, SystemTime};
-
-/// The longest file that is read, in bytes.
-pub const FILE_LIMIT: u64 = 134_217_728;
 
 /// The seconds from the beginning of the year 1 to that of 1970.
 const SECONDS_TO_1970: u64 = 62_135_596_800;

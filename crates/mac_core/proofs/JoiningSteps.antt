@@ -5,7 +5,7 @@ use Rattle.std.proofs.lemmas.List.{append-nil, append_assoc}
 use Rattle.std.proofs.lemmas.List.Elements.{All-head, All-tail}
 use Rattle.mac_core.specs.Blocks.{IsContent, joined}
 use Rattle.mac_core.specs.Joining.{BlockRead, contents_from, written_blocks}
-use Rattle.mac_core.specs.Results.{◌>>=◌}
+use Rattle.outside_core.specs.Results.{◌>>=◌}
 use Rattle.std.specs.Prelude.{◌==◌}
 
 -- a test that is not true is false

@@ -40,6 +40,11 @@ pub frame_mac : (bytes : List ℕ) (x : Frame bytes) → x.mac ≡ take 32 bytes
 frame_mac bytes x =
     sym (ap (λ (b : List ℕ). take 32 b) (x.is ∙ append_assoc x.mac (sized x.content) x.tail) ∙ take_at x.mac (sized x.content ++ x.tail) 32 x.mac_len)
 
+-- a frame's head is at its front
+pub frame_head : (bytes : List ℕ) (x : Frame bytes) → take 36 bytes ≡ x.mac ++ to_le_bytes w32 (length x.content)
+frame_head bytes x =
+    ap (λ (b : List ℕ). take 36 b) (head_first bytes x) ∙ take_at (x.mac ++ size_bytes bytes x) (x.content ++ x.tail) 36 (head_len bytes x)
+
 frame_rest : (bytes : List ℕ) (x : Frame bytes) → drop 36 bytes ≡ x.content ++ x.tail
 frame_rest bytes x =
     ap (λ (b : List ℕ). drop 36 b) (head_first bytes x) ∙ drop_at (x.mac ++ size_bytes bytes x) (x.content ++ x.tail) 36 (head_len bytes x)

@@ -1,6 +1,6 @@
 -- Blocks one after another, and their contents put end to end. What bytes are a block is left open.
 use Rattle.std.specs.Prelude.{ℕ, zero, suc, List, [], ◌∷◌, ◌++◌, length, Result, Ok, Err, ◌==◌, if◌then◌else◌}
-use Rattle.mac_core.specs.Results.{◌>>=◌}
+use Rattle.outside_core.specs.Results.{◌>>=◌}
 
 -- a block at the start of some bytes: its content, and the bytes after it
 pub record BlockRead : Type 0 where

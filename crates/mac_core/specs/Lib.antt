@@ -5,6 +5,5 @@ pub mod Contents
 pub mod Hmac
 pub mod Hmac256
 pub mod Joining
-pub mod Results
 pub mod RunningMac
 pub mod State

@@ -2,7 +2,7 @@
 
 ghost use Rattle.std.specs.Prelude.{◌≡◌, ◌+◌, ◌<◌, ◌≤◌, ◌^◌, [], Some, length};
 ghost use Rattle.mac_core.specs.Contents.{contents_of};
-ghost use Rattle.mac_core.specs.Results.{Returns};
+ghost use Rattle.outside_core.specs.Results.{Returns};
 
 use crate::{BlockFail, BlockReader};
 use secret_core::{Key64, Secret};

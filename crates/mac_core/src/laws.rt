@@ -34,11 +34,13 @@ pub fn read_back()
 {}
 
 /// `contents_of` has the value that is in the blocks, and where the bytes are bytes what it gives
-/// is in the blocks.
+/// is in the blocks. Contents that it gives are those of right blocks, whatever the numbers.
 pub fn contents_of_blocks()
     ensures value { (base : List ℕ) (size : ℕ) (bytes : List ℕ) (x : Result (List ℕ) BlockFail)
         → AreContents base size bytes x → contents_of base size bytes ≡ x }
     ensures meaning { (base : List ℕ) (size : ℕ) (bytes : List ℕ)
         → ((i : ℕ) → slice_index bytes i < 256)
         → AreContents base size bytes (contents_of base size bytes) }
+    ensures right { (base : List ℕ) (size : ℕ) (bytes content : List ℕ)
+        → contents_of base size bytes ≡ Ok content → AreContents base size bytes (Ok content) }
 {}

@@ -1,14 +1,13 @@
 use Rattle.std.proofs.Common.{drop}
 use Rattle.std.proofs.lemmas.Result.{err_from_is_err_and}
 use Rattle.stream_core.specs.InnerStream.{keystream}
-use Rattle.vault_model.specs.SeenDoc.{doc_seen}
-use Rattle.kdbx_open.proofs.Pools.{document_not_said, document_said}
+use Rattle.kdbx_open.proofs.Pools.{document_not_read, document_read}
 use Rattle.kdbx_open.proofs.documents.document_of.Goals as goal
 
 pub returns-in_err-doc : goal.returns-in_err-doc
 returns-in_err-doc c =
     let p = err_from_is_err_and c.from_residual.result c.from_residual.ensures.1 in
-    rw (p.1, p.2) (document_not_said doc_seen (keystream c.args.stream) c.args.pool.now (drop c.args.from c.args.text.bytes) _ c.in_err-doc.ensures)
+    rw (p.1, p.2) (document_not_read (keystream c.args.stream) c.args.pool.now (drop c.args.from c.args.text.bytes) _ c.in_err-doc.ensures)
 
 pub returns : goal.returns
-returns c = document_said (keystream c.args.stream) c.args.pool.now (drop c.args.from c.args.text.bytes) _ c.in_ok-doc.ensures
+returns c = document_read (keystream c.args.stream) c.args.pool.now (drop c.args.from c.args.text.bytes) _ c.in_ok-doc.ensures

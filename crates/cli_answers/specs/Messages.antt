@@ -1,0 +1,96 @@
+-- What each answer says: the program's status, and the line on standard error.
+use Rattle.std.specs.Prelude.{◌≡◌, ℕ, List, ◌++◌, codes}
+use Rattle.std.specs.Fmt.{decimal}
+use Rattle.hex.specs.Hex.{encode_lower}
+use Rattle.uuid.specs.Text.{hyphenated_text, lower}
+use Rattle.cli_answers.specs.declared.answers.Reason.{Reason}
+use Rattle.cli_answers.specs.declared.answers.Reason.TheVariants.{WrongWords, NoSuchPath, DamagedOrWrongKey, DamagedBlock, WrongKeyOrDamaged, KeyFileHash, NotKdbx, EndsEarly, BadHeaderField, BadDictionary, Form, MissingElement, BadValue, NilId, DuplicateId, BinaryRef, BadKeyFile, LineForm, Version, UnknownId, StreamUnknown, Compressed, Variant, NoSuchFile, TooLarge, Depth, TooDeep, TooMany, KdfLimit, LineLimit, OutOfMemory, InputEnded}
+use Rattle.cli_answers.specs.declared.answers.Refusal.{Refusal}
+use Rattle.cli_answers.specs.declared.answers.Stop.{Stop}
+use Rattle.cli_answers.specs.declared.answers.Stop.TheVariants.{Refused, FileFault, InputFault, NoMemory}
+
+-- The program's status for an answer.
+abbrev pub status_of : Reason → ℕ
+status_of WrongWords = 1
+status_of NoSuchPath = 2
+status_of (DamagedOrWrongKey kept found) = 3
+status_of (DamagedBlock number) = 3
+status_of WrongKeyOrDamaged = 3
+status_of (KeyFileHash kept found) = 3
+status_of NotKdbx = 4
+status_of (EndsEarly place) = 4
+status_of (BadHeaderField id) = 4
+status_of (BadDictionary place) = 4
+status_of (Form place) = 4
+status_of (MissingElement place) = 4
+status_of (BadValue place) = 4
+status_of (NilId place) = 4
+status_of (DuplicateId id) = 4
+status_of (BinaryRef number) = 4
+status_of (BadKeyFile place) = 4
+status_of (LineForm number) = 4
+status_of (Version number) = 5
+status_of (UnknownId id) = 5
+status_of (StreamUnknown number) = 5
+status_of Compressed = 5
+status_of (Variant number) = 5
+status_of NoSuchFile = 7
+status_of TooLarge = 8
+status_of Depth = 8
+status_of TooDeep = 8
+status_of TooMany = 8
+status_of KdfLimit = 8
+status_of LineLimit = 8
+status_of OutOfMemory = 9
+status_of (InputEnded number) = 12
+
+-- What an answer says of its subject: numbers in decimal, ids in lower case with hyphens, bytes in lower-case
+-- hexadecimal.
+abbrev pub reason_text : Reason → List ℕ
+reason_text WrongWords = codes "wrong words"
+reason_text NoSuchPath = codes "not found"
+reason_text (DamagedOrWrongKey kept found) = codes "damaged or wrong key: kept " ++ encode_lower kept ++ codes " found " ++ encode_lower found
+reason_text (DamagedBlock number) = codes "damaged block " ++ decimal number
+reason_text WrongKeyOrDamaged = codes "wrong key or damaged"
+reason_text (KeyFileHash kept found) = codes "key file: kept " ++ encode_lower kept ++ codes " found " ++ encode_lower found
+reason_text NotKdbx = codes "not a KDBX file"
+reason_text (EndsEarly place) = codes "ends early at " ++ decimal place
+reason_text (BadHeaderField id) = codes "bad header field " ++ decimal id
+reason_text (BadDictionary place) = codes "bad dictionary at " ++ decimal place
+reason_text (Form place) = codes "malformed text at " ++ decimal place
+reason_text (MissingElement place) = codes "missing element at " ++ decimal place
+reason_text (BadValue place) = codes "bad value at " ++ decimal place
+reason_text (NilId place) = codes "nil id at " ++ decimal place
+reason_text (DuplicateId id) = codes "duplicate id " ++ hyphenated_text lower id
+reason_text (BinaryRef number) = codes "no binary " ++ decimal number
+reason_text (BadKeyFile place) = codes "bad key file at " ++ decimal place
+reason_text (LineForm number) = codes "line " ++ decimal number ++ codes " is not UTF-8"
+reason_text (Version number) = codes "version " ++ decimal number
+reason_text (UnknownId id) = codes "unknown " ++ hyphenated_text lower id
+reason_text (StreamUnknown number) = codes "stream " ++ decimal number
+reason_text Compressed = codes "compressed"
+reason_text (Variant number) = codes "variant " ++ decimal number
+reason_text NoSuchFile = codes "no such file"
+reason_text TooLarge = codes "limit passed"
+reason_text Depth = codes "limit passed"
+reason_text TooDeep = codes "limit passed"
+reason_text TooMany = codes "limit passed"
+reason_text KdfLimit = codes "limit passed"
+reason_text LineLimit = codes "limit passed"
+reason_text OutOfMemory = codes "out of memory"
+reason_text (InputEnded number) = codes "line " ++ decimal number ++ codes " missing"
+
+-- The line `keepass: SUBJECT: TEXT`.
+abbrev pub error_line : List ℕ → List ℕ → List ℕ
+error_line subject text = codes "keepass: " ++ subject ++ codes ": " ++ text ++ codes "\n"
+
+-- This answer about this subject.
+abbrev pub refusal_of : Reason → List ℕ → Refusal
+refusal_of reason subject = record { reason = reason; subject = subject }
+
+-- The stop is this refusal, or want of memory.
+abbrev pub Refuses : Stop → Refusal → Type 0
+Refuses (Refused given) refusal = given ≡ refusal
+Refuses (FileFault name) refusal = ⊥
+Refuses InputFault refusal = ⊥
+Refuses NoMemory refusal = Unit {0}

@@ -1,0 +1,119 @@
+-- A call goes through phases. What each of them gives, how it may stop, and what causes the stop.
+use Rattle.std.specs.Prelude.{None, Some, ◌≡◌, ℕ, List, Contains, Option, Result, Ok, Err, Bool, false, option_map}
+use Rattle.outside_core.specs.Counts.{Increased}
+use Rattle.cli_answers.specs.declared.answers.Reason.TheVariants.{WrongWords, NoSuchFile}
+use Rattle.cli_answers.specs.declared.answers.Refusal.{Refusal}
+use Rattle.cli_answers.specs.declared.answers.Stop.{Stop}
+use Rattle.cli_answers.specs.declared.answers.Stop.TheVariants.{Refused, FileFault, InputFault, NoMemory}
+
+-- ---- how the code stands to it
+
+-- A phase that stopped was refused as it is defined; a fault and want of memory tell nothing of that.
+abbrev pub Stops : {Y : Type 0} → Stop → Result Y Refusal → Type 0
+Stops (Refused refusal) defined = defined ≡ Err refusal
+Stops (FileFault name) defined = Unit {0}
+Stops InputFault defined = Unit {0}
+Stops NoMemory defined = Unit {0}
+
+-- A phase gave what it is defined to give, as it is seen, or stopped.
+abbrev pub Returns : {X Y : Type 0} → (X → Y) → Result X Stop → Result Y Refusal → Type 0
+Returns seen (Ok x) defined = defined ≡ Ok (seen x)
+Returns seen (Err stop) defined = Stops stop defined
+
+-- What a phase takes from the input: what it gives, and what is left.
+pub record InputAnswer (A : Type 0) : Type 0 where
+  pub answer : Result A Refusal
+  pub left : List ℕ
+
+-- A phase that takes from the input was refused as it is defined, and left what is defined.
+abbrev pub RefusesInput : {Y : Type 0} → Stop → Option (List ℕ) → InputAnswer Y → Type 0
+RefusesInput (Refused refusal) left defined = (defined.answer ≡ Err refusal) × (left ≡ Some defined.left)
+RefusesInput (FileFault name) left defined = Unit {0}
+RefusesInput InputFault left defined = Unit {0}
+RefusesInput NoMemory left defined = Unit {0}
+
+-- A phase took from the input what it is defined to take, or stopped.
+abbrev pub ReturnsInput : {X Y : Type 0} → (X → Y) → Result X Stop → Option (List ℕ) → InputAnswer Y → Type 0
+ReturnsInput seen (Ok x) left defined = (defined.answer ≡ Ok (seen x)) × (left ≡ Some defined.left)
+ReturnsInput seen (Err stop) left defined = RefusesInput stop left defined
+
+-- This is left of the input, as it tells; or it tells nothing, and no line is asked for.
+abbrev pub TellsInput : Bool → Option (List ℕ) → List ℕ → Type 0
+TellsInput asked (Some left) input = left ≡ input
+TellsInput asked None input = asked ≡ false
+
+-- Of the input is left what is defined, if it tells what is left.
+abbrev pub IsLeft : Option (List ℕ) → Option (List ℕ) → List ℕ → Type 0
+IsLeft before now defined = now ≡ option_map (λ left. defined) before
+
+-- A phase that may take from the input was refused as it is defined, and left what is defined.
+abbrev pub RefusesAskedInput : {Y : Type 0} → Stop → (before now : Option (List ℕ)) → InputAnswer Y → Type 0
+RefusesAskedInput (Refused refusal) before now defined = (defined.answer ≡ Err refusal) × IsLeft before now defined.left
+RefusesAskedInput (FileFault name) before now defined = Unit {0}
+RefusesAskedInput InputFault before now defined = Unit {0}
+RefusesAskedInput NoMemory before now defined = Unit {0}
+
+-- A phase took from the input what it is defined to take, if anything, or stopped.
+abbrev pub ReturnsAskedInput : {X Y : Type 0} → (X → Y) → Result X Stop → (before now : Option (List ℕ)) → InputAnswer Y → Type 0
+ReturnsAskedInput seen (Ok x) before now defined = (defined.answer ≡ Ok (seen x)) × IsLeft before now defined.left
+ReturnsAskedInput seen (Err stop) before now defined = RefusesAskedInput stop before now defined
+
+-- What is left of the input is what is defined, unless the input failed or memory ran out.
+abbrev pub Leaves : {X : Type 0} → Result X Stop → (before now : Option (List ℕ)) → List ℕ → Type 0
+Leaves (Ok x) before now defined = IsLeft before now defined
+Leaves (Err (Refused refusal)) before now defined = IsLeft before now defined
+Leaves (Err (FileFault name)) before now defined = IsLeft before now defined
+Leaves (Err InputFault) before now defined = Unit {0}
+Leaves (Err NoMemory) before now defined = Unit {0}
+
+-- ---- stops and their causes
+
+-- A stop at the words.
+abbrev pub IsWordsStop : Stop → Type 0
+IsWordsStop (Refused refusal) = refusal.reason ≡ WrongWords
+IsWordsStop (FileFault name) = ⊥
+IsWordsStop InputFault = ⊥
+IsWordsStop NoMemory = Unit {0}
+
+-- A stop at the lines: the input failed only where its count of faults rose.
+abbrev pub IsLineStop : (faults faults' : ℕ) → Stop → Type 0
+IsLineStop faults faults' (Refused refusal) = ¬ (refusal.reason ≡ NoSuchFile)
+IsLineStop faults faults' (FileFault name) = ⊥
+IsLineStop faults faults' InputFault = Increased faults faults'
+IsLineStop faults faults' NoMemory = Unit {0}
+
+-- A fault of the store at the file of this name.
+abbrev pub IsFault : Stop → List ℕ → Type 0
+IsFault (Refused refusal) name = ⊥
+IsFault (FileFault given) name = given ≡ name
+IsFault InputFault name = ⊥
+IsFault NoMemory name = Unit {0}
+
+-- A stop for want of memory.
+abbrev pub IsMemoryStop : Stop → Type 0
+IsMemoryStop (Refused refusal) = ⊥
+IsMemoryStop (FileFault name) = ⊥
+IsMemoryStop InputFault = ⊥
+IsMemoryStop NoMemory = Unit {0}
+
+-- A stop that no file is missing at, and no object of the outside fails.
+abbrev pub IsPlainStop : Stop → Type 0
+IsPlainStop (Refused refusal) = ¬ (refusal.reason ≡ NoSuchFile)
+IsPlainStop (FileFault name) = ⊥
+IsPlainStop InputFault = ⊥
+IsPlainStop NoMemory = Unit {0}
+
+-- A stop at a file: it is called missing only where the store's count of absences rose, and a fault is told only where
+-- its count of faults rose, and of one of these files.
+abbrev pub IsFileStop : List (List ℕ) → (faults faults' absences absences' : ℕ) → Stop → Type 0
+IsFileStop names faults faults' absences absences' (Refused refusal) = refusal.reason ≡ NoSuchFile → Increased absences absences'
+IsFileStop names faults faults' absences absences' (FileFault name) = Increased faults faults' × Contains names name
+IsFileStop names faults faults' absences absences' InputFault = ⊥
+IsFileStop names faults faults' absences absences' NoMemory = Unit {0}
+
+-- A stop of a call: at a file, or of the input, which failed only where its count of faults rose.
+abbrev pub IsCaused : List (List ℕ) → (faults faults' absences absences' input input' : ℕ) → Stop → Type 0
+IsCaused names faults faults' absences absences' input input' (Refused refusal) = refusal.reason ≡ NoSuchFile → Increased absences absences'
+IsCaused names faults faults' absences absences' input input' (FileFault name) = Increased faults faults' × Contains names name
+IsCaused names faults faults' absences absences' input input' InputFault = Increased input input'
+IsCaused names faults faults' absences absences' input input' NoMemory = Unit {0}

@@ -1,0 +1,230 @@
+//! What the program refuses with: the answers, their statuses and their texts.
+ghost use Rattle.std.specs.Prelude.{◌≡◌, ◌++◌, IfOk, codes, string_bytes};
+ghost use Rattle.std.specs.Fmt.{decimal};
+ghost use Rattle.hex.specs.Hex.{encode_lower};
+ghost use Rattle.cli_answers.specs.Messages.{status_of, reason_text, error_line, refusal_of, Refuses};
+
+use outside_core::{Bytes, NoMemory, Text};
+use std::alloc::{AllocError, Global};
+use uuid::Uuid;
+
+/// Why a call of the program is refused. A place is in bytes from the start of the file, or of its deciphered text.
+#[derive(Clone, Copy, Debug, PartialEq, Eq)]
+pub enum Reason {
+    /// The words are no command.
+    WrongWords,
+    /// The path names no group.
+    NoSuchPath,
+    /// The file keeps another hash or code of its header than the header has under the key.
+    DamagedOrWrongKey { kept: [u8; 32], found: [u8; 32] },
+    /// The block of this number is not the one that was written.
+    DamagedBlock(u64),
+    /// The deciphered text does not end as every text does.
+    WrongKeyOrDamaged,
+    /// The key file keeps another hash than its key has.
+    KeyFileHash { kept: [u8; 4], found: [u8; 4] },
+    /// The file is not a KDBX file.
+    NotKdbx,
+    /// The file, or its deciphered text, ends before a part of it does, at the place.
+    EndsEarly(u64),
+    /// The field of this number is missing, stands twice or has a wrong length.
+    BadHeaderField(u8),
+    /// The dictionary of the key derivation is malformed at the place.
+    BadDictionary(u64),
+    /// The document leaves the grammar of markup at the place.
+    Form(usize),
+    /// The document lacks an element that must be there: of a group or an entry at the place, or of the whole at 0.
+    MissingElement(usize),
+    /// The element at the place says what its kind cannot say.
+    BadValue(usize),
+    /// The group or the entry at the place has the nil id.
+    NilId(usize),
+    /// Two nodes of the document have this id.
+    DuplicateId(Uuid),
+    /// An attachment refers to the binary of this number, and there is none.
+    BinaryRef(u64),
+    /// The key file is a key document that is malformed at the place.
+    BadKeyFile(usize),
+    /// The line of this number is not UTF-8.
+    LineForm(u64),
+    /// Files of this version are not read.
+    Version(u32),
+    /// The cipher or the key derivation of this id is not known.
+    UnknownId(Uuid),
+    /// The inner stream of this number is not known.
+    StreamUnknown(u32),
+    /// The file, or bytes in the document, are compressed.
+    Compressed,
+    /// The key derivation is of this variant, which is not read.
+    Variant(u64),
+    /// There is no file of the name.
+    NoSuchFile,
+    /// The file, or the header in it, is longer than one that is read may be.
+    TooLarge,
+    /// Too many elements of the document are open at once.
+    Depth,
+    /// The document has a group below the last level.
+    TooDeep,
+    /// The document has too many groups, entries and history items.
+    TooMany,
+    /// The file asks for more work to derive its key than is done.
+    KdfLimit,
+    /// A line of the input is too long.
+    LineLimit,
+    /// Memory ran out.
+    OutOfMemory,
+    /// The input ended before the line of this number, which is due.
+    InputEnded(u64),
+}
+
+/// An answer and what it is about: a file by its name, `input` or `words`.
+#[derive(Drop)]
+pub struct Refusal {
+    /// Why.
+    pub reason: Reason,
+    /// What it is about.
+    pub subject: Text,
+}
+
+/// Why a phase of a call stops.
+#[derive(Drop)]
+pub enum Stop {
+    /// What was asked for is refused, and would be again.
+    Refused(Refusal),
+    /// The store failed at the file of this name.
+    FileFault(Text),
+    /// The input failed.
+    InputFault,
+    /// Memory ran out.
+    NoMemory,
+}
+
+/// The status of the program for an answer.
+pub fn status(reason: &Reason) -> u8
+    ensures { result ≡ status_of reason.now }
+{
+    match *reason {
+        Reason::WrongWords => 1,
+        Reason::NoSuchPath => 2,
+        Reason::DamagedOrWrongKey { .. } => 3,
+        Reason::DamagedBlock(_) => 3,
+        Reason::WrongKeyOrDamaged => 3,
+        Reason::KeyFileHash { .. } => 3,
+        Reason::NotKdbx => 4,
+        Reason::EndsEarly(_) => 4,
+        Reason::BadHeaderField(_) => 4,
+        Reason::BadDictionary(_) => 4,
+        Reason::Form(_) => 4,
+        Reason::MissingElement(_) => 4,
+        Reason::BadValue(_) => 4,
+        Reason::NilId(_) => 4,
+        Reason::DuplicateId(_) => 4,
+        Reason::BinaryRef(_) => 4,
+        Reason::BadKeyFile(_) => 4,
+        Reason::LineForm(_) => 4,
+        Reason::Version(_) => 5,
+        Reason::UnknownId(_) => 5,
+        Reason::StreamUnknown(_) => 5,
+        Reason::Compressed => 5,
+        Reason::Variant(_) => 5,
+        Reason::NoSuchFile => 7,
+        Reason::TooLarge => 8,
+        Reason::Depth => 8,
+        Reason::TooDeep => 8,
+        Reason::TooMany => 8,
+        Reason::KdfLimit => 8,
+        Reason::LineLimit => 8,
+        Reason::OutOfMemory => 9,
+        Reason::InputEnded(_) => 12,
+    }
+}
+
+// Bytes that are kept and bytes that are found, behind a text.
+fn compared<const N: usize>(
+    alloc: Global,
+    front: &str,
+    kept: [u8; N],
+    found: [u8; N],
+) -> Result<String, AllocError>
+    ensures { IfOk result (λ text. string_bytes text ≡ front.now ++ encode_lower kept.entry ++ codes " found " ++ encode_lower found.entry) }
+{
+    let mut text = String::from_str(alloc, front)?;
+    text.push_str(hex::encode(alloc, kept)?.as_str())?;
+    text.push_str(" found ")?;
+    text.push_str(hex::encode(alloc, found)?.as_str())?;
+    Ok(text)
+}
+
+// A line by its number, and what is wrong with it.
+fn line_is(alloc: Global, number: u64, wrong: &str) -> Result<String, AllocError>
+    ensures { IfOk result (λ text. string_bytes text ≡ codes "line " ++ decimal number ++ wrong.now) }
+{
+    let mut text = format!(in alloc; "line {number}")?;
+    text.push_str(wrong)?;
+    Ok(text)
+}
+
+/// The text of an answer: numbers in decimal, ids in lower case with hyphens, bytes in lower-case hexadecimal.
+pub fn text_of_reason(alloc: Global, reason: &Reason) -> Result<String, AllocError>
+    ensures { IfOk result (λ text. string_bytes text ≡ reason_text reason.now) }
+{
+    match *reason {
+        Reason::WrongWords => String::from_str(alloc, "wrong words"),
+        Reason::NoSuchPath => String::from_str(alloc, "not found"),
+        Reason::DamagedOrWrongKey { kept, found } => {
+            compared(alloc, "damaged or wrong key: kept ", kept, found)
+        }
+        Reason::DamagedBlock(number) => format!(in alloc; "damaged block {number}"),
+        Reason::WrongKeyOrDamaged => String::from_str(alloc, "wrong key or damaged"),
+        Reason::KeyFileHash { kept, found } => { compared(alloc, "key file: kept ", kept, found) }
+        Reason::NotKdbx => String::from_str(alloc, "not a KDBX file"),
+        Reason::EndsEarly(at) => format!(in alloc; "ends early at {at}"),
+        Reason::BadHeaderField(id) => format!(in alloc; "bad header field {id}"),
+        Reason::BadDictionary(at) => format!(in alloc; "bad dictionary at {at}"),
+        Reason::Form(at) => format!(in alloc; "malformed text at {at}"),
+        Reason::MissingElement(at) => format!(in alloc; "missing element at {at}"),
+        Reason::BadValue(at) => format!(in alloc; "bad value at {at}"),
+        Reason::NilId(at) => format!(in alloc; "nil id at {at}"),
+        Reason::DuplicateId(id) => format!(in alloc; "duplicate id {id}"),
+        Reason::BinaryRef(number) => format!(in alloc; "no binary {number}"),
+        Reason::BadKeyFile(at) => format!(in alloc; "bad key file at {at}"),
+        Reason::LineForm(number) => line_is(alloc, number, " is not UTF-8"),
+        Reason::Version(number) => format!(in alloc; "version {number}"),
+        Reason::UnknownId(id) => format!(in alloc; "unknown {id}"),
+        Reason::StreamUnknown(number) => format!(in alloc; "stream {number}"),
+        Reason::Compressed => String::from_str(alloc, "compressed"),
+        Reason::Variant(number) => format!(in alloc; "variant {number}"),
+        Reason::NoSuchFile => String::from_str(alloc, "no such file"),
+        Reason::TooLarge => String::from_str(alloc, "limit passed"),
+        Reason::Depth => String::from_str(alloc, "limit passed"),
+        Reason::TooDeep => String::from_str(alloc, "limit passed"),
+        Reason::TooMany => String::from_str(alloc, "limit passed"),
+        Reason::KdfLimit => String::from_str(alloc, "limit passed"),
+        Reason::LineLimit => String::from_str(alloc, "limit passed"),
+        Reason::OutOfMemory => String::from_str(alloc, "out of memory"),
+        Reason::InputEnded(number) => line_is(alloc, number, " missing"),
+    }
+}
+
+/// The line that tells an answer: `keepass: SUBJECT: TEXT` and LF.
+pub fn line(alloc: Global, subject: &str, text: &str) -> Result<Bytes, NoMemory>
+    ensures { IfOk result (λ line. line ≡ error_line subject.now text.now) }
+{
+    let mut line = Bytes::new(alloc);
+    line.add(b"keepass: ")?;
+    line.add(subject.as_bytes())?;
+    line.add(b": ")?;
+    line.add(text.as_bytes())?;
+    line.add(b"\n")?;
+    Ok(line)
+}
+
+/// A stop by an answer about this subject, or by want of memory.
+pub fn refused(alloc: Global, reason: Reason, subject: &str) -> Stop
+    ensures { Refuses result (refusal_of reason subject.now) }
+{
+    match Text::of(alloc, subject) {
+        Ok(subject) => Stop::Refused(Refusal { reason, subject }),
+        Err(NoMemory) => Stop::NoMemory,
+    }
+}

@@ -1,0 +1,162 @@
+//! The lines that a call takes from its input.
+ghost use Rattle.std.specs.Prelude.{◌≡◌, ◌≢◌, ◌≤◌, ◌<◌, ◌+◌, [], ◌∷◌, ℕ, List, length, IfErr, IfOk, IfSome, Some, option_map};
+ghost use Rattle.std.specs.Str.{is_utf8};
+ghost use Rattle.outside_core.specs.Counts.{HasCause};
+ghost use Rattle.cli_lines.specs.Cutting.{ComesNext, Cuts, Ends, IsPushed, Puts, cut, weight};
+ghost use Rattle.cli_lines.specs.Lines as spec;
+ghost use Rattle.cli_lines.specs.Lines.{line_from, line_of, password_of};
+ghost use Rattle.cli_lines.specs.Passwords.{HasPassword};
+ghost use Rattle.cli_answers.specs.Phases.{IsLineStop, ReturnsAskedInput, ReturnsInput, TellsInput};
+
+use cli_answers::{Reason, Stop, refused};
+use cli_words::Command;
+use outside_core::{NoMemory, Source, SourceFail};
+use secret_core::Secret;
+use std::alloc::Global;
+use std::str;
+
+/// The most bytes of a line.
+const LINE_LIMIT: usize = 4096;
+
+// The next byte of the input, or none at its end.
+fn next_byte<S: Source>(input: &mut S) -> Result<Option<u8>, SourceFail>
+    ensures told { (i : List ℕ) → S.left input.old ≡ Some i → ComesNext result i (S.left input.new) }
+    ensures cause { HasCause SourceFail.Failed (S.faults input.old) (S.faults input.new) result }
+{
+    let mut byte = [0; 1];
+    let read = input.read(&mut byte)?;
+    if read == 0 {
+        Ok(None)
+    } else {
+        Ok(Some(byte[0]))
+    }
+}
+
+// Puts a byte behind a line, unless the line has room for no more.
+fn push(line: &mut Secret, byte: u8) -> bool
+    requires { length line.old.bytes + line.old.spare ≡ 4096 }
+    ensures { IsPushed result byte line.old line.new }
+{
+    if line.spare() == 0 {
+        return false;
+    }
+    line.push(byte);
+    true
+}
+
+// Puts a byte, which is no line feed, behind a line and a carriage return that waits. Gives whether a carriage return
+// waits now; or none where the line is too long.
+fn put(line: &mut Secret, returned: bool, byte: u8) -> Option<bool>
+    requires room { length line.old.bytes + line.old.spare ≡ 4096 }
+    requires no_end { byte ≢ 10 }
+    ensures room { length line.new.bytes + line.new.spare ≡ 4096 }
+    ensures puts { (rest : List ℕ) → Puts result line.new.bytes rest (cut line.old.bytes returned (byte ∷ rest)) }
+    ensures lighter { IfSome result (λ now. weight line.new.spare now < weight line.old.spare returned) }
+{
+    if returned && !push(line, b'\r') {
+        return None;
+    }
+    if byte == b'\r' {
+        return Some(true);
+    }
+    if push(line, byte) { Some(false) } else { None }
+}
+
+// Ends a line where the input ends, and tells whether it is not too long.
+fn end(line: &mut Secret, returned: bool) -> bool
+    requires { length line.old.bytes + line.old.spare ≡ 4096 }
+    ensures { Ends result line.new.bytes (cut line.old.bytes returned []) [] }
+{
+    !returned || push(line, b'\r')
+}
+
+// Reads the line that begins with a byte, and tells whether it is not too long.
+fn read_from<S: Source>(input: &mut S, first: u8, line: &mut Secret) -> Result<bool, SourceFail>
+    requires bytes { line.old.bytes ≡ [] }
+    requires spare { line.old.spare ≡ 4096 }
+    ensures told { (i : List ℕ) → S.left input.old ≡ Some i → Cuts result line.new.bytes (S.left input.new) (line_from 0 (first ∷ i)) }
+    ensures cause { HasCause SourceFail.Failed (S.faults input.old) (S.faults input.new) result }
+{
+    let mut byte = first;
+    let mut returned = false;
+    while byte != b'\n' {
+        match put(line, returned, byte) {
+            Some(now) => returned = now,
+            None => return Ok(false),
+        }
+        match next_byte(input)? {
+            Some(next) => byte = next,
+            None => return Ok(end(line, returned)),
+        }
+    }
+    Ok(true)
+}
+
+// Tells whether bytes are UTF-8.
+fn is_text(bytes: &[u8]) -> bool
+    ensures { result ≡ is_utf8 bytes.now }
+{
+    match str::from_utf8(bytes) {
+        Ok(_) => true,
+        Err(_) => false,
+    }
+}
+
+// Tells whether a line is UTF-8.
+fn is_text_line(line: &Secret) -> bool
+    ensures { result ≡ is_utf8 line.now.bytes }
+{
+    is_text(line.lend(0, line.len()))
+}
+
+// The line of this number.
+fn read_line<S: Source>(alloc: Global, input: &mut S, number: u64) -> Result<Secret, Stop>
+    ensures told { (i : List ℕ) → S.left input.old ≡ Some i → ReturnsInput (λ line. line.bytes) result (S.left input.new) (line_of number i) }
+    ensures cause { IfErr result (IsLineStop (S.faults input.old) (S.faults input.new)) }
+    ensures faults { S.faults input.old ≤ S.faults input.new }
+{
+    let Ok(mut line) = Secret::with_room(alloc, LINE_LIMIT) else {
+        return Err(Stop::NoMemory);
+    };
+    let first = match next_byte(input) {
+        Ok(Some(first)) => first,
+        Ok(None) => return Err(refused(alloc, Reason::InputEnded(number), "input")),
+        Err(_) => return Err(Stop::InputFault),
+    };
+    match read_from(input, first, &mut line) {
+        Ok(false) => Err(refused(alloc, Reason::LineLimit, "input")),
+        Ok(true) if is_text_line(&line) => Ok(line),
+        Ok(true) => Err(refused(alloc, Reason::LineForm(number), "input")),
+        Err(_) => Err(Stop::InputFault),
+    }
+}
+
+// Tells whether a command asks for a line: the password of a database that is not plain and has one.
+fn asks(command: &Command) -> bool
+    ensures { result ≡ spec.asks command.now }
+{
+    match command {
+        Command::Ls { access, .. } => !(access.plain || access.no_password),
+    }
+}
+
+/// The password of a command's database: the first line of the input, unless the database is plain or has none.
+#[tactic(auto, unfolding(crate::specs::Lines::password_of))]
+pub fn read_password<S: Source>(
+    alloc: Global,
+    input: &mut S,
+    command: &Command,
+) -> Result<Option<Secret>, Stop>
+    ensures told { (i : List ℕ) → TellsInput (spec.asks command.now) (S.left input.old) i → ReturnsAskedInput (option_map (λ line. line.bytes)) result (S.left input.old) (S.left input.new) (password_of command.now i) }
+    ensures given { IfOk result (λ password. HasPassword command.now (option_map (λ line. line.bytes) password)) }
+    ensures cause { IfErr result (IsLineStop (S.faults input.old) (S.faults input.new)) }
+    ensures faults { S.faults input.old ≤ S.faults input.new }
+{
+    if !asks(command) {
+        return Ok(None);
+    }
+    match read_line(alloc, input, 1) {
+        Ok(line) => Ok(Some(line)),
+        Err(stop) => Err(stop),
+    }
+}

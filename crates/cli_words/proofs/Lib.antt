@@ -1,0 +1,2 @@
+pub mod PrefixCases
+pub mod Stripping

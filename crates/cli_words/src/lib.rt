@@ -1,0 +1,8 @@
+//! The arguments of the program: which command they are.
+#![tactic(auto)]
+
+mod command;
+mod words;
+
+pub use command::{Access, Command};
+pub use words::read_words;

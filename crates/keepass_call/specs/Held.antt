@@ -1,0 +1,101 @@
+-- What a call that was carried out rests on: files that hold what was used of them, told of all their bytes.
+use Rattle.std.specs.Prelude.{◌≡◌, ◌≤◌, ℕ, Bool, true, false, List, length, Option, None, Some, ◌⊎◌, Ok}
+use Rattle.std.specs.FinMap as map
+use Rattle.outside_core.specs.Files.{FileMap}
+use Rattle.key_core.specs.KeyFile.{key_file_key}
+use Rattle.key_core.specs.Keys.{composite_key}
+use Rattle.vault_model.specs.Tree.{BareDoc}
+use Rattle.doc_forms.specs.Documents.{DocumentAndHash}
+use Rattle.kdbx_open.specs.Opening.{Vault}
+use Rattle.kdbx_open.specs.Sealed.{Sealed}
+use Rattle.cli_words.specs.declared.command.Command.{Command}
+use Rattle.cli_words.specs.declared.command.Command.TheVariants.{Ls}
+use Rattle.keepass_call.specs.declared.execute.Output.{Output}
+use Rattle.keepass_call.specs.Databases.{file_limit, plain_document}
+use Rattle.cli_lines.specs.Lines.{password_of}
+use Rattle.cli_lines.specs.Passwords.{HasPassword}
+use Rattle.keepass_call.specs.SomeFiles.{SomeDatabase}
+use Rattle.keepass_call.specs.Outcome.{Counts, Gains, NoFaults, output_of}
+use Rattle.cli_words.specs.Words.{command_of}
+
+-- The file of this name is there and within the limit, and these are its bytes.
+pub record IsThere (files : FileMap) (name bytes : List ℕ) : Type 0 where
+  pub found : map.get files name ≡ Some bytes
+  pub within : length bytes ≤ file_limit
+
+-- The file of this name is a plain document.
+pub record IsPlain (file : List ℕ) (files : FileMap) (doc : BareDoc) : Type 0 where
+  pub bytes : List ℕ
+  pub there : IsThere files file bytes
+  pub read : DocumentAndHash
+  pub says : plain_document bytes ≡ Ok read
+  pub is : read.0 ≡ doc
+
+-- The key file of this name gives this key.
+pub record IsKeyFile (name : List ℕ) (files : FileMap) (key : List ℕ) : Type 0 where
+  pub bytes : List ℕ
+  pub there : IsThere files name bytes
+  pub gives : key_file_key bytes ≡ Ok key
+
+-- The key file gives this key, where one is named.
+abbrev pub GivesKey : Option (List ℕ) → FileMap → Option (List ℕ) → Type 0
+GivesKey None files key = key ≡ None
+GivesKey (Some name) files key = (k : List ℕ) × (IsKeyFile name files k × (key ≡ Some k))
+
+-- The file of this name holds the document sealed under the composite key of the password and the key file.
+pub record IsSealed (key_file : Option (List ℕ)) (file : List ℕ) (password : Option (List ℕ)) (files : FileMap) (doc : BareDoc) : Type 0 where
+  pub key : Option (List ℕ)
+  pub gives_key : GivesKey key_file files key
+  pub bytes : List ℕ
+  pub there : IsThere files file bytes
+  pub vault : Vault
+  pub sealed : Sealed bytes (composite_key password key) vault
+  pub is : vault.doc ≡ doc
+
+-- A file holds the document: by itself, or sealed.
+abbrev pub HoldsBy : Bool → Option (List ℕ) → List ℕ → Option (List ℕ) → FileMap → BareDoc → Type 0
+HoldsBy true key_file file password files doc = IsPlain file files doc
+HoldsBy false key_file file password files doc = IsSealed key_file file password files doc
+
+-- The database of a command holds the document.
+abbrev pub Holds : Command → Option (List ℕ) → FileMap → BareDoc → Type 0
+Holds (Ls access file group recursive flat) password files doc = HoldsBy access.plain access.key_file file password files doc
+
+-- The words are a command, the line that is due is there, the database holds a document by it, and on that the command
+-- gives this.
+pub record IsCarried (words : List (List ℕ)) (input : List ℕ) (files : FileMap) (done : Output) : Type 0 where
+  pub command : Command
+  pub is_command : command_of words ≡ Ok command
+  pub password : Option (List ℕ)
+  pub is_password : (password_of command input).answer ≡ Ok password
+  pub doc : BareDoc
+  pub holds : Holds command password files doc
+  pub gives : output_of command doc ≡ Ok done
+
+-- What was printed is what the command gives on a document that the database holds.
+abbrev pub IsAuthentic : List (List ℕ) → List ℕ → FileMap → (written written' : Option (List ℕ)) → Type 0
+IsAuthentic words input files written written' =
+    (done : Output) × (IsCarried words input files done × Gains written written' done.text)
+
+-- ---- of some files
+
+-- This is what the command gives on a document that some file holds, under a password if one is due.
+pub record IsOfSomeFile (words : List (List ℕ)) (done : Output) : Type 0 where
+  pub command : Command
+  pub is_command : command_of words ≡ Ok command
+  pub password : Option (List ℕ)
+  pub has_password : HasPassword command password
+  pub doc : BareDoc
+  pub holds : SomeDatabase command password doc
+  pub gives : output_of command doc ≡ Ok done
+
+-- What was printed is so.
+abbrev pub PrintsOfSomeFile : List (List ℕ) → (written written' : Option (List ℕ)) → Type 0
+PrintsOfSomeFile words written written' = (done : Output) × (IsOfSomeFile words done × Gains written written' done.text)
+
+-- ---- what a call that was carried out rests on
+
+-- Where the words can be carried out and no count of faults rose, the status is 0, or memory ran out.
+abbrev pub IsComplete : List (List ℕ) → List ℕ → FileMap → ℕ → Counts → Counts → Type 0
+IsComplete words input files result before now =
+    (done : Output) → IsCarried words input files done → NoFaults before now → (result ≡ 0) ⊎ (result ≡ 9)

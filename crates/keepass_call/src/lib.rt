@@ -1,0 +1,12 @@
+//! The one call of the program: from its arguments, and the objects of the outside, to its status.
+#![tactic(auto)]
+
+mod databases;
+mod execute;
+mod run;
+
+pub use execute::Output;
+pub use run::keepass;
+
+/// The longest file that is read, in bytes.
+pub const FILE_LIMIT: u64 = 134_217_728;

@@ -1,8 +1,0 @@
-use Rattle.std.proofs.Common.{◌≡◌, drop}
-use Rattle.keepass_cli.specs.SaidWords.{said_seen}
-use Rattle.keepass_cli.specs.Words.{with_letters}
-use Rattle.keepass_cli.proofs.words.with_letters.Given as goal
-
-abbrev pub invariant-loop-letter : goal.invariant-loop-letter
-invariant-loop-letter l =
-    with_letters (drop l.letter-index l.letters) (said_seen l.said) ≡ with_letters l.letters (said_seen l.initial.said)
