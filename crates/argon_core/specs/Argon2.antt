@@ -1,5 +1,5 @@
--- Argon2d and Argon2id, version 0x13, with a tag of 32 bytes (RFC 9106). The blocks stand in lanes
--- by columns; a quarter of the columns is a slice, and the part of a lane in a slice a segment. Each
+-- Argon2d and Argon2id, version 0x13, with a tag of 32 bytes (RFC 9106). The blocks are in lanes by
+-- columns; a quarter of the columns is a slice, and the part of a lane in a slice a segment. Each
 -- pass over the memory fills slice after slice, in a slice lane after lane, and in a lane column
 -- after column. The numbers in brackets are the sections of the RFC.
 use Rattle.std.specs.Prelude.{ℕ, ◌<◌, ◌≤◌, zero, suc, ◌+◌, ◌-◌, ◌*◌, ◌/◌, ◌%◌, ◌^◌, ◌==◌, ◌&&◌, ◌||◌, nat_lt, Option, Some, None, if◌then◌else◌, Bool, false, List, [], ◌∷◌, ◌++◌, length, replicate, slice_index, slice_index_or}
@@ -61,7 +61,8 @@ first_hash kind p password salt secret extra = blake2b 64
 
 -- a block of the first two columns in the first pass (3.2, steps 3 and 4)
 abbrev pub first_block : Instance → ℕ → ℕ → List ℕ
-first_block i lane column = words 128 (variable_hash 1024 (i.first_hash ++ le32 column ++ le32 lane))
+first_block i lane column = words 128 (variable_hash 1024
+    (i.first_hash ++ le32 column ++ le32 lane))
 
 -- the values that choose other blocks do not depend on the blocks (3.4.1.3)
 abbrev pub is_independent : ArgonKind → ℕ → ℕ → Bool
@@ -71,7 +72,8 @@ is_independent Id pass slice = (pass == 0) && nat_lt slice 2
 -- the input block of the addresses of a segment: Z, a counter, and zeros (3.4.1.2)
 abbrev pub address_input : Instance → ℕ → ℕ → ℕ → ℕ → List ℕ
 address_input i pass lane slice counter =
-    pass ∷ lane ∷ slice ∷ memory_len i.params ∷ i.params.passes ∷ type_number i.kind ∷ counter ∷ replicate 121 0
+    pass ∷ lane ∷ slice ∷ memory_len i.params ∷ i.params.passes ∷ type_number i.kind ∷ counter ∷
+    replicate 121 0
 
 -- 128 values that choose other blocks (3.4.1.2)
 unfoldable pub address_block : Instance → ℕ → ℕ → ℕ → ℕ → List ℕ
@@ -85,9 +87,9 @@ abbrev pub other_lane : ArgonParams → ℕ → ℕ → ℕ → ℕ → ℕ
 other_lane p pass slice lane chooser =
     if (pass == 0) && (slice == 0) then lane else chooser / 2 ^ 32 % p.lanes
 
--- the size of the set W of blocks to choose from: the slices that are finished and, in the own lane,
--- the columns of this segment, but for the block before; in another lane not the last column of the
--- slice before where this segment begins (3.4.2)
+-- the size of the set W of blocks to choose from: the slices that are finished and, in the own
+-- lane, the columns of this segment, but for the block before; in another lane not the last column
+-- of the slice before where this segment begins (3.4.2)
 abbrev pub window_len : ArgonParams → ℕ → ℕ → ℕ → Bool → ℕ
 window_len p pass slice place is_own =
     let finished = (if pass == 0 then slice else 3) * segment_len p in
@@ -107,7 +109,8 @@ chosen_place len chooser =
 -- the column of the other block (3.4.2)
 abbrev pub other_column : ArgonParams → ℕ → ℕ → ℕ → Bool → ℕ → ℕ
 other_column p pass slice place is_own chooser =
-    (window_start p pass slice + chosen_place (window_len p pass slice place is_own) chooser) % lane_len p
+    (window_start p pass slice + chosen_place (window_len p pass slice place is_own) chooser) %
+    lane_len p
 
 -- the column before, round the end of the lane
 abbrev pub column_before : ArgonParams → ℕ → ℕ
@@ -120,8 +123,8 @@ chooser_of i before pass slice lane place =
     then slice_index (address_block i pass lane slice (place / 128 + 1)) (place % 128)
     else slice_index before 0
 
--- a block that is mixed of others, at a place of a segment, where the memory shows `seen lane column`
--- (3.2, steps 5 and 6)
+-- a block that is mixed of others, at a place of a segment, where the memory shows `seen lane
+-- column` (3.2, steps 5 and 6)
 unfoldable pub mixed_from : Instance → (ℕ → ℕ → List ℕ) → ℕ → ℕ → ℕ → ℕ → List ℕ
 mixed_from i seen pass slice lane place =
     let p = i.params in
@@ -162,7 +165,7 @@ offset_of p lane column =
 abbrev pub time_of : ArgonParams → ℕ → ℕ → ℕ → ℕ
 time_of p pass lane column = pass * memory_len p + offset_of p lane column
 
--- which block stands at this lane and column after n blocks: that of this pass, or if it is not
+-- which block is at this lane and column after n blocks: that of this pass, or if it is not
 -- filled yet that of the pass before
 abbrev pub latest : ArgonParams → ℕ → ℕ → ℕ → ℕ
 latest p n lane column =
@@ -187,7 +190,8 @@ block i pass lane column =
 -- the exclusive or of the last blocks of the first n lanes, after the last pass (3.2, step 7)
 unfoldable pub last_blocks : Instance → ℕ → List ℕ
 last_blocks i zero = replicate 128 0
-last_blocks i (suc n) = xor_blocks (last_blocks i n) (block i (i.params.passes - 1) n (lane_len i.params - 1))
+last_blocks i (suc n) = xor_blocks (last_blocks i n)
+    (block i (i.params.passes - 1) n (lane_len i.params - 1))
 
 -- the tag (3.2, step 8)
 unfoldable pub tag_of : Instance → List ℕ
@@ -196,4 +200,9 @@ tag_of i = variable_hash 32 (bytes_of (last_blocks i i.params.lanes))
 -- Argon2 of a password, a salt, a secret and extra data
 abbrev pub argon2 : ArgonKind → ArgonParams → List ℕ → List ℕ → List ℕ → List ℕ → List ℕ
 argon2 kind p password salt secret extra =
-    tag_of (record { kind = kind; params = p; first_hash = first_hash kind p password salt secret extra })
+    tag_of (record {
+      kind = kind;
+      params = p;
+      first_hash = first_hash kind p password salt secret
+          extra;
+    })

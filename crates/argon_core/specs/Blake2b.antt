@@ -39,7 +39,8 @@ mix a b c d x y =
 -- G at four places of the local vector v, with two words of the ordered message s
 abbrev pub mix_at : List ℕ → List ℕ → ℕ → ℕ → ℕ → ℕ → ℕ → ℕ × ℕ × ℕ × ℕ
 mix_at s v a b c d i =
-    mix (slice_index v a) (slice_index v b) (slice_index v c) (slice_index v d) (slice_index s (2 * i)) (slice_index s (2 * i + 1))
+    mix (slice_index v a) (slice_index v b) (slice_index v c) (slice_index v d)
+    (slice_index s (2 * i)) (slice_index s (2 * i + 1))
 
 -- the columns of the local vector mixed, with the first eight words of the ordered message (3.2)
 unfoldable pub column_step : List ℕ → List ℕ → List ℕ
@@ -99,7 +100,8 @@ compress h m t is_last =
 -- the state before the first block, for a digest of this many bytes and no key (3.3)
 abbrev pub initial_state : ℕ → List ℕ
 initial_state size =
-    bit_xor (bit_xor 0x6a09e667f3bcc908 0x01010000) size ∷ 0xbb67ae8584caa73b ∷ 0x3c6ef372fe94f82b ∷ 0xa54ff53a5f1d36f1
+    bit_xor (bit_xor 0x6a09e667f3bcc908 0x01010000) size ∷ 0xbb67ae8584caa73b ∷ 0x3c6ef372fe94f82b ∷
+    0xa54ff53a5f1d36f1
     ∷ 0x510e527fade682d1 ∷ 0x9b05688c2b3e6c1f ∷ 0x1f83d9abfb41bd6b ∷ 0x5be0cd19137e2179 ∷ []
 
 -- block n of a message, filled up with zeros where the message ends in it

@@ -28,7 +28,8 @@ mix_product a b c d =
 
 -- GB at four places of sixteen words
 abbrev pub mix_product_at : List ℕ → ℕ → ℕ → ℕ → ℕ → ℕ × ℕ × ℕ × ℕ
-mix_product_at v a b c d = mix_product (slice_index v a) (slice_index v b) (slice_index v c) (slice_index v d)
+mix_product_at v a b c d = mix_product (slice_index v a) (slice_index v b) (slice_index v c)
+    (slice_index v d)
 
 -- sixteen words, read as a square of four by four: GB on each column (3.6)
 unfoldable pub mixed_columns : List ℕ → List ℕ
@@ -61,18 +62,26 @@ permuted v = mixed_diagonals (mixed_columns v)
 -- the words of row r of a block
 abbrev pub row : List ℕ → ℕ → List ℕ
 row block r =
-    slice_index block (16 * r) ∷ slice_index block (16 * r + 1) ∷ slice_index block (16 * r + 2) ∷ slice_index block (16 * r + 3)
-    ∷ slice_index block (16 * r + 4) ∷ slice_index block (16 * r + 5) ∷ slice_index block (16 * r + 6) ∷ slice_index block (16 * r + 7)
-    ∷ slice_index block (16 * r + 8) ∷ slice_index block (16 * r + 9) ∷ slice_index block (16 * r + 10) ∷ slice_index block (16 * r + 11)
-    ∷ slice_index block (16 * r + 12) ∷ slice_index block (16 * r + 13) ∷ slice_index block (16 * r + 14) ∷ slice_index block (16 * r + 15) ∷ []
+    slice_index block (16 * r) ∷ slice_index block (16 * r + 1) ∷ slice_index block (16 * r + 2) ∷
+    slice_index block (16 * r + 3)
+    ∷ slice_index block (16 * r + 4) ∷ slice_index block (16 * r + 5) ∷ slice_index block
+    (16 * r + 6) ∷ slice_index block (16 * r + 7)
+    ∷ slice_index block (16 * r + 8) ∷ slice_index block (16 * r + 9) ∷ slice_index block
+    (16 * r + 10) ∷ slice_index block (16 * r + 11)
+    ∷ slice_index block (16 * r + 12) ∷ slice_index block (16 * r + 13) ∷ slice_index block
+    (16 * r + 14) ∷ slice_index block (16 * r + 15) ∷ []
 
 -- the words of column j of a block, two of each row
 abbrev pub column : List ℕ → ℕ → List ℕ
 column block j =
-    slice_index block (2 * j) ∷ slice_index block (2 * j + 1) ∷ slice_index block (2 * j + 16) ∷ slice_index block (2 * j + 17)
-    ∷ slice_index block (2 * j + 32) ∷ slice_index block (2 * j + 33) ∷ slice_index block (2 * j + 48) ∷ slice_index block (2 * j + 49)
-    ∷ slice_index block (2 * j + 64) ∷ slice_index block (2 * j + 65) ∷ slice_index block (2 * j + 80) ∷ slice_index block (2 * j + 81)
-    ∷ slice_index block (2 * j + 96) ∷ slice_index block (2 * j + 97) ∷ slice_index block (2 * j + 112) ∷ slice_index block (2 * j + 113) ∷ []
+    slice_index block (2 * j) ∷ slice_index block (2 * j + 1) ∷ slice_index block (2 * j + 16) ∷
+    slice_index block (2 * j + 17)
+    ∷ slice_index block (2 * j + 32) ∷ slice_index block (2 * j + 33) ∷ slice_index block
+    (2 * j + 48) ∷ slice_index block (2 * j + 49)
+    ∷ slice_index block (2 * j + 64) ∷ slice_index block (2 * j + 65) ∷ slice_index block
+    (2 * j + 80) ∷ slice_index block (2 * j + 81)
+    ∷ slice_index block (2 * j + 96) ∷ slice_index block (2 * j + 97) ∷ slice_index block
+    (2 * j + 112) ∷ slice_index block (2 * j + 113) ∷ []
 
 -- P on each row of a block (3.5)
 unfoldable pub permuted_rows : List ℕ → List ℕ
@@ -80,7 +89,8 @@ permuted_rows block = block_of (λ i. slice_index (permuted (row block (i / 16))
 
 -- P on each column of a block (3.5)
 unfoldable pub permuted_columns : List ℕ → List ℕ
-permuted_columns block = block_of (λ i. slice_index (permuted (column block (i % 16 / 2))) (2 * (i / 16) + i % 2))
+permuted_columns block = block_of (λ i. slice_index (permuted (column block (i % 16 / 2)))
+    (2 * (i / 16) + i % 2))
 
 -- the exclusive or of two blocks
 unfoldable pub xor_blocks : List ℕ → List ℕ → List ℕ

@@ -16,8 +16,10 @@ seen_in p memory lane column = slice_index_or memory (place_in p lane column) []
 -- the memory after n blocks: the latest block of each place that is filled
 pub record HoldsBlocks (i : Instance) (memory : List (List ℕ)) (n : ℕ) : Type 0 where
   pub len : length memory ≡ memory_len i.params
-  pub latest_blocks : (lane column : ℕ) → lane < i.params.lanes → column < lane_len i.params → offset_of i.params lane column < n
-      → seen_in i.params memory lane column ≡ slice_index_or (blocks i n) (latest i.params n lane column) []
+  pub latest_blocks : (lane column : ℕ) → lane < i.params.lanes → column < lane_len i.params
+      → offset_of i.params lane column < n
+      → seen_in i.params memory lane column ≡ slice_index_or (blocks i n)
+      (latest i.params n lane column) []
 
 -- how many blocks are filled before a segment
 abbrev pub segment_time : ArgonParams → ℕ → ℕ → ℕ → ℕ

@@ -31,8 +31,8 @@ fn first_unmet(params: &ArgonParams, salt_len: usize) -> Option<ArgonFail>
 /// The Argon2 tag of 32 bytes (RFC 9106, version 0x13) of a password, a salt, a secret and extra
 /// data, each of at most 65,536 bytes.
 ///
-/// The limits are looked at in the order of `ArgonFail`. The memory takes `params.kib` units of 1,024
-/// bytes at most, and is zeroed before it is given back.
+/// The limits are looked at in the order of `ArgonFail`. The memory takes `params.kib` units of
+/// 1,024 bytes at most, and is zeroed before it is given back.
 pub fn argon2(
     alloc: Global,
     kind: ArgonKind,
@@ -47,7 +47,8 @@ pub fn argon2(
     requires secret { length secret.now ≤ 65536 }
     requires extra { length extra.now ≤ 65536 }
     ensures unmet { IfSome (first_unmet params.now (length salt.now)) (λ fail. result ≡ Err fail) }
-    ensures met { IfNone (first_unmet params.now (length salt.now)) (IfErr result (λ fail. fail ≡ ArgonFail.NoMemory)) }
+    ensures met { IfNone (first_unmet params.now (length salt.now))
+        (IfErr result (λ fail. fail ≡ ArgonFail.NoMemory)) }
     ensures tag { IfOk result (λ key.
         key ≡ argon2 kind params.now password.now salt.now secret.now extra.now) }
 {

@@ -272,7 +272,8 @@ impl Hasher {
         requires some { 0 < length piece.now }
         requires fits { self.old.absorbed + self.old.filled + length piece.now < 2 ^ 127 }
         ensures progress { (0 < result) × (result ≤ length piece.now) }
-        ensures total { self.new.absorbed + self.new.filled ≡ self.old.absorbed + self.old.filled + result }
+        ensures total { self.new.absorbed + self.new.filled
+            ≡ self.old.absorbed + self.old.filled + result }
         ensures holds { (size : ℕ) (message : List ℕ) → Holds size self.old message
             → Holds size self.new (message ++ take result piece.now) }
     {
@@ -287,7 +288,8 @@ impl Hasher {
     // Adds `piece` to the message.
     pub(crate) fn update(&mut self, piece: &[u8])
         requires { self.old.absorbed + self.old.filled + length piece.now < 2 ^ 127 }
-        ensures total { self.new.absorbed + self.new.filled ≡ self.old.absorbed + self.old.filled + length piece.now }
+        ensures total { self.new.absorbed + self.new.filled
+            ≡ self.old.absorbed + self.old.filled + length piece.now }
         ensures holds { (size : ℕ) (message : List ℕ) → Holds size self.old message
             → Holds size self.new (message ++ piece.now) }
     {

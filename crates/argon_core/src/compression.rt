@@ -168,7 +168,8 @@ fn column(block: &Block, j: usize) -> [u64; 16]
 #[inline(always)]
 fn put_column(block: &mut Block, j: usize, words: [u64; 16])
     requires { j < 8 }
-    ensures here { (k : ℕ) → k < 16 → slice_index block.new (16 * (k / 2) + 2 * j + k % 2) ≡ slice_index words k }
+    ensures here { (k : ℕ) → k < 16 → slice_index block.new (16 * (k / 2) + 2 * j + k % 2)
+        ≡ slice_index words k }
     ensures others { (i : ℕ) → i % 16 / 2 ≢ j → slice_index block.new i ≡ slice_index block.old i }
 {
     'words: for k in 0..16usize {

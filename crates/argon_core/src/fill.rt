@@ -12,15 +12,16 @@ use crate::params::{ArgonKind, Instance, Segment};
 
 const ADDRESSES_IN_BLOCK: usize = 128;
 
-// Fills place `at` of the memory from the blocks before it and of another lane. After the first pass
-// what stood there is mixed in.
+// Fills place `at` of the memory from the blocks before it and of another lane. After the first
+// pass what stood there is mixed in.
 fn refill(memory: &mut [Block], before: usize, other: usize, at: usize, is_first: bool)
     requires few { length memory.old ≤ 1048576 }
     requires before { before < length memory.old }
     requires other { other < length memory.old }
     requires at { at < length memory.old }
     ensures { memory.new ≡ slice_set memory.old at
-        (let fresh = compressed (slice_index_or memory.old before []) (slice_index_or memory.old other []) in
+        (let fresh = compressed (slice_index_or memory.old before [])
+        (slice_index_or memory.old other []) in
         if is_first then fresh else xor_blocks fresh (slice_index_or memory.old at [])) }
 {
     let mut fresh = compress(&memory[before], &memory[other]);
@@ -30,7 +31,8 @@ fn refill(memory: &mut [Block], before: usize, other: usize, at: usize, is_first
     memory[at] = fresh;
 }
 
-// The place in a window of blocks that a half of the choosing value chooses: the later, the likelier.
+// The place in a window of blocks that a half of the choosing value chooses: the later, the
+// likelier.
 fn chosen_place(window: usize, half: u64) -> usize
     requires some { 0 < window }
     requires few { window ≤ 1048576 }
@@ -69,7 +71,7 @@ impl Instance {
         self.params.lanes as usize * self.lane_len()
     }
 
-    // Where the block of a lane and a column stands in the memory.
+    // Where the block of a lane and a column is in the memory.
     fn place_of(&self, lane: usize, column: usize) -> usize
         requires limits { IsWithinLimits self.now.params }
         requires lane { lane < self.now.params.lanes }
@@ -180,7 +182,7 @@ impl Instance {
         (self.window_start(at) + chosen) % self.lane_len()
     }
 
-    // Where the other block of a place stands in the memory, by the value that chooses it.
+    // Where the other block of a place is in the memory, by the value that chooses it.
     fn other_place(&self, at: Segment, place: usize, chooser: u64) -> usize
         requires limits { IsWithinLimits self.now.params }
         requires slice { at.slice < 4 }
@@ -236,7 +238,8 @@ impl Instance {
         requires addresses { is_independent self.now.kind at.pass at.slice ≡ true
             → addresses.now ≡ address_block self.now at.pass at.lane at.slice (place / 128 + 1) }
         ensures { let p = self.now.params in
-            memory.new ≡ slice_set memory.old (place_in p at.lane (at.slice * segment_len p + place))
+            memory.new ≡ slice_set memory.old
+            (place_in p at.lane (at.slice * segment_len p + place))
             (mixed_from self.now (seen_in p memory.old) at.pass at.slice at.lane place) }
     {
         let column = at.slice * self.segment_len() + place;
@@ -257,7 +260,8 @@ impl Instance {
         requires addresses { is_independent self.now.kind at.pass at.slice ≡ true
             → addresses.now ≡ address_block self.now at.pass at.lane at.slice (place / 128 + 1) }
         ensures { let p = self.now.params in
-            memory.new ≡ slice_set memory.old (place_in p at.lane (at.slice * segment_len p + place))
+            memory.new ≡ slice_set memory.old
+            (place_in p at.lane (at.slice * segment_len p + place))
             (next_from self.now (seen_in p memory.old) at.pass at.slice at.lane place) }
     {
         let column = at.slice * self.segment_len() + place;
@@ -308,7 +312,8 @@ impl Instance {
     /// The exclusive or of the last blocks of all lanes.
     pub(crate) fn last_block(&self, memory: &[Block]) -> SingleBlock
         requires limits { IsWithinLimits self.now.params }
-        requires filled { HoldsBlocks self.now memory.now (self.now.params.passes * memory_len self.now.params) }
+        requires filled { HoldsBlocks self.now memory.now
+            (self.now.params.passes * memory_len self.now.params) }
         ensures { result.words ≡ last_blocks self.now self.now.params.lanes }
     {
         let mut last = SingleBlock::zeros();

@@ -21,7 +21,8 @@ const TAG_LEN: u32 = 32;
 // Adds the four bytes of a number.
 fn update_number(hasher: &mut Hasher, number: u32)
     requires { hasher.old.absorbed + hasher.old.filled < 2 ^ 64 }
-    ensures total { hasher.new.absorbed + hasher.new.filled ≡ hasher.old.absorbed + hasher.old.filled + 4 }
+    ensures total { hasher.new.absorbed + hasher.new.filled
+        ≡ hasher.old.absorbed + hasher.old.filled + 4 }
     ensures holds { (size : ℕ) (message : List ℕ) → Holds size hasher.old message
         → Holds size hasher.new (message ++ le32 number) }
 {

@@ -1,4 +1,5 @@
-//! The memory of a computation, and single blocks beside it, which are all zero again before they are given back.
+//! The memory of a computation, and single blocks beside it, which are all zero again before they
+//! are given back.
 
 ghost use Rattle.std.specs.Prelude.{◌≡◌, IfOk, length, replicate, vec_len};
 ghost use Rattle.argon_core.specs.Memory.{IsWiped};

@@ -1,5 +1,5 @@
-//! Does the work that `bench/primitives` times: one primitive, over as many pieces of a MiB as its arguments
-//! ask for. It prints the first bytes of what was made, so that the work can be compared.
+//! Does the work that `bench/primitives` times: one primitive, over as many pieces of a MiB as its
+//! arguments ask for. It prints the first bytes of what was made, so that the work can be compared.
 #![tactic(auto)]
 
 ghost use Rattle.std.specs.Prelude.{◌≡◌, ◌%◌, ◌≤◌, ◌^◌, length};
@@ -117,7 +117,8 @@ fn transform_by_aes(rt: &impl AllocGlobal, text: &mut [u8], turns: u32) {
     }
 }
 
-// Does the work of this name over one piece; false where there is none of the name, or the text is no piece.
+// Does the work of this name over one piece; false where there is none of the name, or the text is
+// no piece.
 fn work(rt: &impl AllocGlobal, name: &str, text: &mut [u8], turns: u32) -> bool {
     if text.len() != PIECE {
         return false;

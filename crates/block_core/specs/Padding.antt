@@ -1,4 +1,5 @@
--- Padding to whole blocks of sixteen bytes: n bytes of value n, from 1 to 16 (RFC 5652, section 6.3).
+-- Padding to whole blocks of sixteen bytes: n bytes of value n, from 1 to 16 (RFC 5652, section
+-- 6.3).
 use Rattle.std.specs.Prelude.{◌≡◌, ◌+◌, ◌-◌, ◌%◌, ◌<◌, ◌≤◌, ◌++◌, ℕ, List, length, take, drop, replicate, slice_index, Option, Some, None, Result, Ok, Err, bytes_eq, nat_lt, ◌==◌, if◌then◌else◌}
 
 -- n bytes of this text come before its padding
@@ -18,7 +19,8 @@ unpadded text =
     if length text % 16 == 0
     then (if nat_lt 0 (padding_count text)
     then (if nat_lt (padding_count text) 17
-    then (if bytes_eq (drop (length text - padding_count text) text) (replicate (padding_count text) (padding_count text))
+    then (if bytes_eq (drop (length text - padding_count text) text)
+    (replicate (padding_count text) (padding_count text))
     then Some (take (length text - padding_count text) text)
     else None)
     else None)

@@ -1,4 +1,5 @@
-//! Block ciphers with keys of 256 bits, AES and Twofish, with the chaining and the padding of blocks.
+//! Block ciphers with keys of 256 bits, AES and Twofish, with the chaining and the padding of
+//! blocks.
 #![tactic(auto)]
 
 mod aes;

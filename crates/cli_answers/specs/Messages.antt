@@ -44,15 +44,17 @@ status_of LineLimit = 8
 status_of OutOfMemory = 9
 status_of (InputEnded number) = 12
 
--- What an answer says of its subject: numbers in decimal, ids in lower case with hyphens, bytes in lower-case
--- hexadecimal.
+-- What an answer says of its subject: numbers in decimal, ids in lower case with hyphens, bytes in
+-- lower-case hexadecimal.
 abbrev pub reason_text : Reason → List ℕ
 reason_text WrongWords = codes "wrong words"
 reason_text NoSuchPath = codes "not found"
-reason_text (DamagedOrWrongKey kept found) = codes "damaged or wrong key: kept " ++ encode_lower kept ++ codes " found " ++ encode_lower found
+reason_text (DamagedOrWrongKey kept found) = codes "damaged or wrong key: kept "
+    ++ encode_lower kept ++ codes " found " ++ encode_lower found
 reason_text (DamagedBlock number) = codes "damaged block " ++ decimal number
 reason_text WrongKeyOrDamaged = codes "wrong key or damaged"
-reason_text (KeyFileHash kept found) = codes "key file: kept " ++ encode_lower kept ++ codes " found " ++ encode_lower found
+reason_text (KeyFileHash kept found) = codes "key file: kept " ++ encode_lower kept
+    ++ codes " found " ++ encode_lower found
 reason_text NotKdbx = codes "not a KDBX file"
 reason_text (EndsEarly place) = codes "ends early at " ++ decimal place
 reason_text (BadHeaderField id) = codes "bad header field " ++ decimal id

@@ -8,7 +8,8 @@ use Rattle.cli_answers.specs.declared.answers.Stop.TheVariants.{Refused, FileFau
 
 -- ---- how the code stands to it
 
--- A phase that stopped was refused as it is defined; a fault and want of memory tell nothing of that.
+-- A phase that stopped was refused as it is defined; a fault and want of memory say nothing of
+-- that.
 abbrev pub Stops : {Y : Type 0} → Stop → Result Y Refusal → Type 0
 Stops (Refused refusal) defined = defined ≡ Err refusal
 Stops (FileFault name) defined = Unit {0}
@@ -27,17 +28,19 @@ pub record InputAnswer (A : Type 0) : Type 0 where
 
 -- A phase that takes from the input was refused as it is defined, and left what is defined.
 abbrev pub RefusesInput : {Y : Type 0} → Stop → Option (List ℕ) → InputAnswer Y → Type 0
-RefusesInput (Refused refusal) left defined = (defined.answer ≡ Err refusal) × (left ≡ Some defined.left)
+RefusesInput (Refused refusal) left defined = (defined.answer ≡ Err refusal)
+    × (left ≡ Some defined.left)
 RefusesInput (FileFault name) left defined = Unit {0}
 RefusesInput InputFault left defined = Unit {0}
 RefusesInput NoMemory left defined = Unit {0}
 
 -- A phase took from the input what it is defined to take, or stopped.
-abbrev pub ReturnsInput : {X Y : Type 0} → (X → Y) → Result X Stop → Option (List ℕ) → InputAnswer Y → Type 0
+abbrev pub ReturnsInput : {X Y : Type 0} → (X → Y) → Result X Stop → Option (List ℕ) → InputAnswer Y
+    → Type 0
 ReturnsInput seen (Ok x) left defined = (defined.answer ≡ Ok (seen x)) × (left ≡ Some defined.left)
 ReturnsInput seen (Err stop) left defined = RefusesInput stop left defined
 
--- This is left of the input, as it tells; or it tells nothing, and no line is asked for.
+-- This is left of the input, as it tells; or it says nothing, and no line is asked for.
 abbrev pub TellsInput : Bool → Option (List ℕ) → List ℕ → Type 0
 TellsInput asked (Some left) input = left ≡ input
 TellsInput asked None input = asked ≡ false
@@ -47,15 +50,19 @@ abbrev pub IsLeft : Option (List ℕ) → Option (List ℕ) → List ℕ → Typ
 IsLeft before now defined = now ≡ option_map (λ left. defined) before
 
 -- A phase that may take from the input was refused as it is defined, and left what is defined.
-abbrev pub RefusesAskedInput : {Y : Type 0} → Stop → (before now : Option (List ℕ)) → InputAnswer Y → Type 0
-RefusesAskedInput (Refused refusal) before now defined = (defined.answer ≡ Err refusal) × IsLeft before now defined.left
+abbrev pub RefusesAskedInput : {Y : Type 0} → Stop → (before now : Option (List ℕ)) → InputAnswer Y
+    → Type 0
+RefusesAskedInput (Refused refusal) before now defined = (defined.answer ≡ Err refusal)
+    × IsLeft before now defined.left
 RefusesAskedInput (FileFault name) before now defined = Unit {0}
 RefusesAskedInput InputFault before now defined = Unit {0}
 RefusesAskedInput NoMemory before now defined = Unit {0}
 
 -- A phase took from the input what it is defined to take, if anything, or stopped.
-abbrev pub ReturnsAskedInput : {X Y : Type 0} → (X → Y) → Result X Stop → (before now : Option (List ℕ)) → InputAnswer Y → Type 0
-ReturnsAskedInput seen (Ok x) before now defined = (defined.answer ≡ Ok (seen x)) × IsLeft before now defined.left
+abbrev pub ReturnsAskedInput : {X Y : Type 0} → (X → Y) → Result X Stop
+    → (before now : Option (List ℕ)) → InputAnswer Y → Type 0
+ReturnsAskedInput seen (Ok x) before now defined = (defined.answer ≡ Ok (seen x))
+    × IsLeft before now defined.left
 ReturnsAskedInput seen (Err stop) before now defined = RefusesAskedInput stop before now defined
 
 -- What is left of the input is what is defined, unless the input failed or memory ran out.
@@ -103,17 +110,22 @@ IsPlainStop (FileFault name) = ⊥
 IsPlainStop InputFault = ⊥
 IsPlainStop NoMemory = Unit {0}
 
--- A stop at a file: it is called missing only where the store's count of absences rose, and a fault is told only where
--- its count of faults rose, and of one of these files.
+-- A stop at a file: it is called missing only where the store's count of absences rose, and a fault
+-- is reported only where its count of faults rose, and of one of these files.
 abbrev pub IsFileStop : List (List ℕ) → (faults faults' absences absences' : ℕ) → Stop → Type 0
-IsFileStop names faults faults' absences absences' (Refused refusal) = refusal.reason ≡ NoSuchFile → Increased absences absences'
-IsFileStop names faults faults' absences absences' (FileFault name) = Increased faults faults' × Contains names name
+IsFileStop names faults faults' absences absences' (Refused refusal) = refusal.reason ≡ NoSuchFile
+    → Increased absences absences'
+IsFileStop names faults faults' absences absences' (FileFault name) = Increased faults faults'
+    × Contains names name
 IsFileStop names faults faults' absences absences' InputFault = ⊥
 IsFileStop names faults faults' absences absences' NoMemory = Unit {0}
 
 -- A stop of a call: at a file, or of the input, which failed only where its count of faults rose.
-abbrev pub IsCaused : List (List ℕ) → (faults faults' absences absences' input input' : ℕ) → Stop → Type 0
-IsCaused names faults faults' absences absences' input input' (Refused refusal) = refusal.reason ≡ NoSuchFile → Increased absences absences'
-IsCaused names faults faults' absences absences' input input' (FileFault name) = Increased faults faults' × Contains names name
+abbrev pub IsCaused : List (List ℕ) → (faults faults' absences absences' input input' : ℕ) → Stop
+    → Type 0
+IsCaused names faults faults' absences absences' input input' (Refused refusal) = refusal.reason
+    ≡ NoSuchFile → Increased absences absences'
+IsCaused names faults faults' absences absences' input input' (FileFault name) = Increased faults
+    faults' × Contains names name
 IsCaused names faults faults' absences absences' input input' InputFault = Increased input input'
 IsCaused names faults faults' absences absences' input input' NoMemory = Unit {0}

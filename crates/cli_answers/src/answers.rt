@@ -8,7 +8,8 @@ use outside_core::{Bytes, NoMemory, Text};
 use std::alloc::{AllocError, Global};
 use uuid::Uuid;
 
-/// Why a call of the program is refused. A place is in bytes from the start of the file, or of its deciphered text.
+/// Why a call of the program is refused. A place is in bytes from the start of the file, or of its
+/// deciphered text.
 #[derive(Clone, Copy, Debug, PartialEq, Eq)]
 pub enum Reason {
     /// The words are no command.
@@ -33,7 +34,8 @@ pub enum Reason {
     BadDictionary(u64),
     /// The document leaves the grammar of markup at the place.
     Form(usize),
-    /// The document lacks an element that must be there: of a group or an entry at the place, or of the whole at 0.
+    /// The document lacks an element that must be there: of a group or an entry at the place, or of
+    /// the whole at 0.
     MissingElement(usize),
     /// The element at the place says what its kind cannot say.
     BadValue(usize),
@@ -139,14 +141,15 @@ pub fn status(reason: &Reason) -> u8
     }
 }
 
-// Bytes that are kept and bytes that are found, behind a text.
+// Bytes that are kept and bytes that are found, after a text.
 fn compared<const N: usize>(
     alloc: Global,
     front: &str,
     kept: [u8; N],
     found: [u8; N],
 ) -> Result<String, AllocError>
-    ensures { IfOk result (λ text. string_bytes text ≡ front.now ++ encode_lower kept.entry ++ codes " found " ++ encode_lower found.entry) }
+    ensures { IfOk result (λ text. string_bytes text ≡ front.now ++ encode_lower kept.entry
+        ++ codes " found " ++ encode_lower found.entry) }
 {
     let mut text = String::from_str(alloc, front)?;
     text.push_str(hex::encode(alloc, kept)?.as_str())?;
@@ -164,7 +167,8 @@ fn line_is(alloc: Global, number: u64, wrong: &str) -> Result<String, AllocError
     Ok(text)
 }
 
-/// The text of an answer: numbers in decimal, ids in lower case with hyphens, bytes in lower-case hexadecimal.
+/// The text of an answer: numbers in decimal, ids in lower case with hyphens, bytes in lower-case
+/// hexadecimal.
 pub fn text_of_reason(alloc: Global, reason: &Reason) -> Result<String, AllocError>
     ensures { IfOk result (λ text. string_bytes text ≡ reason_text reason.now) }
 {

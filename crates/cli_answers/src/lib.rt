@@ -1,4 +1,5 @@
-//! What the program refuses with: reasons, their statuses and texts, and how a phase of a call stops.
+//! What the program refuses with: reasons, their statuses and texts, and how a phase of a call
+//! stops.
 #![tactic(auto)]
 
 mod answers;

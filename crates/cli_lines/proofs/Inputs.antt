@@ -36,4 +36,3 @@ line_stops (Refused refusal) before now input command a e h =
 line_stops (FileFault name) before now input command a e h = tt
 line_stops InputFault before now input command a e h = tt
 line_stops NoMemory before now input command a e h = tt
-

@@ -26,9 +26,9 @@ abbrev pub ends_next : List ℕ → Bool
 ends_next [] = false
 ends_next (b ∷ bs) = b == 10
 
--- The rest of a line of which n bytes are read: up to a line feed, or a carriage return and a line feed, or the end. A
--- line has at most 4,096 bytes; what shows that it has more is read too, the byte behind a carriage return in the
--- 4,097th place among it.
+-- The rest of a line of which n bytes are read: up to a line feed, or a carriage return and a line
+-- feed, or the end. A line has at most 4,096 bytes; what shows that it has more is read too, the
+-- byte after a carriage return in the 4,097th place among it.
 abbrev pub line_from : ℕ → List ℕ → InputAnswer (List ℕ)
 line_from n [] = whole []
 line_from n (b ∷ bs) =
@@ -39,17 +39,30 @@ line_from n (b ∷ bs) =
 
 -- A line must be in UTF-8.
 abbrev pub as_text : ℕ → List ℕ → Result (List ℕ) Refusal
-as_text number line = if is_utf8 line then Ok line else Err (refusal_of (LineForm number) (codes "input"))
+as_text number line = if is_utf8 line then Ok line else Err
+    (refusal_of (LineForm number) (codes "input"))
 
 -- The line of this number, which is due.
 abbrev pub line_of : ℕ → List ℕ → InputAnswer (List ℕ)
-line_of number [] = record { answer = Err (refusal_of (InputEnded number) (codes "input")); left = [] }
+line_of number [] = record {
+  answer = Err (refusal_of (InputEnded number) (codes "input"));
+  left =
+      [];
+}
 line_of number (b ∷ bs) =
-    record { answer = (line_from 0 (b ∷ bs)).answer >>= as_text number; left = (line_from 0 (b ∷ bs)).left }
+    record {
+      answer = (line_from 0 (b ∷ bs)).answer >>= as_text number;
+      left =
+          (line_from 0 (b ∷ bs)).left;
+    }
 
 -- The password that a line is, where one is due.
 abbrev pub password_if : Bool → List ℕ → InputAnswer (Option (List ℕ))
-password_if true input = record { answer = (line_of 1 input).answer >>= λ line. Ok (Some line); left = (line_of 1 input).left }
+password_if true input = record {
+  answer = (line_of 1 input).answer >>= λ line. Ok (Some line);
+  left
+      = (line_of 1 input).left;
+}
 password_if false input = record { answer = Ok None; left = input }
 
 -- Whether a command asks for a line: the password of a database that is not plain and has one.
@@ -58,4 +71,5 @@ asks (Ls access file group recursive flat) = cond (access.plain || access.no_pas
 
 -- The password of a command's database: the first line, unless the database is plain or has none.
 unfoldable pub password_of : Command → List ℕ → InputAnswer (Option (List ℕ))
-password_of (Ls access file group recursive flat) input = password_if (cond (access.plain || access.no_password) false true) input
+password_of (Ls access file group recursive flat) input = password_if
+    (cond (access.plain || access.no_password) false true) input

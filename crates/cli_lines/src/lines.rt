@@ -20,7 +20,8 @@ const LINE_LIMIT: usize = 4096;
 
 // The next byte of the input, or none at its end.
 fn next_byte<S: Source>(input: &mut S) -> Result<Option<u8>, SourceFail>
-    ensures told { (i : List ℕ) → S.left input.old ≡ Some i → ComesNext result i (S.left input.new) }
+    ensures told { (i : List ℕ) → S.left input.old ≡ Some i
+        → ComesNext result i (S.left input.new) }
     ensures cause { HasCause SourceFail.Failed (S.faults input.old) (S.faults input.new) result }
 {
     let mut byte = [0; 1];
@@ -32,7 +33,7 @@ fn next_byte<S: Source>(input: &mut S) -> Result<Option<u8>, SourceFail>
     }
 }
 
-// Puts a byte behind a line, unless the line has room for no more.
+// Puts a byte after a line, unless the line has room for no more.
 fn push(line: &mut Secret, byte: u8) -> bool
     requires { length line.old.bytes + line.old.spare ≡ 4096 }
     ensures { IsPushed result byte line.old line.new }
@@ -44,14 +45,16 @@ fn push(line: &mut Secret, byte: u8) -> bool
     true
 }
 
-// Puts a byte, which is no line feed, behind a line and a carriage return that waits. Gives whether a carriage return
-// waits now; or none where the line is too long.
+// Puts a byte, which is no line feed, after a line and a carriage return that waits. Gives whether
+// a carriage return waits now; or none where the line is too long.
 fn put(line: &mut Secret, returned: bool, byte: u8) -> Option<bool>
     requires room { length line.old.bytes + line.old.spare ≡ 4096 }
     requires no_end { byte ≢ 10 }
     ensures room { length line.new.bytes + line.new.spare ≡ 4096 }
-    ensures puts { (rest : List ℕ) → Puts result line.new.bytes rest (cut line.old.bytes returned (byte ∷ rest)) }
-    ensures lighter { IfSome result (λ now. weight line.new.spare now < weight line.old.spare returned) }
+    ensures puts { (rest : List ℕ) → Puts result line.new.bytes rest
+        (cut line.old.bytes returned (byte ∷ rest)) }
+    ensures lighter { IfSome result (λ now. weight line.new.spare now < weight line.old.spare
+        returned) }
 {
     if returned && !push(line, b'\r') {
         return None;
@@ -62,7 +65,7 @@ fn put(line: &mut Secret, returned: bool, byte: u8) -> Option<bool>
     if push(line, byte) { Some(false) } else { None }
 }
 
-// Ends a line where the input ends, and tells whether it is not too long.
+// Ends a line where the input ends, and reports whether it is not too long.
 fn end(line: &mut Secret, returned: bool) -> bool
     requires { length line.old.bytes + line.old.spare ≡ 4096 }
     ensures { Ends result line.new.bytes (cut line.old.bytes returned []) [] }
@@ -70,11 +73,12 @@ fn end(line: &mut Secret, returned: bool) -> bool
     !returned || push(line, b'\r')
 }
 
-// Reads the line that begins with a byte, and tells whether it is not too long.
+// Reads the line that begins with a byte, and reports whether it is not too long.
 fn read_from<S: Source>(input: &mut S, first: u8, line: &mut Secret) -> Result<bool, SourceFail>
     requires bytes { line.old.bytes ≡ [] }
     requires spare { line.old.spare ≡ 4096 }
-    ensures told { (i : List ℕ) → S.left input.old ≡ Some i → Cuts result line.new.bytes (S.left input.new) (line_from 0 (first ∷ i)) }
+    ensures told { (i : List ℕ) → S.left input.old ≡ Some i
+        → Cuts result line.new.bytes (S.left input.new) (line_from 0 (first ∷ i)) }
     ensures cause { HasCause SourceFail.Failed (S.faults input.old) (S.faults input.new) result }
 {
     let mut byte = first;
@@ -92,7 +96,7 @@ fn read_from<S: Source>(input: &mut S, first: u8, line: &mut Secret) -> Result<b
     Ok(true)
 }
 
-// Tells whether bytes are UTF-8.
+// Reports whether bytes are UTF-8.
 fn is_text(bytes: &[u8]) -> bool
     ensures { result ≡ is_utf8 bytes.now }
 {
@@ -102,7 +106,7 @@ fn is_text(bytes: &[u8]) -> bool
     }
 }
 
-// Tells whether a line is UTF-8.
+// Reports whether a line is UTF-8.
 fn is_text_line(line: &Secret) -> bool
     ensures { result ≡ is_utf8 line.now.bytes }
 {
@@ -111,7 +115,8 @@ fn is_text_line(line: &Secret) -> bool
 
 // The line of this number.
 fn read_line<S: Source>(alloc: Global, input: &mut S, number: u64) -> Result<Secret, Stop>
-    ensures told { (i : List ℕ) → S.left input.old ≡ Some i → ReturnsInput (λ line. line.bytes) result (S.left input.new) (line_of number i) }
+    ensures told { (i : List ℕ) → S.left input.old ≡ Some i
+        → ReturnsInput (λ line. line.bytes) result (S.left input.new) (line_of number i) }
     ensures cause { IfErr result (IsLineStop (S.faults input.old) (S.faults input.new)) }
     ensures faults { S.faults input.old ≤ S.faults input.new }
 {
@@ -131,7 +136,8 @@ fn read_line<S: Source>(alloc: Global, input: &mut S, number: u64) -> Result<Sec
     }
 }
 
-// Tells whether a command asks for a line: the password of a database that is not plain and has one.
+// Reports whether a command asks for a line: the password of a database that is not plain and has
+// one.
 fn asks(command: &Command) -> bool
     ensures { result ≡ spec.asks command.now }
 {
@@ -140,15 +146,19 @@ fn asks(command: &Command) -> bool
     }
 }
 
-/// The password of a command's database: the first line of the input, unless the database is plain or has none.
+/// The password of a command's database: the first line of the input, unless the database is plain
+/// or has none.
 #[tactic(auto, unfolding(crate::specs::Lines::password_of))]
 pub fn read_password<S: Source>(
     alloc: Global,
     input: &mut S,
     command: &Command,
 ) -> Result<Option<Secret>, Stop>
-    ensures told { (i : List ℕ) → TellsInput (spec.asks command.now) (S.left input.old) i → ReturnsAskedInput (option_map (λ line. line.bytes)) result (S.left input.old) (S.left input.new) (password_of command.now i) }
-    ensures given { IfOk result (λ password. HasPassword command.now (option_map (λ line. line.bytes) password)) }
+    ensures told { (i : List ℕ) → TellsInput (spec.asks command.now) (S.left input.old) i
+        → ReturnsAskedInput (option_map (λ line. line.bytes)) result (S.left input.old)
+        (S.left input.new) (password_of command.now i) }
+    ensures given { IfOk result (λ password. HasPassword command.now
+        (option_map (λ line. line.bytes) password)) }
     ensures cause { IfErr result (IsLineStop (S.faults input.old) (S.faults input.new)) }
     ensures faults { S.faults input.old ≤ S.faults input.new }
 {

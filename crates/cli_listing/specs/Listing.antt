@@ -6,32 +6,37 @@ use Rattle.vault_model.specs.Shape.{EntryRecord}
 use Rattle.vault_model.specs.Tree.{BareDoc, Tree, Trees, node, none, beside}
 use Rattle.vault_model.specs.Walk.{name_of, title_of}
 
--- What stands in front of the names in a group: two spaces for each level, or the path.
+-- What is before the names in a group: two spaces for each level, or the path.
 abbrev pub front_below : Bool → List ℕ → List ℕ → List ℕ
 front_below true front name = (front ++ name) ++ codes "/"
 front_below false front name = front ++ codes "  "
 
 -- The titles of entries, each on a line.
 abbrev pub title_lines : List ℕ → List (NodeId × EntryRecord) → List ℕ
-title_lines front entries = flat_map (λ (e : NodeId × EntryRecord). (front ++ title_of e.1) ++ codes "\n") entries
+title_lines front entries = flat_map (λ (e : NodeId × EntryRecord). (front ++ title_of e.1)
+    ++ codes "\n") entries
 
--- The titles of a group's entries, then the names of its groups, each with a slash and on a line, and behind each, where
--- the listing goes down, what is listed of it.
+-- The titles of a group's entries, then the names of its groups, each with a slash and on a line,
+-- and after each, where the listing goes down, what is listed of it.
 abbrev mutual
   pub group_lines : (recursive flat : Bool) → List ℕ → Tree → List ℕ
-  group_lines recursive flat front (node id group entries groups) = title_lines front entries ++ name_lines recursive flat front groups
+  group_lines recursive flat front (node id group entries groups) = title_lines front entries
+      ++ name_lines recursive flat front groups
 
   -- the same of groups side by side
   pub name_lines : (recursive flat : Bool) → List ℕ → Trees → List ℕ
   name_lines recursive flat front none = []
   name_lines recursive flat front (beside tree trees) =
-      (((front ++ name_of tree) ++ codes "/\n") ++ cond recursive (group_lines recursive flat (front_below flat front (name_of tree)) tree) [])
+      (((front ++ name_of tree) ++ codes "/\n")
+      ++ cond recursive (group_lines recursive flat (front_below flat front (name_of tree))
+      tree) [])
       ++ name_lines recursive flat front trees
 
 -- The group of this id in a tree: the first in document order.
 abbrev mutual
   pub tree_with : NodeId → Tree → Option Tree
-  tree_with id (node u group entries groups) = cond (bytes_eq u id) (Some (node u group entries groups)) (tree_among id groups)
+  tree_with id (node u group entries groups) = cond (bytes_eq u id)
+      (Some (node u group entries groups)) (tree_among id groups)
 
   -- the same of groups side by side
   pub tree_among : NodeId → Trees → Option Tree

@@ -16,11 +16,11 @@ use vault_model::{Doc, Entry, Group};
 pub struct Manner {
     /// With the groups below them.
     pub recursive: bool,
-    /// With paths in front of names, in the place of spaces.
+    /// With paths before names, in the place of spaces.
     pub flat: bool,
 }
 
-// What stands in front of the names in a group of this name.
+// What is before the names in a group of this name.
 fn front_below(alloc: Global, front: &[u8], name: &[u8], flat: bool) -> Result<Bytes, NoMemory>
     ensures { IfOk result (λ below. below ≡ spec.front_below flat front.now name.now) }
 {
@@ -55,7 +55,8 @@ pub fn add_group(
     front: &[u8],
     group: &Group,
 ) -> Result<(), NoMemory>
-    ensures { OnOk result (text.new ≡ text.old ++ group_lines manner.recursive manner.flat front.now (tree_seen group.now)) }
+    ensures { OnOk result (text.new ≡ text.old
+        ++ group_lines manner.recursive manner.flat front.now (tree_seen group.now)) }
 {
     add_titles(text, front, group.entries.as_slice())?;
     for child in group.groups.as_slice() {
@@ -73,7 +74,8 @@ pub fn add_group(
 
 // The group of this id: the first in document order.
 fn group_with<'a>(group: &'a Group, id: Uuid) -> Option<&'a Group>
-    ensures { option_map (λ found. tree_seen found.now) result ≡ tree_with id (tree_seen group.now) }
+    ensures { option_map (λ found. tree_seen found.now) result
+        ≡ tree_with id (tree_seen group.now) }
 {
     if group.id == id {
         return Some(group);
@@ -88,7 +90,8 @@ fn group_with<'a>(group: &'a Group, id: Uuid) -> Option<&'a Group>
 
 /// The group that is listed: the root, or the one that a path names.
 pub fn group_listed<'a>(doc: &'a Doc, path: &Option<Text>) -> Option<&'a Group>
-    ensures { option_map (λ found. tree_seen found.now) result ≡ tree_listed path.now (doc_seen doc.now) }
+    ensures { option_map (λ found. tree_seen found.now) result
+        ≡ tree_listed path.now (doc_seen doc.now) }
 {
     match path {
         Some(path) => group_with(&doc.root, find_group(doc, path.as_str())?),

@@ -17,8 +17,8 @@ is_option [] = false
 is_option (b ∷ []) = false
 is_option (b ∷ c ∷ bs) = b == 45
 
--- What the words behind a command's name say: which flags stand, the key file, whether its name is due, whether `--`
--- stood, behind which no word is an option, the file and the group.
+-- What the words after a command's name say: which flags stand, the key file, whether its name is
+-- due, whether `--` stood, after which no word is an option, the file and the group.
 pub record Said : Type 0 where
   pub recursive : Bool
   pub flat : Bool
@@ -95,22 +95,22 @@ with_key_due said = once (is_some said.key_file) (record said { is_due = true })
 abbrev pub with_key : Said → List ℕ → Option Said
 with_key said name = once (is_some said.key_file) (record said { key_file = Some name })
 
--- A name behind the letter of an option, from which `=` may part it.
+-- A name after the letter of an option, from which `=` may part it.
 abbrev pub without_sign : List ℕ → List ℕ
 without_sign [] = []
 without_sign (b ∷ bs) = if b == 61 then bs else b ∷ bs
 
--- The option `k` with what stands behind it in its word.
+-- The option `k` with what stands after it in its word.
 abbrev pub with_joined_key : Said → List ℕ → Option Said
 with_joined_key said [] = with_key_due said
 with_joined_key said (b ∷ bs) = with_key said (without_sign (b ∷ bs))
 
--- An option of one `-`: of these letters, or `k` with this behind it.
+-- An option of one `-`: of these letters, or `k` with this after it.
 abbrev pub with_short : Said → List ℕ → Option (List ℕ) → Option Said
 with_short said letters None = with_letters letters said
 with_short said letters (Some joined) = with_joined_key said joined
 
--- An option by its name: a flag, or the key file, whose name may stand behind `=`.
+-- An option by its name: a flag, or the key file, whose name may stand after `=`.
 abbrev pub with_long : Said → Option Flag → Option (List ℕ) → Option Said
 with_long said (Some flag) value = with_flag said flag
 with_long said None (Some name) = with_key said name
@@ -131,9 +131,10 @@ with_option said None None = None
 
 -- The key file's name, in a word of its own.
 abbrev pub with_value : Said → List ℕ → Option Said
-with_value said word = if is_option word then None else Some (record said { key_file = Some word; is_due = false })
+with_value said word = if is_option word then None else Some
+    (record said { key_file = Some word; is_due = false })
 
--- The file, or the group behind it.
+-- The file, or the group after it.
 abbrev pub with_position : Said → List ℕ → Option (List ℕ) → Option Said
 with_position said word None = Some (record said { file = Some word })
 with_position said word (Some file) = once (is_some said.group) (record said { group = Some word })
@@ -142,7 +143,8 @@ with_position said word (Some file) = once (is_some said.group) (record said { g
 abbrev pub with_word : Said → List ℕ → Option Said
 with_word said word =
     if said.is_due then with_value said word
-    else (if is_option word && not said.ended then with_option said (strip_prefix (codes "--") word) (strip_prefix (codes "-") word)
+    else (if is_option word && not said.ended then with_option said (strip_prefix (codes "--") word)
+    (strip_prefix (codes "-") word)
     else with_position said word said.file)
 
 -- All words, one after another.
@@ -154,15 +156,22 @@ with_words (word ∷ words) said = option_and_then (with_words words) (with_word
 abbrev pub wrong : Result Command Refusal
 wrong = Err (refusal_of WrongWords (codes "words"))
 
--- Nothing is due, and what opens the database fits it: nothing at a plain document, else a password or a key file.
+-- Nothing is due, and what opens the database fits it: nothing at a plain document, else a password
+-- or a key file.
 abbrev pub is_whole : Said → Bool
 is_whole said =
     not said.is_due
-    && (if said.plain then not (said.no_password || is_some said.key_file) else (not said.no_password || is_some said.key_file))
+    && (if said.plain then not (said.no_password || is_some said.key_file) else
+    (not said.no_password || is_some said.key_file))
 
 -- How a database is opened.
 abbrev pub access_of : Said → Access
-access_of said = record { plain = said.plain; quiet = said.quiet; key_file = said.key_file; no_password = said.no_password }
+access_of said = record {
+  plain = said.plain;
+  quiet = said.quiet;
+  key_file = said.key_file;
+  no_password = said.no_password;
+}
 
 -- The command `ls` of a file.
 abbrev pub listed : Bool → Said → Option (List ℕ) → Result Command Refusal
@@ -175,10 +184,11 @@ abbrev pub ls_of : Option Said → Result Command Refusal
 ls_of None = wrong
 ls_of (Some said) = listed (is_whole said) said said.file
 
--- The command that the words are: `ls DATABASE [GROUP]`, with its options in any order behind `ls`.
+-- The command that the words are: `ls DATABASE [GROUP]`, with its options in any order after `ls`.
 abbrev pub command_of : List (List ℕ) → Result Command Refusal
 command_of [] = wrong
-command_of (name ∷ words) = if bytes_eq name (codes "ls") then ls_of (with_words words nothing_said) else wrong
+command_of (name ∷ words) = if bytes_eq name (codes "ls") then ls_of (with_words words nothing_said)
+    else wrong
 
 -- The key file that a command names, where it names one.
 abbrev pub key_files : Option (List ℕ) → List (List ℕ)

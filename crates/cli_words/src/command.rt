@@ -7,7 +7,7 @@ use outside_core::Text;
 pub struct Access {
     /// Whether the file is a plain document.
     pub plain: bool,
-    /// Whether a command tells nothing of what it changed.
+    /// Whether a command says nothing of what it changed.
     pub quiet: bool,
     /// The name of the key file, where the database has one.
     pub key_file: Option<Text>,
@@ -28,7 +28,7 @@ pub enum Command {
         group: Option<Text>,
         /// Whether the groups below it are listed too.
         recursive: bool,
-        /// Whether each name stands behind the path that leads to it.
+        /// Whether each name stands after the path that leads to it.
         flat: bool,
     },
 }

@@ -6,8 +6,8 @@ ghost use Rattle.cli_words.specs.Words.{command_of, ls_of, nothing_said, with_wo
 ghost use Rattle.cli_words.specs.SaidWords.{said_seen};
 ghost use Rattle.cli_answers.specs.Phases.{Returns, IsWordsStop};
 
-use cli_answers::{Reason, Stop, refused};
 use crate::command::{Access, Command};
+use cli_answers::{Reason, Stop, refused};
 use outside_core::{NoMemory, Text};
 use std::alloc::Global;
 
@@ -21,7 +21,7 @@ enum Flag {
     NoPassword,
 }
 
-// What the words behind a command's name say.
+// What the words after a command's name say.
 #[derive(Clone, Copy)]
 struct SaidWords<'a> {
     recursive: bool,
@@ -32,13 +32,13 @@ struct SaidWords<'a> {
     key_file: Option<&'a str>,
     // Whether the next word is the key file's name.
     is_due: bool,
-    // Whether `--` stood, behind which no word is an option.
+    // Whether `--` stood, after which no word is an option.
     ended: bool,
     file: Option<&'a str>,
     group: Option<&'a str>,
 }
 
-// Tells whether a word is an option: two or more bytes, of which the first is `-`.
+// Reports whether a word is an option: two or more bytes, of which the first is `-`.
 fn is_option(word: &str) -> bool
     ensures { result ≡ spec.is_option word.now }
 {
@@ -46,7 +46,7 @@ fn is_option(word: &str) -> bool
     bytes.len() >= 2 && bytes[0] == b'-'
 }
 
-// A word behind a front part of it, where it begins so.
+// A word after a prefix of it, where it begins so.
 fn strip_prefix<'a>(prefix: &str, word: &'a str) -> Option<&'a str>
     ensures { option_map (λ rest. rest.now) result ≡ prefixes.strip_prefix prefix.now word.now }
 {
@@ -170,7 +170,7 @@ fn with_key<'a>(said: SaidWords<'a>, name: &'a str) -> Option<SaidWords<'a>>
     )
 }
 
-// A name behind the letter of an option, from which `=` may part it.
+// A name after the letter of an option, from which `=` may part it.
 fn without_sign<'a>(joined: &'a str) -> &'a str
     ensures { result.now ≡ spec.without_sign joined.now }
 {
@@ -180,9 +180,10 @@ fn without_sign<'a>(joined: &'a str) -> &'a str
     }
 }
 
-// An option of one `-`: of these letters, or `k` with its value behind it.
+// An option of one `-`: of these letters, or `k` with its value after it.
 fn with_short<'a>(said: SaidWords<'a>, letters: &'a str) -> Option<SaidWords<'a>>
-    ensures { option_map said_seen result ≡ spec.with_short (said_seen said.entry) letters.now (prefixes.strip_prefix (codes "k") letters.now) }
+    ensures { option_map said_seen result ≡ spec.with_short (said_seen said.entry) letters.now
+        (prefixes.strip_prefix (codes "k") letters.now) }
 {
     match strip_prefix("k", letters) {
         Some("") => with_key_due(said),
@@ -213,7 +214,8 @@ fn with_name<'a>(said: SaidWords<'a>, name: &'a str) -> Option<SaidWords<'a>>
 
 // An option more.
 fn with_option<'a>(said: SaidWords<'a>, word: &'a str) -> Option<SaidWords<'a>>
-    ensures { option_map said_seen result ≡ spec.with_option (said_seen said.entry) (prefixes.strip_prefix (codes "--") word.now) (prefixes.strip_prefix (codes "-") word.now) }
+    ensures { option_map said_seen result ≡ spec.with_option (said_seen said.entry)
+        (prefixes.strip_prefix (codes "--") word.now) (prefixes.strip_prefix (codes "-") word.now) }
 {
     match strip_prefix("--", word) {
         Some(name) => with_name(said, name),
@@ -221,9 +223,10 @@ fn with_option<'a>(said: SaidWords<'a>, word: &'a str) -> Option<SaidWords<'a>>
     }
 }
 
-// The file, or the group behind it.
+// The file, or the group after it.
 fn with_position<'a>(said: SaidWords<'a>, word: &'a str) -> Option<SaidWords<'a>>
-    ensures { option_map said_seen result ≡ spec.with_position (said_seen said.entry) word.now (said_seen said.entry).file }
+    ensures { option_map said_seen result ≡ spec.with_position (said_seen said.entry) word.now
+        (said_seen said.entry).file }
 {
     match said.file {
         None => Some(SaidWords {
@@ -284,7 +287,7 @@ fn said_by<'a>(words: &'a [String]) -> Option<SaidWords<'a>>
     Some(said)
 }
 
-// Tells whether nothing is due, and what opens the database fits it.
+// Reports whether nothing is due, and what opens the database fits it.
 fn is_whole(said: &SaidWords<'_>) -> bool
     ensures { result ≡ spec.is_whole (said_seen said.now) }
 {
@@ -309,7 +312,8 @@ fn text_of(alloc: Global, word: Option<&str>) -> Result<Option<Text>, NoMemory>
 
 // The command `ls` of a file.
 fn listed(alloc: Global, said: &SaidWords<'_>, file: &str) -> Result<Command, NoMemory>
-    ensures { IfOk result (λ command. Ok command ≡ spec.listed true (said_seen said.now) (Some file.now)) }
+    ensures { IfOk result (λ command. Ok command
+        ≡ spec.listed true (said_seen said.now) (Some file.now)) }
 {
     let key_file = text_of(alloc, said.key_file)?;
     let access = Access {

@@ -1,6 +1,7 @@
-//! The orders of contents, the newest version of an entry, copies, and a new database. What is expected is worked
-//! out by hand from what the documents say: the parts count in their order, texts and bytes by their bytes, false
-//! below true, nothing below something, lists as dictionaries order words.
+//! The orders of contents, the newest version of an entry, copies, and a new database. What is
+//! expected is worked out by hand from what the documents say: the parts count in their order,
+//! texts and bytes by their bytes, false below true, nothing below something, lists as dictionaries
+//! order words.
 use outside_core::{List, NoMemory, Text};
 use secret_core::Secret;
 use std::alloc::Global;
@@ -90,7 +91,8 @@ fn word(longer: bool) -> &'static str {
     if longer { "mm" } else { "m" }
 }
 
-/// A version's content, in which the part of that number is greater than in the one with no such part.
+/// A version's content, in which the part of that number is greater than in the one with no such
+/// part.
 fn content(alloc: Global, greater: u8) -> Result<Content, NoMemory> {
     Ok(Content {
         created: stamp(5 + (greater == 0) as u8),
@@ -153,7 +155,8 @@ fn version(alloc: Global, modified: u8) -> Result<Version, NoMemory> {
     })
 }
 
-// Of two contents the one whose greater part is listed first is the greater, and the last is without such a part.
+// Of two contents the one whose greater part is listed first is the greater, and the last is
+// without such a part.
 #[test]
 fn the_parts_of_a_version_count_in_their_order(rt: HostRuntime) -> Result<(), Fail> {
     for part in 0u8..13 {
@@ -193,7 +196,8 @@ fn order_of_attachments(
     Ok(attachment(alloc, one.0, one.1, one.2)?.cmp(&attachment(alloc, other.0, other.1, other.2)?))
 }
 
-// A shown one is below a hidden one, bytes are below longer ones that begin with them, and keys count first.
+// A shown one is below a hidden one, bytes are below longer ones that begin with them, and keys
+// count first.
 #[test]
 fn fields_and_attachments_count_by_name_then_bytes_then_hiding(
     rt: HostRuntime,

@@ -1,4 +1,5 @@
-//! Raw markup and the texts that it stands for, and attributes by their names, as Python's readers have them.
+//! Raw markup and the texts that it stands for, and attributes by their names, as Python's readers
+//! have them.
 use markup_core::{Attrs, escape, escaped_len, unescape, unescaped_len};
 use secret_core::Secret;
 use std::test::Fail;
@@ -9,7 +10,8 @@ const RAW: &str =
 
 const TEXT: &str = "a\nb\nc\n\nd&<>\"'A\u{e9}€\u{1f511}\r\né";
 
-/// Python's `xml.sax.saxutils.escape` writes this for the text, given `"` and, by `"&#x%X;"`, the controls.
+/// Python's `xml.sax.saxutils.escape` writes this for the text, given `"` and, by `"&#x%X;"`, the
+/// controls.
 const SAID: &str = "a&<>\"'b\r\n\t\u{1}\u{1f}\u{b} é\u{7f}";
 
 const WRITTEN: &str = "a&amp;&lt;&gt;&quot;'b&#xD;\n\t&#x1;&#x1F;&#xB; é\u{7f}";
@@ -36,8 +38,8 @@ fn a_text_is_escaped(rt: HostRuntime) -> Result<(), Fail> {
     Ok(())
 }
 
-/// Python's `xml.parsers.expat` reads the same names and values from a tag with this text; it refuses a name that
-/// comes twice, of which the last counts here.
+/// Python's `xml.parsers.expat` reads the same names and values from a tag with this text; it
+/// refuses a name that comes twice, of which the last counts here.
 #[test]
 fn attributes_are_found_by_name(rt: HostRuntime) {
     let raw = " A='x&lt;\"' b = \"y'&#x41;\"\n long-name.1:é='' b='' ";

@@ -1,5 +1,5 @@
-//! Texts of markup with the pieces that the grammar gives them, by hand. Where Python's `xml.parsers.expat` reads a text too,
-//! it finds tags, text and faults at the same offsets.
+//! Texts of markup with the pieces that the grammar gives them, by hand. Where Python's
+//! `xml.parsers.expat` reads a text too, it finds tags, text and faults at the same offsets.
 use markup_core::{Attrs, MarkupFail, Piece, Reader};
 use std::alloc::{AllocError, Global};
 use std::test::Fail;

@@ -1,6 +1,6 @@
-//! Texts that break one rule of the grammar of markup each, with the offset at which each is refused, and texts that come
-//! close to one. The offsets were worked out by hand from the rules: each is the number of bytes up to the first one that no
-//! text of the grammar could have there.
+//! Texts that break one rule of the grammar of markup each, with the offset at which each is
+//! refused, and texts that come close to one. The offsets were worked out by hand from the rules:
+//! each is the number of bytes up to the first one that no text of the grammar could have there.
 use markup_core::{MarkupFail, Piece, Reader};
 use std::alloc::{AllocError, Global};
 use std::process::Abort;

@@ -1,4 +1,5 @@
-//! Stamps and their texts. The seconds are python3's, as `datetime(2024, 1, 1) - datetime(1, 1, 1)`, in days of 86,400 seconds.
+//! Stamps and their texts. The seconds are python3's, as `datetime(2024, 1, 1) - datetime(1, 1,
+//! 1)`, in days of 86,400 seconds.
 use time_core::{Stamp, iso_of, stamp_of_iso};
 
 /// The seconds of the stamp that a text names.

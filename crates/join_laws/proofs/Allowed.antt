@@ -3,7 +3,7 @@ use Rattle.std.proofs.Common.{◌≡◌, ◌≤◌, ◌+◌, ◌-◌, ℕ, zero,
 use Rattle.std.specs.FinMap.{get, contains_key}
 use Rattle.std.specs.List.{list_any}
 use Rattle.vault_model.specs.Db.{NodeId, Place, place_cmp, Db, parent_or, steps, Reaches, Sound}
-use Rattle.vault_model.specs.Join.{is_id, root_of, latest, above, held, buried, own, ids, trail, path, kept, IsIn, Allowed}
+use Rattle.vault_model.specs.Join.{is_id, root_of, latest, above, is_held, buried, own, ids, trail, path, kept, IsIn, Allowed}
 use Rattle.vault_model.specs.Unite.{greater}
 use Rattle.vault_model.proofs.Ids.{same_id, id_itself}
 use Rattle.join_laws.proofs.Facts.{held_by, held_id, latest_found, root_held, trail_head, trail_keeps}
@@ -44,28 +44,28 @@ module _ (S : List Db) (al : Allowed S) (sound : (m : Db) → IsIn m S → Sound
   pub root_stays : above S (root_of S) ≡ root_of S
   root_stays = ap (parent_or (root_of S)) root_latest
 
-  pub own_held : (u : NodeId) → own S u ≡ true → held S u ≡ true
+  pub own_held : (u : NodeId) → own S u ≡ true → is_held S u ≡ true
   unfolding own
   own_held u e =
-      elim (or_cases (is_id u (root_of S)) (held S u && not (buried S u)) e) [
-        | inl r ↦ ap (held S) (same_id u (root_of S) r) ∙ root_held S al.some sound
-        | inr k ↦ (and_true (held S u) (not (buried S u)) k).0
+      elim (or_cases (is_id u (root_of S)) (is_held S u && not (buried S u)) e) [
+        | inl r ↦ ap (is_held S) (same_id u (root_of S) r) ∙ root_held S al.some sound
+        | inr k ↦ (and_true (is_held S u) (not (buried S u)) k).0
       ]
 
   pub root_own : own S (root_of S) ≡ true
   unfolding own
-  root_own = or_left (is_id (root_of S) (root_of S)) (held S (root_of S) && not (buried S (root_of S))) (id_itself (root_of S))
+  root_own = or_left (is_id (root_of S) (root_of S)) (is_held S (root_of S) && not (buried S (root_of S))) (id_itself (root_of S))
 
-  parent_held : (u : NodeId) (o : Option Place) → latest S u ≡ o → held S u ≡ true → held S (parent_or u o) ≡ true
+  parent_held : (u : NodeId) (o : Option Place) → latest S u ≡ o → is_held S u ≡ true → is_held S (parent_or u o) ≡ true
   parent_held u None l e = e
   parent_held u (Some p) l e =
       let f = latest_found S u p l in
       held_by S f.0 p.parent f.1.0 (or_right (contains_key f.0.entries p.parent) (contains_key f.0.groups p.parent) ((sound f.0 f.1.0).parents u p f.1.1))
 
-  pub held_above : (u : NodeId) → held S u ≡ true → held S (above S u) ≡ true
+  pub held_above : (u : NodeId) → is_held S u ≡ true → is_held S (above S u) ≡ true
   held_above u e = parent_held u (latest S u) refl e
 
-  steps_held : (n : ℕ) (u : NodeId) → held S u ≡ true → held S (steps (above S) n u) ≡ true
+  steps_held : (n : ℕ) (u : NodeId) → is_held S u ≡ true → is_held S (steps (above S) n u) ≡ true
   steps_held zero u e = e
   steps_held (suc n) u e = steps_held n (above S u) (held_above u e)
 
@@ -88,8 +88,8 @@ module _ (S : List Db) (al : Allowed S) (sound : (m : Db) → IsIn m S → Sound
       any_true (λ (w : NodeId). own S w && list_any (is_id u) (path S w)) (ids S) v (held_id S v (own_held v e))
       (and_both (own S v) (list_any (is_id u) (path S v)) e h)
 
-  pub kept_held : (u : NodeId) → kept S u ≡ true → held S u ≡ true
-  kept_held u e = let k = keeper u e in trail_keeps S (held S) held_above (length (ids S)) k.0 u (own_held k.0 k.1.0) k.1.1
+  pub kept_held : (u : NodeId) → kept S u ≡ true → is_held S u ≡ true
+  kept_held u e = let k = keeper u e in trail_keeps S (is_held S) held_above (length (ids S)) k.0 u (own_held k.0 k.1.0) k.1.1
 
   pub kept_root : kept S (root_of S) ≡ true
   kept_root = keeps (root_of S) (root_of S) root_own (trail_head S (length (ids S)) (root_of S))

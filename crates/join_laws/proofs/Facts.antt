@@ -5,7 +5,7 @@ use Rattle.std.specs.FinMap.{FinMap, get, contains_key, keys, retain_keys, get-r
 use Rattle.std.specs.Cmp.{both_ways}
 use Rattle.std.specs.List.{list_any}
 use Rattle.vault_model.specs.Db.{NodeId, id_cmp, Place, place_cmp, Db, holds, stamp_in, parent_or, Sound}
-use Rattle.vault_model.specs.Join.{stats_join, state_join, is_id, root_of, latest, above, stamp, is_from, held, buried, own, ids, trail, path, kept, join, IsIn, IsNotEmpty, IsPart, HaveOneRoot, KeepsParents, Compatible}
+use Rattle.vault_model.specs.Join.{stats_join, state_join, is_id, root_of, latest, above, stamp, is_from, is_held, buried, own, ids, trail, path, kept, join, IsIn, IsNotEmpty, IsPart, HaveOneRoot, KeepsParents, Compatible}
 use Rattle.vault_model.specs.Unite.{greater, gather, unite, unite_all}
 use Rattle.vault_model.proofs.Ids.{same_id, id_itself}
 use Rattle.vault_model.proofs.Orders.{id_order}
@@ -48,11 +48,11 @@ join_root S = refl
 
 -- ---- members
 
-pub held_by : (S : List Db) (m : Db) (u : NodeId) → IsIn m S → holds m u ≡ true → held S u ≡ true
+pub held_by : (S : List Db) (m : Db) (u : NodeId) → IsIn m S → holds m u ≡ true → is_held S u ≡ true
 held_by S m u h e = any_true (λ (n : Db). holds n u) S m h e
 
 -- what a member holds is among the ids
-pub held_id : (S : List Db) (u : NodeId) → held S u ≡ true → IsIn u (ids S)
+pub held_id : (S : List Db) (u : NodeId) → is_held S u ≡ true → IsIn u (ids S)
 held_id S u e =
     let f = any_found (λ (n : Db). holds n u) S e in
     in_flat (λ (m : Db). keys m.entries ++ keys m.groups) S f.0 u f.1.0
@@ -78,11 +78,11 @@ pub part_root : (R S : List Db) → HaveOneRoot S → IsPart R S → root_of R �
 part_root [] S one part = absurd part.0
 part_root (m ∷ ms) S one part = one m (part.1 m (inl refl))
 
-pub root_held : (R : List Db) → IsNotEmpty R → ((m : Db) → IsIn m R → Sound m) → held R (root_of R) ≡ true
+pub root_held : (R : List Db) → IsNotEmpty R → ((m : Db) → IsIn m R → Sound m) → is_held R (root_of R) ≡ true
 root_held [] some sound = absurd some
 root_held (m ∷ ms) some sound =
     let s = sound m (inl refl) in
-    or_left (holds m m.root) (held ms m.root) (or_right (contains_key m.entries m.root) (contains_key m.groups m.root) s.root)
+    or_left (holds m m.root) (is_held ms m.root) (or_right (contains_key m.entries m.root) (contains_key m.groups m.root) s.root)
 
 -- ---- agreed members: own is alive
 
@@ -108,31 +108,31 @@ module _ {S : List Db} (a : Compatible S) (R : List Db) (part : IsPart R S) wher
   no_tomb u m None e h b = refl
   no_tomb u m (Some d) e h b = apart (buried R u) (tomb_buries u m d h e) b
 
-  pub root_alive : (u : NodeId) → u ≡ root_of R → (held R u ≡ true) × ((m : Db) → IsIn m R → get m.tombs u ≡ None)
+  pub root_alive : (u : NodeId) → u ≡ root_of R → (is_held R u ≡ true) × ((m : Db) → IsIn m R → get m.tombs u ≡ None)
   root_alive u r = (
-    ap (held R) r ∙ root_held R part.0 part_sound,
+    ap (is_held R) r ∙ root_held R part.0 part_sound,
     λ m h.
         let s = part_sound m h in
         s.alive u (ap (holds m) (r ∙ sym (part_roots m h)) ∙ or_right (contains_key m.entries m.root) (contains_key m.groups m.root) s.root),
   )
 
-  pub alive_from_own : (u : NodeId) → own R u ≡ true → (held R u ≡ true) × ((m : Db) → IsIn m R → get m.tombs u ≡ None)
+  pub alive_from_own : (u : NodeId) → own R u ≡ true → (is_held R u ≡ true) × ((m : Db) → IsIn m R → get m.tombs u ≡ None)
   unfolding own
   alive_from_own u e =
-      elim (or_cases (is_id u (root_of R)) (held R u && not (buried R u)) e) [
+      elim (or_cases (is_id u (root_of R)) (is_held R u && not (buried R u)) e) [
         | inl r ↦ root_alive u (same_id u (root_of R) r)
         | inr k ↦
-            let both = and_true (held R u) (not (buried R u)) k in
+            let both = and_true (is_held R u) (not (buried R u)) k in
             (both.0, λ m h. no_tomb u m (get m.tombs u) refl h (not_true (buried R u) both.1))
       ]
 
-  pub own_from_alive : (u : NodeId) → held R u ≡ true → ((m : Db) → IsIn m R → get m.tombs u ≡ None) → own R u ≡ true
+  pub own_from_alive : (u : NodeId) → is_held R u ≡ true → ((m : Db) → IsIn m R → get m.tombs u ≡ None) → own R u ≡ true
   unfolding own
   own_from_alive u e none =
-      or_right (is_id u (root_of R)) (held R u && not (buried R u)) (and_both (held R u) (not (buried R u)) e
+      or_right (is_id u (root_of R)) (is_held R u && not (buried R u)) (and_both (is_held R u) (not (buried R u)) e
       (not_false (buried R u) (any_none (λ (n : Db). is_from (stamp R u) (get n.tombs u)) R (λ m h. ap (is_from (stamp R u)) (none m h)))))
 
-  pub own-alive : (u : NodeId) → (own R u ≡ true) ↔ ((held R u ≡ true) × ((m : Db) → IsIn m R → get m.tombs u ≡ None))
+  pub own-alive : (u : NodeId) → (own R u ≡ true) ↔ ((is_held R u ≡ true) × ((m : Db) → IsIn m R → get m.tombs u ≡ None))
   own-alive u = (alive_from_own u, λ f. own_from_alive u f.0 f.1)
 
 -- ---- trails

@@ -1,4 +1,5 @@
-//! Laws of joining databases and of laying the join over a document: the lemmas that the merge stands on.
+//! Laws of joining databases and of laying the join over a document: the lemmas that the merge
+//! rests on.
 #![tactic(auto)]
 
 pub mod laws;

@@ -13,7 +13,7 @@ use Rattle.kdbx_frame.specs.declared.settings.Cipher.{Cipher}
 use Rattle.kdbx_frame.specs.declared.settings.Cipher.TheVariants.{Aes, Twofish, ChaCha}
 use Rattle.kdbx_frame.specs.Header.{header_of}
 use Rattle.kdbx_frame.specs.Inner.{InnerFields, inner_of}
-use Rattle.mac_core.specs.Blocks.{IsWhole, joined}
+use Rattle.mac_core.specs.Blocks.{IsWhole, concatenated}
 use Rattle.mac_core.specs.Contents.{contents_of}
 use Rattle.mac_core.specs.declared.fail.BlockFail.{BlockFail}
 use Rattle.mac_core.proofs.ContentSteps as contents
@@ -104,7 +104,7 @@ record AfterHeader (base key : List ℕ) (header : Header) (file text : List ℕ
   authentic : stored_mac header.size file ≡ header_mac base (take header.size file)
   parts : List (List ℕ)
   blocks : IsWhole base (after_header header.size file) parts
-  hides : Hides header.settings.cipher key header.iv (joined parts) text
+  hides : Hides header.settings.cipher key header.iv (concatenated parts) text
 
 parts_of : (base key : List ℕ) (header : Header) (file : List ℕ) (u : Unit {0}) (content text : List ℕ)
     → header_check base (take header.size file) (stored_mac header.size file) ≡ Ok u
@@ -174,9 +174,9 @@ text_again : (file composite : List ℕ) (vault : Vault) (s : Sealed file compos
 unfolding hidden_text
 text_again file composite vault s =
     each _ _ tt s.text (compared_again _ _ s.authentic)
-    (each _ _ (joined s.parts) s.text
-    (ap of_blocks (contents.contents_of-AreContents (base_of s.header composite) (length file) (after_header s.header.size file) (Ok (joined s.parts)) (s.parts, (s.blocks, refl))))
-    (ap right_padding (hidden_again s.header.settings.cipher (key_of s.header composite) s.header.iv (joined s.parts) s.text s.hides)))
+    (each _ _ (concatenated s.parts) s.text
+    (ap of_blocks (contents.contents_of-AreContents (base_of s.header composite) (length file) (after_header s.header.size file) (Ok (concatenated s.parts)) (s.parts, (s.blocks, refl))))
+    (ap right_padding (hidden_again s.header.settings.cipher (key_of s.header composite) s.header.iv (concatenated s.parts) s.text s.hides)))
 
 pub is_opened : (file composite : List ℕ) (vault : Vault) → Sealed file composite vault → opening file composite ≡ Ok vault
 unfolding opening

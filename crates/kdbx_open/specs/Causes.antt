@@ -1,4 +1,5 @@
--- Refusals of the crates below as refusals to open a file, and what a refusal shows of the store's counts.
+-- Refusals of the crates below as refusals to open a file, and what a refusal shows of the store's
+-- counts.
 use Rattle.std.specs.Prelude.{ℕ, ◌≤◌, ◌<◌, Result, IsErrOf}
 use Rattle.outside_core.specs.Counts.{Increased}
 use Rattle.secret_core.specs.declared.files.ReadFail.{ReadFail}
@@ -35,8 +36,10 @@ pub record MemoryIsOutermost {X : Type 0} (result : Result X OpenFail) : Type 0 
   pub frame : IsErrOf result (Frame frame.NoMemory) → ⊥
   pub document : IsErrOf result (Doc document.NoMemory) → ⊥
 
--- What an answer shows of the store's counts, which never fall, whether or not the store tells its files.
-pub record HasOpenCause {X : Type 0} (faults_before faults_now absences_before absences_now : ℕ) (result : Result X OpenFail) : Type 0 where
+-- What an answer shows of the store's counts, which never fall, whether or not the store tells its
+-- files.
+pub record HasOpenCause {X : Type 0} (faults_before faults_now absences_before absences_now : ℕ)
+    (result : Result X OpenFail) : Type 0 where
   pub faults_later : faults_before ≤ faults_now
   pub absences_later : absences_before ≤ absences_now
   pub fault : IsErrOf result (File read.FileFault) → Increased faults_before faults_now

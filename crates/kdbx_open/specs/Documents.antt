@@ -1,4 +1,5 @@
--- What a deciphered text says: inner fields, and after them the document, whose values the inner stream hides.
+-- What a deciphered text says: inner fields, and after them the document, whose values the inner
+-- stream hides.
 use Rattle.std.specs.Prelude.{ℕ, Bool, List, map, drop, Option, Some, None, Result, Ok, Err}
 use Rattle.kdbx_frame.specs.declared.fail.FrameFail.{FrameFail}
 use Rattle.kdbx_frame.specs.Inner.{Binary, inner_of}
@@ -25,14 +26,16 @@ known_stream id None = Err (StreamUnknown id)
 abbrev pub attachment : Binary → List ℕ × Bool
 attachment b = (b.bytes, b.hidden)
 
--- A document, or its refusal; what it says of a header's hash counts in a file of version 3.1 alone.
+-- A document, or its refusal; what it says of a header's hash counts in a file of version 3.1
+-- alone.
 abbrev pub documented : Result DocumentAndHash DocFail → Result BareDoc OpenFail
 documented (Ok read) = Ok read.0
 documented (Err fail) = Err (Doc fail)
 
 -- The document of a text, read with a keystream and the attached files.
 abbrev pub document_of : Keystream → List Binary → List ℕ → Result BareDoc OpenFail
-document_of stream pool text = documented (document (record { form = V4; keystream = stream }) (map attachment pool) text)
+document_of stream pool text = documented (document (record { form = V4; keystream = stream })
+    (map attachment pool) text)
 
 -- The inner fields of a text, their keystream, and the document after them.
 unfoldable pub document_after_fields : List ℕ → Result BareDoc OpenFail

@@ -11,7 +11,8 @@ use Rattle.kdbx_open.specs.Results.{ReturnsFromStore}
 -- The bytes of a file that is there and is not too large.
 abbrev pub bytes_of : Option (List ℕ) → Result (List ℕ) OpenFail
 bytes_of None = Err (File NoSuchFile)
-bytes_of (Some bytes) = if nat_lt limit (length bytes) then Err (File (TooLarge (length bytes))) else Ok bytes
+bytes_of (Some bytes) = if nat_lt limit (length bytes) then Err (File (TooLarge (length bytes)))
+    else Ok bytes
 
 -- What a file, if there is one, holds under a composite key.
 unfoldable pub opening_of : Option (List ℕ) → List ℕ → Result Vault OpenFail
@@ -19,6 +20,8 @@ opening_of file composite = do
   bytes ← bytes_of file
   opening bytes composite
 
--- Some file answers so: the one that a store handed out, whether or not the store reports its files.
+-- Some file answers so: the one that a store handed out, whether or not the store reports its
+-- files.
 abbrev pub ReturnsOfSomeFile : {X : Type 0} → (X → Vault) → List ℕ → Result X OpenFail → Type 0
-ReturnsOfSomeFile seen composite result = (file : Option (List ℕ)) × ReturnsFromStore seen result (opening_of file composite)
+ReturnsOfSomeFile seen composite result = (file : Option (List ℕ))
+    × ReturnsFromStore seen result (opening_of file composite)

@@ -1,4 +1,5 @@
--- The parts of a sealed file after its header: the header's MAC, the blocks, and the text that they hide.
+-- The parts of a sealed file after its header: the header's MAC, the blocks, and the text that they
+-- hide.
 use Rattle.std.specs.Prelude.{◌≡◌, ℕ, ◌-◌, ◌%◌, ◌^◌, List, length, take, drop, Option, Some, None, Result, Ok, Err, ◌==◌, bytes_eq, if◌then◌else◌}
 use Rattle.mac_core.specs.Blocks.{block_key}
 use Rattle.mac_core.specs.Hmac.{hmac}
@@ -16,18 +17,21 @@ use Rattle.kdbx_open.specs.declared.fail.OpenFail.TheVariants.{KeyOrHeader, Bloc
 
 -- ---- the header's MAC
 
--- The MAC of a header under the file's MAC base: HMAC-SHA-256 under the key of the block of the last index of 64 bits.
+-- The MAC of a header under the file's MAC base: HMAC-SHA-256 under the key of the block of the
+-- last index of 64 bits.
 unfoldable pub header_mac : List ℕ → List ℕ → List ℕ
 header_mac base header = hmac (block_key base (2 ^ 64 - 1)) header
 
--- The MAC that a file stores of a header of so many bytes: the 32 bytes after the header and its hash of 32 bytes.
+-- The MAC that a file stores of a header of so many bytes: the 32 bytes after the header and its
+-- hash of 32 bytes.
 abbrev pub stored_mac : ℕ → List ℕ → List ℕ
 stored_mac size file = drop 32 (take 64 (drop size file))
 
 -- That the stored MAC is the header's.
 abbrev pub header_check : List ℕ → List ℕ → List ℕ → Result (Unit {0}) OpenFail
 header_check base header stored =
-    if bytes_eq stored (header_mac base header) then Ok tt else Err (KeyOrHeader stored (header_mac base header))
+    if bytes_eq stored (header_mac base header) then Ok tt else Err
+    (KeyOrHeader stored (header_mac base header))
 
 -- ---- the blocks
 
@@ -42,11 +46,14 @@ of_blocks (Err fail) = Err (Block fail)
 
 -- ---- the text
 
--- The text of whole blocks that are chained from an initialization vector on, without its padding, if both are right.
+-- The text of whole blocks that are chained from an initialization vector on, without its padding,
+-- if both are right.
 abbrev pub unchained : (List ℕ → List ℕ) → List ℕ → List ℕ → Option (List ℕ)
-unchained decipher iv content = if length content % 16 == 0 then unpadded (cbc_deciphered decipher iv content) else None
+unchained decipher iv content = if length content % 16 == 0 then unpadded
+    (cbc_deciphered decipher iv content) else None
 
--- The text that a content hides under a cipher; a nonce of ChaCha20 is the first 12 bytes of the IV.
+-- The text that a content hides under a cipher; a nonce of ChaCha20 is the first 12 bytes of the
+-- IV.
 abbrev pub deciphered : Cipher → List ℕ → List ℕ → List ℕ → Option (List ℕ)
 deciphered Aes key iv content = unchained (aes256_decipher key) iv content
 deciphered Twofish key iv content = unchained (twofish256_decipher key) iv content
@@ -59,7 +66,8 @@ right_padding None = Err BadPadding
 
 -- ---- the text, as a relation
 
--- Whole blocks that are chained from an initialization vector on, and hide a text that is followed by right padding.
+-- Whole blocks that are chained from an initialization vector on, and hide a text that is followed
+-- by right padding.
 pub record Chained (decipher : List ℕ → List ℕ) (iv content text : List ℕ) : Type 0 where
   pub whole : length content % 16 ≡ 0
   pub len : ℕ

@@ -6,8 +6,8 @@ use Rattle.doc_forms.specs.declared.fails.DocFail.TheVariants as document
 use Rattle.kdbx_open.specs.declared.fail.OpenFail.{OpenFail}
 use Rattle.kdbx_open.specs.declared.fail.OpenFail.TheVariants.{Doc, File, Frame, NoMemory}
 
--- A function refuses as is defined. Want of memory says nothing of what is defined, and is told as such: it is inside no
--- other refusal.
+-- A function refuses as is defined. Want of memory says nothing of what is defined, and is reported
+-- as such: it is inside no other refusal.
 abbrev pub Refuses : {Y : Type 0} → OpenFail → Result Y OpenFail → Type 0
 Refuses NoMemory defined = Unit {0}
 Refuses (File read.NoMemory) defined = ⊥
@@ -21,7 +21,8 @@ Returns seen (Ok x) defined = defined ≡ Ok (seen x)
 Returns seen (Err fail) defined = Refuses fail defined
 
 -- The same of a function that asks a store of files, a fault of which says nothing either.
-abbrev pub ReturnsFromStore : {X Y : Type 0} → (X → Y) → Result X OpenFail → Result Y OpenFail → Type 0
+abbrev pub ReturnsFromStore : {X Y : Type 0} → (X → Y) → Result X OpenFail → Result Y OpenFail
+    → Type 0
 ReturnsFromStore seen (Ok x) defined = defined ≡ Ok (seen x)
 ReturnsFromStore seen (Err (File read.FileFault)) defined = Unit {0}
 ReturnsFromStore seen (Err fail) defined = Refuses fail defined

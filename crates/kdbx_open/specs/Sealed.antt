@@ -3,7 +3,7 @@ use Rattle.std.specs.Prelude.{◌≡◌, ℕ, List, take, drop, Option, Some, Ok
 use Rattle.kdbx_frame.specs.Header.{header_of}
 use Rattle.kdbx_frame.specs.Inner.{InnerFields, inner_of}
 use Rattle.kdbx_frame.specs.declared.header.Header.{Header}
-use Rattle.mac_core.specs.Blocks.{IsWhole, joined}
+use Rattle.mac_core.specs.Blocks.{IsWhole, concatenated}
 use Rattle.stream_core.specs.InnerStream.{Keystream, keystream_of}
 use Rattle.kdbx_open.specs.Documents.{document_of}
 use Rattle.kdbx_open.specs.Opening.{Vault, base_of, key_of}
@@ -16,13 +16,16 @@ pub record Sealed (file composite : List ℕ) (vault : Vault) : Type 0 where
   pub begins : header_of file ≡ Ok header
   pub settings : header.settings ≡ vault.settings
   -- the header's HMAC is right under the composite key;
-  pub authentic : stored_mac header.size file ≡ header_mac (base_of header composite) (take header.size file)
+  pub authentic : stored_mac header.size file
+      ≡ header_mac (base_of header composite) (take header.size file)
   -- right blocks and a right end block follow, and then anything;
   pub parts : List (List ℕ)
   pub blocks : IsWhole (base_of header composite) (after_header header.size file) parts
-  -- their joined contents hide a text, with whole blocks and right padding where blocks are chained;
+  -- their joined contents hide a text, with whole blocks and right padding where blocks are
+  -- chained;
   pub text : List ℕ
-  pub hides : Hides header.settings.cipher (key_of header composite) header.iv (joined parts) text
+  pub hides : Hides header.settings.cipher (key_of header composite) header.iv (concatenated parts)
+      text
   -- the text begins with inner fields, which ask for a stream that is known;
   pub inner : InnerFields
   pub fields : inner_of text ≡ Ok inner

@@ -17,7 +17,8 @@ use secret_core::{Key, Key64, Secret};
 use std::alloc::Global;
 use stream_core::ChaCha20;
 
-/// The joined contents of the blocks at the end of a file of `size` bytes, up to the end block, under the file's MAC base.
+/// The joined contents of the blocks at the end of a file of `size` bytes, up to the end block,
+/// under the file's MAC base.
 pub fn read_content(
     alloc: Global,
     base: &Key64,

@@ -68,7 +68,8 @@ fn document_of(
     Ok(doc)
 }
 
-/// The document of a deciphered text, after its inner fields, which have the key of its stream and the attached files.
+/// The document of a deciphered text, after its inner fields, which have the key of its stream and
+/// the attached files.
 #[tactic(auto, unfolding(crate::specs::Documents::document_after_fields))]
 pub fn document_after_fields(alloc: Global, text: Secret) -> Result<Doc, OpenFail>
     ensures { Returns doc_seen result (document_after_fields text.bytes) }

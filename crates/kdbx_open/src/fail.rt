@@ -11,13 +11,14 @@ use outside_core::NoMemory;
 use secret_core::ReadFail;
 use stream_core::StreamUnknown;
 
-/// Why a file is not opened. The first that holds comes, in the order of these variants; but Frame is tried twice, of
-/// the header at its place, and of the inner fields behind BadPadding.
+/// Why a file is not opened. The first that holds comes, in the order of these variants; but Frame
+/// is tried twice, of the header at its place, and of the inner fields after BadPadding.
 #[derive(Clone, Copy, Debug, PartialEq, Eq)]
 pub enum OpenFail {
     /// The file was not read.
     File(ReadFail),
-    /// The header is refused, before any key is derived; or the inner fields in front of the document are.
+    /// The header is refused, before any key is derived; or the inner fields before the document
+    /// are.
     Frame(FrameFail),
     /// The header's HMAC is not right: the composite key is another, or the header was changed.
     KeyOrHeader {
@@ -32,7 +33,7 @@ pub enum OpenFail {
     BadPadding,
     /// The inner stream of this number is not known.
     StreamUnknown(u32),
-    /// The text behind the inner fields is no document.
+    /// The text after the inner fields is no document.
     Doc(DocFail),
     /// Memory ran out.
     NoMemory,

@@ -6,7 +6,8 @@ ghost use Rattle.kdbx_open.specs.Files.{opening_of};
 ghost use Rattle.kdbx_open.specs.Opening.{Vault, opening};
 ghost use Rattle.kdbx_open.specs.Sealed.{Holds, Sealed};
 
-/// The sealed files are those that are opened, with what they hold; and a file holds no two things under one key.
+/// The sealed files are those that are opened, with what they hold; and a file holds no two things
+/// under one key.
 pub fn opened_is_sealed()
     ensures sealed { (file composite : List ℕ) (vault : Vault)
         → opening file composite ≡ Ok vault → Sealed file composite vault }
@@ -16,7 +17,8 @@ pub fn opened_is_sealed()
         → Sealed file composite one → Sealed file composite other → one ≡ other }
 {}
 
-/// A file that is there, is within the limit and holds a document under a composite key is opened with it, and no other is.
+/// A file that is there, is within the limit and holds a document under a composite key is opened
+/// with it, and no other is.
 pub fn held_is_opened()
     ensures held { (file : Option (List ℕ)) (composite : List ℕ) (vault : Vault)
         → IfSome file (λ bytes. length bytes ≤ limit) → Holds file composite vault

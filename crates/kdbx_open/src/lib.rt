@@ -1,4 +1,5 @@
-//! Opening a file of KDBX 4.0: from its name and a composite key to its document and its settings, or why not.
+//! Opening a file of KDBX 4.0: from its name and a composite key to its document and its settings,
+//! or why not.
 #![tactic(auto)]
 
 mod content;

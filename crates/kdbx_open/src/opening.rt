@@ -78,8 +78,8 @@ fn decipher_with_file_keys(
     decipher(header.settings.cipher, &keys.cipher, &header.iv, content)
 }
 
-// The text that a file hides after its header, under a composite key. The file's keys, once they are derived, are
-// cleared and released, and the file is dropped.
+// The text that a file hides after its header, under a composite key. The file's keys, once they
+// are derived, are cleared and released, and the file is dropped.
 fn decipher_with_composite(
     alloc: Global,
     composite: &Key,
@@ -90,7 +90,8 @@ fn decipher_with_composite(
     requires within { header.now.size + 64 ≤ length file.bytes }
     requires limit { length file.bytes ≤ limit }
     ensures { Returns (λ s. s.bytes) result
-        (hidden_text (base_of header.now composite.now) (key_of header.now composite.now) header.now file.bytes) }
+        (hidden_text (base_of header.now composite.now) (key_of header.now composite.now) header.now
+        file.bytes) }
 {
     let Ok(transformed) = transform(alloc, composite, &header.settings.kdf) else {
         return Err(OpenFail::NoMemory);
@@ -102,8 +103,8 @@ fn decipher_with_composite(
     text
 }
 
-// What these bytes of a file hold under a composite key. All faults of the header come before a key is derived. The file
-// and the document are never in memory together.
+// What these bytes of a file hold under a composite key. All faults of the header come before a key
+// is derived. The file and the document are never in memory together.
 #[tactic(auto, unfolding(crate::specs::Opening::opening))]
 fn open_bytes(alloc: Global, composite: &Key, file: Secret) -> Result<Unsealed, OpenFail>
     requires { length file.bytes ≤ limit }
@@ -131,7 +132,8 @@ fn open_named<F: FileStore>(
     ensures told { IfSome (F.files files.old)
         (λ m. ReturnsFromStore unsealed_seen result (opening_of (map.get m name.now) composite.now)) }
     ensures some_file { ReturnsOfSomeFile unsealed_seen composite.now result }
-    ensures cause { HasOpenCause (F.faults files.old) (F.faults files.new) (F.absences files.old) (F.absences files.new) result }
+    ensures cause { HasOpenCause (F.faults files.old) (F.faults files.new) (F.absences files.old)
+        (F.absences files.new) result }
     ensures in_order { IfOk result (λ u. IsInOrder u.settings) }
     ensures files { F.files files.new ≡ F.files files.old }
     ensures draft_name { F.draft_name files.new ≡ F.draft_name files.old }
@@ -143,17 +145,18 @@ fn open_named<F: FileStore>(
 
 /// Opens the KDBX 4.0 file of a name under a composite key.
 ///
-/// At Ok the file is authentic: all its bytes up to the end block are under right MACs of keys made from the composite
-/// key, which is handed back. After a refusal the composite key was cleared and released. Whatever the answer, the keys
-/// that were derived were cleared and released, and the store's files and its draft are as they were. The clauses
-/// `some_file` and `held` hold of any store, whether or not it reports its files: the answer is that of the bytes that
-/// it handed out.
+/// At Ok the file is authentic: all its bytes up to the end block are under right MACs of keys made
+/// from the composite key, which is handed back. After a refusal the composite key was cleared and
+/// released. Whatever the answer, the keys that were derived were cleared and released, and the
+/// store's files and its draft are as they were. The clauses `some_file` and `held` hold of any
+/// store, whether or not it reports its files: the answer is that of the bytes that it handed out.
 ///
 /// # Errors
 ///
-/// The first of [`OpenFail`]. A file has at most 134,217,728 bytes. Each refusal but FileFault of the store and want of
-/// memory comes only where the file and the key are so, and there unless memory runs out or the store fails; FileFault
-/// only where the store's count of faults rose, and NoSuchFile only where its count of absences rose.
+/// The first of [`OpenFail`]. A file has at most 134,217,728 bytes. Each refusal but FileFault of
+/// the store and want of memory comes only where the file and the key are so, and there unless
+/// memory runs out or the store fails; FileFault only where the store's count of faults rose, and
+/// NoSuchFile only where its count of absences rose.
 pub fn open_file<F: FileStore>(
     alloc: Global,
     files: &mut F,
@@ -166,7 +169,8 @@ pub fn open_file<F: FileStore>(
         (λ m. IfOk result (λ o. Holds (map.get m name.now) composite (opened_seen o))) }
     ensures some_file { ReturnsOfSomeFile opened_seen composite result }
     ensures held { IfOk result (λ o. IsHeld composite (opened_seen o)) }
-    ensures cause { HasOpenCause (F.faults files.old) (F.faults files.new) (F.absences files.old) (F.absences files.new) result }
+    ensures cause { HasOpenCause (F.faults files.old) (F.faults files.new) (F.absences files.old)
+        (F.absences files.new) result }
     ensures in_order { IfOk result (λ o. IsInOrder o.settings) }
     ensures composite { IfOk result (λ o. o.composite ≡ composite) }
     ensures files { F.files files.new ≡ F.files files.old }

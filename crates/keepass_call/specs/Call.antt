@@ -4,22 +4,30 @@ use Rattle.keepass_call.specs.Held.{IsAuthentic, IsComplete, PrintsOfSomeFile}
 use Rattle.keepass_call.specs.Outcome.{Counts, IsAsSaid, NoFaults, AgreesUpToFailure, IsRefused, IsSafe, Seen, WhereTold, outcome}
 use Rattle.cli_words.specs.Words.{command_of, files_named}
 
--- A call with these words, its status, what is seen before and after it, and the counts before and after.
-pub record IsCall (words : List (List ℕ)) (result : ℕ) (before now : Seen) (counts counts' : Counts) : Type 0 where
-  -- Where the status is 0, or nothing failed and memory did not run out, all is as the outcome says to which the words come.
-  pub as_said : WhereTold words before (λ input files. (result ≡ 0) ⊎ ((result ≢ 9) × NoFaults counts counts')
+-- A call with these words, its status, what is seen before and after it, and the counts before and
+-- after.
+pub record IsCall (words : List (List ℕ)) (result : ℕ) (before now : Seen) (counts counts' : Counts)
+    : Type 0 where
+  -- Where the status is 0, or nothing failed and memory did not run out, all is as the outcome says
+  -- to which the words come.
+  pub as_said : WhereTold words before (λ input files. (result ≡ 0)
+      ⊎ ((result ≢ 9) × NoFaults counts counts')
       → IsAsSaid (outcome words input files) result before now)
   -- Whatever failed, so much is as the outcome says.
   pub near : WhereTold words before (λ input files.
-      AgreesUpToFailure (files_named (command_of words)) (outcome words input files) result before now counts counts')
+      AgreesUpToFailure (files_named (command_of words)) (outcome words input files) result before
+      now counts counts')
   -- A refusal is the outcome's, or tells a fault whose count rose.
   pub refused : WhereTold words before (λ input files.
-      IsRefused (files_named (command_of words)) (outcome words input files) result before now counts counts')
-  -- What is listed at status 0 is a document that the file holds under the line and the key file that were given.
+      IsRefused (files_named (command_of words)) (outcome words input files) result before now
+      counts counts')
+  -- What is listed at status 0 is a document that the file holds under the line and the key file
+  -- that were given.
   pub authentic : WhereTold words before (λ input files. result ≡ 0
       → IsAuthentic words input files before.written now.written)
   -- What can be carried out is.
-  pub complete : WhereTold words before (λ input files. IsComplete words input files result counts counts')
+  pub complete : WhereTold words before (λ input files. IsComplete words input files result counts
+      counts')
   -- Told or not: what is listed at status 0 is a document that some file holds.
   pub some_file : result ≡ 0 → PrintsOfSomeFile words before.written now.written
   -- Told or not: no file changes, and statuses have their causes.

@@ -103,9 +103,11 @@ abbrev pub file_limit : ℕ
 file_limit = 134217728
 
 -- What is made of the bytes of the file of this name, which is there and not too large.
-abbrev pub of_file : {A : Type 0} → List ℕ → (List ℕ → Result A Refusal) → Option (List ℕ) → Result A Refusal
+abbrev pub of_file : {A : Type 0} → List ℕ → (List ℕ → Result A Refusal) → Option (List ℕ)
+    → Result A Refusal
 of_file name made None = Err (refusal_of NoSuchFile name)
-of_file name made (Some bytes) = cond (nat_le (length bytes) file_limit) (made bytes) (Err (refusal_of TooLarge name))
+of_file name made (Some bytes) = cond (nat_le (length bytes) file_limit) (made bytes)
+    (Err (refusal_of TooLarge name))
 
 -- What a text says as a plain document, which hides nothing and has no binaries beside it.
 unfoldable pub plain_document : List ℕ → Result DocumentAndHash DocFail
@@ -140,17 +142,21 @@ opened name (Ok vault) = Ok vault.doc
 opened name (Err fail) = Err (refusal_of (open_answer fail) name)
 
 -- What a file holds under the composite key of a password and a key file's key.
-unfoldable pub sealed_in : List ℕ → FileMap → Option (List ℕ) → Option (List ℕ) → Result BareDoc Refusal
-sealed_in file files password key = opened file (opening_of (map.get files file) (composite_key password key))
+unfoldable pub sealed_in : List ℕ → FileMap → Option (List ℕ) → Option (List ℕ)
+    → Result BareDoc Refusal
+sealed_in file files password key = opened file
+    (opening_of (map.get files file) (composite_key password key))
 
 -- The document that a file holds: by itself, or else sealed, the key file being read first.
-abbrev pub held_in : Bool → Option (List ℕ) → List ℕ → Option (List ℕ) → FileMap → Result BareDoc Refusal
+abbrev pub held_in : Bool → Option (List ℕ) → List ℕ → Option (List ℕ) → FileMap
+    → Result BareDoc Refusal
 held_in true key_file file password files = plain_of file (map.get files file)
 held_in false key_file file password files = key_of key_file files >>= sealed_in file files password
 
 -- The database of a command, whose password is given.
 abbrev pub database_of : Command → Option (List ℕ) → FileMap → Result BareDoc Refusal
-database_of (Ls access file group recursive flat) password files = held_in access.plain access.key_file file password files
+database_of (Ls access file group recursive flat) password files = held_in access.plain
+    access.key_file file password files
 
 -- ---- stops
 

@@ -1,4 +1,5 @@
--- What a call that was carried out rests on: files that hold what was used of them, told of all their bytes.
+-- What a call that was carried out rests on: files that hold what was used of them, told of all
+-- their bytes.
 use Rattle.std.specs.Prelude.{◌≡◌, ◌≤◌, ℕ, Bool, true, false, List, length, Option, None, Some, ◌⊎◌, Ok}
 use Rattle.std.specs.FinMap as map
 use Rattle.outside_core.specs.Files.{FileMap}
@@ -42,8 +43,10 @@ abbrev pub GivesKey : Option (List ℕ) → FileMap → Option (List ℕ) → Ty
 GivesKey None files key = key ≡ None
 GivesKey (Some name) files key = (k : List ℕ) × (IsKeyFile name files k × (key ≡ Some k))
 
--- The file of this name holds the document sealed under the composite key of the password and the key file.
-pub record IsSealed (key_file : Option (List ℕ)) (file : List ℕ) (password : Option (List ℕ)) (files : FileMap) (doc : BareDoc) : Type 0 where
+-- The file of this name holds the document sealed under the composite key of the password and the
+-- key file.
+pub record IsSealed (key_file : Option (List ℕ)) (file : List ℕ) (password : Option (List ℕ))
+    (files : FileMap) (doc : BareDoc) : Type 0 where
   pub key : Option (List ℕ)
   pub gives_key : GivesKey key_file files key
   pub bytes : List ℕ
@@ -59,11 +62,13 @@ HoldsBy false key_file file password files doc = IsSealed key_file file password
 
 -- The database of a command holds the document.
 abbrev pub Holds : Command → Option (List ℕ) → FileMap → BareDoc → Type 0
-Holds (Ls access file group recursive flat) password files doc = HoldsBy access.plain access.key_file file password files doc
+Holds (Ls access file group recursive flat) password files doc = HoldsBy access.plain
+    access.key_file file password files doc
 
--- The words are a command, the line that is due is there, the database holds a document by it, and on that the command
--- gives this.
-pub record IsCarried (words : List (List ℕ)) (input : List ℕ) (files : FileMap) (done : Output) : Type 0 where
+-- The words are a command, the line that is due is there, the database holds a document by it, and
+-- on that the command gives this.
+pub record IsCarried (words : List (List ℕ)) (input : List ℕ) (files : FileMap) (done : Output) :
+    Type 0 where
   pub command : Command
   pub is_command : command_of words ≡ Ok command
   pub password : Option (List ℕ)
@@ -73,13 +78,15 @@ pub record IsCarried (words : List (List ℕ)) (input : List ℕ) (files : FileM
   pub gives : output_of command doc ≡ Ok done
 
 -- What was printed is what the command gives on a document that the database holds.
-abbrev pub IsAuthentic : List (List ℕ) → List ℕ → FileMap → (written written' : Option (List ℕ)) → Type 0
+abbrev pub IsAuthentic : List (List ℕ) → List ℕ → FileMap → (written written' : Option (List ℕ))
+    → Type 0
 IsAuthentic words input files written written' =
     (done : Output) × (IsCarried words input files done × Gains written written' done.text)
 
 -- ---- of some files
 
--- This is what the command gives on a document that some file holds, under a password if one is due.
+-- This is what the command gives on a document that some file holds, under a password if one is
+-- due.
 pub record IsOfSomeFile (words : List (List ℕ)) (done : Output) : Type 0 where
   pub command : Command
   pub is_command : command_of words ≡ Ok command
@@ -91,11 +98,14 @@ pub record IsOfSomeFile (words : List (List ℕ)) (done : Output) : Type 0 where
 
 -- What was printed is so.
 abbrev pub PrintsOfSomeFile : List (List ℕ) → (written written' : Option (List ℕ)) → Type 0
-PrintsOfSomeFile words written written' = (done : Output) × (IsOfSomeFile words done × Gains written written' done.text)
+PrintsOfSomeFile words written written' = (done : Output)
+    × (IsOfSomeFile words done × Gains written written' done.text)
 
 -- ---- what a call that was carried out rests on
 
--- Where the words can be carried out and no count of faults rose, the status is 0, or memory ran out.
+-- Where the words can be carried out and no count of faults rose, the status is 0, or memory ran
+-- out.
 abbrev pub IsComplete : List (List ℕ) → List ℕ → FileMap → ℕ → Counts → Counts → Type 0
 IsComplete words input files result before now =
-    (done : Output) → IsCarried words input files done → NoFaults before now → (result ≡ 0) ⊎ (result ≡ 9)
+    (done : Output) → IsCarried words input files done → NoFaults before now → (result ≡ 0)
+    ⊎ (result ≡ 9)

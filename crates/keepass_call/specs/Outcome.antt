@@ -20,14 +20,17 @@ use Rattle.cli_words.specs.Words.{command_of, files_named}
 -- The lines of the group that is listed, or that the path names none of the file's groups.
 abbrev pub listing_of : List ℕ → (recursive flat : Bool) → Option Tree → Result Output Refusal
 listing_of file recursive flat None = Err (refusal_of NoSuchPath file)
-listing_of file recursive flat (Some tree) = Ok (record { text = group_lines recursive flat [] tree })
+listing_of file recursive flat (Some tree) = Ok
+    (record { text = group_lines recursive flat [] tree })
 
 -- What a command gives on its database.
 abbrev pub output_of : Command → BareDoc → Result Output Refusal
-output_of (Ls access file group recursive flat) doc = listing_of file recursive flat (tree_listed group doc)
+output_of (Ls access file group recursive flat) doc = listing_of file recursive flat
+    (tree_listed group doc)
 
--- What these words give over this input and these files: the command, the password that is due, the database that the
--- command names, and what the command gives on it. No command draws an id or writes a file yet.
+-- What these words give over this input and these files: the command, the password that is due, the
+-- database that the command names, and what the command gives on it. No command draws an id or
+-- writes a file yet.
 unfoldable pub answer_of : List (List ℕ) → List ℕ → FileMap → Result Output Refusal
 answer_of words input files = do
   command ← command_of words
@@ -40,17 +43,17 @@ abbrev pub asked_by : Result Command Refusal → Bool
 asked_by (Ok command) = asks command
 asked_by (Err refusal) = false
 
--- What is left of the input behind the lines that a command asks for.
+-- What is left of the input after the lines that a command asks for.
 abbrev pub left_behind : Result Command Refusal → List ℕ → List ℕ
 left_behind (Ok command) input = (password_of command input).left
 left_behind (Err refusal) input = input
 
--- What is left of the input behind the lines that the words ask for.
+-- What is left of the input after the lines that the words ask for.
 abbrev pub left_of : List (List ℕ) → List ℕ → List ℕ
 left_of words input = left_behind (command_of words) input
 
--- What a call comes to where nothing of the outside fails: its status, what it prints, its line on standard error, the
--- files after it, and what is left of the input.
+-- What a call comes to where nothing of the outside fails: its status, what it prints, its line on
+-- standard error, the files after it, and what is left of the input.
 pub record Outcome : Type 0 where
   pub status : ℕ
   pub text : List ℕ
@@ -60,16 +63,30 @@ pub record Outcome : Type 0 where
 
 -- A call that was carried out, or refused. None writes a file yet.
 abbrev pub ended : FileMap → List ℕ → Result Output Refusal → Outcome
-ended files left (Ok done) = record { status = 0; text = done.text; line = []; files = files; left = left }
+ended files left (Ok done) = record {
+  status = 0;
+  text = done.text;
+  line = [];
+  files = files;
+  left =
+      left;
+}
 ended files left (Err refusal) =
-    record { status = status_of refusal.reason; text = []; line = error_line refusal.subject (reason_text refusal.reason); files = files; left = left }
+    record {
+      status = status_of refusal.reason;
+      text = [];
+      line = error_line refusal.subject
+          (reason_text refusal.reason);
+      files = files;
+      left = left;
+    }
 
 -- What the words come to over this input and these files.
 abbrev pub outcome : List (List ℕ) → List ℕ → FileMap → Outcome
 outcome words input files = ended files (left_of words input) (answer_of words input files)
 
--- What the outside tells at one moment: what was written to standard output and to standard error, the files and the
--- draft, and what is left of the input and of the dice.
+-- What the outside tells at one moment: what was written to standard output and to standard error,
+-- the files and the draft, and what is left of the input and of the dice.
 pub record Seen : Type 0 where
   pub written : Option (List ℕ)
   pub errors : Option (List ℕ)
@@ -88,10 +105,20 @@ pub record Counts : Type 0 where
   pub err : ℕ
   pub dice : ℕ
 
--- What is told of each object, in the order of the record.
-abbrev pub seen : Option (List ℕ) → Option (List ℕ) → Option FileMap → Option (List ℕ) → List ℕ → Option (List ℕ) → Option (List ℕ) → Seen
+-- What is reported of each object, in the order of the record.
+abbrev pub seen : Option (List ℕ) → Option (List ℕ) → Option FileMap → Option (List ℕ) → List ℕ
+    → Option (List ℕ) → Option (List ℕ) → Seen
 seen written errors files draft_name draft_bytes left stream =
-    record { written = written; errors = errors; files = files; draft_name = draft_name; draft_bytes = draft_bytes; left = left; stream = stream }
+    record {
+      written = written;
+      errors = errors;
+      files = files;
+      draft_name = draft_name;
+      draft_bytes
+          = draft_bytes;
+      left = left;
+      stream = stream;
+    }
 
 -- The count of each object, in the order of the record.
 abbrev pub counts : (files absences input out err dice : ℕ) → Counts
@@ -125,7 +152,8 @@ pub record IsAsSaid (said : Outcome) (result : ℕ) (before now : Seen) : Type 0
   pub left : IsLeft before.left now.left said.left
   pub stream : now.stream ≡ before.stream
 
--- A status that may stand in the place of the outcome's: want of memory, or a fault of an object whose count rose.
+-- A status that may are in the place of the outcome's: want of memory, or a fault of an object
+-- whose count rose.
 abbrev pub IsOther : ℕ → Counts → Counts → Type 0
 IsOther result before now =
     (result ≡ 9)
@@ -136,15 +164,19 @@ IsOther result before now =
 -- The line of a fault: of the store at one of these files, or of the input or the dice.
 abbrev pub TellsFault : List (List ℕ) → ℕ → Seen → Seen → Counts → Counts → Type 0
 TellsFault names result before now counts counts' =
-    ((result ≡ 7) × Increased counts.files counts'.files × ((name : List ℕ) × Contains names name × Gains before.errors now.errors (error_line name (codes "file fault"))))
+    ((result ≡ 7) × Increased counts.files counts'.files
+    × ((name : List ℕ) × Contains names name
+    × Gains before.errors now.errors (error_line name (codes "file fault"))))
     ⊎ ((result ≡ 11) × (Increased counts.input counts'.input ⊎ Increased counts.dice counts'.dice)
-      × Gains before.errors now.errors (error_line (codes "input") (codes "fault")))
+    × Gains before.errors now.errors (error_line (codes "input") (codes "fault")))
 
 -- Whatever failed, this much is as the outcome says.
-pub record AgreesUpToFailure (names : List (List ℕ)) (said : Outcome) (result : ℕ) (before now : Seen) (counts counts' : Counts) : Type 0 where
+pub record AgreesUpToFailure (names : List (List ℕ)) (said : Outcome) (result : ℕ)
+    (before now : Seen) (counts counts' : Counts) : Type 0 where
   pub status : (result ≡ said.status) ⊎ IsOther result counts counts'
   pub text : GainsPrefix before.written now.written said.text
-  pub line : result ≢ 0 → result ≢ 9 → result ≢ 10 → Gains before.errors now.errors said.line ⊎ TellsFault names result before now counts counts'
+  pub line : result ≢ 0 → result ≢ 9 → result ≢ 10 → Gains before.errors now.errors said.line
+      ⊎ TellsFault names result before now counts counts'
   pub files : (now.files ≡ before.files) ⊎ (now.files ≡ Some said.files)
 
 -- A refusal is the one that the words come to, or it tells a fault whose count rose.
@@ -153,19 +185,22 @@ IsRefused names said result before now counts counts' =
     result ≢ 0 → result ≢ 9 → result ≢ 10
     → IsAsSaid said result before now ⊎ TellsFault names result before now counts counts'
 
--- This holds of the files and the input, if the outside tells the files and, where the words ask for a line, what is left of
--- the input.
+-- This holds of the files and the input, if the outside tells the files and, where the words ask
+-- for a line, what is left of the input.
 abbrev pub WhereTold : List (List ℕ) → Seen → (List ℕ → FileMap → Type 0) → Type 0
 WhereTold words before P =
-    (files : FileMap) (input : List ℕ) → before.files ≡ Some files → TellsInput (asked_by (command_of words)) before.left input
+    (files : FileMap) (input : List ℕ) → before.files ≡ Some files
+    → TellsInput (asked_by (command_of words)) before.left input
     → P input files
 
--- Whatever is told: statuses 7, 10 and 11 have their causes, a refusal prints nothing, and files, draft and dice are as
--- they were, since no command writes a file yet.
+-- Whatever is reported: statuses 7, 10 and 11 have their causes, a refusal prints nothing, and
+-- files, draft and dice are as they were, since no command writes a file yet.
 pub record IsSafe (result : ℕ) (before now : Seen) (counts counts' : Counts) : Type 0 where
-  pub store : result ≡ 7 → Increased counts.absences counts'.absences ⊎ Increased counts.files counts'.files
+  pub store : result ≡ 7 → Increased counts.absences counts'.absences
+      ⊎ Increased counts.files counts'.files
   pub output : result ≡ 10 → Increased counts.out counts'.out ⊎ Increased counts.err counts'.err
-  pub input : result ≡ 11 → Increased counts.input counts'.input ⊎ Increased counts.dice counts'.dice
+  pub input : result ≡ 11 → Increased counts.input counts'.input
+      ⊎ Increased counts.dice counts'.dice
   pub text : result ≢ 0 → result ≢ 9 → result ≢ 10 → now.written ≡ before.written
   pub files : now.files ≡ before.files
   pub draft : SameDraft before now

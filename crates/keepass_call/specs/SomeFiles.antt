@@ -30,7 +30,8 @@ SomeKey (Some name) key = (k : List ℕ) × (IsSomeKey k × (key ≡ Some k))
 abbrev pub IsSealedUnder : List ℕ → BareDoc → Type 0
 IsSealedUnder composite doc = (vault : Vault) × (IsHeld composite vault × (vault.doc ≡ doc))
 
--- Some bytes hold the document sealed under the composite key of the password and of some key file's key.
+-- Some bytes hold the document sealed under the composite key of the password and of some key
+-- file's key.
 pub record SomeSealed (key_file password : Option (List ℕ)) (doc : BareDoc) : Type 0 where
   pub key : Option (List ℕ)
   pub gives_key : SomeKey key_file key
@@ -43,4 +44,5 @@ SomeHolds false key_file password doc = SomeSealed key_file password doc
 
 -- Some bytes hold the document of a command.
 abbrev pub SomeDatabase : Command → Option (List ℕ) → BareDoc → Type 0
-SomeDatabase (Ls access file group recursive flat) password doc = SomeHolds access.plain access.key_file password doc
+SomeDatabase (Ls access file group recursive flat) password doc = SomeHolds access.plain
+    access.key_file password doc

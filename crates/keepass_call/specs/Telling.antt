@@ -14,21 +14,28 @@ abbrev pub IsUnwritten : SinkFail → ℕ → Type 0
 IsUnwritten sink.Failed status = status ≡ 10
 IsUnwritten sink.NoMemory status = status ≡ 9
 
--- A text was written, and the status is 0; or want of memory came, or a fault of standard output, and a front part of it
--- was written.
-abbrev pub IsPrinted : List ℕ → ℕ → (written written' : Option (List ℕ)) → (faults faults' : ℕ) → Type 0
+-- A text was written, and the status is 0; or want of memory came, or a fault of standard output,
+-- and a prefix of it was written.
+abbrev pub IsPrinted : List ℕ → ℕ → (written written' : Option (List ℕ)) → (faults faults' : ℕ)
+    → Type 0
 IsPrinted text result written written' faults faults' =
     ((result ≡ 0) × Gains written written' text)
-    ⊎ (((result ≡ 9) ⊎ ((result ≡ 10) × Increased faults faults')) × GainsPrefix written written' text)
+    ⊎ (((result ≡ 9) ⊎ ((result ≡ 10) × Increased faults faults'))
+    × GainsPrefix written written' text)
 
 -- A line was written and its status given; or want of memory came, or a fault of standard error.
-abbrev pub TellsLine : ℕ → List ℕ → ℕ → (errors errors' : Option (List ℕ)) → (faults faults' : ℕ) → Type 0
+abbrev pub TellsLine : ℕ → List ℕ → ℕ → (errors errors' : Option (List ℕ)) → (faults faults' : ℕ)
+    → Type 0
 TellsLine own line result errors errors' faults faults' =
-    ((result ≡ own) × Gains errors errors' line) ⊎ (result ≡ 9) ⊎ ((result ≡ 10) × Increased faults faults')
+    ((result ≡ own) × Gains errors errors' line) ⊎ (result ≡ 9)
+    ⊎ ((result ≡ 10) × Increased faults faults')
 
--- The stop has its own status and its own line, or want of memory came, or a fault of standard error.
+-- The stop has its own status and its own line, or want of memory came, or a fault of standard
+-- error.
 abbrev pub IsTold : Stop → ℕ → (errors errors' : Option (List ℕ)) → (faults faults' : ℕ) → Type 0
-IsTold (Refused refusal) = TellsLine (status_of refusal.reason) (error_line refusal.subject (reason_text refusal.reason))
+IsTold (Refused refusal) = TellsLine (status_of refusal.reason)
+    (error_line refusal.subject (reason_text refusal.reason))
 IsTold (FileFault name) = TellsLine 7 (error_line name (codes "file fault"))
 IsTold InputFault = TellsLine 11 (error_line (codes "input") (codes "fault"))
-IsTold NoMemory = λ result errors errors' faults faults'. (result ≡ 9) ⊎ ((result ≡ 10) × Increased faults faults')
+IsTold NoMemory = λ result errors errors' faults faults'. (result ≡ 9)
+    ⊎ ((result ≡ 10) × Increased faults faults')

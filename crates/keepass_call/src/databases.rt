@@ -128,7 +128,7 @@ fn unopened(alloc: Global, fail: OpenFail, name: &str) -> Stop
     }
 }
 
-// The plain document that a text is, which is let go before the document stands.
+// The plain document that a text is, which is dropped before the document stands.
 #[tactic(auto, unfolding(crate::specs::Databases::plain_document))]
 fn read_plain(alloc: Global, text: Secret) -> Result<ReadDoc, DocFail>
     ensures { reader.Returns read_seen result (plain_document text.bytes) }
@@ -159,9 +159,11 @@ fn build(alloc: Global, name: &str, bytes: Secret) -> Result<Doc, Stop>
 
 // The plain document in a file.
 fn open_plain<F: FileStore>(alloc: Global, files: &mut F, name: &str) -> Result<Doc, Stop>
-    ensures told { (m : FileMap) → F.files files.old ≡ Some m → Returns doc_seen result (plain_of name.now (map.get m name.now)) }
+    ensures told { (m : FileMap) → F.files files.old ≡ Some m
+        → Returns doc_seen result (plain_of name.now (map.get m name.now)) }
     ensures some_file { IfOk result (λ doc. SomePlain (doc_seen doc)) }
-    ensures cause { IfErr result (IsFileStop (name.now ∷ []) (F.faults files.old) (F.faults files.new) (F.absences files.old) (F.absences files.new)) }
+    ensures cause { IfErr result (IsFileStop (name.now ∷ []) (F.faults files.old)
+        (F.faults files.new) (F.absences files.old) (F.absences files.new)) }
     ensures faults { F.faults files.old ≤ F.faults files.new }
     ensures files { F.files files.new ≡ F.files files.old }
     ensures draft_name { F.draft_name files.new ≡ F.draft_name files.old }
@@ -188,9 +190,11 @@ fn key_by(alloc: Global, name: &str, bytes: &Secret) -> Result<Key, Stop>
 
 // The key of a key file.
 fn open_key_file<F: FileStore>(alloc: Global, files: &mut F, name: &str) -> Result<Key, Stop>
-    ensures told { (m : FileMap) → F.files files.old ≡ Some m → Returns (λ key. key) result (key_in name.now (map.get m name.now)) }
+    ensures told { (m : FileMap) → F.files files.old ≡ Some m
+        → Returns (λ key. key) result (key_in name.now (map.get m name.now)) }
     ensures some_file { IfOk result IsSomeKey }
-    ensures cause { IfErr result (IsFileStop (name.now ∷ []) (F.faults files.old) (F.faults files.new) (F.absences files.old) (F.absences files.new)) }
+    ensures cause { IfErr result (IsFileStop (name.now ∷ []) (F.faults files.old)
+        (F.faults files.new) (F.absences files.old) (F.absences files.new)) }
     ensures faults { F.faults files.old ≤ F.faults files.new }
     ensures absences { F.absences files.old ≤ F.absences files.new }
     ensures files { F.files files.new ≡ F.files files.old }
@@ -209,10 +213,13 @@ fn key_of<F: FileStore>(
     files: &mut F,
     key_file: Option<&str>,
 ) -> Result<Option<Key>, Stop>
-    ensures told { (m : FileMap) → F.files files.old ≡ Some m → Returns (λ key. key) result (spec.key_of (option_map (λ name. name.now) key_file.entry) m) }
+    ensures told { (m : FileMap) → F.files files.old ≡ Some m
+        → Returns (λ key. key) result (spec.key_of (option_map (λ name. name.now) key_file.entry) m) }
     ensures given { IfOk result (λ key. IsSome key_file.entry → IsSome key) }
     ensures some_file { IfOk result (SomeKey (option_map (λ name. name.now) key_file.entry)) }
-    ensures cause { IfErr result (IsFileStop (key_files (option_map (λ name. name.now) key_file.entry)) (F.faults files.old) (F.faults files.new) (F.absences files.old) (F.absences files.new)) }
+    ensures cause { IfErr result (IsFileStop (key_files
+        (option_map (λ name. name.now) key_file.entry)) (F.faults files.old) (F.faults files.new)
+        (F.absences files.old) (F.absences files.new)) }
     ensures faults { F.faults files.old ≤ F.faults files.new }
     ensures absences { F.absences files.old ≤ F.absences files.new }
     ensures files { F.files files.new ≡ F.files files.old }
@@ -228,8 +235,8 @@ fn key_of<F: FileStore>(
     }
 }
 
-// The document that a file holds sealed under the composite key of a password and a key file's key, of which there is
-// one at least. The composite key is cleared and released.
+// The document that a file holds sealed under the composite key of a password and a key file's key,
+// of which there is one at least. The composite key is cleared and released.
 #[tactic(auto, unfolding(crate::specs::Databases::sealed_in))]
 fn open_sealed<F: FileStore>(
     alloc: Global,
@@ -239,9 +246,13 @@ fn open_sealed<F: FileStore>(
     key: Option<Key>,
 ) -> Result<Doc, Stop>
     requires { IsSome password ⊎ IsSome key }
-    ensures told { (m : FileMap) → F.files files.old ≡ Some m → Returns doc_seen result (sealed_in name.now m (option_map (λ p. p.now) password.entry) key) }
-    ensures some_file { IfOk result (λ doc. IsSealedUnder (composite_key (option_map (λ p. p.now) password.entry) key) (doc_seen doc)) }
-    ensures cause { IfErr result (IsFileStop (name.now ∷ []) (F.faults files.old) (F.faults files.new) (F.absences files.old) (F.absences files.new)) }
+    ensures told { (m : FileMap) → F.files files.old ≡ Some m
+        → Returns doc_seen result (sealed_in name.now m (option_map (λ p. p.now) password.entry)
+        key) }
+    ensures some_file { IfOk result (λ doc. IsSealedUnder
+        (composite_key (option_map (λ p. p.now) password.entry) key) (doc_seen doc)) }
+    ensures cause { IfErr result (IsFileStop (name.now ∷ []) (F.faults files.old)
+        (F.faults files.new) (F.absences files.old) (F.absences files.new)) }
     ensures faults { F.faults files.old ≤ F.faults files.new }
     ensures files { F.files files.new ≡ F.files files.old }
     ensures draft_name { F.draft_name files.new ≡ F.draft_name files.old }
@@ -283,9 +294,13 @@ fn open_held<F: FileStore>(
     password: Option<&[u8]>,
 ) -> Result<Doc, Stop>
     requires { access.now.plain ≡ false → IsSome password ⊎ IsSome access.now.key_file }
-    ensures told { (m : FileMap) → F.files files.old ≡ Some m → Returns doc_seen result (held_in access.now.plain access.now.key_file file.now (option_map (λ p. p.now) password.entry) m) }
-    ensures some_file { IfOk result (λ doc. SomeHolds access.now.plain access.now.key_file (option_map (λ p. p.now) password.entry) (doc_seen doc)) }
-    ensures cause { IfErr result (IsFileStop (key_files access.now.key_file ++ file.now ∷ []) (F.faults files.old) (F.faults files.new) (F.absences files.old) (F.absences files.new)) }
+    ensures told { (m : FileMap) → F.files files.old ≡ Some m
+        → Returns doc_seen result (held_in access.now.plain access.now.key_file file.now
+        (option_map (λ p. p.now) password.entry) m) }
+    ensures some_file { IfOk result (λ doc. SomeHolds access.now.plain access.now.key_file
+        (option_map (λ p. p.now) password.entry) (doc_seen doc)) }
+    ensures cause { IfErr result (IsFileStop (key_files access.now.key_file ++ file.now ∷ [])
+        (F.faults files.old) (F.faults files.new) (F.absences files.old) (F.absences files.new)) }
     ensures faults { F.faults files.old ≤ F.faults files.new }
     ensures files { F.files files.new ≡ F.files files.old }
     ensures draft_name { F.draft_name files.new ≡ F.draft_name files.old }
@@ -306,9 +321,13 @@ pub fn open<F: FileStore>(
     password: Option<&[u8]>,
 ) -> Result<Doc, Stop>
     requires { CanOpen command.now (option_map (λ p. p.now) password) }
-    ensures told { (m : FileMap) → F.files files.old ≡ Some m → Returns doc_seen result (database_of command.now (option_map (λ p. p.now) password.entry) m) }
-    ensures some_file { IfOk result (λ doc. SomeDatabase command.now (option_map (λ p. p.now) password.entry) (doc_seen doc)) }
-    ensures cause { IfErr result (IsFileStop (files_of command.now) (F.faults files.old) (F.faults files.new) (F.absences files.old) (F.absences files.new)) }
+    ensures told { (m : FileMap) → F.files files.old ≡ Some m
+        → Returns doc_seen result (database_of command.now (option_map (λ p. p.now) password.entry)
+        m) }
+    ensures some_file { IfOk result (λ doc. SomeDatabase command.now
+        (option_map (λ p. p.now) password.entry) (doc_seen doc)) }
+    ensures cause { IfErr result (IsFileStop (files_of command.now) (F.faults files.old)
+        (F.faults files.new) (F.absences files.old) (F.absences files.new)) }
     ensures faults { F.faults files.old ≤ F.faults files.new }
     ensures files { F.files files.new ≡ F.files files.old }
     ensures draft_name { F.draft_name files.new ≡ F.draft_name files.old }

@@ -10,9 +10,9 @@ ghost use Rattle.keepass_call.specs.Outcome.{answer_of, asked_by, counts, left_o
 ghost use Rattle.keepass_call.specs.Telling.{IsPrinted, IsTold, IsUnwritten, TellsLine};
 
 use crate::databases::open;
+use crate::execute::{Output, execute};
 use cli_answers::{Reason, Stop, line, status, text_of_reason};
 use cli_lines::read_password;
-use crate::execute::{Output, execute};
 use cli_words::read_words;
 use outside_core::{Dice, FileStore, NoMemory, Sink, SinkFail, Source, write_all};
 use secret_core::Secret;
@@ -32,7 +32,8 @@ const INPUT_FAULT: u8 = 11;
 
 // The bytes of a password, where there is one.
 fn bytes_in(password: &Option<Secret>) -> Option<&[u8]>
-    ensures { option_map (λ bytes. bytes.now) result ≡ option_map (λ secret. secret.bytes) password.now }
+    ensures { option_map (λ bytes. bytes.now) result
+        ≡ option_map (λ secret. secret.bytes) password.now }
 {
     match password {
         Some(password) => Some(password.lend(0, password.len())),
@@ -48,10 +49,16 @@ fn answer<F: FileStore, S: Source>(
     files: &mut F,
     input: &mut S,
 ) -> Result<Output, Stop>
-    ensures told { (m : FileMap) (i : List ℕ) → F.files files.old ≡ Some m → TellsInput (asked_by (command_of (map string_bytes words.now))) (S.left input.old) i → Returns (λ done. done) result (answer_of (map string_bytes words.now) i m) }
+    ensures told { (m : FileMap) (i : List ℕ) → F.files files.old ≡ Some m
+        → TellsInput (asked_by (command_of (map string_bytes words.now))) (S.left input.old) i
+        → Returns (λ done. done) result (answer_of (map string_bytes words.now) i m) }
     ensures some_file { IfOk result (IsOfSomeFile (map string_bytes words.now)) }
-    ensures left { (i : List ℕ) → TellsInput (asked_by (command_of (map string_bytes words.now))) (S.left input.old) i → Leaves result (S.left input.old) (S.left input.new) (left_of (map string_bytes words.now) i) }
-    ensures cause { IfErr result (IsCaused (files_named (command_of (map string_bytes words.now))) (F.faults files.old) (F.faults files.new) (F.absences files.old) (F.absences files.new) (S.faults input.old) (S.faults input.new)) }
+    ensures left { (i : List ℕ) → TellsInput (asked_by (command_of (map string_bytes words.now)))
+        (S.left input.old) i → Leaves result (S.left input.old) (S.left input.new)
+        (left_of (map string_bytes words.now) i) }
+    ensures cause { IfErr result (IsCaused (files_named (command_of (map string_bytes words.now)))
+        (F.faults files.old) (F.faults files.new) (F.absences files.old) (F.absences files.new)
+        (S.faults input.old) (S.faults input.new)) }
     ensures faults { F.faults files.old ≤ F.faults files.new }
     ensures input { S.faults input.old ≤ S.faults input.new }
     ensures files { F.files files.new ≡ F.files files.old }
@@ -76,7 +83,8 @@ fn unwritten(fail: SinkFail) -> u8
 
 // Writes what a call gave, and gives the status that goes with it.
 fn print<O: Sink>(out: &mut O, text: &[u8]) -> u8
-    ensures { IsPrinted text.now result (O.written out.old) (O.written out.new) (O.faults out.old) (O.faults out.new) }
+    ensures { IsPrinted text.now result (O.written out.old) (O.written out.new) (O.faults out.old)
+        (O.faults out.new) }
 {
     match write_all(out, text) {
         Ok(()) => 0,
@@ -86,7 +94,8 @@ fn print<O: Sink>(out: &mut O, text: &[u8]) -> u8
 
 // Writes the line of a subject, and gives the status that goes with it.
 fn tell_line<E: Sink>(alloc: Global, err: &mut E, own: u8, subject: &str, text: &str) -> u8
-    ensures { TellsLine own (error_line subject.now text.now) result (E.written err.old) (E.written err.new) (E.faults err.old) (E.faults err.new) }
+    ensures { TellsLine own (error_line subject.now text.now) result (E.written err.old)
+        (E.written err.new) (E.faults err.old) (E.faults err.new) }
 {
     match line(alloc, subject, text) {
         Ok(line) => match write_all(err, line.as_slice()) {
@@ -99,7 +108,8 @@ fn tell_line<E: Sink>(alloc: Global, err: &mut E, own: u8, subject: &str, text: 
 
 // Writes the line of an answer about a subject, and gives the answer's status.
 fn tell_answer<E: Sink>(alloc: Global, err: &mut E, answer: &Reason, subject: &str) -> u8
-    ensures { TellsLine (status_of answer.now) (error_line subject.now (reason_text answer.now)) result (E.written err.old) (E.written err.new) (E.faults err.old) (E.faults err.new) }
+    ensures { TellsLine (status_of answer.now) (error_line subject.now (reason_text answer.now))
+        result (E.written err.old) (E.written err.new) (E.faults err.old) (E.faults err.new) }
 {
     match text_of_reason(alloc, answer) {
         Ok(text) => tell_line(alloc, err, status(answer), subject, text.as_str()),
@@ -109,7 +119,8 @@ fn tell_answer<E: Sink>(alloc: Global, err: &mut E, answer: &Reason, subject: &s
 
 // Tells on standard error why a call stopped, and gives its status.
 fn tell<E: Sink>(alloc: Global, err: &mut E, stop: Stop) -> u8
-    ensures { IsTold stop result (E.written err.old) (E.written err.new) (E.faults err.old) (E.faults err.new) }
+    ensures { IsTold stop result (E.written err.old) (E.written err.new) (E.faults err.old)
+        (E.faults err.new) }
 {
     match stop {
         Stop::Refused(refusal) => {
@@ -121,14 +132,15 @@ fn tell<E: Sink>(alloc: Global, err: &mut E, stop: Stop) -> u8
     }
 }
 
-/// One call of the program, whose words are those after its name; `now` is in seconds since the year 1. Gives the
-/// program's status.
+/// One call of the program, whose words are those after its name; `now` is in seconds since the
+/// year 1. Gives the program's status.
 ///
-/// Where no object of the outside fails and memory does not run out, all that is seen of the call is what the outcome
-/// says to which its words come over its input and its files; they come to one alone. What is listed at status 0 is a
-/// document that the file holds: by itself, or sealed under the composite key of the line of input and the key file.
-/// Where an object fails, no file is changed, what was printed is a front part of the outcome's text, and the status
-/// tells of the failure. Words that can be carried out come to status 0 where nothing fails.
+/// Where no object of the outside fails and memory does not run out, all that is seen of the call
+/// is what the outcome says to which its words come over its input and its files; they come to one
+/// alone. What is listed at status 0 is a document that the file holds: by itself, or sealed under
+/// the composite key of the line of input and the key file. Where an object fails, no file is
+/// changed, what was printed is a prefix of the outcome's text, and the status tells of the
+/// failure. Words that can be carried out come to status 0 where nothing fails.
 pub fn keepass<F: FileStore, S: Source, O: Sink, E: Sink, D: Dice>(
     alloc: Global,
     words: &[String],

@@ -9,7 +9,8 @@ use Rattle.key_core.specs.declared.kdf.KdfFail.TheVariants.{KdfLimit}
 
 -- a number that must be from `least` to `most`, and what follows where it is
 abbrev pub within : KdfField → ℕ → ℕ → ℕ → Result Unit KdfFail → Result Unit KdfFail
-within field least most n next = if nat_lt n least || nat_lt most n then Err (KdfLimit field n) else next
+within field least most n next = if nat_lt n least
+    || nat_lt most n then Err (KdfLimit field n) else next
 
 -- the passes, memory, lanes and length of salt of Argon2, or the first that is out of its limits
 abbrev pub checked_argon : ℕ → ℕ → ℕ → ℕ → Result Unit KdfFail

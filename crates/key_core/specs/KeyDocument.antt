@@ -1,4 +1,5 @@
--- What a key document says: its version, and the text of its key. Of an element that stands twice the last counts.
+-- What a key document says: its version, and the text of its key. Of an element that stands twice
+-- the last counts.
 use Rattle.std.specs.Prelude.{ℕ, Bool, true, false, ◌&&◌, if◌then◌else◌, Option, Some, None, List, ◌∷◌, take, bytes_eq, codes, Result, Ok, Err}
 use Rattle.sha2.specs.Sha256.{sha256}
 use Rattle.markup_grammar.specs.Answers.{Answer, start}
@@ -33,7 +34,8 @@ last_says name says other (also text e more) =
     last_says name says (if bytes_eq (name_of e) name then says e else other) more
 last_says name says other (cut text answer) = other
 
--- a version by its text, which may begin with white space, and its place: only the first number counts
+-- a version by its text, which may begin with white space, and its place: only the first number
+-- counts
 abbrev pub version_by : ℕ → List ℕ → Version
 version_by place text =
     if bytes_eq (take 2 (without_front text)) (codes "1.") then First
@@ -51,7 +53,8 @@ version_of_meta meta = last_says (codes "Version") version_in None meta
 abbrev pub version_of : Content → Option Version
 version_of root = last_says (codes "Meta") (λ meta. version_of_meta (held_by meta)) None root
 
--- a key as it is told: the place of its element, the hash that is told with it, and its text
+-- a key as it is reported: the place of its element, the hash that is reported with it, and its
+-- text
 pub record Told : Type 0 where
   pub place : ℕ
   pub hash : Option (List ℕ)
@@ -75,14 +78,16 @@ abbrev pub formed : {A : Type 0} → ℕ → Option A → Result A KeyFileFail
 formed place None = Err (KeyFileForm place)
 formed place (Some x) = Ok x
 
--- the hash that is told with a key, where one is: the first four bytes of the key's SHA-256
+-- the hash that is reported with a key, where one is: the first four bytes of the key's SHA-256
 abbrev pub compared : List ℕ → List ℕ → Result (List ℕ) KeyFileFail
 compared key kept =
-    if bytes_eq kept (take 4 (sha256 key)) then Ok key else Err (KeyFileHash kept (take 4 (sha256 key)))
+    if bytes_eq kept (take 4 (sha256 key)) then Ok key else Err
+    (KeyFileHash kept (take 4 (sha256 key)))
 
 abbrev pub proved_by : ℕ → Option (List ℕ) → List ℕ → Result (List ℕ) KeyFileFail
 proved_by place None key = Ok key
-proved_by place (Some digits) key = elim (formed place (hexadecimal_hash digits)) [ Ok kept ↦ compared key kept | Err fail ↦ Err fail ]
+proved_by place (Some digits) key = elim (formed place (hexadecimal_hash digits))
+    [ Ok kept ↦ compared key kept | Err fail ↦ Err fail ]
 
 -- the key of the first version: base64
 abbrev pub first_key : Told → Result (List ℕ) KeyFileFail
@@ -90,9 +95,11 @@ first_key told = formed told.place (base64_key (trimmed told.text))
 
 -- the key of the second version: hexadecimal digits, with white space between them, and their hash
 abbrev pub second_key : Told → Result (List ℕ) KeyFileFail
-second_key told = elim (formed told.place (hexadecimal_key (dense told.text))) [ Ok key ↦ proved_by told.place told.hash key | Err fail ↦ Err fail ]
+second_key told = elim (formed told.place (hexadecimal_key (dense told.text)))
+    [ Ok key ↦ proved_by told.place told.hash key | Err fail ↦ Err fail ]
 
--- the key of a document with this version and this key, or the first of what is missing or in no form
+-- the key of a document with this version and this key, or the first of what is missing or in no
+-- form
 abbrev pub document_key : Option Version → Option Told → Result (List ℕ) KeyFileFail
 document_key None told = Err (KeyFileForm 0)
 document_key (Some (Other place)) told = Err (KeyFileForm place)
@@ -101,9 +108,11 @@ document_key (Some First) (Some told) = first_key told
 document_key (Some Second) None = Err (KeyFileForm 0)
 document_key (Some Second) (Some told) = second_key told
 
--- what the root of a key document holds: the text is whole, and begins with the start tag of KeyFile
+-- what the root of a key document holds: the text is whole, and begins with the start tag of
+-- KeyFile
 abbrev pub root_of : List Answer → Option Content
 root_of (start place name raw ∷ more) =
-    if bytes_eq name (codes "KeyFile") && (is_whole (inner (left more)) && is_whole (inner (outer (left more))))
+    if bytes_eq name (codes "KeyFile") && (is_whole (inner (left more))
+    && is_whole (inner (outer (left more))))
     then Some (inner (left more)) else None
 root_of _ = None

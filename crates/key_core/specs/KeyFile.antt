@@ -13,7 +13,8 @@ abbrev pub or_else : Option (List ℕ) → List ℕ → List ℕ
 or_else None other = other
 or_else (Some key) other = key
 
--- the key of a file that is no key document: its 32 bytes, or the 64 hexadecimal digits that it is, or its hash
+-- the key of a file that is no key document: its 32 bytes, or the 64 hexadecimal digits that it is,
+-- or its hash
 abbrev pub plain_key : List ℕ → List ℕ
 plain_key bytes = or_else (whole_key bytes) (or_else (hexadecimal_key bytes) (sha256 bytes))
 

@@ -26,7 +26,8 @@ enciphered_often seed rounds block = iterate (aes256_encipher seed) rounds block
 -- a key transformed by AES: the hash of its two halves, each enciphered so many times
 unfoldable pub aes_transformed : List ℕ → ℕ → List ℕ → List ℕ
 aes_transformed seed rounds key =
-    sha256 (enciphered_often seed rounds (take 16 key) ++ enciphered_often seed rounds (drop 16 key))
+    sha256 (enciphered_often seed rounds (take 16 key)
+    ++ enciphered_often seed rounds (drop 16 key))
 
 -- a key transformed: by AES, or by Argon2 as its password, in whole units of 1,024 bytes of memory
 abbrev pub transformed_key : Kdf → List ℕ → List ℕ
@@ -38,6 +39,7 @@ transformed_key (Argon kind passes bytes lanes salt) key =
 unfoldable pub cipher_key : List ℕ → List ℕ → List ℕ
 cipher_key seed transformed = sha256 (seed ++ transformed)
 
--- the key from which a file's authentication keys are made: the long hash of the same two and the byte 01
+-- the key from which a file's authentication keys are made: the long hash of the same two and the
+-- byte 01
 unfoldable pub mac_base : List ℕ → List ℕ → List ℕ
 mac_base seed transformed = sha512 (seed ++ transformed ++ 1 ∷ [])

@@ -20,11 +20,14 @@ are_whole answers = is_whole (inner (left answers)) && is_whole (inner (outer (l
 -- the next item of the innermost open element
 abbrev pub Comes : List Answer → Result Item Stopped → List Answer → Type 0
 Comes old (Ok (Child name attrs place)) new =
-    (inner (left old) ≡ also [] (element place name.now attrs.raw.now (inner (left new))) (inner (outer (left new))))
+    (inner (left old) ≡ also [] (element place name.now attrs.raw.now (inner (left new)))
+    (inner (outer (left new))))
     × (outer (left old) ≡ outer (outer (left new))) × (length new < length old)
 Comes old (Ok (Words raw)) new =
-    (inner (left old) ≡ prepended (unescaped raw.now) (inner (left new))) × (outer (left old) ≡ outer (left new)) × (length new < length old)
-Comes old (Ok End) new = (inner (left old) ≡ last []) × (outer (left old) ≡ left new) × (length new < length old)
+    (inner (left old) ≡ prepended (unescaped raw.now) (inner (left new)))
+    × (outer (left old) ≡ outer (left new)) × (length new < length old)
+Comes old (Ok End) new = (inner (left old) ≡ last []) × (outer (left old) ≡ left new)
+    × (length new < length old)
 Comes old (Err Cut) new = are_whole old ≡ false
 Comes old (Err NoMemory) new = ⊥
 
@@ -36,14 +39,20 @@ pub record IsRead {A : Type 0} (value says : A) (old new : List Answer) : Type 0
   pub shorter : length new < length old
 
 -- it was read and says this, or it or what stands round it is cut
-abbrev pub Reads : {A B : Type 0} → (B → A) → A → List Answer → Result B Stopped → List Answer → Type 0
+abbrev pub Reads : {A B : Type 0} → (B → A) → A → List Answer → Result B Stopped → List Answer
+    → Type 0
 Reads view says old (Ok x) new = IsRead (view x) says old new
 Reads view says old (Err Cut) new = are_whole old ≡ false
 Reads view says old (Err NoMemory) new = Unit {0}
 
--- a key as it is told, from the bytes of what holds it
+-- a key as it is reported, from the bytes of what holds it
 abbrev pub told_by : Data → Told
-told_by d = record { place = d.place; hash = option_map (λ (held : SecretBuffer). held.bytes) d.hash; text = d.text.bytes }
+told_by d = record {
+  place = d.place;
+  hash = option_map (λ (held : SecretBuffer). held.bytes)
+      d.hash;
+  text = d.text.bytes;
+}
 
 -- the version past an element of a Meta, of this name, at this place and with this content
 abbrev pub version_or : List ℕ → ℕ → Option Version → Content → Option Version
@@ -52,7 +61,12 @@ version_or name place version content =
 
 -- the key that a Data at this place tells, with this raw hash and this content
 abbrev pub told_here : ℕ → Option (List ℕ) → Content → Told
-told_here place hash content = record { place = place; hash = option_map unescaped hash; text = joined content }
+told_here place hash content = record {
+  place = place;
+  hash = option_map unescaped hash;
+  text =
+      joined content;
+}
 
 -- the key past an element of a Key, of this name
 abbrev pub told_or : List ℕ → ℕ → Option (List ℕ) → Option Told → Content → Option Told

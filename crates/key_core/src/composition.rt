@@ -8,9 +8,9 @@ use crate::digests::{digest_of, finished};
 use secret_core::Key;
 use sha2::{Digest, Sha256};
 
-/// The composite key of a password and the key of a key file, of which one may be missing: SHA-256 of
-/// the password's SHA-256 and the key file's key. The key of the key file is cleared and released.
-/// Takes no memory.
+/// The composite key of a password and the key of a key file, of which one may be missing: SHA-256
+/// of the password's SHA-256 and the key file's key. The key of the key file is cleared and
+/// released. Takes no memory.
 #[tactic(auto, unfolding(crate::specs::Keys::composite_key))]
 pub fn composite(password: Option<&[u8]>, key_file: Option<Key>) -> Key
     requires { IsSome password ⊎ IsSome key_file }

@@ -37,9 +37,9 @@ impl FileKeys {
     }
 }
 
-/// The keys of a vault file, from the transformed key and the file's master seed: SHA-256 of the seed
-/// and the key, and SHA-512 of the seed, the key and the byte 01. The transformed key is cleared and
-/// released. Takes no memory.
+/// The keys of a vault file, from the transformed key and the file's master seed: SHA-256 of the
+/// seed and the key, and SHA-512 of the seed, the key and the byte 01. The transformed key is
+/// cleared and released. Takes no memory.
 #[tactic(auto, unfolding(crate::specs::Keys::cipher_key, crate::specs::Keys::mac_base))]
 pub fn file_keys(mut transformed: Key, seed: &[u8; 32]) -> FileKeys
     ensures cipher { result.cipher ≡ cipher_key seed.now transformed }

@@ -1,4 +1,5 @@
-//! How a vault file's composite key is transformed before it is used, and how much work that may cost.
+//! How a vault file's composite key is transformed before it is used, and how much work that may
+//! cost.
 
 ghost use Rattle.std.specs.Prelude.{◌≡◌};
 ghost use Rattle.key_core.specs.Kdf.{checked_argon, checked_kdf};

@@ -21,16 +21,16 @@ pub(crate) enum Version {
     First,
     /// A version 2: the key is written in hexadecimal digits, with a hash of it.
     Second,
-    /// Another version, which stands at this place.
+    /// Another version, which is at this place.
     Other(usize),
 }
 
-/// A key as it is told.
+/// A key as it is reported.
 #[derive(Drop)]
 pub(crate) struct Data {
     /// The place of its element.
     pub(crate) place: usize,
-    /// The hash that is told with it.
+    /// The hash that is reported with it.
     pub(crate) hash: Option<Secret>,
     /// Its text.
     pub(crate) text: Secret,
@@ -54,7 +54,8 @@ fn version_by(place: usize, text: &[u8]) -> Version
     }
 }
 
-// Reads an element of a Meta up to its end: a Version tells a version, and another element leaves it.
+// Reads an element of a Meta up to its end: a Version tells a version, and another element leaves
+// it.
 fn read_in_meta(
     alloc: Global,
     reader: &mut Reader<'_>,
@@ -62,7 +63,8 @@ fn read_in_meta(
     place: usize,
     version: Option<Version>,
 ) -> Result<Option<Version>, Stopped>
-    ensures { Reads (λ v. v) (version_or name.now place version (inner (left reader.old))) reader.old result reader.new }
+    ensures { Reads (λ v. v) (version_or name.now place version (inner (left reader.old)))
+        reader.old result reader.new }
 {
     if name != "Version" {
         skip(reader)?;
@@ -74,7 +76,8 @@ fn read_in_meta(
 
 // Reads a Meta up to its end: the version that its last Version tells.
 fn read_meta(alloc: Global, reader: &mut Reader<'_>) -> Result<Option<Version>, Stopped>
-    ensures { Reads (λ v. v) (spec.version_of_meta (inner (left reader.old))) reader.old result reader.new }
+    ensures { Reads (λ v. v) (spec.version_of_meta (inner (left reader.old))) reader.old result
+        reader.new }
 {
     let mut version = None;
     'items: loop {
@@ -90,7 +93,8 @@ fn read_meta(alloc: Global, reader: &mut Reader<'_>) -> Result<Option<Version>, 
 
 // The text of an attribute, where there is one.
 fn attribute_text(alloc: Global, raw: Option<&str>) -> Result<Option<Secret>, NoMemory>
-    ensures { IfOk result (λ text. option_map (λ s. s.bytes) text ≡ option_map unescaped (option_copied raw.entry)) }
+    ensures { IfOk result (λ text. option_map (λ s. s.bytes) text
+        ≡ option_map unescaped (option_copied raw.entry)) }
 {
     match raw {
         Some(raw) => Ok(Some(unescaped(alloc, raw)?)),
@@ -105,7 +109,8 @@ fn read_data(
     hash: Option<&str>,
     place: usize,
 ) -> Result<Data, Stopped>
-    ensures { Reads told_by (told_here place (option_copied hash.entry) (inner (left reader.old))) reader.old result reader.new }
+    ensures { Reads told_by (told_here place (option_copied hash.entry) (inner (left reader.old)))
+        reader.old result reader.new }
 {
     let hash = attribute_text(alloc, hash)?;
     let text = read_text(alloc, reader)?;
@@ -121,7 +126,8 @@ fn read_in_key(
     place: usize,
     told: Option<Data>,
 ) -> Result<Option<Data>, Stopped>
-    ensures { Reads (option_map told_by) (told_or name.now place (option_copied hash.entry) (option_map told_by told) (inner (left reader.old))) reader.old result reader.new }
+    ensures { Reads (option_map told_by) (told_or name.now place (option_copied hash.entry)
+        (option_map told_by told) (inner (left reader.old))) reader.old result reader.new }
 {
     if name != "Data" {
         skip(reader)?;
@@ -132,7 +138,8 @@ fn read_in_key(
 
 // Reads a Key up to its end: the key that its last Data tells.
 fn read_key(alloc: Global, reader: &mut Reader<'_>) -> Result<Option<Data>, Stopped>
-    ensures { Reads (option_map told_by) (spec.told_of_key (inner (left reader.old))) reader.old result reader.new }
+    ensures { Reads (option_map told_by) (spec.told_of_key (inner (left reader.old))) reader.old
+        result reader.new }
 {
     let mut data = None;
     'items: loop {
@@ -153,7 +160,8 @@ fn read_in_root(
     name: &str,
     mut document: Document,
 ) -> Result<Document, Stopped>
-    ensures { Reads says_by (says_or name.now (says_by document) (inner (left reader.old))) reader.old result reader.new }
+    ensures { Reads says_by (says_or name.now (says_by document) (inner (left reader.old)))
+        reader.old result reader.new }
 {
     if name == "Meta" {
         document.version = read_meta(alloc, reader)?;
@@ -194,7 +202,7 @@ fn begins(reader: &mut Reader<'_>) -> bool
     }
 }
 
-// Passes over what stands behind the root.
+// Passes over what stands after the root.
 fn reach_end(reader: &mut Reader<'_>) -> Result<(), Stopped>
     ensures { Ends reader.old result }
 {

@@ -16,8 +16,9 @@ use std::alloc::Global;
 /// Why a key file gives no key.
 #[derive(Clone, Copy, Debug, PartialEq, Eq)]
 pub enum KeyFileFail {
-    /// A key document lacks its version or its key (place 0), is of another version (the place of that
-    /// element), or has a key or a hash that is not in its form (the place of the key's element).
+    /// A key document lacks its version or its key (place 0), is of another version (the place of
+    /// that element), or has a key or a hash that is not in its form (the place of the key's
+    /// element).
     KeyFileForm(usize),
     /// The hash that the key document keeps is not that of its key.
     KeyFileHash {
@@ -32,12 +33,13 @@ pub enum KeyFileFail {
 
 /// The key of a key file, from the file's bytes.
 ///
-/// Text in the grammar of `markup_core` whose root is `KeyFile` is a key document. Its version stands in the
-/// root's `Meta`, in `Version`, and its key in the root's `Key`, in `Data`. Version 1 writes the key's 32 bytes
-/// in base64. Version 2 writes them in 64 hexadecimal digits, white space between them, and where the attribute
-/// `Hash` stands, it is the first four bytes of the key's SHA-256 in eight hexadecimal digits. Of an element that
-/// stands twice the last counts. Any other file is the key itself, where it is 32 bytes; the key in hexadecimal
-/// digits, where it is 64 of them; and else its SHA-256 is the key.
+/// Text in the grammar of `markup_core` whose root is `KeyFile` is a key document. Its version is
+/// in the root's `Meta`, in `Version`, and its key in the root's `Key`, in `Data`. Version 1 writes
+/// the key's 32 bytes in base64. Version 2 writes them in 64 hexadecimal digits, white space
+/// between them, and where the attribute `Hash` stands, it is the first four bytes of the key's
+/// SHA-256 in eight hexadecimal digits. Of an element that stands twice the last counts. Any other
+/// file is the key itself, where it is 32 bytes; the key in hexadecimal digits, where it is 64 of
+/// them; and else its SHA-256 is the key.
 pub fn read_key_file(alloc: Global, bytes: &[u8]) -> Result<Key, KeyFileFail>
     ensures { Gives (key_file_key bytes.now) result }
 {
@@ -63,7 +65,8 @@ fn plain_key(bytes: &[u8]) -> Key
 
 // The key of a key document.
 fn document_key(alloc: Global, document: &Document) -> Result<Key, KeyFileFail>
-    ensures { Gives (spec.document_key document.now.version (option_map told_by document.now.data)) result }
+    ensures { Gives (spec.document_key document.now.version (option_map told_by document.now.data))
+        result }
 {
     match (document.version, &document.data) {
         (None, _) => Err(KeyFileFail::KeyFileForm(0)),

@@ -69,7 +69,7 @@ pub(crate) fn unescaped(alloc: Global, raw: &str) -> Result<Secret, NoMemory>
     Ok(text)
 }
 
-/// The text with the text behind it for which raw markup stands.
+/// The text with the text after it for which raw markup stands.
 pub(crate) fn with_words(alloc: Global, mut text: Secret, raw: &str) -> Result<Secret, NoMemory>
     ensures { IfOk result (λ secret. secret.bytes ≡ text.bytes ++ unescaped raw.now) }
 {
@@ -81,7 +81,7 @@ pub(crate) fn with_words(alloc: Global, mut text: Secret, raw: &str) -> Result<S
     Ok(text)
 }
 
-// The same text with room for so many bytes behind it, and for twice as many as it has.
+// The same text with room for so many bytes after it, and for twice as many as it has.
 fn with_more_room(alloc: Global, text: Secret, more: usize) -> Result<Secret, NoMemory>
     ensures bytes { IfOk result (λ secret. secret.bytes ≡ text.bytes) }
     ensures spare { IfOk result (λ secret. more ≤ secret.spare) }

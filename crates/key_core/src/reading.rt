@@ -32,7 +32,8 @@ impl From<outside_core::NoMemory> for Stopped {
 /// What comes next in the innermost open element.
 #[derive(Clone, Copy)]
 pub(crate) enum Item<'a> {
-    /// An element in it, which is the innermost from here on: its name, its attributes, and its place.
+    /// An element in it, which is the innermost from here on: its name, its attributes, and its
+    /// place.
     Child(&'a str, Attrs<'a>, usize),
     /// A run of text, as it stands.
     Words(&'a str),

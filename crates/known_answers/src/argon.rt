@@ -7,7 +7,8 @@ use anyhow::{bail, ensure};
 use argon_core::{ArgonKind, ArgonParams, argon2, blake2b};
 use std::alloc::Global;
 
-// Writes the digest of a text that is hashed in two pieces, the first of this length, or of all where it is shorter.
+// Writes the digest of a text that is hashed in two pieces, the first of this length, or of all
+// where it is shorter.
 fn put_digest(out: &mut [u8], text: &[u8], cut: usize)
     requires some { 1 ≤ length out.old }
     requires few { length out.old ≤ 64 }
@@ -36,8 +37,8 @@ pub fn digest(alloc: Global, question: &Question<'_>) -> anyhow::Result<String> 
     Ok(hex::encode(alloc, &whole[..size])?)
 }
 
-/// A tag of Argon2 of the type that the name says, or the first limit that is not met: passes, memory in KiB, lanes,
-/// password, salt, secret, extra data.
+/// A tag of Argon2 of the type that the name says, or the first limit that is not met: passes,
+/// memory in KiB, lanes, password, salt, secret, extra data.
 pub fn tag(alloc: Global, question: &Question<'_>) -> anyhow::Result<String> {
     let kind = if question.word(0)? == "argon2d" {
         ArgonKind::D

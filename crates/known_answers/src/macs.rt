@@ -35,8 +35,9 @@ pub fn hmac(alloc: Global, question: &Question<'_>) -> anyhow::Result<String> {
     Ok(hex::encode(alloc, &mac)?)
 }
 
-/// The heads of blocks with these contents and of the end block: MAC base, contents. The file of the blocks must be
-/// read as the contents, however it is cut, and refused where its last MAC is damaged.
+/// The heads of blocks with these contents and of the end block: MAC base, contents. The file of
+/// the blocks must be read as the contents, however it is cut, and refused where its last MAC is
+/// damaged.
 pub fn blocks(alloc: Global, question: &Question<'_>) -> anyhow::Result<String> {
     let mut base = Key64::of(&question.array(1)?);
     let answer = written_and_read(alloc, &base, question);
@@ -107,8 +108,8 @@ fn write(
     file.add(&head, b"")
 }
 
-// Feeds a reader by pieces of this size: what it answers to the last one. Nothing where it answers otherwise than
-// with false to one before, or the output is full.
+// Feeds a reader by pieces of this size: what it answers to the last one. Nothing where it answers
+// otherwise than with false to one before, or the output is full.
 fn fed(
     reader: &mut BlockReader<'_>,
     bytes: &[u8],
@@ -136,8 +137,8 @@ fn fed(
     Some(reader.feed(rest, out))
 }
 
-// Whether a file that is cut here is read as these contents by pieces of this size: it is unfinished at the cut, and
-// whole at its end and with more bytes behind it.
+// Whether a file that is cut here is read as these contents by pieces of this size: it is
+// unfinished at the cut, and whole at its end and with more bytes after it.
 fn is_read(base: &Key64, file: &File, cut: usize, size: usize, out: &mut Secret) -> bool
     requires size { 0 < size }
 {

@@ -8,7 +8,8 @@ use std::alloc::Global;
 /// The most bytes that a word stands for.
 pub const WORD_LIMIT: usize = 65_536;
 
-/// A question's words. Bytes are written in hexadecimal digits, `-` where there are none, and numbers in decimal ones.
+/// A question's words. Bytes are written in hexadecimal digits, `-` where there are none, and
+/// numbers in decimal ones.
 #[derive(Drop)]
 pub struct Question<'a> {
     words: Vec<&'a str>,

@@ -4,7 +4,7 @@ use Rattle.std.proofs.lemmas.List.{append_assoc, drop_at, length-append, take_at
 use Rattle.std.proofs.lemmas.List.Elements.{All-head, All-tail}
 use Rattle.std.specs.Int.{w32, to_le_bytes}
 use Rattle.sha2.proofs.Facts256.{length-sha256}
-use Rattle.mac_core.specs.Blocks.{IsContent, block, blocks, mac_of, size_in, sized}
+use Rattle.mac_core.specs.Blocks.{IsContent, block, blocks, mac_of, size_in, length_prefixed}
 use Rattle.mac_core.specs.Hmac.{hmac}
 use Rattle.mac_core.specs.declared.fail.BlockFail.{BlockFail}
 use Rattle.mac_core.specs.declared.fail.BlockFail.TheVariants.{BlockMac, Truncated}
@@ -17,7 +17,7 @@ pub record Frame (bytes : List ℕ) : Type 0 where
   pub tail : List ℕ
   pub mac_len : length mac ≡ 32
   pub size : length content < 2 ^ 32
-  pub is : bytes ≡ (mac ++ sized content) ++ tail
+  pub is : bytes ≡ (mac ++ length_prefixed content) ++ tail
 
 -- the four bytes of a frame's size
 abbrev size_bytes : (bytes : List ℕ) → Frame bytes → List ℕ
@@ -28,7 +28,7 @@ head_len bytes x = omega (arith, length-append x.mac (size_bytes bytes x), x.mac
 
 -- a frame is its head, and its content with what stands behind it
 head_first : (bytes : List ℕ) (x : Frame bytes) → bytes ≡ (x.mac ++ size_bytes bytes x) ++ (x.content ++ x.tail)
-head_first bytes x = x.is ∙ append_assoc x.mac (sized x.content) x.tail ∙ sym (append_assoc x.mac (size_bytes bytes x) (x.content ++ x.tail))
+head_first bytes x = x.is ∙ append_assoc x.mac (length_prefixed x.content) x.tail ∙ sym (append_assoc x.mac (size_bytes bytes x) (x.content ++ x.tail))
 
 pub frame_size : (bytes : List ℕ) (x : Frame bytes) → size_in bytes ≡ length x.content
 frame_size bytes x =
@@ -38,7 +38,7 @@ frame_size bytes x =
 
 pub frame_mac : (bytes : List ℕ) (x : Frame bytes) → x.mac ≡ take 32 bytes
 frame_mac bytes x =
-    sym (ap (λ (b : List ℕ). take 32 b) (x.is ∙ append_assoc x.mac (sized x.content) x.tail) ∙ take_at x.mac (sized x.content ++ x.tail) 32 x.mac_len)
+    sym (ap (λ (b : List ℕ). take 32 b) (x.is ∙ append_assoc x.mac (length_prefixed x.content) x.tail) ∙ take_at x.mac (length_prefixed x.content ++ x.tail) 32 x.mac_len)
 
 -- a frame's head is at its front
 pub frame_head : (bytes : List ℕ) (x : Frame bytes) → take 36 bytes ≡ x.mac ++ to_le_bytes w32 (length x.content)

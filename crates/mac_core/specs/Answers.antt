@@ -1,10 +1,11 @@
 -- What each answer of the block reader says of the bytes fed to it, whatever the pieces were.
 use Rattle.std.specs.Prelude.{◌≡◌, ℕ, ◌+◌, List, ◌++◌, length, drop, Bool, true, false, Result, Ok, Err}
-use Rattle.mac_core.specs.Blocks.{IsDamaged, IsUnfinished, IsWhole, joined}
+use Rattle.mac_core.specs.Blocks.{IsDamaged, IsUnfinished, IsWhole, concatenated}
 use Rattle.mac_core.specs.declared.fail.BlockFail.{BlockFail}
 use Rattle.mac_core.specs.declared.fail.BlockFail.TheVariants.{BlockMac, Truncated}
 
--- what a reading began with: the MAC base, the place of the first block in the file, and what stood in the output before
+-- what a reading began with: the MAC base, the place of the first block in the file, and what stood
+-- in the output before
 pub record Start : Type 0 where
   pub base : List ℕ
   pub place : ℕ
@@ -14,14 +15,15 @@ pub record Start : Type 0 where
 pub record AtEnd (start : Start) (out bytes : List ℕ) : Type 0 where
   pub contents : List (List ℕ)
   pub whole : IsWhole start.base bytes contents
-  pub given : out ≡ start.before ++ joined contents
+  pub given : out ≡ start.before ++ concatenated contents
 
--- the bytes end within a block, of whose content, which no MAC vouches for yet, the output has what there is
+-- the bytes end within a block, of whose content, which no MAC vouches for yet, the output has what
+-- there is
 pub record AtPart (start : Start) (out bytes : List ℕ) : Type 0 where
   pub contents : List (List ℕ)
   pub rest : List ℕ
   pub unfinished : IsUnfinished start.base bytes contents rest
-  pub given : out ≡ start.before ++ joined contents ++ drop 36 rest
+  pub given : out ≡ start.before ++ concatenated contents ++ drop 36 rest
 
 -- what an answer of `feed` says of all bytes fed since the start and of the output
 abbrev pub Answers : Start → List ℕ → List ℕ → Result Bool BlockFail → Type 0
@@ -30,7 +32,8 @@ Answers start out bytes (Ok false) = AtPart start out bytes
 Answers start out bytes (Err (BlockMac i)) = IsDamaged start.base bytes i
 Answers start out bytes (Err (Truncated place)) = ⊥
 
--- what an answer of `end` says: Truncated carries the place behind the last byte, and no end block was read
+-- what an answer of `end` says: Truncated carries the place after the last byte, and no end block
+-- was read
 abbrev pub EndAnswers : Start → List ℕ → List ℕ → Result (Unit {0}) BlockFail → Type 0
 EndAnswers start out bytes (Ok _) = AtEnd start out bytes
 EndAnswers start out bytes (Err (Truncated place)) =

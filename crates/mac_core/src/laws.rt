@@ -1,9 +1,10 @@
-//! What holds of the blocks of a KDBX 4 file, and of the answers of a block reader whatever the pieces were that it was fed
-//! with. Each law is a function whose contract is the law; it computes nothing.
+//! What holds of the blocks of a KDBX 4 file, and of the answers of a block reader whatever the
+//! pieces were that it was fed with. Each law is a function whose contract is the law; it computes
+//! nothing.
 
 ghost use Rattle.std.specs.Prelude.{◌≡◌, ℕ, ◌<◌, List, [], ◌++◌, length, slice_index, All, Bool, true, Result, OnOk};
 ghost use Rattle.mac_core.specs.Answers.{Answers, Start};
-ghost use Rattle.mac_core.specs.Blocks.{IsContent, block, blocks, joined};
+ghost use Rattle.mac_core.specs.Blocks.{IsContent, block, blocks, concatenated};
 ghost use Rattle.mac_core.specs.Contents.{AreContents, contents_of};
 ghost use Rattle.mac_core.specs.declared.fail.BlockFail.{BlockFail};
 
@@ -26,11 +27,12 @@ pub fn for_ever()
 /// Right blocks and a right end block are read by any cut: the answer is true, and the output has
 /// gained their contents.
 pub fn read_back()
-    ensures { (start : Start) (contents : List (List ℕ)) (tail out : List ℕ) (x : Result Bool BlockFail)
+    ensures { (start : Start) (contents : List (List ℕ)) (tail out : List ℕ)
+        (x : Result Bool BlockFail)
         → All IsContent contents
         → Answers start out
         (blocks start.base 0 contents ++ block start.base (length contents) [] ++ tail) x
-        → (x ≡ Ok true) × (out ≡ start.before ++ joined contents) }
+        → (x ≡ Ok true) × (out ≡ start.before ++ concatenated contents) }
 {}
 
 /// `contents_of` has the value that is in the blocks, and where the bytes are bytes what it gives

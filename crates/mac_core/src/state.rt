@@ -52,7 +52,7 @@ impl<'a> State<'a> {
     ghost use Rattle.mac_core.specs.Answers.{Answers, EndAnswers, Start};
     ghost use Rattle.mac_core.specs.State.{AtContent, AtHead, Holds, IsPast, IsState, Stands};
 
-    /// Before block 0, which stands at this place of the file.
+    /// Before block 0, which is at this place of the file.
     pub fn new(base: &'a [u8; 64], place: u64) -> State<'a>
         ensures state { IsState result }
         ensures place { result.place ≡ place }
@@ -204,7 +204,8 @@ impl<'a> State<'a> {
         self.phase = Phase::Content;
     }
 
-    // Where the whole content has come, goes by the MAC to the next block, to the end or to the refusal.
+    // Where the whole content has come, goes by the MAC to the next block, to the end or to the
+    // refusal.
     fn settle(&mut self)
         requires phase { self.old.phase ≡ Phase.Content }
         requires head { length self.old.head ≡ 36 }

@@ -3,7 +3,7 @@ use Rattle.std.specs.Prelude.{ℕ, zero, suc, ◌+◌, ◌≡◌, ◌⊎◌, Lis
 use Rattle.markup_grammar.specs.Machine.{Level, within, Dashes, no_dash, one_dash, two_dashes}
 use Rattle.markup_core.specs.Left.{StandsAt, BeginsWithout}
 
--- a `>` stands before the place
+-- a `>` is before the place
 abbrev pub EndsTag : List ℕ → ℕ → Type 0
 EndsTag text end = (k : ℕ) × (end ≡ k + 1) × StandsAt text k 62
 
@@ -13,9 +13,10 @@ EndsTagOrStays text at end = (end ≡ at) ⊎ EndsTag text end
 
 -- neither a comment nor an instruction begins there
 abbrev pub NoAside : List ℕ → ℕ → Type 0
-NoAside text at = StandsAt text at 60 → BeginsWithout 33 (drop (at + 1) text) × BeginsWithout 63 (drop (at + 1) text)
+NoAside text at = StandsAt text at 60 → BeginsWithout 33 (drop (at + 1) text)
+    × BeginsWithout 63 (drop (at + 1) text)
 
--- before or behind the outermost element
+-- before or after the outermost element
 abbrev pub IsOutside : Level → Type 0
 IsOutside (within name names) = ⊥
 IsOutside _ = Unit {0}

@@ -17,12 +17,14 @@ is_before_quote b = not (b == 34 || b == 39)
 unfoldable pub is_quoted : ℕ → ℕ → Bool
 is_quoted quote b = not (b == quote)
 
--- the bytes are cut behind that many of them; without a cut there are no more
+-- the bytes are cut after that many of them; without a cut there are no more
 abbrev pub IsCut : List ℕ → ℕ → Option Cut → Type 0
 IsCut bytes len None = drop len bytes ≡ []
-IsCut bytes len (Some cut) = (cut.front.now ≡ take len bytes) × (drop len bytes ≡ cut.byte ∷ cut.rest.now)
+IsCut bytes len (Some cut) = (cut.front.now ≡ take len bytes)
+    × (drop len bytes ≡ cut.byte ∷ cut.rest.now)
 
 -- the first attribute, and the bytes whose attributes are the others; without it there are none
 abbrev pub IsFirst : List ℕ → Option Attribute → Type 0
 IsFirst bytes None = attributes bytes ≡ []
-IsFirst bytes (Some first) = attributes bytes ≡ (first.name.now, first.value.now) ∷ attributes first.rest.now
+IsFirst bytes (Some first) = attributes bytes
+    ≡ (first.name.now, first.value.now) ∷ attributes first.rest.now

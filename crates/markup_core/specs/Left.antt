@@ -7,7 +7,7 @@ use Rattle.markup_grammar.specs.Machine.{State, answers_from}
 unfoldable pub left : List ℕ → State → ℕ → List Answer
 left text state at = answers_from state at (drop at text)
 
--- this byte stands at the place
+-- this byte is at the place
 abbrev pub StandsAt : List ℕ → ℕ → ℕ → Type 0
 StandsAt text at b = drop at text ≡ b ∷ drop (at + 1) text
 

@@ -6,7 +6,8 @@ use Rattle.markup_core.specs.declared.piece.Piece.TheVariants.{Start, Words, Sto
 use Rattle.markup_core.specs.declared.piece.MarkupFail.{MarkupFail}
 use Rattle.markup_core.specs.declared.piece.MarkupFail.TheVariants.{Form, Depth}
 
--- the first of the answers that were left is given, and the others are left; the last one is given again and again
+-- the first of the answers that were left is given, and the others are left; the last one is given
+-- again and again
 abbrev pub Answers : List Answer → Result Piece MarkupFail → List Answer → Type 0
 Answers old (Ok (Start name attrs place)) new = old ≡ start place name.now attrs.raw.now ∷ new
 Answers old (Ok (Words raw place)) new = old ≡ words place raw.now ∷ new

@@ -20,7 +20,7 @@ is_digit_of Hexadecimal b = is_hex_digit b
 abbrev pub is_character : ℕ → Bool
 is_character value = nat_lt value 0xD800 || (nat_le 0xE000 value && nat_le value 0x10FFFF)
 
--- an `x` that stands there has been read
+-- an `x` that is there has been read
 abbrev pub IsBaseGiven : Base → List ℕ → ℕ → Type 0
 IsBaseGiven Decimal text at = BeginsWithout 120 (drop at text)
 IsBaseGiven Hexadecimal text at = Unit {0}
@@ -30,11 +30,12 @@ abbrev pub first_of : Base → Ref
 first_of Decimal = hash
 first_of Hexadecimal = hash_x
 
--- behind the digits of this number
+-- after the digits of this number
 abbrev pub digits_of : Base → ℕ → Ref
 digits_of Decimal value = decimal_at value
 digits_of Hexadecimal value = hexadecimal_at value
 
 -- at a place in a number that begins at another
 abbrev pub number_at : Base → ℕ → ℕ → ℕ → Ref
-number_at base begin place value = if nat_lt begin place then digits_of base value else first_of base
+number_at base begin place value = if nat_lt begin place then digits_of base value else first_of
+    base

@@ -8,14 +8,17 @@ use Rattle.markup_core.specs.Spans.{SpansFit, open_names}
 use Rattle.markup_core.specs.Tokens.{state_at}
 use Rattle.markup_core.specs.declared.reader.Reader.TheInside.{Inside}
 
--- the answers with so many elements open, on a text of this length that is the whole or is cut off there
+-- the answers with so many elements open, on a text of this length that is the whole or is cut off
+-- there
 abbrev pub seen : Bool → ℕ → ℕ → List Answer → List Answer
-seen is_whole len open_count answers = limited open_count (if is_whole then answers else cut_short len answers)
+seen is_whole len open_count answers = limited open_count
+    (if is_whole then answers else cut_short len answers)
 
 -- those that are left from a place between two tokens on
 abbrev pub seen_from : Inside → ℕ → List Answer
 seen_from r at =
-    seen r.is_whole (length r.text.now) r.depth (left r.text.now (state_at at (open_names r.text.now r.spans r.depth)) at)
+    seen r.is_whole (length r.text.now) r.depth
+    (left r.text.now (state_at at (open_names r.text.now r.spans r.depth)) at)
 
 -- the answers that are left: where an empty element's `/` stands next, its end comes first
 unfoldable pub answers_left : Inside → List Answer

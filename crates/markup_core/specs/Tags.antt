@@ -5,7 +5,7 @@ use Rattle.markup_grammar.specs.Machine.{State, Names, between, within, closing,
 use Rattle.markup_core.specs.Left.{left, StandsAt, BeginsWithout}
 use Rattle.markup_core.specs.declared.tag.StartTag.{StartTag}
 
--- a `>` or a `/` stands there
+-- a `>` or a `/` is there
 abbrev pub EndsStartTag : List ℕ → ℕ → Type 0
 EndsStartTag text at = StandsAt text at 62 ⊎ StandsAt text at 47
 
@@ -13,19 +13,19 @@ EndsStartTag text at = StandsAt text at 62 ⊎ StandsAt text at 47
 abbrev pub EndsNoTag : List ℕ → ℕ → Type 0
 EndsNoTag text at = BeginsWithout 62 (drop at text) × BeginsWithout 47 (drop at text)
 
--- the state goes on as behind the `<` of a start tag at this place, with these elements open
+-- the state goes on as after the `<` of a start tag at this place, with these elements open
 pub record IsOpened (text : List ℕ) (s : State) (place : ℕ) (names : Names) (at : ℕ) : Type 0 where
   pub ends : drop at text ≡ [] → verdict s at ≡ form at
   pub turns : (b : ℕ) → StandsAt text at b → step s at b ≡ name_begins b place names
 
--- what is left behind a start tag
+-- what is left after a start tag
 abbrev pub behind_tag : List ℕ → StartTag → List ℕ → Names → List Answer
 behind_tag text tag name names =
     if tag.is_empty
     then stop tag.attrs_end ∷ left text (between (outside names)) (tag.attrs_end + 2)
     else left text (between (within name names)) (tag.attrs_end + 1)
 
--- the rest of a start tag stands there, and gives its piece; or it is refused at a place
+-- the rest of a start tag is there, and gives its piece; or it is refused at a place
 abbrev pub GivesTag : List ℕ → State → ℕ → Names → ℕ → Result StartTag ℕ → Type 0
 GivesTag text s place names at (Ok tag) =
     left text s at
@@ -33,11 +33,11 @@ GivesTag text s place names at (Ok tag) =
     ∷ behind_tag text tag (slice_range text at tag.name_end) names
 GivesTag text s place names at (Err p) = left text s at ≡ form p ∷ []
 
--- a byte of ASCII stands there
+-- a byte of ASCII is there
 abbrev pub AsciiAt : List ℕ → ℕ → Type 0
 AsciiAt text at = (b : ℕ) × StandsAt text at b × (b < 128)
 
--- the parts of a start tag lie one behind the other, and it ends in `>` or `/>`
+-- the parts of a start tag lie one after the other, and it ends in `>` or `/>`
 pub record TagStands (text : List ℕ) (at : ℕ) (tag : StartTag) : Type 0 where
   pub name : at < tag.name_end
   pub attrs : tag.name_end ≤ tag.attrs_end
@@ -45,7 +45,7 @@ pub record TagStands (text : List ℕ) (at : ℕ) (tag : StartTag) : Type 0 wher
   pub after_attrs : StandsAt text tag.attrs_end (if tag.is_empty then 47 else 62)
   pub after_slash : tag.is_empty ≡ true → StandsAt text (tag.attrs_end + 1) 62
 
--- the rest of the end tag of this name stands there, and gives its piece; or it is refused at a place
+-- the rest of the end tag of this name is there, and gives its piece; or it is refused at a place
 abbrev pub ClosesTag : List ℕ → ℕ → List ℕ → Names → ℕ → Result ℕ ℕ → Type 0
 ClosesTag text place name names at (Ok end) =
     left text (closing place name names) at ≡ stop place ∷ left text (between (outside names)) end

@@ -1,4 +1,4 @@
--- What stands at a place of a text, told by the answers that it gives.
+-- What is at a place of a text, told by the answers that it gives.
 use Rattle.std.specs.Prelude.{ℕ, zero, suc, ◌+◌, ◌≡◌, ◌≤◌, List, [], ◌∷◌, slice_range, Result, Ok, Err}
 use Rattle.markup_grammar.specs.Answers.{start, words, stop, finish, form}
 use Rattle.markup_grammar.specs.Machine.{State, fresh, between, within, behind, outside, Names}
@@ -20,21 +20,25 @@ Leaves text [] s at place end = ⊥
 Leaves text (name ∷ names) s at place end =
     left text s at ≡ stop place ∷ left text (between (outside names)) end
 
--- the token is what a state first gives at a place, where these elements are open; or it is refused at a place
+-- the token is what a state first gives at a place, where these elements are open; or it is refused
+-- at a place
 abbrev pub Tells : List ℕ → Names → State → ℕ → Result Token ℕ → Type 0
 Tells text names s at (Err p) = left text s at ≡ form p ∷ []
 Tells text names s at (Ok (Start place tag)) =
     left text s at
-    ≡ start place (slice_range text (place + 1) tag.name_end) (slice_range text tag.name_end tag.attrs_end)
+    ≡ start place (slice_range text (place + 1) tag.name_end)
+    (slice_range text tag.name_end tag.attrs_end)
     ∷ behind_tag text tag (slice_range text (place + 1) tag.name_end) names
 Tells text names s at (Ok (Words place end)) =
     left text s at ≡ words place (slice_range text place end) ∷ left text (state_at end names) end
 Tells text names s at (Ok (Stop place end)) = Leaves text names s at place end
 Tells text names s at (Ok End) = left text s at ≡ finish ∷ []
 
--- a token lies behind its place, and where it begins and ends stand bytes of ASCII
+-- a token lies after its place, and where it begins and ends stand bytes of ASCII
 abbrev pub TokenStands : List ℕ → ℕ → Result Token ℕ → Type 0
-TokenStands text at (Ok (Start place tag)) = (at ≤ place) × StandsAt text place 60 × TagStands text (place + 1) tag
-TokenStands text at (Ok (Words place end)) = (place ≤ end) × StandsAt text end 60 × EndsTagOrStays text at place
+TokenStands text at (Ok (Start place tag)) = (at ≤ place) × StandsAt text place 60
+    × TagStands text (place + 1) tag
+TokenStands text at (Ok (Words place end)) = (place ≤ end) × StandsAt text end 60
+    × EndsTagOrStays text at place
 TokenStands text at (Ok (Stop place end)) = (at ≤ place) × (place ≤ end) × EndsTag text end
 TokenStands text at _ = Unit {0}

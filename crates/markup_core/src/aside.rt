@@ -9,11 +9,12 @@ ghost use Rattle.markup_core.specs.Scans.{Leads, EndsWithin};
 
 use crate::run::{past, space_end};
 
-/// The end of the comments and instructions that stand at a place, or the first place at which one of
+/// The end of the comments and instructions that are at a place, or the first place at which one of
 /// them is none.
 pub(crate) fn asides_end(text: &[u8], at: usize) -> Result<usize, usize>
     requires { at ≤ length text.now }
-    ensures asides { (level : Level) → Leads text.now (between level) at (λ end. between level) result }
+    ensures asides { (level : Level) → Leads text.now (between level) at (λ end. between level)
+        result }
     ensures within { EndsWithin text.now at result }
     ensures closes { IfOk result (λ end. EndsTagOrStays text.now at end) }
     ensures all { IfOk result (λ end. NoAside text.now end) }
@@ -31,7 +32,8 @@ pub(crate) fn asides_end(text: &[u8], at: usize) -> Result<usize, usize>
 /// The same outside the outermost element, where white space too may stand among them.
 pub(crate) fn outside_end(text: &[u8], at: usize) -> Result<usize, usize>
     requires { at ≤ length text.now }
-    ensures asides { (level : Level) → IsOutside level → Leads text.now (between level) at (λ end. between level) result }
+    ensures asides { (level : Level) → IsOutside level
+        → Leads text.now (between level) at (λ end. between level) result }
     ensures within { EndsWithin text.now at result }
     ensures all { IfOk result (λ end. NoAside text.now end) }
     ensures no_space { IfOk result (λ end. FailsFirst bytes_of.is_space (drop end text.now)) }
@@ -46,11 +48,12 @@ pub(crate) fn outside_end(text: &[u8], at: usize) -> Result<usize, usize>
     }
 }
 
-/// The end of the comment or instruction that stands at a place, or the place where neither begins, or
+/// The end of the comment or instruction that is at a place, or the place where neither begins, or
 /// the first place at which it is none.
 fn aside_end(text: &[u8], at: usize) -> Result<usize, usize>
     requires { at ≤ length text.now }
-    ensures aside { (level : Level) → Leads text.now (between level) at (λ end. between level) result }
+    ensures aside { (level : Level) → Leads text.now (between level) at (λ end. between level)
+        result }
     ensures within { EndsWithin text.now at result }
     ensures closes { IfOk result (λ end. EndsTagOrStays text.now at end) }
     ensures none { IfOk result (λ end. end ≡ at → NoAside text.now at) }
@@ -67,7 +70,7 @@ fn aside_end(text: &[u8], at: usize) -> Result<usize, usize>
     }
 }
 
-/// The end of the comment whose `<!` stands before a place: behind the first `-->` past `<!--`.
+/// The end of the comment whose `<!` is before a place: after the first `-->` past `<!--`.
 fn comment_end(text: &[u8], at: usize) -> Result<usize, usize>
     requires { at ≤ length text.now }
     ensures comment { (level : Level) → Leads text.now (bang level) at (λ end. between level) result }
@@ -79,10 +82,11 @@ fn comment_end(text: &[u8], at: usize) -> Result<usize, usize>
     comment_rest_end(text, inner)
 }
 
-/// The end of the comment whose `<!--` stands before a place.
+/// The end of the comment whose `<!--` is before a place.
 fn comment_rest_end(text: &[u8], at: usize) -> Result<usize, usize>
     requires { at ≤ length text.now }
-    ensures comment { (level : Level) → Leads text.now (in_comment no_dash level) at (λ end. between level) result }
+    ensures comment { (level : Level) → Leads text.now (in_comment no_dash level) at
+        (λ end. between level) result }
     ensures within { EndsWithin text.now at result }
     ensures closes { IfOk result (λ end. EndsTag text.now end) }
 {
@@ -97,14 +101,14 @@ fn comment_rest_end(text: &[u8], at: usize) -> Result<usize, usize>
     Err(text.len())
 }
 
-/// Whether the byte ends a comment, behind this many dashes.
+/// Whether the byte ends a comment, after this many dashes.
 fn ends_comment(byte: u8, dashes: usize) -> bool
     ensures { result ≡ (nat_le 2 dashes && byte == 62) }
 {
     2 <= dashes && byte == b'>'
 }
 
-/// How many dashes stand side by side behind the byte, where these stand before it.
+/// How many dashes stand side by side after the byte, where these stand before it.
 fn dashes_behind(byte: u8, dashes: usize) -> usize
     requires { dashes + 1 < 2 ^ 64 }
     ensures { result ≡ (if byte == 45 then dashes + 1 else 0) }
@@ -112,10 +116,11 @@ fn dashes_behind(byte: u8, dashes: usize) -> usize
     if byte == b'-' { dashes + 1 } else { 0 }
 }
 
-/// The end of the instruction whose `<?` stands before a place: behind the first `?>` past it.
+/// The end of the instruction whose `<?` is before a place: after the first `?>` past it.
 fn instruction_end(text: &[u8], at: usize) -> Result<usize, usize>
     requires { at ≤ length text.now }
-    ensures instruction { (level : Level) → Leads text.now (in_instruction false level) at (λ end. between level) result }
+    ensures instruction { (level : Level) → Leads text.now (in_instruction false level) at
+        (λ end. between level) result }
     ensures within { EndsWithin text.now at result }
     ensures closes { IfOk result (λ end. EndsTag text.now end) }
 {
@@ -130,7 +135,7 @@ fn instruction_end(text: &[u8], at: usize) -> Result<usize, usize>
     Err(text.len())
 }
 
-/// Whether the byte ends an instruction, behind a question mark or not.
+/// Whether the byte ends an instruction, after a question mark or not.
 fn ends_instruction(byte: u8, asked: bool) -> bool
     ensures { result ≡ (asked && byte == 62) }
 {

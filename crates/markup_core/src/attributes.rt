@@ -18,8 +18,8 @@ pub struct Attrs<'a> {
 }
 
 impl<'a> Attrs<'a> {
-    /// The raw value of the last attribute of this name, as it stands between its quotes: `unescape` gives the
-    /// text for which it stands.
+    /// The raw value of the last attribute of this name, as it stands between its quotes:
+    /// `unescape` gives the text for which it stands.
     pub fn get(&self, name: &str) -> Option<&'a str>
         ensures { option_copied result ≡ attribute self.now.raw.now name.now }
     {
@@ -35,7 +35,7 @@ impl<'a> Attrs<'a> {
     }
 }
 
-/// An attribute, and what stands behind it.
+/// An attribute, and what stands after it.
 #[derive(Drop)]
 struct Attribute<'a> {
     name: &'a [u8],
@@ -61,7 +61,7 @@ fn first_attribute(bytes: &[u8]) -> Option<Attribute<'_>>
     })
 }
 
-/// A front of some bytes, the byte behind it, and the rest.
+/// A front of some bytes, the byte after it, and the rest.
 #[derive(Clone, Copy)]
 struct Cut<'a> {
     front: &'a [u8],
@@ -69,7 +69,7 @@ struct Cut<'a> {
     rest: &'a [u8],
 }
 
-/// Cuts the bytes behind this many of them, where there are more.
+/// Cuts the bytes after this many of them, where there are more.
 fn cut_at(bytes: &[u8], len: usize) -> Option<Cut<'_>>
     requires { len ≤ length bytes.now }
     ensures { IsCut bytes.now len result }

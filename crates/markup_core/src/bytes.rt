@@ -1,4 +1,5 @@
-//! The bytes of a text by what they may be part of. A byte from 128 on is part of a character past ASCII.
+//! The bytes of a text by what they may be part of. A byte from 128 on is part of a character past
+//! ASCII.
 
 ghost use Rattle.std.specs.Prelude.{◌≡◌};
 ghost use Rattle.markup_grammar.specs.Bytes as bytes_of;

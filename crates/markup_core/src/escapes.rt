@@ -33,9 +33,10 @@ pub fn unescaped_len(raw: &str) -> usize
     total
 }
 
-/// Puts the text for which raw markup stands at the end of `out`, which has room for it: line ends as line
-/// feeds, references as their characters (XML 1.0, sections 2.11, 4.1 and 4.6), and everything else as it is.
-/// What is no reference of the grammar, though it begins with `&`, stands for nothing.
+/// Puts the text for which raw markup is at the end of `out`, which has room for it: line ends as
+/// line feeds, references as their characters (XML 1.0, sections 2.11, 4.1 and 4.6), and everything
+/// else as it is. What is no reference of the grammar, though it begins with `&`, stands for
+/// nothing.
 pub fn unescape(raw: &str, out: &mut Secret)
     requires { length (spec.unescaped raw.now) ≤ out.old.spare }
     ensures bytes { out.new.bytes ≡ out.old.bytes ++ spec.unescaped raw.now }
@@ -60,8 +61,9 @@ pub fn escaped_len(text: &str) -> usize
     total
 }
 
-/// Puts a text as it is written in markup at the end of `out`, which has room for it: `&amp;`, `&lt;`, `&gt;`,
-/// `&quot;`, and `&#xN;` in upper case for the controls below U+0020 other than tab and line feed.
+/// Puts a text as it is written in markup at the end of `out`, which has room for it: `&amp;`,
+/// `&lt;`, `&gt;`, `&quot;`, and `&#xN;` in upper case for the controls below U+0020 other than tab
+/// and line feed.
 pub fn escape(text: &str, out: &mut Secret)
     requires { length (spec.escaped text.now) ≤ out.old.spare }
     ensures bytes { out.new.bytes ≡ out.old.bytes ++ spec.escaped text.now }
@@ -75,7 +77,8 @@ pub fn escape(text: &str, out: &mut Secret)
 /// The part at the front of raw markup, and how many bytes it takes there.
 fn part_at(raw: &[u8]) -> (Part<'_>, usize)
     requires { 0 < length raw.now }
-    ensures text { spec.unescaped raw.now ≡ parts.part_text result.0 ++ spec.unescaped (drop result.1 raw.now) }
+    ensures text { spec.unescaped raw.now ≡ parts.part_text result.0
+        ++ spec.unescaped (drop result.1 raw.now) }
     ensures some { 0 < result.1 }
     ensures within { result.1 ≤ length raw.now }
     ensures shorter { length (parts.part_text result.0) ≤ result.1 }
@@ -90,9 +93,10 @@ fn part_at(raw: &[u8]) -> (Part<'_>, usize)
     (Part::Plain(&raw[..len]), len)
 }
 
-/// How many bytes of a line end stand behind its carriage return: one, a line feed, or none.
+/// How many bytes of a line end stand after its carriage return: one, a line feed, or none.
 fn line_feed_len(bytes: &[u8]) -> usize
-    ensures text { spec.unescaped_from spec.returned bytes.now ≡ spec.unescaped (drop result bytes.now) }
+    ensures text { spec.unescaped_from spec.returned bytes.now
+        ≡ spec.unescaped (drop result bytes.now) }
     ensures within { result ≤ length bytes.now }
 {
     match strip(bytes, b'\n') {
@@ -101,7 +105,7 @@ fn line_feed_len(bytes: &[u8]) -> usize
     }
 }
 
-/// The reference whose `&` stands before these bytes, and how many bytes it takes with it.
+/// The reference whose `&` is before these bytes, and how many bytes it takes with it.
 fn reference_at(bytes: &[u8]) -> (Part<'_>, usize)
     ensures text { spec.unescaped_from (spec.reference []) bytes.now
         ≡ parts.part_text result.0 ++ spec.unescaped (drop result.1 (38 ∷ bytes.now)) }

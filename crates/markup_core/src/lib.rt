@@ -1,4 +1,5 @@
-//! A reader of markup: it gives the pieces of a text, each a slice of the text, and takes no memory.
+//! A reader of markup: it gives the pieces of a text, each a slice of the text, and takes no
+//! memory.
 #![tactic(auto)]
 
 mod aside;

@@ -10,7 +10,8 @@ use std::str;
 /// The most elements that may be open at once.
 const OPEN_LIMIT: usize = 256;
 
-/// Gives the pieces of a text, one a call, and keeps no more than where it stands and which elements are open.
+/// Gives the pieces of a text, one a call, and keeps no more than where it stands and which
+/// elements are open.
 #[derive(Drop)]
 pub struct Reader<'a> {
     /// The longest front of the text that begins a text in UTF-8.
@@ -19,7 +20,7 @@ pub struct Reader<'a> {
     is_whole: bool,
     /// Where the next token begins. At 0 the outermost element has not begun.
     at: usize,
-    /// Whether the `/` of an empty element stands there.
+    /// Whether the `/` of an empty element is there.
     is_empty: bool,
     /// Where the name of each open element begins and ends, the outermost first.
     spans: [(usize, usize); 256],
@@ -59,7 +60,8 @@ impl<'a> Reader<'a> {
         }
     }
 
-    /// The next piece, or the refusal at the text's first fault. Past the end or a refusal each call answers the same again.
+    /// The next piece, or the refusal at the text's first fault. Past the end or a refusal each
+    /// call answers the same again.
     pub fn next(&mut self) -> Result<Piece<'a>, MarkupFail>
         ensures { Answers self.old result self.new }
     {

@@ -18,10 +18,11 @@ pub(crate) enum Base {
 /// The greatest number of a character.
 const LAST_CHARACTER: u32 = 0x10_FFFF;
 
-/// The end of the reference whose `&` stands before a place, or the first place at which it is none.
+/// The end of the reference whose `&` is before a place, or the first place at which it is none.
 pub(crate) fn reference_end(text: &[u8], at: usize) -> Result<usize, usize>
     requires { at ≤ length text.now }
-    ensures reference { (h : Host) → host_begin h ≤ at → Leads text.now (host_reference text.now h begun at) at (host_state text.now h) result }
+    ensures reference { (h : Host) → host_begin h ≤ at
+        → Leads text.now (host_reference text.now h begun at) at (host_state text.now h) result }
     ensures within { EndsWithin text.now at result }
 {
     if let Ok(number) = past(text, at, b'#') {
@@ -37,10 +38,11 @@ pub(crate) fn reference_end(text: &[u8], at: usize) -> Result<usize, usize>
     }
 }
 
-/// The end of the reference whose `&a` stands before a place, or the first place at which it is none.
+/// The end of the reference whose `&a` is before a place, or the first place at which it is none.
 fn amp_or_apos_end(text: &[u8], at: usize) -> Result<usize, usize>
     requires { at ≤ length text.now }
-    ensures reference { (h : Host) → host_begin h ≤ at → Leads text.now (host_reference text.now h after_a at) at (host_state text.now h) result }
+    ensures reference { (h : Host) → host_begin h ≤ at
+        → Leads text.now (host_reference text.now h after_a at) at (host_state text.now h) result }
     ensures within { EndsWithin text.now at result }
 {
     if let Ok(rest) = past(text, at, b'm') {
@@ -50,10 +52,12 @@ fn amp_or_apos_end(text: &[u8], at: usize) -> Result<usize, usize>
     }
 }
 
-/// The end of a character's number whose `&#` stands before a place, or the first place at which it is none.
+/// The end of a character's number whose `&#` is before a place, or the first place at which it is
+/// none.
 fn character_end(text: &[u8], at: usize) -> Result<usize, usize>
     requires { at ≤ length text.now }
-    ensures number { (h : Host) → host_begin h ≤ at → Leads text.now (host_reference text.now h hash at) at (host_state text.now h) result }
+    ensures number { (h : Host) → host_begin h ≤ at
+        → Leads text.now (host_reference text.now h hash at) at (host_state text.now h) result }
     ensures within { EndsWithin text.now at result }
 {
     match past(text, at, b'x') {
@@ -62,12 +66,14 @@ fn character_end(text: &[u8], at: usize) -> Result<usize, usize>
     }
 }
 
-/// The end of the digits that begin at a place, behind their `;`, or the first place at which they are
-/// not those of a character's number.
+/// The end of the digits that begin at a place, after their `;`, or the first place at which they
+/// are not those of a character's number.
 fn number_end(text: &[u8], at: usize, base: Base) -> Result<usize, usize>
     requires place { at ≤ length text.now }
     requires no_base { IsBaseGiven base text.now at }
-    ensures number { (h : Host) → host_begin h ≤ at → Leads text.now (host_reference text.now h (first_of base) at) at (host_state text.now h) result }
+    ensures number { (h : Host) → host_begin h ≤ at
+        → Leads text.now (host_reference text.now h (first_of base) at) at (host_state text.now h)
+        result }
     ensures within { EndsWithin text.now at result }
 {
     let mut value = 0;

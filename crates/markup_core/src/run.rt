@@ -24,17 +24,18 @@ pub(crate) fn byte_at(text: &[u8], at: usize) -> Option<u8>
     }
 }
 
-/// Whether this byte stands at a place.
+/// Whether this byte is at a place.
 #[inline(always)]
 pub(crate) fn stands(text: &[u8], at: usize, byte: u8) -> bool
     requires { at ≤ length text.now }
-    ensures byte { MatchBool result (StandsAt text.now at byte) (BeginsWithout byte (drop at text.now)) }
+    ensures byte { MatchBool result (StandsAt text.now at byte)
+        (BeginsWithout byte (drop at text.now)) }
     ensures within { IsTrue result → at < length text.now }
 {
     byte_at(text, at) == Some(byte)
 }
 
-/// The place behind a byte, where it is this one.
+/// The place after a byte, where it is this one.
 #[inline(always)]
 pub(crate) fn past(text: &[u8], at: usize, byte: u8) -> Result<usize, usize>
     requires { at ≤ length text.now }
@@ -56,7 +57,7 @@ fn space_len(bytes: &[u8]) -> usize
     bytes.iter().take_while(|b| is_space(**b)).count()
 }
 
-/// How many bytes they begin with that may stand in a name.
+/// How many bytes they begin with that may are in a name.
 fn in_name_len(bytes: &[u8]) -> usize
     ensures len { result ≡ prefix_len bytes_of.is_name_byte bytes.now }
     ensures within { result ≤ length bytes.now }
@@ -80,7 +81,7 @@ fn quoted_len(bytes: &[u8], quote: u8) -> usize
     bytes.iter().take_while(|b| is_quoted(quote, **b)).count()
 }
 
-/// The end of the white space that stands at a place.
+/// The end of the white space that is at a place.
 pub(crate) fn space_end(text: &[u8], at: usize) -> usize
     requires { at ≤ length text.now }
     ensures run { result ≡ run_end bytes_of.is_space text.now at }
@@ -90,7 +91,7 @@ pub(crate) fn space_end(text: &[u8], at: usize) -> usize
     at + space_len(after(text, at))
 }
 
-/// The end of the bytes at a place that may stand in a name.
+/// The end of the bytes at a place that may are in a name.
 pub(crate) fn in_name_end(text: &[u8], at: usize) -> usize
     requires { at ≤ length text.now }
     ensures run { result ≡ run_end bytes_of.is_name_byte text.now at }
@@ -120,7 +121,7 @@ pub(crate) fn quoted_end(text: &[u8], at: usize, quote: u8) -> usize
     at + quoted_len(after(text, at), quote)
 }
 
-/// The end of the name that stands at a place, or the place where none stands.
+/// The end of the name that is at a place, or the place where none stands.
 pub(crate) fn name_end(text: &[u8], at: usize) -> Result<usize, usize>
     requires { at ≤ length text.now }
     ensures name { NameEnds text.now at result }
@@ -132,10 +133,11 @@ pub(crate) fn name_end(text: &[u8], at: usize) -> Result<usize, usize>
     }
 }
 
-/// The place behind these bytes, where they stand at a place, or the first place where they do not.
+/// The place after these bytes, where they are at a place, or the first place where they do not.
 pub(crate) fn literal_end(text: &[u8], at: usize, bytes: &[u8]) -> Result<usize, usize>
     requires { at ≤ length text.now }
-    ensures bytes { (s : List ℕ → ℕ → State) → Await text.now s at → Leads text.now (s bytes.now at) at (s []) result }
+    ensures bytes { (s : List ℕ → ℕ → State) → Await text.now s at
+        → Leads text.now (s bytes.now at) at (s []) result }
     ensures within { EndsWithin text.now at result }
 {
     let mut place = at;

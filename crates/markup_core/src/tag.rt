@@ -16,16 +16,17 @@ use crate::run::{literal_end, name_end, past, plain_end, quoted_end, space_end, 
 pub(crate) struct StartTag {
     /// The end of its name.
     pub(crate) name_end: usize,
-    /// The end of its attributes, with white space before and behind them. There stands `>` or `/>`.
+    /// The end of its attributes, with white space before and after them. There stands `>` or `/>`.
     pub(crate) attrs_end: usize,
     /// Whether it ends in `/>`.
     pub(crate) is_empty: bool,
 }
 
-/// The start tag whose `<` stands before a place, or the first place at which it is none.
+/// The start tag whose `<` is before a place, or the first place at which it is none.
 pub(crate) fn start_tag(text: &[u8], at: usize) -> Result<StartTag, usize>
     requires { at ≤ length text.now }
-    ensures tag { (s : State) (place : ℕ) (names : Names) → IsOpened text.now s place names at → GivesTag text.now s place names at result }
+    ensures tag { (s : State) (place : ℕ) (names : Names) → IsOpened text.now s place names at
+        → GivesTag text.now s place names at result }
     ensures stands { IfOk result (λ tag. TagStands text.now at tag) }
 {
     let name_end = name_end(text, at)?;
@@ -45,7 +46,8 @@ pub(crate) fn start_tag(text: &[u8], at: usize) -> Result<StartTag, usize>
     })
 }
 
-/// The end of the end tag of this name whose `</` stands before a place, or the first place at which it is none.
+/// The end of the end tag of this name whose `</` is before a place, or the first place at which it
+/// is none.
 pub(crate) fn end_tag_end(text: &[u8], at: usize, name: &[u8]) -> Result<usize, usize>
     requires { at ≤ length text.now }
     ensures tag { (place : ℕ) (names : Names) → ClosesTag text.now place name.now names at result }
@@ -56,7 +58,7 @@ pub(crate) fn end_tag_end(text: &[u8], at: usize, name: &[u8]) -> Result<usize, 
     past(text, space_end(text, name_end), b'>')
 }
 
-/// Whether a `>` or a `/` stands at a place.
+/// Whether a `>` or a `/` is at a place.
 fn ends_start_tag(text: &[u8], at: usize) -> bool
     requires { at ≤ length text.now }
     ensures { MatchBool result (EndsStartTag text.now at) (EndsNoTag text.now at) }
@@ -64,11 +66,13 @@ fn ends_start_tag(text: &[u8], at: usize) -> bool
     stands(text, at, b'>') || stands(text, at, b'/')
 }
 
-/// The place of the `>` or `/` behind the attributes that begin at a place, or the first place at which they are none.
+/// The place of the `>` or `/` after the attributes that begin at a place, or the first place at
+/// which they are none.
 fn attributes_end(text: &[u8], at: usize) -> Result<usize, usize>
     requires { at ≤ length text.now }
     ensures attributes { (place : ℕ) (name : List ℕ) (names : Names)
-        → Leads text.now (in_tag valued place name (slice_range text.now at at) names) at (λ end. in_tag spaced place name (slice_range text.now at end) names) result }
+        → Leads text.now (in_tag valued place name (slice_range text.now at at) names) at
+        (λ end. in_tag spaced place name (slice_range text.now at end) names) result }
     ensures within { EndsWithin text.now at result }
     ensures ends { IfOk result (λ end. EndsStartTag text.now end) }
 {
@@ -91,7 +95,8 @@ fn attribute_end(text: &[u8], at: usize) -> Result<usize, usize>
     requires no_space { FailsFirst bytes_of.is_space (drop at text.now) }
     requires no_end { EndsNoTag text.now at }
     ensures attribute { (place : ℕ) (name : List ℕ) (from : ℕ) (names : Names) → from ≤ at
-        → Leads text.now (in_tag spaced place name (slice_range text.now from at) names) at (λ end. in_tag valued place name (slice_range text.now from end) names) result }
+        → Leads text.now (in_tag spaced place name (slice_range text.now from at) names) at
+        (λ end. in_tag valued place name (slice_range text.now from end) names) result }
     ensures within { EndsWithin text.now at result }
     ensures more { IfOk result (λ end. at < end) }
 {
@@ -106,11 +111,13 @@ fn attribute_end(text: &[u8], at: usize) -> Result<usize, usize>
     }
 }
 
-/// The end of the value that begins at a place, behind its closing quote, or the first place at which it is none.
+/// The end of the value that begins at a place, after its closing quote, or the first place at
+/// which it is none.
 fn value_end(text: &[u8], at: usize, quote: u8) -> Result<usize, usize>
     requires { at ≤ length text.now }
     ensures value { (place : ℕ) (name : List ℕ) (from : ℕ) (names : Names) → from ≤ at
-        → Leads text.now (in_tag (valuing quote) place name (slice_range text.now from at) names) at (λ end. in_tag valued place name (slice_range text.now from end) names) result }
+        → Leads text.now (in_tag (valuing quote) place name (slice_range text.now from at) names) at
+        (λ end. in_tag valued place name (slice_range text.now from end) names) result }
     ensures within { EndsWithin text.now at result }
 {
     let mut place = quoted_end(text, at, quote);
@@ -124,12 +131,14 @@ fn value_end(text: &[u8], at: usize, quote: u8) -> Result<usize, usize>
     }
 }
 
-/// The place of the `<` behind the text that begins at a place, or the first place at which it is no text.
+/// The place of the `<` after the text that begins at a place, or the first place at which it is no
+/// text.
 pub(crate) fn words_end(text: &[u8], at: usize) -> Result<usize, usize>
     requires place { at ≤ length text.now }
     requires no_tag { BeginsWithout 60 (drop at text.now) }
     ensures words { (name : List ℕ) (names : Names)
-        → Leads text.now (between (within name names)) at (λ end. in_words at (slice_range text.now at end) name names) result }
+        → Leads text.now (between (within name names)) at
+        (λ end. in_words at (slice_range text.now at end) name names) result }
     ensures within { EndsWithin text.now at result }
     ensures ends { IfOk result (λ end. StandsAt text.now end 60) }
 {

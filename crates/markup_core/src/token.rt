@@ -1,4 +1,4 @@
-//! The token that stands at a place of a text: a tag, a run of text, or the end.
+//! The token that is at a place of a text: a tag, a run of text, or the end.
 
 ghost use Rattle.std.specs.Prelude.{◌≤◌, ◌≡◌, ◌<◌, [], ◌∷◌, length};
 ghost use Rattle.markup_grammar.specs.Machine.{Names, fresh, before, behind, between, within};
@@ -12,7 +12,7 @@ use crate::tag::{StartTag, end_tag_end, start_tag, words_end};
 
 /// A whole tag, a whole run of text, or the end of the text.
 pub(crate) enum Token {
-    /// A start tag, whose `<` stands at the place.
+    /// A start tag, whose `<` is at the place.
     Start { place: usize, tag: StartTag },
     /// A run of text from the place up to the `<` at its end.
     Words { place: usize, end: usize },
@@ -22,8 +22,8 @@ pub(crate) enum Token {
     End,
 }
 
-/// The token that follows at a place, or the first place at which none does. So many elements are open
-/// there, whose names these are; at place 0 the outermost one has not begun.
+/// The token that follows at a place, or the first place at which none does. So many elements are
+/// open there, whose names these are; at place 0 the outermost one has not begun.
 pub(crate) fn token_at(
     text: &[u8],
     at: usize,
@@ -34,7 +34,8 @@ pub(crate) fn token_at(
     requires depth { depth ≤ 256 }
     requires fits { SpansFit text.now spans.now depth }
     requires begun { 0 < depth → 0 < at }
-    ensures token { Tells text.now (open_names text.now spans.now depth) (state_at at (open_names text.now spans.now depth)) at result }
+    ensures token { Tells text.now (open_names text.now spans.now depth)
+        (state_at at (open_names text.now spans.now depth)) at result }
     ensures stands { TokenStands text.now at result }
 {
     if at == 0 {
@@ -47,7 +48,8 @@ pub(crate) fn token_at(
     inner_token(text, at, &text[start..end])
 }
 
-/// The outermost element's start tag, behind a byte order mark, white space, comments and instructions.
+/// The outermost element's start tag, after a byte order mark, white space, comments and
+/// instructions.
 fn first_token(text: &[u8]) -> Result<Token, usize>
     ensures token { Tells text.now [] fresh 0 result }
     ensures stands { TokenStands text.now 0 result }
@@ -59,8 +61,8 @@ fn first_token(text: &[u8]) -> Result<Token, usize>
     Ok(Token::Start { place, tag })
 }
 
-/// The end of a byte order mark at the text's start, or the start where none begins, or the first place
-/// at which it is none.
+/// The end of a byte order mark at the text's start, or the start where none begins, or the first
+/// place at which it is none.
 fn mark_end(text: &[u8]) -> Result<usize, usize>
     ensures mark { Leads text.now fresh 0 (λ end. between before) result }
     ensures within { EndsWithin text.now 0 result }
@@ -72,10 +74,11 @@ fn mark_end(text: &[u8]) -> Result<usize, usize>
     past(text, third, 0xBF)
 }
 
-/// What stands at a place in the element of this name, behind comments and instructions.
+/// What is at a place in the element of this name, after comments and instructions.
 fn inner_token(text: &[u8], at: usize, name: &[u8]) -> Result<Token, usize>
     requires { at ≤ length text.now }
-    ensures token { (names : Names) → Tells text.now (name.now ∷ names) (between (within name.now names)) at result }
+    ensures token { (names : Names) → Tells text.now (name.now ∷ names)
+        (between (within name.now names)) at result }
     ensures stands { TokenStands text.now at result }
 {
     let place = asides_end(text, at)?;

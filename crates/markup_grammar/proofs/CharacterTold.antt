@@ -7,7 +7,7 @@ use Rattle.std.specs.Str.Parse.{digits_value_after}
 use lib.Utf8.{encode, scalar}
 use Rattle.markup_grammar.specs.Bytes.{is_digit, is_hex_digit, digit_value, AllAre}
 use Rattle.markup_grammar.specs.Escapes as told
-use Rattle.markup_grammar.specs.Escapes.{Place, unescaped, unescaped_from, referred, numbered, bytes_of, given, behind}
+use Rattle.markup_grammar.specs.Escapes.{Place, unescaped, unescaped_from, referred, numbered, bytes_of, given, place_after}
 use Rattle.markup_grammar.specs.References.{Reference, amp, lt, gt, quot, apos, decimal, hexadecimal, reference_body, number_from, IsScalar, IsReference, character}
 use Rattle.markup_grammar.proofs.Classes.{digit_not_x, digit_not_semicolon, hex_not_semicolon}
 use Rattle.markup_grammar.proofs.Steps.{differ}
@@ -80,7 +80,7 @@ body_ends (decimal digits) is = (refl, digits_end is_digit digits digit_not_semi
 body_ends (hexadecimal digits) is = (refl, (refl, digits_end is_hex_digit digits hex_not_semicolon is.1))
 
 -- a byte of raw text
-goes : (place : Place) (b : ℕ) (rest : List ℕ) → unescaped_from place (b ∷ rest) ≡ given place b ++ unescaped_from (behind place b) rest
+goes : (place : Place) (b : ℕ) (rest : List ℕ) → unescaped_from place (b ∷ rest) ≡ given place b ++ unescaped_from (place_after place b) rest
 unfolding unescaped_from
 goes place b rest = refl
 

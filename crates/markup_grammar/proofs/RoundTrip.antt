@@ -4,20 +4,20 @@ use Rattle.std.proofs.lemmas.Bool.{ne_eqb, cases_lt}
 use Rattle.std.proofs.lemmas.Bool.Decides.{nat_tests}
 use Rattle.std.proofs.lemmas.Slice.Eq.{bytes_eq-Decides}
 use lib.Utf8.{encode}
-use Rattle.markup_grammar.specs.Escapes.{Place, plain, returned, reference, given, behind, unescaped, unescaped_from, referred, numbered, escaped, escaped_byte}
+use Rattle.markup_grammar.specs.Escapes.{Place, plain, returned, reference, given, place_after, unescaped, unescaped_from, referred, numbered, escaped, escaped_byte}
 
 -- where one is past these bytes
 abbrev pub past : Place → List ℕ → Place
 past place [] = place
-past place (b ∷ bs) = past (behind place b) bs
+past place (b ∷ bs) = past (place_after place b) bs
 
 -- raw text goes on where a front of it ends
 pub unescaped_from-append : (place : Place) (xs ys : List ℕ) → unescaped_from place (xs ++ ys) ≡ unescaped_from place xs ++ unescaped_from (past place xs) ys
 unfolding unescaped_from
 unescaped_from-append place [] ys = refl
 unescaped_from-append place (b ∷ xs) ys =
-    ap (λ r. given place b ++ r) (unescaped_from-append (behind place b) xs ys)
-    ∙ sym (append_assoc (given place b) (unescaped_from (behind place b) xs) (unescaped_from (past (behind place b) xs) ys))
+    ap (λ r. given place b ++ r) (unescaped_from-append (place_after place b) xs ys)
+    ∙ sym (append_assoc (given place b) (unescaped_from (place_after place b) xs) (unescaped_from (past (place_after place b) xs) ys))
 
 abbrev is_plain : Place → Bool
 is_plain plain = true

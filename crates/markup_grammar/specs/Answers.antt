@@ -11,7 +11,8 @@ pub data Answer : Type 0 where
   stop : ℕ → Answer
   -- the end of a text that is in the grammar
   finish : Answer
-  -- a text that leaves the grammar: the length of its longest front that begins a text of the grammar
+  -- a text that leaves the grammar: the length of its longest front that begins a text of the
+  -- grammar
   form : ℕ → Answer
   -- a text of too many open elements: the place of the start tag that opens the 257th
   depth : ℕ → Answer
@@ -36,18 +37,20 @@ refusal_of (form place ∷ answers) = Some (form place)
 refusal_of (depth place ∷ answers) = Some (depth place)
 refusal_of (_ ∷ answers) = refusal_of answers
 
--- the answers up to the start tag with which more than 256 elements would be open, which is refused at its place
+-- the answers up to the start tag with which more than 256 elements would be open, which is refused
+-- at its place
 abbrev pub limited : ℕ → List Answer → List Answer
 limited open_count [] = []
 limited open_count (start place name raw ∷ answers) =
-    if nat_lt open_count 256 then start place name raw ∷ limited (open_count + 1) answers else depth place ∷ []
+    if nat_lt open_count 256 then start place name raw ∷ limited (open_count + 1) answers else depth
+    place ∷ []
 limited open_count (stop place ∷ answers) = stop place ∷ limited (open_count - 1) answers
 limited open_count (words place raw ∷ answers) = words place raw ∷ limited open_count answers
 limited open_count (finish ∷ answers) = finish ∷ limited open_count answers
 limited open_count (form place ∷ answers) = form place ∷ limited open_count answers
 limited open_count (depth place ∷ answers) = depth place ∷ limited open_count answers
 
--- the answers on a front of a text behind which more bytes stand: its end is no end of the text
+-- the answers on a front of a text after which more bytes stand: its end is no end of the text
 abbrev pub cut_short : ℕ → List Answer → List Answer
 cut_short place [] = []
 cut_short place (finish ∷ answers) = form place ∷ cut_short place answers

@@ -3,7 +3,8 @@ use Rattle.std.specs.Prelude.{ℕ, ◌==◌, ◌||◌, if◌then◌else◌, Opti
 use Rattle.markup_grammar.specs.Bytes.{is_space}
 use Rattle.markup_grammar.specs.Escapes.{unescaped}
 
--- Where one is in a tag: between attributes, in a name, past a name, or in a value with the quote that ends it.
+-- Where one is in a tag: between attributes, in a name, past a name, or in a value with the quote
+-- that ends it.
 pub data Spot : Type 0 where
   between : Spot
   naming : List ℕ → Spot
@@ -14,12 +15,14 @@ pub data Spot : Type 0 where
 abbrev pub named : List ℕ → ℕ → Spot
 named name b = if is_space b || b == 61 then due name else naming (name ++ b ∷ [])
 
--- where a byte leads: white space parts attributes, and behind a name stands its value in the next pair of quotes
+-- where a byte leads: white space parts attributes, and after a name stands its value in the next
+-- pair of quotes
 abbrev pub led : Spot → ℕ → Spot
 led between b = if is_space b then between else named [] b
 led (naming name) b = named name b
 led (due name) b = if b == 34 || b == 39 then quoted name b [] else due name
-led (quoted name quote value) b = if b == quote then between else quoted name quote (value ++ b ∷ [])
+led (quoted name quote value) b = if b == quote then between else quoted name quote
+    (value ++ b ∷ [])
 
 -- the attribute that a byte ends, which is its value's closing quote
 abbrev pub ended : Spot → ℕ → List (List ℕ × List ℕ)
@@ -38,7 +41,8 @@ attributes raw = attributes_from between raw
 -- the value of the last of these that has the name, or else this one
 unfoldable pub last_named : List ℕ → Option (List ℕ) → List (List ℕ × List ℕ) → Option (List ℕ)
 last_named name found [] = found
-last_named name found (pair ∷ pairs) = last_named name (if bytes_eq pair.0 name then Some pair.1 else found) pairs
+last_named name found (pair ∷ pairs) = last_named name
+    (if bytes_eq pair.0 name then Some pair.1 else found) pairs
 
 -- the raw value of the last attribute of that name
 abbrev pub attribute : List ℕ → List ℕ → Option (List ℕ)

@@ -1,4 +1,5 @@
--- The bytes of markup: white space, names, text, values, digits. A byte past 127 is a part of a character past ASCII.
+-- The bytes of markup: white space, names, text, values, digits. A byte past 127 is a part of a
+-- character past ASCII.
 use Rattle.std.specs.Prelude.{ℕ, ◌-◌, ◌≡◌, Bool, true, not, ◌&&◌, ◌||◌, nat_le, ◌==◌, if◌then◌else◌, List, [], ◌∷◌}
 
 -- tab, line feed, carriage return and space
@@ -19,7 +20,8 @@ digit_value b = if nat_le b 57 then b - 48 else (if nat_le b 70 then b - 55 else
 
 -- what a name begins with: a letter, `_`, `:` or a character past ASCII
 unfoldable pub begins_name : ℕ → Bool
-begins_name b = (nat_le 65 b && nat_le b 90) || (nat_le 97 b && nat_le b 122) || b == 95 || b == 58 || nat_le 128 b
+begins_name b = (nat_le 65 b && nat_le b 90) || (nat_le 97 b && nat_le b 122) || b == 95 || b == 58
+    || nat_le 128 b
 
 -- what a name goes on with: these, digits, `-` and `.`
 unfoldable pub is_name_byte : ℕ → Bool

@@ -1,4 +1,5 @@
--- The tree of elements that a reader's answers spell, which ends in a cut where the text is refused.
+-- The tree of elements that a reader's answers spell, which ends in a cut where the text is
+-- refused.
 use Rattle.std.specs.Prelude.{ℕ, List, [], ◌∷◌, ◌++◌}
 use Rattle.markup_grammar.specs.Answers.{Answer, start, words, stop, finish, form, depth}
 use Rattle.markup_grammar.specs.Escapes.{unescaped}
@@ -8,7 +9,8 @@ mutual
   pub data Element : Type 0 where
     element : ℕ → List ℕ → List ℕ → Content → Element
 
-  -- what an element holds: text up to its end; text, an element, and more; or text up to the answer that cuts it
+  -- what an element holds: text up to its end; text, an element, and more; or text up to the answer
+  -- that cuts it
   pub data Content : Type 0 where
     last : List ℕ → Content
     also : List ℕ → Element → Content → Content
@@ -30,17 +32,19 @@ prepended text (last rest) = last (text ++ rest)
 prepended text (also rest e more) = also (text ++ rest) e more
 prepended text (cut rest answer) = cut (text ++ rest) answer
 
--- a start tag begins an element, which holds what is left of the innermost, and stands in the one round it
+-- a start tag begins an element, which holds what is left of the innermost, and is in the one round
+-- it
 abbrev pub begun : ℕ → List ℕ → List ℕ → List Content → List Content
 begun place name raw contents =
-    also [] (element place name raw (inner contents)) (inner (outer contents)) ∷ outer (outer contents)
+    also [] (element place name raw (inner contents)) (inner (outer contents)) ∷ outer
+    (outer contents)
 
--- text stands in the innermost
+-- text is in the innermost
 abbrev pub said : List ℕ → List Content → List Content
 said text contents = prepended text (inner contents) ∷ outer contents
 
--- what these answers leave of each open element, the innermost first; the whole text is the outermost. Each run of
--- text is unescaped by itself
+-- what these answers leave of each open element, the innermost first; the whole text is the
+-- outermost. Each run of text is unescaped by itself
 unfoldable pub left : List Answer → List Content
 left [] = []
 left (start place name raw ∷ more) = begun place name raw (left more)

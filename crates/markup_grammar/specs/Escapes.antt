@@ -8,11 +8,12 @@ use lib.Utf8.{scalar}
 -- the character whose number these digits write, which is a Unicode scalar value
 unfoldable pub numbered : ℕ → List ℕ → Option ℕ
 numbered radix digits =
-    if nat_lt 0 (length digits) && list_all (λ d. is_digit d radix) digits && scalar (digits_value radix digits)
+    if nat_lt 0 (length digits) && list_all (λ d. is_digit d radix) digits
+    && scalar (digits_value radix digits)
     then Some (digits_value radix digits)
     else None
 
--- past `#`: hexadecimal digits behind an `x`, or decimal digits
+-- past `#`: hexadecimal digits after an `x`, or decimal digits
 abbrev pub behind_hash : List ℕ → Option ℕ
 behind_hash [] = None
 behind_hash (b ∷ rest) = if b == 120 then numbered 16 rest else numbered 10 (b ∷ rest)
@@ -47,25 +48,26 @@ pub data Place : Type 0 where
 abbrev pub plainly_given : ℕ → List ℕ
 plainly_given b = if b == 38 then [] else (if b == 13 then 10 ∷ [] else b ∷ [])
 
-abbrev pub plainly_behind : ℕ → Place
-plainly_behind b = if b == 38 then reference [] else (if b == 13 then returned else plain)
+abbrev pub place_after_text : ℕ → Place
+place_after_text b = if b == 38 then reference [] else (if b == 13 then returned else plain)
 
--- what a byte gives: a line feed behind a carriage return gives nothing, and a reference its character at its `;`
+-- what a byte gives: a line feed after a carriage return gives nothing, and a reference its
+-- character at its `;`
 abbrev pub given : Place → ℕ → List ℕ
 given plain b = plainly_given b
 given returned b = if b == 10 then [] else plainly_given b
 given (reference name) b = if b == 59 then bytes_of (referred name) else []
 
 -- and where one is then
-abbrev pub behind : Place → ℕ → Place
-behind plain b = plainly_behind b
-behind returned b = plainly_behind b
-behind (reference name) b = if b == 59 then plain else reference (name ++ b ∷ [])
+abbrev pub place_after : Place → ℕ → Place
+place_after plain b = place_after_text b
+place_after returned b = place_after_text b
+place_after (reference name) b = if b == 59 then plain else reference (name ++ b ∷ [])
 
 -- what raw text stands for, from a place on
 unfoldable pub unescaped_from : Place → List ℕ → List ℕ
 unescaped_from place [] = []
-unescaped_from place (b ∷ rest) = given place b ++ unescaped_from (behind place b) rest
+unescaped_from place (b ∷ rest) = given place b ++ unescaped_from (place_after place b) rest
 
 -- what raw text stands for: its line ends as line feeds, and its references as their characters
 abbrev pub unescaped : List ℕ → List ℕ
@@ -83,8 +85,8 @@ upper_digits n = if nat_lt n 16 then upper_digit n ∷ [] else 49 ∷ upper_digi
 abbrev pub numbered_control : ℕ → List ℕ
 numbered_control b = codes "&#x" ++ (upper_digits b ++ 59 ∷ [])
 
--- how a byte is written: `&`, `<`, `>` and `"` by their names, the controls below the space other than tab and line
--- feed by their numbers, and every other byte as it is
+-- how a byte is written: `&`, `<`, `>` and `"` by their names, the controls below the space other
+-- than tab and line feed by their numbers, and every other byte as it is
 unfoldable pub escaped_byte : ℕ → List ℕ
 escaped_byte b =
     if b == 38 then codes "&amp;"

@@ -16,8 +16,8 @@ pub record IsLongestFront (text : List ℕ) (n : ℕ) : Type 0 where
   pub begins : Begins (take n text)
   pub longest : n < length text → ¬ (Begins (take (n + 1) text))
 
--- the end tags of these names, the innermost first, each with a space before its `>`: without it that of a name which ends in
--- `--` would end a comment too
+-- the end tags of these names, the innermost first, each with a space before its `>`: without it
+-- that of a name which ends in `--` would end a comment too
 abbrev pub end_tags : List (List ℕ) → List ℕ
 end_tags [] = []
 end_tags (name ∷ names) = end_tag name (32 ∷ []) ++ end_tags names
@@ -27,7 +27,8 @@ abbrev pub AreNames : List (List ℕ) → Type 0
 AreNames [] = Unit {0}
 AreNames (name ∷ names) = IsName name × AreNames names
 
--- the elements of these names, the innermost first, are open behind the bytes: their end tags complete a text
+-- the elements of these names, the innermost first, are open after the bytes: their end tags
+-- complete a text
 pub record LeavesOpen (bytes : List ℕ) (names : List (List ℕ)) : Type 0 where
   pub are_names : AreNames names
   pub tree : Tree
@@ -52,12 +53,14 @@ pub record IsTooDeep (text : List ℕ) (n : ℕ) : Type 0 where
   pub is_tag : IsStartTag tag
   pub follows : text ≡ take n text ++ (tag ++ rest)
 
--- no such tag stands before n
+-- no such tag is before n
 abbrev pub NoneDeepBefore : List ℕ → ℕ → Type 0
 NoneDeepBefore text n = (m : ℕ) → IsTooDeep text m → n ≤ m
 
--- what a refusal says of the text: of the two faults the earlier one, of which there is never more than one at a place
+-- what a refusal says of the text: of the two faults the earlier one, of which there is never more
+-- than one at a place
 abbrev pub IsFault : List ℕ → Answer → Type 0
 IsFault text (form n) = IsLongestFront text n × NoneDeepBefore text n
-IsFault text (depth n) = IsTooDeep text n × NoneDeepBefore text n × ((m : ℕ) → IsLongestFront text m → n < m)
+IsFault text (depth n) = IsTooDeep text n × NoneDeepBefore text n
+    × ((m : ℕ) → IsLongestFront text m → n < m)
 IsFault text _ = ⊥

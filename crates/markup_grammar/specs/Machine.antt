@@ -1,4 +1,5 @@
--- A reader of the grammar, byte by byte. That its answers are those of the grammar's trees is proved.
+-- A reader of the grammar, byte by byte. That its answers are those of the grammar's trees is
+-- proved.
 use Rattle.std.specs.Prelude.{ℕ, ◌+◌, ◌*◌, ◌==◌, nat_le, nat_lt, Bool, true, false, ◌&&◌, ◌||◌, if◌then◌else◌, List, [], ◌∷◌, ◌++◌}
 use Rattle.markup_grammar.specs.Answers.{Answer, start, words, stop, finish, form}
 use Rattle.markup_grammar.specs.Bytes.{is_space, is_digit, is_hex_digit, digit_value, begins_name, is_name_byte, is_text, is_value}
@@ -13,24 +14,24 @@ pub data Level : Type 0 where
   before : Level
   -- in an element, with the names of those round it
   within : List ℕ → Names → Level
-  -- behind the outermost element
+  -- after the outermost element
   behind : Level
 
--- where a reader stands in a reference
+-- where a reader is in a reference
 pub data Ref : Type 0 where
-  -- behind `&`
+  -- after `&`
   begun : Ref
-  -- behind `&a`
+  -- after `&a`
   after_a : Ref
-  -- where this byte must come, and these behind it
+  -- where this byte must come, and these after it
   due : ℕ → List ℕ → Ref
-  -- behind `&#`
+  -- after `&#`
   hash : Ref
-  -- behind `&#` and the digits of this number
+  -- after `&#` and the digits of this number
   decimal_at : ℕ → Ref
-  -- behind `&#x`
+  -- after `&#x`
   hash_x : Ref
-  -- behind `&#x` and the digits of this number
+  -- after `&#x` and the digits of this number
   hexadecimal_at : ℕ → Ref
 
 -- how many of the bytes of `--` a comment has come to
@@ -39,40 +40,41 @@ pub data Dashes : Type 0 where
   one_dash : Dashes
   two_dashes : Dashes
 
--- where a reader stands in a start tag behind its name
+-- where a reader is in a start tag after its name
 pub data Spot : Type 0 where
-  -- behind white space
+  -- after white space
   spaced : Spot
   -- in an attribute's name
   naming : Spot
-  -- behind an attribute's name and white space
+  -- after an attribute's name and white space
   named : Spot
-  -- behind `=`
+  -- after `=`
   equalled : Spot
   -- in a value between two of this quote
   valuing : ℕ → Spot
   -- in a reference in such a value
   referring : ℕ → Ref → Spot
-  -- behind a value's second quote
+  -- after a value's second quote
   valued : Spot
 
--- Where a reader stands. A tag or a run of text that has begun carries its place and what it has come to.
+-- Where a reader stands. A tag or a run of text that has begun carries its place and what it has
+-- come to.
 pub data State : Type 0 where
   -- at the very front of the text
   fresh : State
-  -- behind the first byte of the byte order mark, and behind the second
+  -- after the first byte of the byte order mark, and after the second
   mark_one : State
   mark_two : State
   -- between tags, in no run of text
   between : Level → State
-  -- behind a `<`
+  -- after a `<`
   opened : ℕ → Level → State
-  -- behind `<!`, and behind `<!-`
+  -- after `<!`, and after `<!-`
   bang : Level → State
   bang_dash : Level → State
   -- in a comment
   in_comment : Dashes → Level → State
-  -- in an instruction, and whether behind a `?`
+  -- in an instruction, and whether after a `?`
   in_instruction : Bool → Level → State
   -- in a run of text: its place and its bytes, and the names of the elements that are open
   in_words : ℕ → List ℕ → List ℕ → Names → State
@@ -80,13 +82,13 @@ pub data State : Type 0 where
   in_reference : Ref → ℕ → List ℕ → List ℕ → Names → State
   -- in a start tag's name: the tag's place, and the name so far
   in_name : ℕ → List ℕ → Names → State
-  -- in a start tag behind its name: the tag's place, its name, and the raw text so far
+  -- in a start tag after its name: the tag's place, its name, and the raw text so far
   in_tag : Spot → ℕ → List ℕ → List ℕ → Names → State
-  -- behind the `/` of an empty element, by that one's place
+  -- after the `/` of an empty element, by that one's place
   slashed : ℕ → ℕ → List ℕ → List ℕ → Names → State
   -- in an end tag, with what must come of its name
   closing : ℕ → List ℕ → Names → State
-  -- in an end tag behind its name and white space
+  -- in an end tag after its name and white space
   closed : ℕ → Names → State
 
 -- one byte: it is good, and gives these pieces; or it is refused
@@ -100,7 +102,7 @@ pub data RefTurn : Type 0 where
   ref_ends : RefTurn
   ref_off : RefTurn
 
--- one byte of a start tag behind its name: it goes on, or it is refused
+-- one byte of a start tag after its name: it goes on, or it is refused
 pub data SpotTurn : Type 0 where
   spot_on : Spot → SpotTurn
   spot_off : SpotTurn
@@ -111,7 +113,8 @@ number_on at_number value = if nat_le value 0x10FFFF then ref_on (at_number valu
 
 -- a number ends, where it is no surrogate
 abbrev pub number_ends : ℕ → RefTurn
-number_ends value = if nat_lt value 0xD800 || (nat_le 0xE000 value && nat_le value 0x10FFFF) then ref_ends else ref_off
+number_ends value = if nat_lt value 0xD800 || (nat_le 0xE000 value && nat_le value 0x10FFFF) then
+    ref_ends else ref_off
 
 -- one byte of a reference
 abbrev pub ref_step : Ref → ℕ → RefTurn
@@ -127,7 +130,8 @@ ref_step after_a b =
 ref_step (due c []) b = if b == c then ref_ends else ref_off
 ref_step (due c (d ∷ rest)) b = if b == c then ref_on (due d rest) else ref_off
 ref_step hash b =
-    if b == 120 then ref_on hash_x else (if is_digit b then number_on decimal_at (digit_value b) else ref_off)
+    if b == 120 then ref_on hash_x else (if is_digit b then number_on decimal_at (digit_value b)
+    else ref_off)
 ref_step (decimal_at value) b =
     if b == 59 then number_ends value
     else (if is_digit b then number_on decimal_at (value * 10 + digit_value b) else ref_off)
@@ -146,14 +150,17 @@ in_value quote ref_off = spot_off
 abbrev pub equal_sign : ℕ → SpotTurn
 equal_sign b = if b == 61 then spot_on equalled else spot_off
 
--- one byte of a start tag behind its name, but the `>` or `/` that ends it
+-- one byte of a start tag after its name, but the `>` or `/` that ends it
 abbrev pub spot_step : Spot → ℕ → SpotTurn
-spot_step spaced b = if is_space b then spot_on spaced else (if begins_name b then spot_on naming else spot_off)
-spot_step naming b = if is_name_byte b then spot_on naming else (if is_space b then spot_on named else equal_sign b)
+spot_step spaced b = if is_space b then spot_on spaced else
+    (if begins_name b then spot_on naming else spot_off)
+spot_step naming b = if is_name_byte b then spot_on naming else
+    (if is_space b then spot_on named else equal_sign b)
 spot_step named b = if is_space b then spot_on named else equal_sign b
 spot_step equalled b =
     if is_space b then spot_on equalled
-    else (if b == 34 then spot_on (valuing 34) else (if b == 39 then spot_on (valuing 39) else spot_off))
+    else (if b == 34 then spot_on (valuing 34) else
+    (if b == 39 then spot_on (valuing 39) else spot_off))
 spot_step (valuing quote) b =
     if b == quote then spot_on valued
     else (if b == 38 then spot_on (referring quote begun)
@@ -161,7 +168,7 @@ spot_step (valuing quote) b =
 spot_step (referring quote r) b = in_value quote (ref_step r b)
 spot_step valued b = if is_space b then spot_on spaced else spot_off
 
--- behind an end tag or an empty element
+-- after an end tag or an empty element
 abbrev pub outside : Names → Level
 outside [] = behind
 outside (name ∷ names) = within name names
@@ -171,13 +178,14 @@ abbrev pub tag_turn : SpotTurn → ℕ → List ℕ → List ℕ → Names → T
 tag_turn (spot_on spot) place name raw names = on [] (in_tag spot place name raw names)
 tag_turn spot_off place name raw names = off
 
--- a byte where a start tag may end: by `>`, or by the `/` of an empty element; or it does another turn
+-- a byte where a start tag may end: by `>`, or by the `/` of an empty element; or it does another
+-- turn
 abbrev pub or_ends : ℕ → ℕ → ℕ → List ℕ → List ℕ → Names → Turn → Turn
 or_ends at b place name raw names other =
     if b == 62 then on (start place name raw ∷ []) (between (within name names))
     else (if b == 47 then on [] (slashed at place name raw names) else other)
 
--- a byte of a run of text that has come to these bytes, or that stands before one
+-- a byte of a run of text that has come to these bytes, or that is before one
 abbrev pub word_on : ℕ → ℕ → List ℕ → List ℕ → Names → Turn
 word_on b place raw name names =
     if b == 38 then on [] (in_reference begun place (raw ++ b ∷ []) name names)
@@ -208,8 +216,10 @@ between_step behind at b = if is_space b then on [] (between behind) else off
 
 -- one byte of a comment
 abbrev pub comment_step : Dashes → Level → ℕ → Turn
-comment_step no_dash level b = if b == 45 then on [] (in_comment one_dash level) else on [] (in_comment no_dash level)
-comment_step one_dash level b = if b == 45 then on [] (in_comment two_dashes level) else on [] (in_comment no_dash level)
+comment_step no_dash level b = if b == 45 then on [] (in_comment one_dash level) else on []
+    (in_comment no_dash level)
+comment_step one_dash level b = if b == 45 then on [] (in_comment two_dashes level) else on []
+    (in_comment no_dash level)
 comment_step two_dashes level b =
     if b == 62 then on [] (between level)
     else (if b == 45 then on [] (in_comment two_dashes level) else on [] (in_comment no_dash level))
@@ -238,23 +248,29 @@ step (bang_dash level) at b = if b == 45 then on [] (in_comment no_dash level) e
 step (in_comment dashes level) at b = comment_step dashes level b
 step (in_instruction asked level) at b = instruction_step asked level b
 step (in_words place raw name names) at b =
-    if b == 60 then on (words place raw ∷ []) (opened at (within name names)) else word_on b place raw name names
-step (in_reference r place raw name names) at b = in_run (ref_step r b) place (raw ++ b ∷ []) name names
+    if b == 60 then on (words place raw ∷ []) (opened at (within name names)) else word_on b place
+    raw name names
+step (in_reference r place raw name names) at b = in_run (ref_step r b) place (raw ++ b ∷ []) name
+    names
 step (in_name place name names) at b =
     or_ends at b place name [] names
     (if is_name_byte b then on [] (in_name place (name ++ b ∷ []) names)
     else (if is_space b then on [] (in_tag spaced place name (b ∷ []) names) else off))
 step (in_tag spaced place name raw names) at b =
-    or_ends at b place name raw names (tag_turn (spot_step spaced b) place name (raw ++ b ∷ []) names)
+    or_ends at b place name raw names (tag_turn (spot_step spaced b) place name (raw ++ b ∷ [])
+    names)
 step (in_tag valued place name raw names) at b =
-    or_ends at b place name raw names (tag_turn (spot_step valued b) place name (raw ++ b ∷ []) names)
-step (in_tag spot place name raw names) at b = tag_turn (spot_step spot b) place name (raw ++ b ∷ []) names
+    or_ends at b place name raw names (tag_turn (spot_step valued b) place name (raw ++ b ∷ [])
+    names)
+step (in_tag spot place name raw names) at b = tag_turn (spot_step spot b) place name
+    (raw ++ b ∷ []) names
 step (slashed slash place name raw names) at b =
     if b == 62 then on (start place name raw ∷ stop slash ∷ []) (between (outside names)) else off
 step (closing place [] names) at b =
     if b == 62 then on (stop place ∷ []) (between (outside names))
     else (if is_space b then on [] (closed place names) else off)
-step (closing place (c ∷ rest) names) at b = if b == c then on [] (closing place rest names) else off
+step (closing place (c ∷ rest) names) at b = if b == c then on [] (closing place rest names) else
+    off
 step (closed place names) at b =
     if b == 62 then on (stop place ∷ []) (between (outside names))
     else (if is_space b then on [] (closed place names) else off)
@@ -272,4 +288,5 @@ followed off at more = form at ∷ []
 -- the answers from a state on, at this place, over these bytes
 unfoldable pub answers_from : State → ℕ → List ℕ → List Answer
 answers_from state at [] = verdict state at ∷ []
-answers_from state at (b ∷ rest) = followed (step state at b) at (λ next. answers_from next (at + 1) rest)
+answers_from state at (b ∷ rest) = followed (step state at b) at
+    (λ next. answers_from next (at + 1) rest)

@@ -2,11 +2,13 @@
 use Rattle.std.specs.Prelude.{ℕ, ◌+◌, ◌≡◌, ◌≤◌, ◌⊎◌, List, [], ◌∷◌, ◌++◌, length}
 use Rattle.markup_grammar.specs.Answers.{Answer, start, words, stop, finish, form, depth}
 
--- these bytes stand in the text at this place
+-- these bytes are in the text at this place
 abbrev pub StandAt : List ℕ → ℕ → List ℕ → Type 0
-StandAt text place bytes = (front back : List ℕ) × (text ≡ front ++ (bytes ++ back)) × (length front ≡ place)
+StandAt text place bytes = (front back : List ℕ) × (text ≡ front ++ (bytes ++ back))
+    × (length front ≡ place)
 
--- `<name` and its raw attributes stand at a start's place, the run of text at a words' place, `</` or `/>` at a stop's
+-- `<name` and its raw attributes are at a start's place, the run of text at a words' place, `</` or
+-- `/>` at a stop's
 abbrev pub IsSlice : List ℕ → Answer → Type 0
 IsSlice text (start place name raw) = StandAt text place (60 ∷ (name ++ raw))
 IsSlice text (words place raw) = StandAt text place raw

@@ -1,4 +1,5 @@
--- References: `&amp;` and its four companions, and `&#N;` and `&#xN;` for the number of a character.
+-- References: `&amp;` and its four companions, and `&#N;` and `&#xN;` for the number of a
+-- character.
 use Rattle.std.specs.Prelude.{ℕ, ◌+◌, ◌*◌, ◌≢◌, ◌<◌, ◌≤◌, ◌⊎◌, List, [], ◌∷◌}
 use Rattle.markup_grammar.specs.Bytes.{is_digit, is_hex_digit, digit_value, AllAre}
 
@@ -24,7 +25,7 @@ reference_body apos = 97 ∷ 112 ∷ 111 ∷ 115 ∷ []
 reference_body (decimal digits) = 35 ∷ digits
 reference_body (hexadecimal digits) = 35 ∷ 120 ∷ digits
 
--- the number that digits spell in this base, behind those that spell the first number
+-- the number that digits spell in this base, after those that spell the first number
 abbrev pub number_from : ℕ → ℕ → List ℕ → ℕ
 number_from base value [] = value
 number_from base value (b ∷ bs) = number_from base (value * base + digit_value b) bs
@@ -35,8 +36,10 @@ IsScalar n = (n < 0xD800) ⊎ ((0xE000 ≤ n) × (n ≤ 0x10FFFF))
 
 -- a number has a digit or more, and is that of a character
 abbrev pub IsReference : Reference → Type 0
-IsReference (decimal digits) = (digits ≢ []) × AllAre is_digit digits × IsScalar (number_from 10 0 digits)
-IsReference (hexadecimal digits) = (digits ≢ []) × AllAre is_hex_digit digits × IsScalar (number_from 16 0 digits)
+IsReference (decimal digits) = (digits ≢ []) × AllAre is_digit digits
+    × IsScalar (number_from 10 0 digits)
+IsReference (hexadecimal digits) = (digits ≢ []) × AllAre is_hex_digit digits
+    × IsScalar (number_from 16 0 digits)
 IsReference _ = Unit {0}
 
 -- the number of the character that a reference stands for

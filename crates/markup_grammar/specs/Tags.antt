@@ -1,4 +1,4 @@
--- Attributes: what stands in a start tag behind its name.
+-- Attributes: what is in a start tag after its name.
 use Rattle.std.specs.Prelude.{ℕ, ◌≡◌, ◌≢◌, ◌⊎◌, List, [], ◌∷◌, ◌++◌}
 use Rattle.markup_grammar.specs.Bytes.{is_space, is_value, AllAre, IsName}
 use Rattle.markup_grammar.specs.Runs.{IsRun}
@@ -15,13 +15,14 @@ pub record Attribute : Type 0 where
 -- its bytes, and what follows them
 abbrev pub attribute_then : Attribute → List ℕ → List ℕ
 attribute_then a rest =
-    a.space ++ (a.name ++ (a.space_before ++ (61 ∷ (a.space_behind ++ (a.quote ∷ (a.value ++ (a.quote ∷ rest)))))))
+    a.space ++ (a.name ++ (a.space_before ++ (61 ∷
+    (a.space_behind ++ (a.quote ∷ (a.value ++ (a.quote ∷ rest)))))))
 
 -- a quote is `"` or `'`
 abbrev pub IsQuote : ℕ → Type 0
 IsQuote b = (b ≡ 34) ⊎ (b ≡ 39)
 
--- white space stands before the name, and a value is a run without its quote
+-- white space is before the name, and a value is a run without its quote
 pub record IsAttribute (a : Attribute) : Type 0 where
   pub has_space : a.space ≢ []
   pub space : AllAre is_space a.space
@@ -31,7 +32,7 @@ pub record IsAttribute (a : Attribute) : Type 0 where
   pub quote : IsQuote a.quote
   pub value : IsRun (is_value a.quote) a.value
 
--- attributes, and white space behind them
+-- attributes, and white space after them
 abbrev pub spelled_attributes : List Attribute → List ℕ → List ℕ
 spelled_attributes [] space = space
 spelled_attributes (a ∷ attributes) space = attribute_then a (spelled_attributes attributes space)

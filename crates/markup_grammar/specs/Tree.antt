@@ -1,5 +1,5 @@
--- The grammar, as trees: a text is one element with white space, comments and instructions round it, behind a byte order
--- mark or none.
+-- The grammar, as trees: a text is one element with white space, comments and instructions round
+-- it, after a byte order mark or none.
 use Rattle.std.specs.Prelude.{ℕ, ◌+◌, ◌≡◌, max, Bool, true, false, List, [], ◌∷◌, ◌++◌, length}
 use Rattle.std.specs.Str.{IsUtf8}
 use Rattle.markup_grammar.specs.Answers.{Answer, start, words, stop}
@@ -12,7 +12,7 @@ pub data Aside : Type 0 where
   comment : List ℕ → Aside
   instruction : List ℕ → Aside
 
--- what may stand before and behind the outermost element
+-- what may stand before and after the outermost element
 pub data Around : Type 0 where
   -- a byte of white space
   blank : ℕ → Around
@@ -20,12 +20,14 @@ pub data Around : Type 0 where
 
 mutual
   pub data Element : Type 0 where
-    -- a name, the raw text of its attributes, what stands between its two tags, and the white space in its end tag
+    -- a name, the raw text of its attributes, what stands between its two tags, and the white space
+    -- in its end tag
     element : List ℕ → List ℕ → Content → List ℕ → Element
     -- an empty element's name, and the raw text of its attributes
     empty : List ℕ → List ℕ → Element
 
-  -- a run of text, which may be of no bytes, and then nothing, or an element or an aside and more content
+  -- a run of text, which may be of no bytes, and then nothing, or an element or an aside and more
+  -- content
   pub data Content : Type 0 where
     text_only : List ℕ → Content
     element_after : List ℕ → Element → Content → Content
@@ -73,7 +75,8 @@ end_tag name space = 60 ∷ 47 ∷ (name ++ (space ++ 62 ∷ []))
 abbrev mutual
   -- the bytes of an element
   pub spelled : Element → List ℕ
-  spelled (element name raw inner space) = start_tag name raw ++ (spelled_all inner ++ end_tag name space)
+  spelled (element name raw inner space) = start_tag name raw
+      ++ (spelled_all inner ++ end_tag name space)
   spelled (empty name raw) = empty_tag name raw
 
   -- the bytes of what stands between two tags
@@ -95,11 +98,14 @@ spelled_front tree = mark_of tree.marked ++ spelled_around tree.front
 abbrev pub spelled_tree : Tree → List ℕ
 spelled_tree tree = spelled_front tree ++ (spelled tree.root ++ spelled_around tree.back)
 
--- the mark that stands behind the body stands at no earlier place: whatever it is found behind, nothing follows it
+-- the mark that stands after the body is at no earlier place: whatever it is found after, nothing
+-- follows it
 abbrev pub EndsFirst : List ℕ → List ℕ → Type 0
-EndsFirst mark body = (before behind : List ℕ) → body ++ mark ≡ before ++ (mark ++ behind) → behind ≡ []
+EndsFirst mark body = (before behind : List ℕ) → body ++ mark ≡ before ++ (mark ++ behind)
+    → behind ≡ []
 
--- a comment goes up to the first `-->` behind its `<!--`, an instruction to the first `?>` behind its `<?`
+-- a comment goes up to the first `-->` after its `<!--`, an instruction to the first `?>` after its
+-- `<?`
 abbrev pub IsAside : Aside → Type 0
 IsAside (comment body) = EndsFirst comment_end body
 IsAside (instruction body) = EndsFirst instruction_end body
@@ -113,7 +119,8 @@ AreAround (aside a ∷ around) = IsAside a × AreAround around
 abbrev mutual
   -- names, attributes and content are what they should be
   pub IsElement : Element → Type 0
-  IsElement (element name raw inner space) = IsName name × IsTagText raw × IsContent inner × AllAre is_space space
+  IsElement (element name raw inner space) = IsName name × IsTagText raw × IsContent inner
+      × AllAre is_space space
   IsElement (empty name raw) = IsName name × IsTagText raw
 
   -- and so are text, elements, comments and instructions
@@ -154,14 +161,16 @@ abbrev mutual
       start place name raw
       ∷ (pieces_all (place + length (start_tag name raw)) inner
       ++ stop (place + length (start_tag name raw) + length (spelled_all inner)) ∷ [])
-  pieces place (empty name raw) = start place name raw ∷ stop (place + length (60 ∷ (name ++ raw))) ∷ []
+  pieces place (empty name raw) = start place name raw ∷ stop (place + length (60 ∷ (name ++ raw)))
+      ∷ []
 
   -- the pieces of content that begins at this place
   pub pieces_all : ℕ → Content → List Answer
   pieces_all place (text_only text) = words_at place text
   pieces_all place (element_after text e more) =
       words_at place text
-      ++ (pieces (place + length text) e ++ pieces_all (place + length text + length (spelled e)) more)
+      ++ (pieces (place + length text) e ++ pieces_all (place + length text + length (spelled e))
+      more)
   pieces_all place (aside_after text a more) =
       words_at place text ++ pieces_all (place + length text + length (spelled_aside a)) more
 

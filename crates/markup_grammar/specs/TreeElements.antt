@@ -1,4 +1,5 @@
--- The elements of a text, told by its tree: what a reader of the answers finds in a text of the grammar.
+-- The elements of a text, told by its tree: what a reader of the answers finds in a text of the
+-- grammar.
 use Rattle.std.specs.Prelude.{ℕ, ◌+◌, [], length}
 use Rattle.markup_grammar.specs.Elements as told
 use Rattle.markup_grammar.specs.Elements.{prepended}
@@ -12,11 +13,13 @@ abbrev mutual
       told.element place name raw (content_at (place + length (start_tag name raw)) inner)
   element_at place (empty name raw) = told.element place name raw (told.last [])
 
-  -- what stands between two tags, of which the first ends at this place: texts are unescaped, and joined across what gives no piece
+  -- what stands between two tags, of which the first ends at this place: texts are unescaped, and
+  -- joined across what gives no piece
   pub content_at : ℕ → Content → told.Content
   content_at place (text_only text) = told.last (unescaped text)
   content_at place (element_after text e more) =
-      told.also (unescaped text) (element_at (place + length text) e) (content_at (place + length text + length (spelled e)) more)
+      told.also (unescaped text) (element_at (place + length text) e)
+      (content_at (place + length text + length (spelled e)) more)
   content_at place (aside_after text a more) =
       prepended (unescaped text) (content_at (place + length text + length (spelled_aside a)) more)
 

@@ -1,4 +1,5 @@
-//! What escaping and unescaping have to do with one another. The law is the contract of a function that does nothing.
+//! What escaping and unescaping have to do with one another. The law is the contract of a function
+//! that does nothing.
 
 ghost use Rattle.std.specs.Prelude.{◌≡◌, ℕ, List};
 ghost use Rattle.markup_grammar.specs.Escapes.{escaped, unescaped};

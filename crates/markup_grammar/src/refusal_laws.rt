@@ -5,8 +5,10 @@ ghost use Rattle.markup_grammar.specs.Answers.{Answer, refusal_of};
 ghost use Rattle.markup_grammar.specs.Faults.{IsFault};
 ghost use Rattle.markup_grammar.specs.Reading.{answers};
 
-/// A refusal for its form stands at the length of the longest front that begins some text of the grammar in UTF-8; one for
-/// its depth at the first whole start tag where 256 elements are open. The earlier of the two answers, and at one place the form.
+/// A refusal for its form is at the length of the longest front that begins some text of the
+/// grammar in UTF-8; one for its depth at the first whole start tag where 256 elements are open.
+/// The earlier of the two answers, and at one place the form.
 pub fn refusals()
-    ensures { (text : List ℕ) (refusal : Answer) → refusal_of (answers text) ≡ Some refusal → IsFault text refusal }
+    ensures { (text : List ℕ) (refusal : Answer) → refusal_of (answers text) ≡ Some refusal
+        → IsFault text refusal }
 {}

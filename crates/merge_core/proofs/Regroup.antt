@@ -6,7 +6,7 @@ use Rattle.std.specs.FinMap.{FinMap, get, contains_key, same_map}
 use Rattle.std.specs.Option.{unwrap_or}
 use Rattle.vault_model.specs.declared.nodes.GroupState.{GroupState}
 use Rattle.vault_model.specs.Db.{NodeId, id_cmp, Versions, Place, SharedMeta, Db, holds, newest, state_time, stamp_in, parent_or, Sound}
-use Rattle.vault_model.specs.Join.{stats_join, state_join, meta_join, no_meta, root_of, latest, above, held, own, kept, join, IsIn, IsWithin, IsNotEmpty, IsPart, IsAcyclic, Allowed, KeepsParents, Compatible, Agreed}
+use Rattle.vault_model.specs.Join.{stats_join, state_join, meta_join, no_meta, root_of, latest, above, is_held, own, kept, join, IsIn, IsWithin, IsNotEmpty, IsPart, IsAcyclic, Allowed, KeepsParents, Compatible, Agreed}
 use Rattle.vault_model.specs.Unite.{merged, gather, unite}
 use Rattle.join_laws.proofs.Facts.{join_entries, join_groups, join_places, join_tombs, join_root, part_root, part_sound, part_roots, alive_from_own, own_from_alive, next_own, kept-own, placed_held, held_by}
 use Rattle.join_laws.proofs.Joins.{versions_joins, state_joins, places_joins, meta_joins}
@@ -222,7 +222,7 @@ module _ (S : List Db) (a : Agreed S) (Rs : List (List Db)) (some : IsNotEmpty R
       let k = any_found (λ (m : Db). holds m u) g.0 (alive_from_own a.compatible g.0 (one_part g.0 g.1.0) u here).0 in
       own_from_alive a.compatible all all_part u (held_by all k.0 u (in_end Rs g.0 k.0 g.1.0 k.1.0) k.1.1) (no_tombs_in u alive.1)
 
-  one_own : (u : NodeId) (R : List Db) → IsIn R Rs → ((m : Db) → IsIn m all → get m.tombs u ≡ None) → held R u ≡ true → own R u ≡ true
+  one_own : (u : NodeId) (R : List Db) → IsIn R Rs → ((m : Db) → IsIn m all → get m.tombs u ≡ None) → is_held R u ≡ true → own R u ≡ true
   one_own u R h none e = own_from_alive a.compatible R (one_part R h) u e (λ m k. none m (in_end Rs R m h k))
 
   into_joins : (u : NodeId) → own all u ≡ true → own joins u ≡ true

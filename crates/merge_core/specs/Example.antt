@@ -1,5 +1,5 @@
--- Three copies of one database that agree: the first as it was, the second with an edit and a new group, the
--- third with a move and a deletion.
+-- Three copies of one database that agree: the first as it was, the second with an edit and a new
+-- group, the third with a move and a deletion.
 use Rattle.std.specs.Prelude.{ℕ, false, true, List, [], ◌∷◌, None, codes, pos, negsuc, replicate}
 use Rattle.vault_model.specs.declared.contents.Tri.TheVariants.{Inherit}
 use Rattle.vault_model.specs.declared.metas.Meta.{Meta}
@@ -39,7 +39,8 @@ version time title notes = record {
       expires = false;
       icon = 0;
       custom_icon = None;
-      fields = record { key = codes "Notes"; value = notes; hidden = false } ∷ record { key = codes "Title"; value = title; hidden = false } ∷ [];
+      fields = record { key = codes "Notes"; value = notes; hidden = false } ∷ record
+          { key = codes "Title"; value = title; hidden = false } ∷ [];
       attachments = [];
       tags = [];
       fore = [];
@@ -109,7 +110,8 @@ meta = record {
 abbrev pub as_it_was : BareDoc
 as_it_was = record {
   tree = node root (group 10 (codes "Root"))
-      ((bank, entry 10 (version 10 (codes "Bank") (codes "a")) []) ∷ (mail, entry 10 (version 10 (codes "Mail") []) []) ∷ [])
+      ((bank, entry 10 (version 10 (codes "Bank") (codes "a")) []) ∷
+      (mail, entry 10 (version 10 (codes "Mail") []) []) ∷ [])
       (beside (node work (group 10 (codes "Work")) [] none) none);
   tombs = [];
   meta = meta;
@@ -119,8 +121,14 @@ as_it_was = record {
 abbrev pub edited : BareDoc
 edited = record {
   tree = node root (group 10 (codes "Root"))
-      ((bank, entry 10 (version 20 (codes "Bank") (codes "b")) (version 10 (codes "Bank") (codes "a") ∷ [])) ∷ (mail, entry 10 (version 10 (codes "Mail") []) []) ∷ [])
-      (beside (node work (group 10 (codes "Work")) [] none) (beside (node home (group 30 (codes "Home")) [] none) none));
+      ((
+        bank,
+        entry 10 (version 20 (codes "Bank") (codes "b"))
+            (version 10 (codes "Bank") (codes "a") ∷ []),
+      ) ∷
+      (mail, entry 10 (version 10 (codes "Mail") []) []) ∷ [])
+      (beside (node work (group 10 (codes "Work")) [] none)
+      (beside (node home (group 30 (codes "Home")) [] none) none));
   tombs = [];
   meta = meta;
 }
@@ -129,7 +137,8 @@ edited = record {
 abbrev pub moved : BareDoc
 moved = record {
   tree = node root (group 10 (codes "Root")) []
-      (beside (node work (group 10 (codes "Work")) ((bank, entry 25 (version 10 (codes "Bank") (codes "a")) []) ∷ []) none) none);
+      (beside (node work (group 10 (codes "Work"))
+      ((bank, entry 25 (version 10 (codes "Bank") (codes "a")) []) ∷ []) none) none);
   tombs = record { id = mail; deleted = 40 } ∷ [];
   meta = meta;
 }

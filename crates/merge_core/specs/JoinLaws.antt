@@ -3,7 +3,7 @@ use Rattle.std.specs.Prelude.{◌≡◌, ◌≤◌, ℕ, true, List, [], ◌∷�
 use Rattle.std.specs.FinMap.{get}
 use Rattle.vault_model.specs.declared.contents.Stats.{Stats}
 use Rattle.vault_model.specs.Db.{NodeId, Mark, Versions, Place, Db, holds, Sound}
-use Rattle.vault_model.specs.Join.{held, latest, own, kept, join, IsIn, IsWithin, IsNotEmpty, IsPart, Allowed, Agreed}
+use Rattle.vault_model.specs.Join.{is_held, latest, own, kept, join, IsIn, IsWithin, IsNotEmpty, IsPart, Allowed, Agreed}
 use Rattle.vault_model.specs.Plans.{Plan, value, tree, leaves, IsAllowed, Fits, World, Step, begin, run, IsSchedule}
 use Rattle.vault_model.specs.Tree.{BareDoc, id_of, db_in, lay_doc, IsSettled, FitsLevels, IsDoc}
 use Rattle.vault_model.specs.Unite.{gather}
@@ -13,7 +13,7 @@ use Rattle.vault_model.specs.Unite.{gather}
 -- an id is own exactly where a member holds it and none has a tombstone of it
 abbrev pub OwnIsAlive : Type 0
 OwnIsAlive = (S R : List Db) → Agreed S → IsPart R S → (u : NodeId)
-    → (own R u ≡ true) ↔ ((held R u ≡ true) × ((m : Db) → IsIn m R → get m.tombs u ≡ None))
+    → (own R u ≡ true) ↔ ((is_held R u ≡ true) × ((m : Db) → IsIn m R → get m.tombs u ≡ None))
 
 -- the latest parent of an own node is own
 abbrev pub ParentsAreOwn : Type 0
@@ -58,13 +58,15 @@ JoinOfJoins = (S : List Db) (Rs : List (List Db)) → Agreed S → AreParts Rs S
 abbrev pub Names : Plan → List Db → Type 0
 Names p S = IsWithin (leaves p) S × IsWithin S (leaves p)
 
--- every order and grouping of merges of an agreed set can be carried out, and comes to the join of the set
+-- every order and grouping of merges of an agreed set can be carried out, and comes to the join of
+-- the set
 abbrev pub PlansAgree : Type 0
 PlansAgree = (S : List Db) (p : Plan) → Agreed S → Names p S → IsAllowed p × (value p ≡ join S)
 
 -- and where no level passes the limit on the way, so does the document that it writes
 abbrev pub DocumentsAgree : Type 0
-DocumentsAgree = (n : ℕ) (S : List Db) (p : Plan) → Agreed S → Names p S → Fits n p → db_in (tree n p) ≡ join S
+DocumentsAgree = (n : ℕ) (S : List Db) (p : Plan) → Agreed S → Names p S → Fits n p
+    → db_in (tree n p) ≡ join S
 
 -- ---- revisions
 
@@ -79,7 +81,8 @@ pub record IsThere (m : Db) (u : NodeId) (k : Mark) (s : Stats) : Type 0 where
 
 -- each version of each entry that a member holds and none has deleted is in the join
 abbrev pub VersionsStay : Type 0
-VersionsStay = (S : List Db) (m : Db) (u : NodeId) (v : Versions) (k : Mark) (s : Stats) → Agreed S → IsIn m S
+VersionsStay = (S : List Db) (m : Db) (u : NodeId) (v : Versions) (k : Mark) (s : Stats) → Agreed S
+    → IsIn m S
     → get m.entries u ≡ Some v → get v k ≡ Some s → ((n : Db) → IsIn n S → get n.tombs u ≡ None)
     → IsThere (join S) u k s
 
@@ -87,7 +90,8 @@ VersionsStay = (S : List Db) (m : Db) (u : NodeId) (v : Versions) (k : Mark) (s 
 
 -- a merge of what is already in a settled target leaves it as it is
 abbrev pub MergesAgain : Type 0
-MergesAgain = (n : ℕ) (S R : List Db) (Rs : List (List Db)) (t : BareDoc) → Agreed S → IsPart R S → AreParts Rs R
+MergesAgain = (n : ℕ) (S R : List Db) (Rs : List (List Db)) (t : BareDoc) → Agreed S → IsPart R S
+    → AreParts Rs R
     → db_in t ≡ join R → IsSettled n t → lay_doc n (join (db_in t ∷ map join Rs)) t ≡ t
 
 -- ---- schedules
@@ -105,7 +109,8 @@ SchedulesAgree = (n : ℕ) (S : List Db) (docs : ℕ → BareDoc) (done rest : L
 -- and so two replicas that have learned the same databases have the same one
 abbrev pub SameLearnedSameDb : Type 0
 SameLearnedSameDb = (n : ℕ) (S : List Db) (docs : ℕ → BareDoc) (done rest : List Step) → Agreed S
-    → IsSchedule n (begin docs) (done ++ rest) → LearnsWithin (run n (begin docs) (done ++ rest)) S → (i j : ℕ)
+    → IsSchedule n (begin docs) (done ++ rest) → LearnsWithin (run n (begin docs) (done ++ rest)) S
+    → (i j : ℕ)
     → IsWithin (run n (begin docs) done i).learned (run n (begin docs) done j).learned
     → IsWithin (run n (begin docs) done j).learned (run n (begin docs) done i).learned
     → db_in (run n (begin docs) done i).doc ≡ db_in (run n (begin docs) done j).doc

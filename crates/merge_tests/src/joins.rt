@@ -1,13 +1,14 @@
-//! What is expected is worked out by hand from the rules of a merge: an entry has all versions of all copies, each
-//! version being told apart by its time and by what it says; a node stands at its latest place; a node is deleted
-//! where a copy deleted it at or after its newest change in every copy.
-use slow_merge::databases::Database;
-use slow_merge::joins::{is_rooted, join};
+//! What is expected is worked out by hand from the rules of a merge: an entry has all versions of
+//! all copies, each version being told apart by its time and by what it says; a node is at its
+//! latest place; a node is deleted where a copy deleted it at or after its newest change in every
+//! copy.
 use crate::samples::{
     BANK, HOME, Lender, ROOT, WORK, id, new_lender, place, stamp, with_bank, with_filled_group,
     with_groups, with_move, with_tomb,
 };
 use outside_core::NoMemory;
+use slow_merge::databases::Database;
+use slow_merge::joins::{is_rooted, join};
 use std::alloc::Global;
 use std::test::Fail;
 
@@ -31,7 +32,7 @@ fn has_versions(copy: &Database, expected: &[(u8, &[u8])]) -> bool {
     left.next().is_none()
 }
 
-/// Whether a node stands in this group since this time.
+/// Whether a node is in this group since this time.
 fn stands(copy: &Database, node: u8, parent: u8, placed: u8) -> bool {
     match copy.places.get(&id(node)) {
         Some(spot) => spot.parent == id(parent) && spot.placed == stamp(placed),
@@ -58,7 +59,8 @@ fn edited_twice<'a>(
     Ok([one, other])
 }
 
-/// One copy edits an entry at 20, another at 30: the later edit is current, and the other two are its history.
+/// One copy edits an entry at 20, another at 30: the later edit is current, and the other two are
+/// its history.
 #[test]
 fn two_edits(rt: HostRuntime) -> Result<(), Fail> {
     let alloc = rt.alloc();
@@ -108,7 +110,7 @@ fn moved<'a>(
     Ok(copies)
 }
 
-/// Whether an entry that was moved so in three copies stands at home in their join, since 6.
+/// Whether an entry that was moved so in three copies is at home in their join, since 6.
 fn ends_at_home(alloc: Global, lender: &Lender, moves: &[Move]) -> Result<bool, NoMemory> {
     let copies = moved(alloc, lender, moves)?;
     if copies.len() != 3 {
@@ -118,7 +120,8 @@ fn ends_at_home(alloc: Global, lender: &Lender, moves: &[Move]) -> Result<bool, 
     Ok(stands(&joined, BANK, HOME, 6))
 }
 
-/// One copy moved an entry at 5, another at 6, a third not at all: in all six orders it stands where it was moved last.
+/// One copy moved an entry at 5, another at 6, a third not at all: in all six orders it stands
+/// where it was moved last.
 #[test]
 fn three_places(rt: HostRuntime) -> Result<(), Fail> {
     let alloc = rt.alloc();
@@ -214,7 +217,8 @@ fn work_back<'a>(alloc: Global, lender: &'a Lender) -> Result<Database<'a>, NoMe
     join(alloc, &[moved, back])
 }
 
-/// Whether the latest parents lead to the root from both WORK and HOME, from neither, or from one of them alone.
+/// Whether the latest parents lead to the root from both WORK and HOME, from neither, or from one
+/// of them alone.
 fn rooted(alloc: Global, copies: &[Database; 2]) -> Result<(bool, bool), NoMemory> {
     let work = is_rooted(alloc, copies, &id(WORK))?;
     let home = is_rooted(alloc, copies, &id(HOME))?;
@@ -245,7 +249,8 @@ fn crossed_moves(rt: HostRuntime) -> Result<(), Fail> {
     Ok(())
 }
 
-/// Where one of two groups that were each moved into the other was moved back under the root later, both stand again.
+/// Where one of two groups that were each moved into the other was moved back under the root later,
+/// both stand again.
 #[test]
 fn crossed_moves_settled(rt: HostRuntime) -> Result<(), Fail> {
     let alloc = rt.alloc();
@@ -319,7 +324,8 @@ fn all_joined_at_once(rt: HostRuntime) -> Result<(), Fail> {
     Ok(())
 }
 
-/// Where the deletion is joined first, it takes what it deleted with it, whatever outlives it later.
+/// Where the deletion is joined first, it takes what it deleted with it, whatever outlives it
+/// later.
 #[test]
 fn a_tombstone_forgets(rt: HostRuntime) -> Result<(), Fail> {
     let alloc = rt.alloc();

@@ -88,8 +88,8 @@ impl<T> List<T> {
         self.items.get_mut(at)
     }
 
-    /// Puts an item before the one at an index. A refusal is want of memory, changes nothing, and hands the item
-    /// back.
+    /// Puts an item before the one at an index. A refusal is want of memory, changes nothing, and
+    /// hands the item back.
     pub fn insert(&mut self, at: usize, item: T) -> Result<(), T>
         requires { at ≤ length self.old }
         ensures ok { OnOk result (self.new ≡ insert self.old at item) }
@@ -138,7 +138,8 @@ impl<T: Eq> Eq for List<T> {
 impl<T: Ord> PartialOrd for List<T> {
     ghost partial_cmp = { as_partial_cmp (slice_cmp T.cmp) };
 
-    ghost laws = { partial_order_from_own_ties (Prim.search (comparing, rules)) (lists_ties T.cmp T.matches_eq) };
+    ghost laws = { partial_order_from_own_ties (Prim.search (comparing, rules))
+        (lists_ties T.cmp T.matches_eq) };
 
     fn partial_cmp(&self, other: &List<T>) -> Option<Ordering> {
         Some(self.cmp(other))
@@ -236,7 +237,8 @@ impl Eq for Bytes {
 impl PartialOrd for Bytes {
     ghost partial_cmp = { as_partial_cmp (slice_cmp nat_cmp) };
 
-    ghost laws = { partial_order_from_own_ties (Prim.search (comparing, rules)) (Prim.search (comparing, rules)) };
+    ghost laws = { partial_order_from_own_ties (Prim.search (comparing, rules))
+        (Prim.search (comparing, rules)) };
 
     fn partial_cmp(&self, other: &Bytes) -> Option<Ordering> {
         Some(self.cmp(other))

@@ -52,7 +52,8 @@ impl Text {
         self.text.len()
     }
 
-    /// Appends a character. A refusal is want of memory, changes nothing, and hands the character back.
+    /// Appends a character. A refusal is want of memory, changes nothing, and hands the character
+    /// back.
     pub fn push(&mut self, item: char) -> Result<(), char>
         ensures ok { OnOk result (self.new ≡ self.old ++ encode_utf8 item) }
         ensures err { OnErr result (self.new ≡ self.old) }
@@ -89,7 +90,8 @@ impl Eq for Text {
 impl PartialOrd for Text {
     ghost partial_cmp = { as_partial_cmp (slice_cmp nat_cmp) };
 
-    ghost laws = { partial_order_from_own_ties (Prim.search (comparing, rules)) (Prim.search (comparing, rules)) };
+    ghost laws = { partial_order_from_own_ties (Prim.search (comparing, rules))
+        (Prim.search (comparing, rules)) };
 
     fn partial_cmp(&self, other: &Text) -> Option<Ordering> {
         Some(self.cmp(other))

@@ -1,5 +1,6 @@
-//! The four ways to the outside. What an object holds may be reported (its ghost member is `Some`) or not (`None`,
-//! as at a real disk). Clauses on content speak where it is reported, clauses on counts always.
+//! The four ways to the outside. What an object holds may be reported (its ghost member is `Some`)
+//! or not (`None`, as at a real disk). Clauses on content speak where it is reported, clauses on
+//! counts always.
 ghost use Rattle.std.specs.Prelude.{◌≡◌, ℕ, ◌≤◌, ◌<◌, List, [], ◌++◌, Option, length, take, option_map, IfOk, OnOk, OnErr, IfSome, IsSome, IsErrOf};
 ghost use Rattle.std.specs.FinMap as map;
 ghost use Rattle.outside_core.specs.Counts.{HasCause};
@@ -8,8 +9,8 @@ ghost use Rattle.outside_core.specs.Streams.{LosesPrefix};
 
 use crate::fails::{DiceFail, FileFail, SinkFail, SourceFail};
 
-/// Files by name, and at most one draft: a file in the making, which replaces the file of its name once it is
-/// published. Only `publish` changes what the store holds.
+/// Files by name, and at most one draft: a file in the making, which replaces the file of its name
+/// once it is published. Only `publish` changes what the store holds.
 pub trait FileStore {
     /// The files by the bytes of their names, where the store reports them.
     ghost files: { Self → Option FileMap };
@@ -24,26 +25,34 @@ pub trait FileStore {
 
     /// The length of a file in bytes.
     fn size(&mut self, name: &str) -> Result<u64, FileFail>
-        ensures told { IfOk result (λ n. IfSome (files self.old) (λ m. option_map length (map.get m name.now) ≡ Some n)) }
-        ensures missing { IsErrOf result FileFail.NoSuchFile → IfSome (files self.old) (λ m. map.get m name.now ≡ None) }
+        ensures told { IfOk result (λ n. IfSome (files self.old)
+            (λ m. option_map length (map.get m name.now) ≡ Some n)) }
+        ensures missing { IsErrOf result FileFail.NoSuchFile
+            → IfSome (files self.old) (λ m. map.get m name.now ≡ None) }
         ensures files { files self.new ≡ files self.old }
         ensures draft_name { draft_name self.new ≡ draft_name self.old }
         ensures draft_bytes { draft_bytes self.new ≡ draft_bytes self.old }
         ensures faults { HasCause FileFail.Failed (faults self.old) (faults self.new) result }
-        ensures absences { HasCause FileFail.NoSuchFile (absences self.old) (absences self.new) result };
+        ensures absences { HasCause FileFail.NoSuchFile (absences self.old) (absences self.new)
+            result };
 
-    /// Reads a file from the offset `from` on into `out`, as far as both reach. Gives the number of bytes read.
+    /// Reads a file from the offset `from` on into `out`, as far as both reach. Gives the number of
+    /// bytes read.
     fn read_at(&mut self, name: &str, from: u64, out: &mut [u8]) -> Result<usize, FileFail>
         ensures bound { IfOk result (λ n. n ≤ length out.new) }
-        ensures told { IfOk result (λ n. IfSome (files self.old) (λ m. window_of m name.now from (length out.new) ≡ Some (take n out.new))) }
-        ensures missing { IsErrOf result FileFail.NoSuchFile → IfSome (files self.old) (λ m. map.get m name.now ≡ None) }
+        ensures told { IfOk result (λ n. IfSome (files self.old)
+            (λ m. window_of m name.now from (length out.new) ≡ Some (take n out.new))) }
+        ensures missing { IsErrOf result FileFail.NoSuchFile
+            → IfSome (files self.old) (λ m. map.get m name.now ≡ None) }
         ensures files { files self.new ≡ files self.old }
         ensures draft_name { draft_name self.new ≡ draft_name self.old }
         ensures draft_bytes { draft_bytes self.new ≡ draft_bytes self.old }
         ensures faults { HasCause FileFail.Failed (faults self.old) (faults self.new) result }
-        ensures absences { HasCause FileFail.NoSuchFile (absences self.old) (absences self.new) result };
+        ensures absences { HasCause FileFail.NoSuchFile (absences self.old) (absences self.new)
+            result };
 
-    /// Gives up the draft, if there is one, and starts an empty one for `name`. After a refusal there is none.
+    /// Gives up the draft, if there is one, and starts an empty one for `name`. After a refusal
+    /// there is none.
     fn begin(&mut self, name: &str) -> Result<(), FileFail>
         ensures name { OnOk result (draft_name self.new ≡ Some name.now) }
         ensures bytes { OnOk result (draft_bytes self.new ≡ []) }
@@ -53,21 +62,25 @@ pub trait FileStore {
         ensures faults { HasCause FileFail.Failed (faults self.old) (faults self.new) result }
         ensures absences { absences self.old ≤ absences self.new };
 
-    /// Appends the whole piece to the draft. After a refusal the draft is still there, and its bytes are not known.
+    /// Appends the whole piece to the draft. After a refusal the draft is still there, and its
+    /// bytes are not known.
     fn append(&mut self, piece: &[u8]) -> Result<(), FileFail>
         requires { IsSome (draft_name self.old) }
-        ensures bytes { OnOk result (IfSome (files self.old) (λ _. draft_bytes self.new ≡ draft_bytes self.old ++ piece.now)) }
+        ensures bytes { OnOk result (IfSome (files self.old)
+            (λ _. draft_bytes self.new ≡ draft_bytes self.old ++ piece.now)) }
         ensures name { draft_name self.new ≡ draft_name self.old }
         ensures not_missing { ¬ IsErrOf result FileFail.NoSuchFile }
         ensures files { files self.new ≡ files self.old }
         ensures faults { HasCause FileFail.Failed (faults self.old) (faults self.new) result }
         ensures absences { absences self.old ≤ absences self.new };
 
-    /// Puts the draft under its name, in the place of any file of that name. A refusal leaves the files as they
-    /// were. There is no draft afterwards, whatever the answer.
+    /// Puts the draft under its name, in the place of any file of that name. A refusal leaves the
+    /// files as they were. There is no draft afterwards, whatever the answer.
     fn publish(&mut self) -> Result<(), FileFail>
         requires { IsSome (draft_name self.old) }
-        ensures ok { OnOk result (IfSome (draft_name self.old) (λ name. files self.new ≡ option_map (λ m. map.insert m name (draft_bytes self.old)) (files self.old))) }
+        ensures ok { OnOk result (IfSome (draft_name self.old)
+            (λ name. files self.new ≡ option_map (λ m. map.insert m name (draft_bytes self.old))
+            (files self.old))) }
         ensures err { OnErr result (files self.new ≡ files self.old) }
         ensures no_draft { draft_name self.new ≡ None }
         ensures not_missing { ¬ IsErrOf result FileFail.NoSuchFile }
@@ -89,12 +102,14 @@ pub trait Source {
     /// How often something went wrong; it sticks at 2^64 - 1.
     ghost faults: { Self → ℕ };
 
-    /// Reads the next bytes into the front of `out` and gives their number, which is 0 only for an empty `out` or
-    /// at the end. What a refusal leaves to be read is open.
+    /// Reads the next bytes into the front of `out` and gives their number, which is 0 only for an
+    /// empty `out` or at the end. What a refusal leaves to be read is open.
     fn read(&mut self, out: &mut [u8]) -> Result<usize, SourceFail>
         ensures bound { IfOk result (λ n. n ≤ length out.new) }
-        ensures told { IfOk result (λ n. left self.old ≡ option_map (λ rest. take n out.new ++ rest) (left self.new)) }
-        ensures end { IfOk result (λ n. n ≡ 0 → 0 < length out.new → IfSome (left self.old) (λ rest. rest ≡ [])) }
+        ensures told { IfOk result (λ n. left self.old
+            ≡ option_map (λ rest. take n out.new ++ rest) (left self.new)) }
+        ensures end { IfOk result (λ n. n ≡ 0 → 0 < length out.new
+            → IfSome (left self.old) (λ rest. rest ≡ [])) }
         ensures faults { HasCause SourceFail.Failed (faults self.old) (faults self.new) result };
 }
 
@@ -105,12 +120,13 @@ pub trait Sink {
     /// How often something went wrong; it sticks at 2^64 - 1.
     ghost faults: { Self → ℕ };
 
-    /// Takes the front of a piece, at least one byte of a piece that is not empty, and gives the number of bytes
-    /// taken. After a refusal nothing of the piece was taken.
+    /// Takes the front of a piece, at least one byte of a piece that is not empty, and gives the
+    /// number of bytes taken. After a refusal nothing of the piece was taken.
     fn write(&mut self, piece: &[u8]) -> Result<usize, SinkFail>
         ensures bound { IfOk result (λ n. n ≤ length piece.now) }
         ensures some { IfOk result (λ n. 0 < length piece.now → 0 < n) }
-        ensures told { IfOk result (λ n. written self.new ≡ option_map (λ w. w ++ take n piece.now) (written self.old)) }
+        ensures told { IfOk result (λ n. written self.new
+            ≡ option_map (λ w. w ++ take n piece.now) (written self.old)) }
         ensures err { OnErr result (written self.new ≡ written self.old) }
         ensures faults { HasCause SinkFail.Failed (faults self.old) (faults self.new) result };
 }
@@ -122,10 +138,11 @@ pub trait Dice {
     /// How often something went wrong; it sticks at 2^64 - 1.
     ghost faults: { Self → ℕ };
 
-    /// Fills `out` with the front of the stream. After a refusal `out` is not known, and some bytes may be gone
-    /// from the front of the stream.
+    /// Fills `out` with the front of the stream. After a refusal `out` is not known, and some bytes
+    /// may be gone from the front of the stream.
     fn fill(&mut self, out: &mut [u8]) -> Result<(), DiceFail>
-        ensures ok { OnOk result (stream self.old ≡ option_map (λ rest. out.new ++ rest) (stream self.new)) }
+        ensures ok { OnOk result (stream self.old
+            ≡ option_map (λ rest. out.new ++ rest) (stream self.new)) }
         ensures err { OnErr result (LosesPrefix (stream self.old) (stream self.new)) }
         ensures faults { HasCause DiceFail.Failed (faults self.old) (faults self.new) result };
 }

@@ -1,5 +1,5 @@
-//! The adapters to the host. They report no content, so that nothing is promised of what a disk, a pipe or the
-//! system's random bytes give; each error raises their count of faults.
+//! The adapters to the host. They report no content, so that nothing is promised of what a disk, a
+//! pipe or the system's random bytes give; each error raises their count of faults.
 ghost use Rattle.std.specs.Prelude.{◌≡◌, ◌≤◌, None, [], length, IfOk};
 ghost use Rattle.outside_core.specs.Counts.{HasCause, Increased, increment};
 
@@ -39,8 +39,8 @@ fn file_len<F: OpenFile>(file: &F) -> io::Result<u64> {
     }
 }
 
-/// Opens a regular file for reading. Anything else is refused before it is opened, because opening a pipe waits
-/// until some process writes to it.
+/// Opens a regular file for reading. Anything else is refused before it is opened, because opening
+/// a pipe waits until some process writes to it.
 fn open_regular<R: Files>(rt: &R, name: &str) -> io::Result<R::File> {
     if fs::metadata(rt, name)?.is_file() {
         fs::open(rt, name)
@@ -57,8 +57,8 @@ fn read_from<F: Read + Seek>(file: &mut F, from: u64, out: &mut [u8]) -> io::Res
     file.read(out)
 }
 
-/// Makes an empty file that only its owner may read, in the place of any left from a run that was cut off. It
-/// gets the permissions of the file that it is to replace, where there is one.
+/// Makes an empty file that only its owner may read, in the place of any left from a run that was
+/// cut off. It gets the permissions of the file that it is to replace, where there is one.
 fn create_part<R: Files>(rt: &R, name: &str, part: &str) -> io::Result<R::File> {
     let _ = fs::remove_file(rt, part);
     let file = OpenOptions::new()
@@ -84,8 +84,8 @@ fn publish_draft<R: Files>(rt: &R, draft: HostDraft<R::File>) -> io::Result<()> 
     published
 }
 
-/// The files of the host. A draft is written under its name with `.part` appended, and brought to the disk before
-/// it is given its name.
+/// The files of the host. A draft is written under its name with `.part` appended, and brought to
+/// the disk before it is given its name.
 #[derive(Drop)]
 pub struct HostFiles<'a, R: Files> {
     rt: &'a R,
@@ -102,7 +102,11 @@ impl<'a, R: Files> Model for HostFiles<'a, R> {
 
     ghost Value = { HostStore };
 
-    ghost view = { λ s. record { draft_name = option_map (λ d. d.name) s.draft; faults = s.faults; absences = s.absences } };
+    ghost view = { λ s. record {
+      draft_name = option_map (λ d. d.name) s.draft;
+      faults = s.faults;
+      absences = s.absences;
+    } };
 }
 
 impl<'a, R: Files> HostFiles<'a, R> {

@@ -4,11 +4,13 @@ use Rattle.std.specs.FinMap.{from_entries, empty}
 use Rattle.outside_core.specs.Files.{FileMap}
 use Rattle.outside_objects.specs.declared.sure.StoredFile.{StoredFile}
 
--- The map that a list of files stands for, the newest first: of two files of one name the newer counts.
+-- The map that a list of files stands for, the newest first: of two files of one name the newer
+-- counts.
 abbrev pub files_of : List StoredFile → FileMap
 files_of files = from_entries (map (λ f. (f.name, f.bytes)) files)
 
--- A store in memory: its files, the draft in the making, and how often a file was asked for that is not there.
+-- A store in memory: its files, the draft in the making, and how often a file was asked for that is
+-- not there.
 pub record Store : Type 0 where
   pub files : FileMap
   pub draft_name : Option (List ℕ)
@@ -19,7 +21,8 @@ pub record Store : Type 0 where
 abbrev pub empty_store : Store
 empty_store = record { files = empty; draft_name = None; draft_bytes = []; absences = 0 }
 
--- Which calls are to fail, by their numbers from 0 on; how many calls were made; and how many faults there were.
+-- Which calls are to fail, by their numbers from 0 on; how many calls were made; and how many
+-- faults there were.
 pub record Failures : Type 0 where
   pub failing : List ℕ
   pub calls : ℕ
@@ -34,7 +37,7 @@ pub record FailingStore : Type 0 where
   pub store : Store
   pub failures : Failures
 
--- Bytes left or written, behind calls some of which fail.
+-- Bytes left or written, after calls some of which fail.
 pub record FailingBytes : Type 0 where
   pub bytes : List ℕ
   pub failures : Failures

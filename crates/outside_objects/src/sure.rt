@@ -24,7 +24,8 @@ fn find_file<'a>(files: &'a [StoredFile], name: &str) -> Option<&'a StoredFile>
     files.iter().find(|file| name == file.name.as_str())
 }
 
-/// Copies the front of `bytes` to the front of `out`, as far as both reach. Gives the number of bytes.
+/// Copies the front of `bytes` to the front of `out`, as far as both reach. Gives the number of
+/// bytes.
 pub(crate) fn copy_front(bytes: &[u8], out: &mut [u8]) -> usize
     ensures within { result ≤ length bytes.now }
     ensures room { result ≤ length out.old }
@@ -57,7 +58,14 @@ impl Model for SureFiles {
 
     ghost coded = { store_code };
 
-    ghost view = { λ s. record { files = files_of s.files.items; draft_name = option_map (λ d. d.name) s.draft; draft_bytes = option_map_or (λ d. d.bytes) s.draft []; absences = s.absences } };
+    ghost view = { λ s. record {
+      files = files_of s.files.items;
+      draft_name = option_map
+          (λ d. d.name) s.draft;
+      draft_bytes = option_map_or (λ d. d.bytes) s.draft [];
+      absences =
+          s.absences;
+    } };
 }
 
 impl SureFiles {
@@ -75,10 +83,11 @@ impl SureFiles {
         }
     }
 
-    /// Puts a file under a name, in the place of any of that name. A refusal is want of memory and changes
-    /// nothing.
+    /// Puts a file under a name, in the place of any of that name. A refusal is want of memory and
+    /// changes nothing.
     pub fn put(&mut self, name: &str, bytes: &[u8]) -> Result<(), FileFail>
-        ensures ok { OnOk result (self.new ≡ record self.old { files = map.insert self.old.files name.now bytes.now }) }
+        ensures ok { OnOk result (self.new ≡ record self.old
+            { files = map.insert self.old.files name.now bytes.now }) }
         ensures err { OnErr result (self.new ≡ self.old) }
         ensures memory { IfErr result (λ e. e ≡ FileFail.NoMemory) }
     {
@@ -205,7 +214,8 @@ impl SureSource {
         &self.bytes.as_slice()[self.read..]
     }
 
-    /// Moves the front of what is left to the front of `out`, as far as both reach. Gives the number of bytes.
+    /// Moves the front of what is left to the front of `out`, as far as both reach. Gives the
+    /// number of bytes.
     pub(crate) fn take_front(&mut self, out: &mut [u8]) -> usize
         ensures room { result ≤ length out.old }
         ensures whole { result < length out.old → self.new ≡ [] }
@@ -228,7 +238,8 @@ impl Source for SureSource {
     }
 }
 
-/// A sink into memory whose calls never fail but for want of memory: its count of faults is 0 for ever.
+/// A sink into memory whose calls never fail but for want of memory: its count of faults is 0 for
+/// ever.
 #[derive(Drop)]
 pub struct SureSink {
     bytes: Bytes,

@@ -1,5 +1,5 @@
-//! The files of the host: what is written is read, a draft that is given up leaves nothing, and only a regular file
-//! is read.
+//! The files of the host: what is written is read, a draft that is given up leaves nothing, and
+//! only a regular file is read.
 use crate::files::{keeps_a_file, reads};
 use outside_core::{Dice, FileFail, FileStore, write_file};
 use outside_host::{HostDice, HostFiles};

@@ -1,4 +1,5 @@
-//! The stores of files in memory: what is written is read, and a planned failure comes at its number.
+//! The stores of files in memory: what is written is read, and a planned failure comes at its
+//! number.
 use outside_core::{FileFail, FileStore, write_file};
 use outside_objects::{MemoryFiles, SureFiles};
 use std::alloc::Global;
@@ -80,7 +81,8 @@ fn the_old_file_remains_where_writing_fails(rt: HostRuntime) {
     }
 }
 
-/// The answers of `size` and `read_at` for a file that is missing, the call of this number being planned to fail.
+/// The answers of `size` and `read_at` for a file that is missing, the call of this number being
+/// planned to fail.
 fn asked(alloc: Global, call: u64) -> Result<[FileFail; 2], FileFail> {
     let mut files = failing_at(alloc, call)?;
     let size = files.size("none").err().unwrap_or(FileFail::NoMemory);

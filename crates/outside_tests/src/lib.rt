@@ -1,5 +1,6 @@
-//! The tests of `outside_core`, `outside_objects` and `secret_core`: what no clause says. Calls succeed, planned
-//! failures come at their numbers, files are read by windows, and the host's objects do what their names say.
+//! The tests of `outside_core`, `outside_objects` and `secret_core`: what no clause says. Calls
+//! succeed, planned failures come at their numbers, files are read by windows, and the host's
+//! objects do what their names say.
 #![tactic(auto)]
 
 #[cfg(test)]

@@ -5,9 +5,9 @@ use secret_core::{ReadFail, Secret, read_file};
 use std::alloc::Global;
 use std::test::Fail;
 
-/// A store that reports nothing: one file of `length` bytes, of which it says that they are `size`. Byte i is
-/// i mod 251, and a call gives at most `most` of them. It keeps the length of the longest `out` that it saw.
-/// It starts no draft and takes no bytes of one.
+/// A store that reports nothing: one file of `length` bytes, of which it says that they are `size`.
+/// Byte i is i mod 251, and a call gives at most `most` of them. It keeps the length of the longest
+/// `out` that it saw. It starts no draft and takes no bytes of one.
 #[derive(Drop)]
 struct TrickleFiles {
     size: u64,
@@ -102,8 +102,8 @@ fn a_file_is_read_through_one_window_of_65536_bytes(rt: HostRuntime) -> Result<(
     Ok(())
 }
 
-/// The answer of reading `name` from a store with one file, `vault`, of 70,000 bytes, whose call `failing`
-/// fails: how many bytes were read, or the refusal.
+/// The answer of reading `name` from a store with one file, `vault`, of 70,000 bytes, whose call
+/// `failing` fails: how many bytes were read, or the refusal.
 fn answer(
     alloc: Global,
     name: &str,

@@ -6,7 +6,8 @@ ghost use Rattle.outside_core.specs.Streams.{LosesPrefix};
 use outside_core::{Dice, DiceFail};
 use std::marker::Model;
 
-/// Bytes that were drawn from the dice and not used yet: a key's seed, an initialization vector, an id.
+/// Bytes that were drawn from the dice and not used yet: a key's seed, an initialization vector, an
+/// id.
 ///
 /// It cannot be copied, and `take` uses it up, so that no draw serves twice.
 #[derive(Drop)]
@@ -28,7 +29,8 @@ impl<const N: usize> Fresh<N> {
     /// The refusal is that of the dice, of which some bytes may be gone then.
     pub fn draw<D: Dice>(dice: &mut D, n: usize) -> Result<Fresh<N>, DiceFail>
         requires { n ≤ N }
-        ensures front { IfOk result (λ fresh. D.stream dice.old ≡ option_map (λ rest. take n fresh ++ rest) (D.stream dice.new)) }
+        ensures front { IfOk result (λ fresh. D.stream dice.old
+            ≡ option_map (λ rest. take n fresh ++ rest) (D.stream dice.new)) }
         ensures rest { IfOk result (λ fresh. drop n fresh ≡ replicate (N - n) 0) }
         ensures none { n ≡ 0 → IsOk result × (dice.new ≡ dice.old) }
         ensures err { OnErr result (LosesPrefix (D.stream dice.old) (D.stream dice.new)) }

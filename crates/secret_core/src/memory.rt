@@ -6,7 +6,8 @@ use outside_core::NoMemory;
 use std::alloc::Global;
 use std::marker::Model;
 
-// Memory that must be spent, and that can be given up only once it is zero. Its first `len` bytes are in use.
+// Memory that must be spent, and that can be given up only once it is zero. Its first `len` bytes
+// are in use.
 pub(crate) struct Kept {
     pub(crate) buffer: Vec<u8>,
     len: usize,
@@ -58,7 +59,11 @@ impl Model for Secret {
 
     ghost Value = { SecretBuffer };
 
-    ghost view = { λ s. record { bytes = take s.kept.len s.kept.buffer.items; spare = vec_len s.kept.buffer - s.kept.len } };
+    ghost view = { λ s. record {
+      bytes = take s.kept.len s.kept.buffer.items;
+      spare = vec_len
+          s.kept.buffer - s.kept.len;
+    } };
 
     ghost invariant = { λ s. s.kept.len ≤ vec_len s.kept.buffer };
 }
@@ -74,7 +79,8 @@ impl Drop for Secret {
 impl Secret {
     ghost use Rattle.secret_core.specs.Lends.{LendsSecret};
 
-    /// An empty Secret with room for `n` bytes, all of it reserved here. The only refusal is want of memory.
+    /// An empty Secret with room for `n` bytes, all of it reserved here. The only refusal is want
+    /// of memory.
     pub fn with_room(alloc: Global, n: usize) -> Result<Secret, NoMemory>
         ensures bytes { IfOk result (λ secret. secret.bytes ≡ []) }
         ensures spare { IfOk result (λ secret. secret.spare ≡ n) }

@@ -244,7 +244,8 @@ impl<'a> ItemTable<'a> {
         self.rows.as_slice()
     }
 
-    /// Puts an item at a key, in the place of any that stood there. A refusal is want of memory and changes nothing.
+    /// Puts an item at a key, in the place of any that stood there. A refusal is want of memory and
+    /// changes nothing.
     pub fn put(&mut self, key: LentKey<'a>, item: LentItem<'a>) -> Result<(), NoMemory>
         ensures ok { OnOk result (self.new ≡ map.insert self.old key.entry item.entry) }
         ensures err { OnErr result (self.new ≡ self.old) }
@@ -255,7 +256,8 @@ impl<'a> ItemTable<'a> {
 
     /// Adds an item; where there is one of its key the later stays. A refusal is want of memory.
     fn add(&mut self, key: &LentKey<'a>, item: &LentItem<'a>) -> Result<(), NoMemory>
-        ensures { OnOk result (self.new ≡ unite (greater later_item_cmp) (map.insert map.empty key.now item.now) self.old) }
+        ensures { OnOk result (self.new ≡ unite (greater later_item_cmp)
+            (map.insert map.empty key.now item.now) self.old) }
     {
         let joined = match self.get(key) {
             Some(before) => item.later(before),
@@ -283,7 +285,8 @@ fn add_icon<'a>(
     id: Uuid,
     icon: &LentIcon<'a>,
 ) -> Result<(), NoMemory>
-    ensures { OnOk result (icons.new ≡ unite (greater icon_cmp) (map.insert map.empty id icon.now) icons.old) }
+    ensures { OnOk result (icons.new ≡ unite (greater icon_cmp) (map.insert map.empty id icon.now)
+        icons.old) }
 {
     let joined = match icons.get(&id) {
         Some(before) => icon.later(before),

@@ -4,7 +4,7 @@ ghost use Rattle.std.specs.Option.{option_copied};
 ghost use Rattle.std.specs.FinMap as table;
 ghost use Rattle.std.specs.List.{list_any};
 ghost use Rattle.vault_model.specs.Db.{holds, stamp_in, place_cmp};
-ghost use Rattle.vault_model.specs.Join.{is_id, latest, above, path, stamp, is_from, held, buried, own, ids, trail, kept, join, root_of, state_join, stats_join};
+ghost use Rattle.vault_model.specs.Join.{is_id, latest, above, path, stamp, is_from, is_held, buried, own, ids, trail, kept, join, root_of, state_join, stats_join};
 ghost use Rattle.vault_model.specs.Unite.{gather, greater, merged, put_some, unite};
 ghost use Rattle.slow_merge.specs.Databases.{database, databases, known_ids, shared};
 
@@ -82,7 +82,7 @@ pub fn stamp(members: &[Database], id: &Uuid) -> u64
 
 /// Whether some member holds the node.
 fn is_held(members: &[Database], id: &Uuid) -> bool
-    ensures { result ≡ held (databases members.now) id.now }
+    ensures { result ≡ is_held (databases members.now) id.now }
 {
     for member in members {
         if holds(member, id) {
@@ -115,7 +115,8 @@ fn is_buried(members: &[Database], id: &Uuid) -> bool
     false
 }
 
-/// Whether a node is own: it is the root, or a member holds it and none has a tombstone of it at or after its stamp.
+/// Whether a node is own: it is the root, or a member holds it and none has a tombstone of it at or
+/// after its stamp.
 #[tactic(auto, unfolding(vault_model::specs::Join::own))]
 pub fn is_own(members: &[Database], id: &Uuid) -> bool
     requires { 0 < length members.now }
@@ -180,7 +181,7 @@ fn is_on_trail(members: &[Database], steps: usize, from: Uuid, id: &Uuid) -> boo
 #[tactic(auto, unfolding(vault_model::specs::Join::kept))]
 pub(crate) fn is_kept(members: &[Database], held: &[Uuid], id: &Uuid) -> bool
     requires some { 0 < length members.now }
-    requires held { held.now ≡ ids (databases members.now) }
+    requires is_held { is_held.now ≡ ids (databases members.now) }
     ensures { result ≡ kept (databases members.now) id.now }
 {
     for own in held {
@@ -197,7 +198,8 @@ fn join_versions<'a>(
     so_far: Option<VersionTable<'a>>,
     more: Option<&VersionTable<'a>>,
 ) -> Result<Option<VersionTable<'a>>, NoMemory>
-    ensures { IfOk result (λ v. v ≡ merged (unite stats_join) (option_copied more.entry) so_far.entry) }
+    ensures { IfOk result (λ v. v ≡ merged (unite stats_join) (option_copied more.entry)
+        so_far.entry) }
 {
     let Some(more) = more else {
         return Ok(so_far);
@@ -216,7 +218,8 @@ fn all_versions<'a>(
     members: &[Database<'a>],
     id: &Uuid,
 ) -> Result<Option<VersionTable<'a>>, NoMemory>
-    ensures { IfOk result (λ v. v ≡ gather (unite stats_join) (map (λ m. table.get m.entries id.now) (databases members.now))) }
+    ensures { IfOk result (λ v. v ≡ gather (unite stats_join)
+        (map (λ m. table.get m.entries id.now) (databases members.now))) }
 {
     let mut joined = None;
     for member in members {
@@ -241,7 +244,8 @@ fn join_state<'a>(
 
 /// What all members have of a group, made one.
 fn joined_state<'a>(members: &[Database<'a>], id: &Uuid) -> Option<LentState<'a>>
-    ensures { result ≡ gather state_join (map (λ m. table.get m.groups id.now) (databases members.now)) }
+    ensures { result ≡ gather state_join (map (λ m. table.get m.groups id.now)
+        (databases members.now)) }
 {
     let mut joined = None;
     for member in members {
@@ -294,7 +298,7 @@ fn joined_entry<'a>(
     id: &Uuid,
 ) -> Result<Option<VersionTable<'a>>, NoMemory>
     requires some { 0 < length members.now }
-    requires held { held.now ≡ ids (databases members.now) }
+    requires is_held { is_held.now ≡ ids (databases members.now) }
     ensures { IfOk result (λ v. v ≡ table.get (join (databases members.now)).entries id.now) }
 {
     if is_kept(members, held, id) {
@@ -308,7 +312,7 @@ fn joined_entry<'a>(
 /// The state of a group in the join.
 fn joined_group<'a>(members: &[Database<'a>], held: &[Uuid], id: &Uuid) -> Option<LentState<'a>>
     requires some { 0 < length members.now }
-    requires held { held.now ≡ ids (databases members.now) }
+    requires is_held { is_held.now ≡ ids (databases members.now) }
     ensures { result ≡ table.get (join (databases members.now)).groups id.now }
 {
     if is_kept(members, held, id) {
@@ -321,7 +325,7 @@ fn joined_group<'a>(members: &[Database<'a>], held: &[Uuid], id: &Uuid) -> Optio
 /// The place of a node in the join.
 fn joined_place(members: &[Database], held: &[Uuid], id: &Uuid) -> Option<Spot>
     requires some { 0 < length members.now }
-    requires held { held.now ≡ ids (databases members.now) }
+    requires is_held { is_held.now ≡ ids (databases members.now) }
     ensures { result ≡ table.get (join (databases members.now)).places id.now }
 {
     if is_kept(members, held, id) {
@@ -334,7 +338,7 @@ fn joined_place(members: &[Database], held: &[Uuid], id: &Uuid) -> Option<Spot>
 /// The tombstone of an id in the join: the latest, unless the node is kept.
 fn joined_tomb(members: &[Database], held: &[Uuid], id: &Uuid) -> Option<Stamp>
     requires some { 0 < length members.now }
-    requires held { held.now ≡ ids (databases members.now) }
+    requires is_held { is_held.now ≡ ids (databases members.now) }
     ensures { result ≡ table.get (join (databases members.now)).tombs id.now }
 {
     if is_kept(members, held, id) {
@@ -352,7 +356,7 @@ fn joined_entries<'a>(
     known: &[Uuid],
 ) -> Result<Table<VersionTable<'a>>, NoMemory>
     requires some { 0 < length members.now }
-    requires held { held.now ≡ ids (databases members.now) }
+    requires is_held { is_held.now ≡ ids (databases members.now) }
     requires known { known.now ≡ known_ids (databases members.now) }
     ensures { IfOk result (λ t. t ≡ (join (databases members.now)).entries) }
 {
@@ -372,7 +376,7 @@ fn joined_groups<'a>(
     known: &[Uuid],
 ) -> Result<Table<LentState<'a>>, NoMemory>
     requires some { 0 < length members.now }
-    requires held { held.now ≡ ids (databases members.now) }
+    requires is_held { is_held.now ≡ ids (databases members.now) }
     requires known { known.now ≡ known_ids (databases members.now) }
     ensures { IfOk result (λ t. t ≡ (join (databases members.now)).groups) }
 {
@@ -392,7 +396,7 @@ fn joined_places(
     known: &[Uuid],
 ) -> Result<Table<Spot>, NoMemory>
     requires some { 0 < length members.now }
-    requires held { held.now ≡ ids (databases members.now) }
+    requires is_held { is_held.now ≡ ids (databases members.now) }
     requires known { known.now ≡ known_ids (databases members.now) }
     ensures { IfOk result (λ t. t ≡ (join (databases members.now)).places) }
 {
@@ -412,7 +416,7 @@ fn joined_tombs(
     known: &[Uuid],
 ) -> Result<Table<Stamp>, NoMemory>
     requires some { 0 < length members.now }
-    requires held { held.now ≡ ids (databases members.now) }
+    requires is_held { is_held.now ≡ ids (databases members.now) }
     requires known { known.now ≡ known_ids (databases members.now) }
     ensures { IfOk result (λ t. t ≡ (join (databases members.now)).tombs) }
 {
@@ -436,8 +440,9 @@ fn joined_meta<'a>(alloc: Global, members: &[Database<'a>]) -> Result<LentMeta<'
     Ok(joined)
 }
 
-/// Copies of one database made one: the nodes are the kept ones, each with all that the members have of it, at its
-/// latest place, and what is not kept has its latest tombstone. The only refusal is want of memory.
+/// Copies of one database made one: the nodes are the kept ones, each with all that the members
+/// have of it, at its latest place, and what is not kept has its latest tombstone. The only refusal
+/// is want of memory.
 pub fn join<'a>(alloc: Global, members: &[Database<'a>]) -> Result<Database<'a>, NoMemory>
     requires { 0 < length members.now }
     ensures { IfOk result (λ d. database d ≡ join (databases members.now)) }
@@ -454,11 +459,12 @@ pub fn join<'a>(alloc: Global, members: &[Database<'a>]) -> Result<Database<'a>,
     })
 }
 
-/// Whether the latest parents of a node lead to the root, in as many steps as ids are held. The only refusal is want
-/// of memory.
+/// Whether the latest parents of a node lead to the root, in as many steps as ids are held. The
+/// only refusal is want of memory.
 pub fn is_rooted(alloc: Global, members: &[Database], id: &Uuid) -> Result<bool, NoMemory>
     requires { 0 < length members.now }
-    ensures { IfOk result (λ b. b ≡ list_any (is_id (root_of (databases members.now))) (path (databases members.now) id.now)) }
+    ensures { IfOk result (λ b. b ≡ list_any (is_id (root_of (databases members.now)))
+        (path (databases members.now) id.now)) }
 {
     let held = all_ids(alloc, members)?;
     let root = members[0].root;

@@ -47,7 +47,8 @@ fn push_if(order: &mut Vec<Uuid>, id: Uuid, is_wanted: bool) -> Result<(), NoMem
 
 /// Appends those that stood before and still do, as they stood. A refusal is want of memory.
 fn push_kept(order: &mut Vec<Uuid>, before: &[Uuid], present: &[Uuid]) -> Result<(), NoMemory>
-    ensures { OnOk result (order.new.items ≡ order.old.items ++ filter (λ u. list_any (is_id u) present.now) before.now) }
+    ensures { OnOk result (order.new.items ≡ order.old.items
+        ++ filter (λ u. list_any (is_id u) present.now) before.now) }
 {
     for id in before {
         let is_kept = is_among(id, present);
@@ -58,7 +59,8 @@ fn push_kept(order: &mut Vec<Uuid>, before: &[Uuid], present: &[Uuid]) -> Result
 
 /// Appends those that did not stand before, in their order. A refusal is want of memory.
 fn push_newcomers(order: &mut Vec<Uuid>, before: &[Uuid], present: &[Uuid]) -> Result<(), NoMemory>
-    ensures { OnOk result (order.new.items ≡ order.old.items ++ filter (λ u. not (list_any (is_id u) before.now)) present.now) }
+    ensures { OnOk result (order.new.items ≡ order.old.items
+        ++ filter (λ u. not (list_any (is_id u) before.now)) present.now) }
 {
     for id in present {
         let is_new = !is_among(id, before);
@@ -87,7 +89,7 @@ fn stands_in(group: &Uuid, place: Option<Spot>) -> bool
     }
 }
 
-/// Those of some ids that stand in a group, in their order.
+/// Those of some ids that are in a group, in their order.
 fn standing(
     alloc: Global,
     laid: &Database,
@@ -133,18 +135,20 @@ fn old_groups<'s>(older: &'s Sheet, group: &Uuid) -> &'s [Uuid]
     }
 }
 
-/// The entries that stand in a group, by rising id.
+/// The entries that are in a group, by rising id.
 fn present_entries(alloc: Global, laid: &Database, group: &Uuid) -> Result<Vec<Uuid>, NoMemory>
-    ensures { IfOk result (λ us. us.items ≡ standing (database laid.now) group.now (table.keys laid.now.entries)) }
+    ensures { IfOk result (λ us. us.items ≡ standing (database laid.now) group.now
+        (table.keys laid.now.entries)) }
 {
     let ids = ids_of(alloc, &laid.entries)?;
     let present = standing(alloc, laid, group, ids.as_slice())?;
     Ok(present)
 }
 
-/// The groups that stand in a group, by rising id.
+/// The groups that are in a group, by rising id.
 fn present_groups(alloc: Global, laid: &Database, group: &Uuid) -> Result<Vec<Uuid>, NoMemory>
-    ensures { IfOk result (λ us. us.items ≡ standing (database laid.now) group.now (table.keys laid.now.groups)) }
+    ensures { IfOk result (λ us. us.items ≡ standing (database laid.now) group.now
+        (table.keys laid.now.groups)) }
 {
     let ids = ids_of(alloc, &laid.groups)?;
     let present = standing(alloc, laid, group, ids.as_slice())?;
@@ -158,7 +162,8 @@ fn ordered_entries(
     older: &Sheet,
     group: &Uuid,
 ) -> Result<Vec<Uuid>, NoMemory>
-    ensures { IfOk result (λ us. us.items ≡ (laid_children (database laid.now) (shape older.now) group.now).entries) }
+    ensures { IfOk result (λ us. us.items ≡ (laid_children (database laid.now) (shape older.now)
+        group.now).entries) }
 {
     let present = present_entries(alloc, laid, group)?;
     let order = in_order(alloc, old_entries(older, group), present.as_slice())?;
@@ -172,14 +177,16 @@ fn ordered_groups(
     older: &Sheet,
     group: &Uuid,
 ) -> Result<Vec<Uuid>, NoMemory>
-    ensures { IfOk result (λ us. us.items ≡ (laid_children (database laid.now) (shape older.now) group.now).groups) }
+    ensures { IfOk result (λ us. us.items ≡ (laid_children (database laid.now) (shape older.now)
+        group.now).groups) }
 {
     let present = present_groups(alloc, laid, group)?;
     let order = in_order(alloc, old_groups(older, group), present.as_slice())?;
     Ok(order)
 }
 
-/// A group's children: those that it had in the older document and still has, and then the newcomers by rising id.
+/// A group's children: those that it had in the older document and still has, and then the
+/// newcomers by rising id.
 fn laid_children(
     alloc: Global,
     laid: &Database,
@@ -210,7 +217,7 @@ fn placed_in(laid: &Database, id: &Uuid) -> Stamp
     }
 }
 
-/// Since when a node stands where it stands in a document.
+/// Since when a node stands where it is in a document.
 fn placed_of(older: &Sheet, id: &Uuid) -> Stamp
     ensures { result ≡ placed_of (shape older.now) id.now }
 {
@@ -262,7 +269,8 @@ fn laid_entry<'a>(
     laid: &Database<'a>,
     id: &Uuid,
 ) -> Result<Option<LentEntry<'a>>, NoMemory>
-    ensures { IfOk result (λ e. e ≡ record_of (placed_in (database laid.now) id.now) (versions_in (table.get laid.now.entries id.now))) }
+    ensures { IfOk result (λ e. e ≡ record_of (placed_in (database laid.now) id.now)
+        (versions_in (table.get laid.now.entries id.now))) }
 {
     let Some(versions) = laid.entries.get(id) else {
         return Ok(None);
@@ -274,7 +282,9 @@ fn laid_entry<'a>(
 
 /// The entries as they are laid.
 fn laid_entries<'a>(alloc: Global, laid: &Database<'a>) -> Result<Table<LentEntry<'a>>, NoMemory>
-    ensures { IfOk result (λ t. t ≡ tabulate (table.keys laid.now.entries) (λ u. record_of (placed_in (database laid.now) u) (versions_in (table.get laid.now.entries u)))) }
+    ensures { IfOk result (λ t. t ≡ tabulate (table.keys laid.now.entries)
+        (λ u. record_of (placed_in (database laid.now) u)
+        (versions_in (table.get laid.now.entries u)))) }
 {
     let ids = ids_of(alloc, &laid.entries)?;
     let mut entries = Table::new(alloc);
@@ -295,8 +305,8 @@ fn new_view() -> GroupView
     }
 }
 
-/// A group as it stands in the database, looked at as in the older document; since when the root stands is the older
-/// document's to say.
+/// A group as it is in the database, looked at as in the older document; since when the root stands
+/// is the older document's to say.
 fn laid_group<'a>(
     laid: &Database<'a>,
     older: &Sheet<'a>,
@@ -319,7 +329,8 @@ fn laid_group<'a>(
 
 /// The group of an id as it is laid, where the database has one.
 fn laid_group_at<'a>(laid: &Database<'a>, older: &Sheet<'a>, id: &Uuid) -> Option<LentGroup<'a>>
-    ensures { result ≡ option_map (laid_group (database laid.now) (shape older.now) id.now) (table.get laid.now.groups id.now) }
+    ensures { result ≡ option_map (laid_group (database laid.now) (shape older.now) id.now)
+        (table.get laid.now.groups id.now) }
 {
     match laid.groups.get(id) {
         Some(state) => Some(laid_group(laid, older, id, state)),
@@ -333,7 +344,9 @@ fn laid_groups<'a>(
     laid: &Database<'a>,
     older: &Sheet<'a>,
 ) -> Result<Table<LentGroup<'a>>, NoMemory>
-    ensures { IfOk result (λ t. t ≡ tabulate (table.keys laid.now.groups) (λ u. option_map (laid_group (database laid.now) (shape older.now) u) (table.get laid.now.groups u))) }
+    ensures { IfOk result (λ t. t ≡ tabulate (table.keys laid.now.groups)
+        (λ u. option_map (laid_group (database laid.now) (shape older.now) u)
+        (table.get laid.now.groups u))) }
 {
     let ids = ids_of(alloc, &laid.groups)?;
     let mut groups = Table::new(alloc);
@@ -346,7 +359,8 @@ fn laid_groups<'a>(
 
 /// The children of all groups as they are laid.
 fn all_children(alloc: Global, laid: &Database, older: &Sheet) -> Result<Table<Siblings>, NoMemory>
-    ensures { IfOk result (λ t. t ≡ tabulate (table.keys laid.now.groups) (λ g. Some (laid_children (database laid.now) (shape older.now) g))) }
+    ensures { IfOk result (λ t. t ≡ tabulate (table.keys laid.now.groups)
+        (λ g. Some (laid_children (database laid.now) (shape older.now) g))) }
 {
     let ids = ids_of(alloc, &laid.groups)?;
     let mut children = Table::new(alloc);
@@ -413,9 +427,9 @@ fn laid_meta<'a>(
     })
 }
 
-/// The document of a database over an older document: the order of siblings and how all was looked at are the older
-/// document's, newcomers stand behind by rising id, and of an entry's versions the greatest is current. The only
-/// refusal is want of memory.
+/// The document of a database over an older document: the order of siblings and how all was looked
+/// at are the older document's, newcomers stand after by rising id, and of an entry's versions the
+/// greatest is current. The only refusal is want of memory.
 pub fn lay<'a>(alloc: Global, laid: &Database<'a>, older: &Sheet<'a>) -> Result<Sheet<'a>, NoMemory>
     ensures { IfOk result (λ s. shape s ≡ lay (database laid.now) (shape older.now)) }
 {

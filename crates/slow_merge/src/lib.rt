@@ -1,4 +1,5 @@
-//! Copies of one vault made one, plainly and slowly: a program whose contracts are the definitions themselves.
+//! Copies of one vault made one, plainly and slowly: a program whose contracts are the definitions
+//! themselves.
 #![tactic(auto)]
 
 pub mod databases;

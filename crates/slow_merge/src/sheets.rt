@@ -1,4 +1,5 @@
-// A document with its nodes laid side by side: each node's record, and each group's two lists of children.
+// A document with its nodes laid side by side: each node's record, and each group's two lists of
+// children.
 ghost use Rattle.std.specs.Prelude.{◌≡◌};
 
 use crate::icons::{LentIcon, LentItem};
@@ -47,7 +48,8 @@ impl<'a> LentVersion<'a> {
     }
 }
 
-/// An entry without its place in a group: since when it stands there, its current version, and those before it.
+/// An entry without its place in a group: since when it is there, its current version, and those
+/// before it.
 #[derive(Drop)]
 pub struct LentEntry<'a> {
     placed: Stamp,
@@ -73,7 +75,12 @@ impl<'a> LentEntry<'a> {
         current: LentVersion<'a>,
         history: Vec<LentVersion<'a>>,
     ) -> LentEntry<'a>
-        ensures { result ≡ record { placed = placed; current = current.entry; history = history.entry.items } }
+        ensures { result ≡ record {
+          placed = placed;
+          current = current.entry;
+          history =
+              history.entry.items;
+        } }
     {
         LentEntry {
             placed,

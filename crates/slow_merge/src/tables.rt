@@ -47,7 +47,7 @@ impl<X> Table<X> {
         rows::find(self.rows.as_slice(), id)
     }
 
-    /// The ids and what stands at them, by rising id.
+    /// The ids and what is at them, by rising id.
     pub fn rows(&self) -> &[(Uuid, X)]
         ensures { result.now ≡ map.entries self.now }
     {
@@ -56,7 +56,8 @@ impl<X> Table<X> {
 }
 
 impl<X: Drop> Table<X> {
-    /// Puts a value at an id, in the place of any that stood there. A refusal is want of memory and changes nothing.
+    /// Puts a value at an id, in the place of any that stood there. A refusal is want of memory and
+    /// changes nothing.
     pub fn put(&mut self, id: Uuid, value: X) -> Result<(), NoMemory>
         ensures ok { OnOk result (self.new ≡ map.insert self.old id value) }
         ensures err { OnErr result (self.new ≡ self.old) }

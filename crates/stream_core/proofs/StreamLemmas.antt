@@ -6,7 +6,7 @@ use borrow.Rule.Slice.PartMut.{put_mid, mid_of}
 use Rattle.std.specs.Int.Bits.{xor_assoc, xor_self, xor_zero_r}
 use Rattle.std.specs.Int.{w32, to_le_bytes}
 use Rattle.stream_core.specs.Words.{byte_in}
-use Rattle.stream_core.specs.Stream.{xored, xored_in_pieces, joined}
+use Rattle.stream_core.specs.Stream.{xored, xored_in_pieces, concatenated}
 use Rattle.stream_core.proofs.LaneLemmas.{below_four}
 
 -- a text of which the first bytes have been XORed
@@ -71,10 +71,10 @@ xored_front_piece f p d k j text whole piece front next within is =
     ∙ ap (λ n. xored_front f p n whole) (sym next)
 
 -- a text XORed in pieces is the text XORed whole
-pub xored-joined : (f : ℕ → ℕ) (p : ℕ) (pieces : List (List ℕ)) → xored_in_pieces f p pieces ≡ xored f p (joined pieces)
+pub xored-joined : (f : ℕ → ℕ) (p : ℕ) (pieces : List (List ℕ)) → xored_in_pieces f p pieces ≡ xored f p (concatenated pieces)
 xored-joined f p [] = refl
 xored-joined f p (t ∷ ts) =
-    ap (λ xs. xored f p t ++ xs) (xored-joined f (p + length t) ts) ∙ sym (xored-append f p t (joined ts))
+    ap (λ xs. xored f p t ++ xs) (xored-joined f (p + length t) ts) ∙ sym (xored-append f p t (concatenated ts))
 
 -- a text XORed twice from one place is the text
 pub xored-xored : (f : ℕ → ℕ) (p : ℕ) (text : List ℕ) → xored f p (xored f p text) ≡ text

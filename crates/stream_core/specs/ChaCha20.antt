@@ -1,9 +1,11 @@
--- The keystream of ChaCha20 (RFC 8439, sections 2.1 to 2.4): each byte as a function of key, nonce and place.
+-- The keystream of ChaCha20 (RFC 8439, sections 2.1 to 2.4): each byte as a function of key, nonce
+-- and place.
 use Rattle.std.specs.Prelude.{ℕ, zero, suc, List, [], ◌∷◌, bit_xor, slice_index}
 use Rattle.std.specs.Int.{w32, rotate_left}
 use Rattle.stream_core.specs.Words.{add32, word_at, byte_in}
 
--- half a quarter round, which rotates by k and then by m: a += b; d = (d ^ a) <<< k; c += d; b = (b ^ c) <<< m
+-- half a quarter round, which rotates by k and then by m: a += b; d = (d ^ a) <<< k; c += d; b = (b
+-- ^ c) <<< m
 unfoldable pub half_round : ℕ → ℕ → ℕ → ℕ → ℕ → ℕ → ℕ × ℕ × ℕ × ℕ
 half_round k m a b c d =
     let a1 = add32 a b in
@@ -20,7 +22,8 @@ quarter_round a b c d =
 
 -- the quarter round on the words of a state at four places (2.2)
 abbrev pub quarter_round_at : List ℕ → ℕ → ℕ → ℕ → ℕ → ℕ × ℕ × ℕ × ℕ
-quarter_round_at s a b c d = quarter_round (slice_index s a) (slice_index s b) (slice_index s c) (slice_index s d)
+quarter_round_at s a b c d = quarter_round (slice_index s a) (slice_index s b) (slice_index s c)
+    (slice_index s d)
 
 -- the four column rounds of a state, which is four rows of four words (2.3)
 unfoldable pub column_round : List ℕ → List ℕ
@@ -51,7 +54,8 @@ unfoldable pub double_rounds : ℕ → List ℕ → List ℕ
 double_rounds zero s = s
 double_rounds (suc n) s = diagonal_round (column_round (double_rounds n s))
 
--- the state that a block starts with: the constants, the key, the block's number, below 2^32, and the nonce (2.3)
+-- the state that a block starts with: the constants, the key, the block's number, below 2^32, and
+-- the nonce (2.3)
 abbrev pub chacha_state : List ℕ → List ℕ → ℕ → List ℕ
 chacha_state key nonce counter =
     0x61707865 ∷ 0x3320646e ∷ 0x79622d32 ∷ 0x6b206574

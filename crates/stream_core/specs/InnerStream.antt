@@ -1,4 +1,5 @@
--- The inner stream of a KDBX file, which hides the protected values of its document: which keystream it is, and the place of its next byte.
+-- The inner stream of a KDBX file, which hides the protected values of its document: which
+-- keystream it is, and the place of its next byte.
 use Rattle.std.specs.Prelude.{◌≡◌, ℕ, ◌+◌, ◌^◌, ◌≤◌, ◌==◌, List, [], ◌∷◌, Option, Some, None, if◌then◌else◌, take, drop, ⊤}
 use Rattle.sha2.specs.Sha256.{sha256}
 use Rattle.sha2.specs.Sha512.{sha512}
@@ -7,7 +8,8 @@ use Rattle.stream_core.specs.Salsa20.{salsa_byte}
 use Rattle.stream_core.specs.declared.inner.InnerStream.{InnerStream}
 use Rattle.stream_core.specs.declared.inner.InnerStream.TheVariants.{ChaCha, Salsa, Clear}
 
--- a keystream: that of ChaCha20 or of Salsa20 under a key and a nonce, or the one that changes nothing
+-- a keystream: that of ChaCha20 or of Salsa20 under a key and a nonce, or the one that changes
+-- nothing
 pub data Keystream : Type 0 where
   ChaChaKeystream : (key nonce : List ℕ) → Keystream
   SalsaKeystream : (key nonce : List ℕ) → Keystream
@@ -23,12 +25,14 @@ keystream_byte NoKeystream place = 0
 abbrev pub kdbx_nonce : List ℕ
 kdbx_nonce = 0xe8 ∷ 0x30 ∷ 0x09 ∷ 0x4b ∷ 0x97 ∷ 0x20 ∷ 0x5d ∷ 0x2a ∷ []
 
--- the keystream that a file asks for by a number and a stream key: 2 is Salsa20 under the SHA-256 of
--- the stream key, 3 is ChaCha20 under the first 32 bytes of its SHA-512, with the next 12 as nonce
+-- the keystream that a file asks for by a number and a stream key: 2 is Salsa20 under the SHA-256
+-- of the stream key, 3 is ChaCha20 under the first 32 bytes of its SHA-512, with the next 12 as
+-- nonce
 abbrev pub keystream_of : ℕ → List ℕ → Option Keystream
 keystream_of id stream_key =
     if id == 2 then Some (SalsaKeystream (sha256 stream_key) kdbx_nonce) else
-    if id == 3 then Some (ChaChaKeystream (take 32 (sha512 stream_key)) (take 12 (drop 32 (sha512 stream_key)))) else None
+    if id == 3 then Some (ChaChaKeystream (take 32 (sha512 stream_key))
+    (take 12 (drop 32 (sha512 stream_key)))) else None
 
 -- the keystream of an inner stream
 abbrev pub keystream : InnerStream → Keystream

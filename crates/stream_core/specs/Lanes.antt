@@ -13,8 +13,8 @@ lane v j =
     ∷ lane_word v j 8 ∷ lane_word v j 9 ∷ lane_word v j 10 ∷ lane_word v j 11
     ∷ lane_word v j 12 ∷ lane_word v j 13 ∷ lane_word v j 14 ∷ lane_word v j 15 ∷ []
 
--- where the bytes of four words come from as each word is rotated left by k bits, which are whole bytes:
--- byte r of a word, from the byte that is k / 8 lower in it, and from its end below byte 0
+-- where the bytes of four words come from as each word is rotated left by k bits, which are whole
+-- bytes: byte r of a word, from the byte that is k / 8 lower in it, and from its end below byte 0
 pub record IsTurn (k : ℕ) (turn : List ℕ) : Type 0 where
   pub whole : k % 8 ≡ 0
   pub short : k < 32

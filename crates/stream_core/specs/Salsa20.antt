@@ -1,4 +1,5 @@
--- The keystream of Salsa20/20 with a key of 32 bytes (Bernstein, "Salsa20 specification"): each byte as a function of key, nonce and place.
+-- The keystream of Salsa20/20 with a key of 32 bytes (Bernstein, "Salsa20 specification"): each
+-- byte as a function of key, nonce and place.
 use Rattle.std.specs.Prelude.{ℕ, zero, suc, ◌/◌, ◌%◌, ◌^◌, List, [], ◌∷◌, bit_xor, slice_index}
 use Rattle.std.specs.Int.{w32, rotate_left}
 use Rattle.stream_core.specs.Words.{add32, word_at, byte_in}
@@ -14,9 +15,11 @@ quarter_round a b c d =
 
 -- the quarterround function on the words of a state at four places
 abbrev pub quarter_round_at : List ℕ → ℕ → ℕ → ℕ → ℕ → ℕ × ℕ × ℕ × ℕ
-quarter_round_at s a b c d = quarter_round (slice_index s a) (slice_index s b) (slice_index s c) (slice_index s d)
+quarter_round_at s a b c d = quarter_round (slice_index s a) (slice_index s b) (slice_index s c)
+    (slice_index s d)
 
--- the columnround function: each column of four rows of four words, from its diagonal word down (section 5)
+-- the columnround function: each column of four rows of four words, from its diagonal word down
+-- (section 5)
 unfoldable pub column_round : List ℕ → List ℕ
 column_round s =
     let q0 = quarter_round_at s 0 4 8 12 in
@@ -45,8 +48,8 @@ unfoldable pub double_rounds : ℕ → List ℕ → List ℕ
 double_rounds zero s = s
 double_rounds (suc n) s = row_round (column_round (double_rounds n s))
 
--- the state that a block starts with: constants on the diagonal, the key's halves, the nonce, and the
--- block's number in 64 bits, low word first (sections 9 and 10)
+-- the state that a block starts with: constants on the diagonal, the key's halves, the nonce, and
+-- the block's number in 64 bits, low word first (sections 9 and 10)
 abbrev pub salsa_state : List ℕ → List ℕ → ℕ → List ℕ
 salsa_state key nonce counter =
     0x61707865 ∷ word_at key 0 ∷ word_at key 1 ∷ word_at key 2
@@ -54,7 +57,8 @@ salsa_state key nonce counter =
     ∷ counter % 2 ^ 32 ∷ counter / 2 ^ 32 ∷ 0x79622d32 ∷ word_at key 4
     ∷ word_at key 5 ∷ word_at key 6 ∷ word_at key 7 ∷ 0x6b206574 ∷ []
 
--- word i of a block: the state after ten doublerounds, plus the state that it started with (section 8)
+-- word i of a block: the state after ten doublerounds, plus the state that it started with (section
+-- 8)
 unfoldable pub salsa_word : List ℕ → List ℕ → ℕ → ℕ → ℕ
 salsa_word key nonce counter i =
     let s = salsa_state key nonce counter in

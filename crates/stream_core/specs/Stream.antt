@@ -13,17 +13,18 @@ xored stream place [] = []
 xored stream place (b ∷ bs) = bit_xor b (stream place) ∷ xored stream (place + 1) bs
 
 -- pieces of a text put end to end
-abbrev pub joined : List (List ℕ) → List ℕ
-joined [] = []
-joined (t ∷ ts) = t ++ joined ts
+abbrev pub concatenated : List (List ℕ) → List ℕ
+concatenated [] = []
+concatenated (t ∷ ts) = t ++ concatenated ts
 
 -- the pieces XORed one after another, each from the place where the one before it ended
 abbrev pub xored_in_pieces : (ℕ → ℕ) → ℕ → List (List ℕ) → List ℕ
 xored_in_pieces stream place [] = []
-xored_in_pieces stream place (t ∷ ts) = xored stream place t ++ xored_in_pieces stream (place + length t) ts
+xored_in_pieces stream place (t ∷ ts) = xored stream place t
+    ++ xored_in_pieces stream (place + length t) ts
 
--- 256 bytes are those of the stream round a place, counted from a multiple of 256; at such a multiple
--- they may be any
+-- 256 bytes are those of the stream round a place, counted from a multiple of 256; at such a
+-- multiple they may be any
 abbrev pub IsWindowAt : (ℕ → ℕ) → List ℕ → ℕ → Type 0
 IsWindowAt stream window place =
     0 < place % 256 → (i : ℕ) → i < 256 → slice_index window i ≡ stream (256 * (place / 256) + i)

@@ -24,7 +24,8 @@ impl Model for ChaCha20 {
 
     ghost view = { λ c. record { key = c.state.key; nonce = c.state.nonce; position = c.position } };
 
-    ghost invariant = { λ c. IsWindowAt (chacha_byte c.state.key c.state.nonce) c.state.window c.position };
+    ghost invariant = { λ c. IsWindowAt (chacha_byte c.state.key c.state.nonce) c.state.window
+        c.position };
 }
 
 impl BlockFunction<12> for ChaCha20 {
@@ -57,8 +58,10 @@ impl ChaCha20 {
     /// 32-bit counter.
     pub fn apply(&mut self, text: &mut [u8])
         requires limit { self.old.position + length text.old ≤ 2 ^ 38 }
-        ensures text { text.new ≡ xored (chacha_byte self.old.key self.old.nonce) self.old.position text.old }
-        ensures position { self.new ≡ record self.old { position = self.old.position + length text.old } }
+        ensures text { text.new ≡ xored (chacha_byte self.old.key self.old.nonce) self.old.position
+            text.old }
+        ensures position { self.new ≡ record self.old
+            { position = self.old.position + length text.old } }
     {
         self.state.apply::<ChaCha20>(self.position, text);
         self.position += text.len() as u64;

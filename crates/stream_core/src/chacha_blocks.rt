@@ -10,18 +10,32 @@ use std::simd::{u8x16, u32x4};
 // Four words of each of four blocks.
 type Words = (u32x4, u32x4, u32x4, u32x4);
 
-// Halves of two quarter rounds, which rotate by `k` and then by `m`. Their steps stand side by side,
-// since neither waits for the other.
+// Halves of two quarter rounds, which rotate by `k` and then by `m`. Their steps stand side by
+// side, since neither waits for the other.
 #[inline(always)]
 fn half_rounds(k: u32, m: u32, turn: u8x16, p: Words, q: Words) -> (Words, Words)
     requires first { IsTurn k turn }
     requires second { (0 < m) × (m < 32) }
     ensures one { (j : ℕ) → j < 4
-        → (slice_index result.0.0 j, slice_index result.0.1 j, slice_index result.0.2 j, slice_index result.0.3 j)
-        ≡ half_round k m (slice_index p.0 j) (slice_index p.1 j) (slice_index p.2 j) (slice_index p.3 j) }
+        → (
+          slice_index result.0.0 j,
+          slice_index result.0.1 j,
+          slice_index result.0.2 j,
+          slice_index
+              result.0.3 j,
+        )
+        ≡ half_round k m (slice_index p.0 j) (slice_index p.1 j) (slice_index p.2 j)
+        (slice_index p.3 j) }
     ensures two { (j : ℕ) → j < 4
-        → (slice_index result.1.0 j, slice_index result.1.1 j, slice_index result.1.2 j, slice_index result.1.3 j)
-        ≡ half_round k m (slice_index q.0 j) (slice_index q.1 j) (slice_index q.2 j) (slice_index q.3 j) }
+        → (
+          slice_index result.1.0 j,
+          slice_index result.1.1 j,
+          slice_index result.1.2 j,
+          slice_index
+              result.1.3 j,
+        )
+        ≡ half_round k m (slice_index q.0 j) (slice_index q.1 j) (slice_index q.2 j)
+        (slice_index q.3 j) }
 {
     let (a, b, c, d) = p;
     let (e, f, g, h) = q;
@@ -146,7 +160,8 @@ pub(crate) fn four_blocks(
 ) -> [u32x4; 16]
     requires turns { AreTurns by_16 by_8 }
     requires limit { counter + 4 ≤ 2 ^ 32 }
-    ensures { (j i : ℕ) → j < 4 → i < 16 → lane_word result j i ≡ chacha_word key.now nonce.now (counter + j) i }
+    ensures { (j i : ℕ) → j < 4 → i < 16 → lane_word result j i
+        ≡ chacha_word key.now nonce.now (counter + j) i }
 {
     let first = initial_states(key, nonce, counter);
     let mut states = first;

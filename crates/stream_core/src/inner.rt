@@ -37,8 +37,10 @@ impl InnerStream {
 
     /// The inner stream that a file asks for by its number and its stream key, at the start.
     pub fn new(id: u32, stream_key: &[u8]) -> Result<InnerStream, StreamUnknown>
-        ensures known { IfOk result (λ s. (keystream_of id stream_key.now ≡ Some (keystream s)) × IsAt s 0) }
-        ensures unknown { IfErr result (λ e. (keystream_of id stream_key.now ≡ None) × (e ≡ record { 0 = id })) }
+        ensures known { IfOk result (λ s. (keystream_of id stream_key.now ≡ Some (keystream s))
+            × IsAt s 0) }
+        ensures unknown { IfErr result (λ e. (keystream_of id stream_key.now ≡ None)
+            × (e ≡ record { 0 = id })) }
         ensures exactly { IsErr result ↔ (id ≢ 2) × (id ≢ 3) }
     {
         match id {
@@ -54,7 +56,8 @@ impl InnerStream {
         ensures text { (place : ℕ) → IsAt self.old place
             → text.new ≡ xored (keystream_byte (keystream self.old)) place text.old }
         ensures keystream { keystream self.new ≡ keystream self.old }
-        ensures place { (place : ℕ) → IsAt self.old place → IsAt self.new (place + length text.old) }
+        ensures place { (place : ℕ) → IsAt self.old place
+            → IsAt self.new (place + length text.old) }
         ensures clear { self.old ≡ InnerStream.Clear → text.new ≡ text.old }
     {
         match self {

@@ -46,8 +46,8 @@ pub(crate) fn rotate(x: u32x4, k: u32) -> u32x4
 
 // Where the bytes of a vector come from as its lanes are rotated left by 16 bits, and by 8.
 //
-// They are told by a call, so that LLVM doesn't know them where they are used: it moves a shuffle that
-// it knows over the XOR before it, and so makes two of it.
+// They are reported by a call, so that LLVM doesn't know them where they are used: it moves a
+// shuffle that it knows over the XOR before it, and so makes two of it.
 #[inline(never)]
 #[tactic(auto, unfolding(crate::specs::Lanes::AreTurns))]
 pub(crate) fn turns() -> [u8x16; 2]

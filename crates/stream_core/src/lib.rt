@@ -1,4 +1,5 @@
-//! ChaCha20 and Salsa20, stream ciphers whose keystream is XORed with a text in pieces of any length.
+//! ChaCha20 and Salsa20, stream ciphers whose keystream is XORed with a text in pieces of any
+//! length.
 #![tactic(auto)]
 
 mod chacha;

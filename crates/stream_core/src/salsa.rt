@@ -9,8 +9,8 @@ use crate::state::{BlockFunction, State};
 use std::marker::Model;
 use std::simd::{u8x16, u32x4};
 
-/// Salsa20 with a key of 32 bytes and a nonce of 8 (Bernstein, "Salsa20 specification", section 10), whose stream starts with
-/// block 0.
+/// Salsa20 with a key of 32 bytes and a nonce of 8 (Bernstein, "Salsa20 specification", section
+/// 10), whose stream starts with block 0.
 ///
 /// A contract sees its key, its nonce and the position of the next byte of the stream. Its drop
 /// zeroes the key, the nonce and the part of the stream that it keeps.
@@ -24,7 +24,8 @@ impl Model for Salsa20 {
 
     ghost view = { λ c. record { key = c.state.key; nonce = c.state.nonce; position = c.position } };
 
-    ghost invariant = { λ c. IsWindowAt (salsa_byte c.state.key c.state.nonce) c.state.window c.position };
+    ghost invariant = { λ c. IsWindowAt (salsa_byte c.state.key c.state.nonce) c.state.window
+        c.position };
 }
 
 impl BlockFunction<8> for Salsa20 {
@@ -57,8 +58,10 @@ impl Salsa20 {
     /// 32-bit counter.
     pub fn apply(&mut self, text: &mut [u8])
         requires limit { self.old.position + length text.old ≤ 2 ^ 38 }
-        ensures text { text.new ≡ xored (salsa_byte self.old.key self.old.nonce) self.old.position text.old }
-        ensures position { self.new ≡ record self.old { position = self.old.position + length text.old } }
+        ensures text { text.new ≡ xored (salsa_byte self.old.key self.old.nonce) self.old.position
+            text.old }
+        ensures position { self.new ≡ record self.old
+            { position = self.old.position + length text.old } }
     {
         self.state.apply::<Salsa20>(self.position, text);
         self.position += text.len() as u64;

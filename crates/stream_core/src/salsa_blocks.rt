@@ -10,7 +10,13 @@ use std::simd::u32x4;
 #[inline(always)]
 fn quarter_round(a: u32x4, b: u32x4, c: u32x4, d: u32x4) -> (u32x4, u32x4, u32x4, u32x4)
     ensures { (j : ℕ) → j < 4
-        → (slice_index result.0 j, slice_index result.1 j, slice_index result.2 j, slice_index result.3 j)
+        → (
+          slice_index result.0 j,
+          slice_index result.1 j,
+          slice_index result.2 j,
+          slice_index
+              result.3 j,
+        )
         ≡ quarter_round (slice_index a j) (slice_index b j) (slice_index c j) (slice_index d j) }
 {
     let b1 = xor(b, rotate(add(a, d), 7));
@@ -127,7 +133,8 @@ fn initial_states(key: &[u8; 32], nonce: &[u8; 8], counter: u64) -> [u32x4; 16]
 // The words of the four blocks from number `counter` on.
 pub(crate) fn four_blocks(key: &[u8; 32], nonce: &[u8; 8], counter: u64) -> [u32x4; 16]
     requires { counter + 4 ≤ 2 ^ 64 }
-    ensures { (j i : ℕ) → j < 4 → i < 16 → lane_word result j i ≡ salsa_word key.now nonce.now (counter + j) i }
+    ensures { (j i : ℕ) → j < 4 → i < 16 → lane_word result j i
+        ≡ salsa_word key.now nonce.now (counter + j) i }
 {
     let first = initial_states(key, nonce, counter);
     let mut states = first;

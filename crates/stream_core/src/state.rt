@@ -10,8 +10,9 @@ use crate::lanes::turns;
 use crate::window::put_blocks;
 use std::simd::{u8x16, u32x4};
 
-// A cipher's block function, on four blocks at a time: `word key nonce counter i` is word `i` of the
-// block with that number. The turns of bytes are those of `lanes::turns`, for a cipher that rotates by them.
+// A cipher's block function, on four blocks at a time: `word key nonce counter i` is word `i` of
+// the block with that number. The turns of bytes are those of `lanes::turns`, for a cipher that
+// rotates by them.
 pub(crate) trait BlockFunction<const N: usize> {
     ghost word: { List ℕ → List ℕ → ℕ → ℕ → ℕ };
 
@@ -24,11 +25,12 @@ pub(crate) trait BlockFunction<const N: usize> {
     ) -> [u32x4; 16]
         requires turns { AreTurns by_16 by_8 }
         requires limit { counter + 4 ≤ 2 ^ 32 }
-        ensures { (j i : ℕ) → j < 4 → i < 16 → lane_word result j i ≡ word key.now nonce.now (counter + j) i };
+        ensures { (j i : ℕ) → j < 4 → i < 16 → lane_word result j i
+            ≡ word key.now nonce.now (counter + j) i };
 }
 
 // The secrets of a stream cipher: its key, its nonce, and a window of 256 bytes of its stream. It
-// can't be let go: it is spent by `release`, which asks that every byte is 0.
+// can't be dropped: it is spent by `release`, which asks that every byte is 0.
 //
 // The window stands first, so that its rows of 16 bytes lie within lines of memory.
 pub(crate) struct State<const N: usize> {
@@ -76,11 +78,13 @@ impl<const N: usize> State<N> {
     fn prepare<B: BlockFunction<N>>(&mut self, by_16: u8x16, by_8: u8x16, place: u64)
         requires turns { AreTurns by_16 by_8 }
         requires limit { place < 2 ^ 38 }
-        requires window { IsWindowAt (byte_in (B.word self.old.key self.old.nonce)) self.old.window place }
+        requires window { IsWindowAt (byte_in (B.word self.old.key self.old.nonce)) self.old.window
+            place }
         ensures key { self.new.key ≡ self.old.key }
         ensures nonce { self.new.nonce ≡ self.old.nonce }
         ensures window { (i : ℕ) → i < 256
-            → slice_index self.new.window i ≡ byte_in (B.word self.old.key self.old.nonce) (256 * (place / 256) + i) }
+            → slice_index self.new.window i ≡ byte_in (B.word self.old.key self.old.nonce)
+            (256 * (place / 256) + i) }
     {
         if place % 256 == 0 {
             let words = B::four_blocks(by_16, by_8, &self.key, &self.nonce, place / 64);
@@ -91,11 +95,14 @@ impl<const N: usize> State<N> {
     // XORs a text with the stream from `place` on.
     pub(crate) fn apply<B: BlockFunction<N>>(&mut self, place: u64, text: &mut [u8])
         requires limit { place + length text.old ≤ 2 ^ 38 }
-        requires window { IsWindowAt (byte_in (B.word self.old.key self.old.nonce)) self.old.window place }
-        ensures text { text.new ≡ xored (byte_in (B.word self.old.key self.old.nonce)) place text.old }
+        requires window { IsWindowAt (byte_in (B.word self.old.key self.old.nonce)) self.old.window
+            place }
+        ensures text { text.new ≡ xored (byte_in (B.word self.old.key self.old.nonce)) place
+            text.old }
         ensures key { self.new.key ≡ self.old.key }
         ensures nonce { self.new.nonce ≡ self.old.nonce }
-        ensures window { IsWindowAt (byte_in (B.word self.old.key self.old.nonce)) self.new.window (place + length text.old) }
+        ensures window { IsWindowAt (byte_in (B.word self.old.key self.old.nonce)) self.new.window
+            (place + length text.old) }
     {
         let [by_16, by_8] = turns();
         let mut done = 0;

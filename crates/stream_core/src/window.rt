@@ -12,10 +12,14 @@ pub(crate) const WINDOW: usize = 256;
 // Row `j` of the result has lane `j` of each of the four vectors.
 #[inline(always)]
 fn transposed(a: u32x4, b: u32x4, c: u32x4, d: u32x4) -> (u32x4, u32x4, u32x4, u32x4)
-    ensures row0 { result.0 ≡ slice_index a 0 ∷ slice_index b 0 ∷ slice_index c 0 ∷ slice_index d 0 ∷ [] }
-    ensures row1 { result.1 ≡ slice_index a 1 ∷ slice_index b 1 ∷ slice_index c 1 ∷ slice_index d 1 ∷ [] }
-    ensures row2 { result.2 ≡ slice_index a 2 ∷ slice_index b 2 ∷ slice_index c 2 ∷ slice_index d 2 ∷ [] }
-    ensures row3 { result.3 ≡ slice_index a 3 ∷ slice_index b 3 ∷ slice_index c 3 ∷ slice_index d 3 ∷ [] }
+    ensures row0 { result.0 ≡ slice_index a 0 ∷ slice_index b 0 ∷ slice_index c 0 ∷ slice_index d 0
+        ∷ [] }
+    ensures row1 { result.1 ≡ slice_index a 1 ∷ slice_index b 1 ∷ slice_index c 1 ∷ slice_index d 1
+        ∷ [] }
+    ensures row2 { result.2 ≡ slice_index a 2 ∷ slice_index b 2 ∷ slice_index c 2 ∷ slice_index d 2
+        ∷ [] }
+    ensures row3 { result.3 ≡ slice_index a 3 ∷ slice_index b 3 ∷ slice_index c 3 ∷ slice_index d 3
+        ∷ [] }
 {
     let (ac_low, ac_high) = a.interleave(c);
     let (bd_low, bd_high) = b.interleave(d);
@@ -29,7 +33,8 @@ fn transposed(a: u32x4, b: u32x4, c: u32x4, d: u32x4) -> (u32x4, u32x4, u32x4, u
 fn put_row(window: &mut [u8; 256], at: usize, row: u32x4)
     requires { at + 16 ≤ 256 }
     ensures here { (i : ℕ) → i < 16
-        → slice_index window.new (at + i) ≡ slice_index (to_le_bytes w32 (slice_index row (i / 4))) (i % 4) }
+        → slice_index window.new (at + i) ≡ slice_index (to_le_bytes w32 (slice_index row (i / 4)))
+        (i % 4) }
     ensures before { (i : ℕ) → i < at → slice_index window.new i ≡ slice_index window.old i }
     ensures after { (i : ℕ) → at + 16 ≤ i → slice_index window.new i ≡ slice_index window.old i }
 {
@@ -42,7 +47,8 @@ fn put_rows(window: &mut [u8; 256], q: usize, a: u32x4, b: u32x4, c: u32x4, d: u
     requires { q < 4 }
     ensures here { (i : ℕ) → i < 256 → i % 64 / 16 ≡ q
         → slice_index window.new i
-        ≡ slice_index (to_le_bytes w32 (slice_index (slice_index_or (a ∷ b ∷ c ∷ d ∷ []) (i % 16 / 4) []) (i / 64))) (i % 4) }
+        ≡ slice_index (to_le_bytes w32 (slice_index
+        (slice_index_or (a ∷ b ∷ c ∷ d ∷ []) (i % 16 / 4) []) (i / 64))) (i % 4) }
     ensures elsewhere { (i : ℕ) → i < 256 → i % 64 / 16 ≢ q
         → slice_index window.new i ≡ slice_index window.old i }
 {
@@ -57,7 +63,8 @@ fn put_rows(window: &mut [u8; 256], q: usize, a: u32x4, b: u32x4, c: u32x4, d: u
 #[inline(always)]
 pub(crate) fn put_blocks(window: &mut [u8; 256], words: &[u32x4; 16])
     ensures { (i : ℕ) → i < 256
-        → slice_index window.new i ≡ slice_index (to_le_bytes w32 (lane_word words.now (i / 64) (i % 64 / 4))) (i % 4) }
+        → slice_index window.new i ≡ slice_index
+        (to_le_bytes w32 (lane_word words.now (i / 64) (i % 64 / 4))) (i % 4) }
 {
     'rows: for q in 0..4usize {
         put_rows(

@@ -2,7 +2,7 @@
 use Rattle.std.proofs.Common.{ℕ, ◌≡◌, true, List, [], ◌∷◌, refl, arith}
 use Rattle.std.proofs.lemmas.Bool.Decides.{nat_tests}
 use Rattle.std.specs.List.{list_all}
-use Rattle.markup_grammar.specs.Escapes.{plain, unescaped, unescaped_from, plainly_given, plainly_behind}
+use Rattle.markup_grammar.specs.Escapes.{plain, unescaped, unescaped_from, plainly_given, place_after_text}
 use Rattle.text_core.specs.Texts.{is_literal}
 
 first_literal : (b : ℕ) (rest : List ℕ) → list_all is_literal (b ∷ rest) ≡ true → is_literal b ≡ true
@@ -14,7 +14,7 @@ rest_literal b rest h = grind (arith, nat_tests)
 given_itself : (b : ℕ) → is_literal b ≡ true → plainly_given b ≡ b ∷ []
 given_itself b h = grind (arith, nat_tests)
 
-stays_plain : (b : ℕ) → is_literal b ≡ true → plainly_behind b ≡ plain
+stays_plain : (b : ℕ) → is_literal b ≡ true → place_after_text b ≡ plain
 stays_plain b h = grind (arith, nat_tests)
 
 pub literal_text : (raw : List ℕ) → list_all is_literal raw ≡ true → unescaped raw ≡ raw

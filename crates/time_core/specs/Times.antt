@@ -1,4 +1,5 @@
--- Moments of UTC: as seconds from the first of the year 1, and as ISO 8601 writes them, in the form of RFC 3339, section 5.6.
+-- Moments of UTC: as seconds from the first of the year 1, and as ISO 8601 writes them, in the form
+-- of RFC 3339, section 5.6.
 use Rattle.std.specs.Prelude.{◌≡◌, ℕ, ◌+◌, ◌-◌, ◌*◌, ◌/◌, ◌%◌, ◌<◌, ◌≤◌, List, [], ◌∷◌, ◌++◌, pos, codes}
 use Rattle.jiff_core.specs.Calendar.{IsCivilDate, day_count}
 use Rattle.time_core.specs.declared.iso.Moment.{Moment}

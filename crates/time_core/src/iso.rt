@@ -26,7 +26,8 @@ pub struct Moment {
     pub second: u8,
 }
 
-/// The stamp's time as `YYYY-MM-DDThh:mm:ssZ`, on the Gregorian calendar carried back to the year 1.
+/// The stamp's time as `YYYY-MM-DDThh:mm:ssZ`, on the Gregorian calendar carried back to the year
+/// 1.
 pub fn iso_of(stamp: Stamp) -> [u8; 20]
     ensures { IsIso result stamp }
 {
@@ -57,8 +58,8 @@ pub fn iso_of(stamp: Stamp) -> [u8; 20]
     ]
 }
 
-/// The stamp whose time the text is, or `None` where the text is no `YYYY-MM-DDThh:mm:ssZ` of a day in
-/// the years 1 to 9999, with hours to 23 and minutes and seconds to 59.
+/// The stamp whose time the text is, or `None` where the text is no `YYYY-MM-DDThh:mm:ssZ` of a day
+/// in the years 1 to 9999, with hours to 23 and minutes and seconds to 59.
 pub fn stamp_of_iso(text: &[u8]) -> Option<Stamp>
     ensures { MatchOption result ((seconds : ℕ) → ¬ (IsIso text.now seconds)) (IsIso text.now) }
 {
@@ -98,13 +99,14 @@ fn day_after(days: u64) -> Date
     first_day().checked_add((days as i64).days()).unwrap()
 }
 
-/// How many days lie between 0001-01-01 and a day, or `None` where the calendar has no such day in the
-/// years 1 to 9999.
+/// How many days lie between 0001-01-01 and a day, or `None` where the calendar has no such day in
+/// the years 1 to 9999.
 fn days_to(year: u16, month: u8, day: u8) -> Option<u64>
     requires year { year < 10000 }
     requires month { month < 100 }
     requires day { day < 100 }
-    ensures { MatchOption result (¬ (IsDay year month day)) (λ days. IsDay year month day × (days ≡ days_before year month day)) }
+    ensures { MatchOption result (¬ (IsDay year month day)) (λ days. IsDay year month day
+        × (days ≡ days_before year month day)) }
 {
     if year == 0 {
         return None;
@@ -124,7 +126,8 @@ fn first_day() -> Date
 
 /// The parts that a text spells, whether or not the calendar and the clock have them.
 fn spelled(text: &[u8]) -> Option<Moment>
-    ensures { MatchOption result ((m : Moment) → HasDigits m → text.now ≢ iso_text m) (λ m. HasDigits m × (text.now ≡ iso_text m)) }
+    ensures { MatchOption result ((m : Moment) → HasDigits m
+        → text.now ≢ iso_text m) (λ m. HasDigits m × (text.now ≡ iso_text m)) }
 {
     if text.len() != 20 || !has_separators(text) {
         return None;
@@ -146,7 +149,7 @@ fn spelled(text: &[u8]) -> Option<Moment>
     })
 }
 
-/// Whether the hyphens, the colons, the `T` and the `Z` stand in their places.
+/// Whether the hyphens, the colons, the `T` and the `Z` are in their places.
 fn has_separators(text: &[u8]) -> bool
     requires { length text.now ≡ 20 }
     ensures { IsTrue result ↔ HasSeparators text.now }
@@ -161,14 +164,16 @@ fn has_separators(text: &[u8]) -> bool
 
 /// The number below 100 that two decimal digits spell.
 fn number(high: u8, low: u8) -> Option<u8>
-    ensures { MatchOption result ((n : ℕ) → n < 100 → two_digits n ≢ high ∷ low ∷ []) (λ n. (n < 100) × (two_digits n ≡ high ∷ low ∷ [])) }
+    ensures { MatchOption result ((n : ℕ) → n < 100
+        → two_digits n ≢ high ∷ low ∷ []) (λ n. (n < 100) × (two_digits n ≡ high ∷ low ∷ [])) }
 {
     Some(digit(high)? * 10 + digit(low)?)
 }
 
 /// The number below 10 that a decimal digit spells.
 fn digit(byte: u8) -> Option<u8>
-    ensures { MatchOption result ((n : ℕ) → n < 10 → 48 + n ≢ byte) (λ n. (n < 10) × (48 + n ≡ byte)) }
+    ensures { MatchOption result ((n : ℕ) → n < 10 → 48 + n ≢ byte) (λ n. (n < 10)
+        × (48 + n ≡ byte)) }
 {
     match byte {
         b'0'..=b'9' => Some(byte - b'0'),

@@ -7,9 +7,9 @@ use Rattle.vault_model.proofs.Tests.{is_false}
 use Rattle.vault_model.specs.Db.{NodeId}
 use Rattle.vault_model.specs.Shape.{EntryRecord}
 use Rattle.vault_model.specs.Tree.{BareDoc, Tree, Trees, beside, id_of, node, none}
-use Rattle.vault_model.specs.Walk.{Walked, joined, name_of, title_of, walk_tree, walk_trees, walked_entry}
+use Rattle.vault_model.specs.Walk.{Walked, slash_joined, name_of, title_of, walk_tree, walk_trees, walked_entry}
 use Rattle.tree_core.specs.Finding.{entry_found, entry_named, first, group_found, group_named, or_else, without_slashes}
-use Rattle.tree_core.specs.Rests.{behind, below, entry_among, entry_in, entry_in_all, group_in, group_in_all, is_left}
+use Rattle.tree_core.specs.Path.{strip_prefix, strip_component, entry_among, entry_in, entry_in_all, group_in, group_in_all, is_exactly}
 use Rattle.tree_core.proofs.Leading.{leading, one_below, path_left}
 
 -- ---- what is found first
@@ -40,25 +40,25 @@ passed false other = refl
 
 -- what is left of a text behind the names that lead to a group, and the same of a text that begins with a slash
 abbrev rest : List ℕ → List (List ℕ) → Option (List ℕ)
-rest text names = behind (leading names) text
+rest text names = strip_prefix (leading names) text
 
 abbrev other : List ℕ → List (List ℕ) → Option (List ℕ)
-other text names = behind (codes "/" ++ leading names) text
+other text names = strip_prefix (codes "/" ++ leading names) text
 
 own_entries : (text : List ℕ) (names : List (List ℕ)) (es : List (NodeId × EntryRecord))
     → first (entry_named text) (map (walked_entry names) es) ≡ entry_among (rest text names) (other text names) es
 own_entries text names [] = refl
 own_entries text names (e ∷ es) =
-    tested (bytes_eq text (joined (names ++ title_of e.1 ∷ [])) || bytes_eq text (codes "/" ++ joined (names ++ title_of e.1 ∷ []))) e.0 (first (entry_named text) (map (walked_entry names) es))
-    ∙ ap (λ (b : Bool). cond (b || bytes_eq text (codes "/" ++ joined (names ++ title_of e.1 ∷ []))) (Some e.0) (first (entry_named text) (map (walked_entry names) es))) (path_left [] names (title_of e.1) text)
-    ∙ ap (λ (b : Bool). cond (is_left (title_of e.1) (rest text names) || b) (Some e.0) (first (entry_named text) (map (walked_entry names) es))) (path_left (codes "/") names (title_of e.1) text)
-    ∙ ap (λ o. cond (is_left (title_of e.1) (rest text names) || is_left (title_of e.1) (other text names)) (Some e.0) o) (own_entries text names es)
+    tested (bytes_eq text (slash_joined (names ++ title_of e.1 ∷ [])) || bytes_eq text (codes "/" ++ slash_joined (names ++ title_of e.1 ∷ []))) e.0 (first (entry_named text) (map (walked_entry names) es))
+    ∙ ap (λ (b : Bool). cond (b || bytes_eq text (codes "/" ++ slash_joined (names ++ title_of e.1 ∷ []))) (Some e.0) (first (entry_named text) (map (walked_entry names) es))) (path_left [] names (title_of e.1) text)
+    ∙ ap (λ (b : Bool). cond (is_exactly (title_of e.1) (rest text names) || b) (Some e.0) (first (entry_named text) (map (walked_entry names) es))) (path_left (codes "/") names (title_of e.1) text)
+    ∙ ap (λ o. cond (is_exactly (title_of e.1) (rest text names) || is_exactly (title_of e.1) (other text names)) (Some e.0) o) (own_entries text names es)
 
 mutual
   entries_walked : (text : List ℕ) (names : List (List ℕ)) (t : Tree)
       → first (entry_named text) (walk_tree names t) ≡ entry_in (rest text names) (other text names) t
   entries_walked text names (node u r es ts) =
-      passed (bytes_eq text (joined names) || bytes_eq text (codes "/" ++ joined names)) (first (entry_named text) (map (walked_entry names) es ++ walk_trees names ts))
+      passed (bytes_eq text (slash_joined names) || bytes_eq text (codes "/" ++ slash_joined names)) (first (entry_named text) (map (walked_entry names) es ++ walk_trees names ts))
       ∙ first_append (entry_named text) (map (walked_entry names) es) (walk_trees names ts)
       ∙ ap (λ o. or_else o (first (entry_named text) (walk_trees names ts))) (own_entries text names es)
       ∙ ap (or_else (entry_among (rest text names) (other text names) es)) (all_entries_walked text names ts)
@@ -70,10 +70,10 @@ mutual
       first_append (entry_named text) (walk_tree (names ++ name_of t ∷ []) t) (walk_trees names ts)
       ∙ ap (λ o. or_else o (first (entry_named text) (walk_trees names ts))) (entries_walked text (names ++ name_of t ∷ []) t)
       ∙ ap (λ (o : Option (List ℕ)). or_else (entry_in o (other text (names ++ name_of t ∷ [])) t) (first (entry_named text) (walk_trees names ts))) (one_below [] names (name_of t) text)
-      ∙ ap (λ (o : Option (List ℕ)). or_else (entry_in (below (name_of t) (rest text names)) o t) (first (entry_named text) (walk_trees names ts))) (one_below (codes "/") names (name_of t) text)
-      ∙ ap (or_else (entry_in (below (name_of t) (rest text names)) (below (name_of t) (other text names)) t)) (all_entries_walked text names ts)
+      ∙ ap (λ (o : Option (List ℕ)). or_else (entry_in (strip_component (name_of t) (rest text names)) o t) (first (entry_named text) (walk_trees names ts))) (one_below (codes "/") names (name_of t) text)
+      ∙ ap (or_else (entry_in (strip_component (name_of t) (rest text names)) (strip_component (name_of t) (other text names)) t)) (all_entries_walked text names ts)
 
-pub entry_by_groups : (doc : BareDoc) (text : List ℕ) → entry_in (Some text) (behind (codes "/") text) doc.tree ≡ entry_found doc text
+pub entry_by_groups : (doc : BareDoc) (text : List ℕ) → entry_in (Some text) (strip_prefix (codes "/") text) doc.tree ≡ entry_found doc text
 unfolding entry_found
 entry_by_groups doc text = sym (entries_walked text [] doc.tree)
 
@@ -83,16 +83,16 @@ no_entry : (text : List ℕ) (names : List (List ℕ)) (es : List (NodeId × Ent
     → first (group_named text) (map (walked_entry names) es ++ ws) ≡ first (group_named text) ws
 no_entry text names [] ws = refl
 no_entry text names (e ∷ es) ws =
-    passed (bytes_eq text (joined (names ++ title_of e.1 ∷ []))) (first (group_named text) (map (walked_entry names) es ++ ws))
+    passed (bytes_eq text (slash_joined (names ++ title_of e.1 ∷ []))) (first (group_named text) (map (walked_entry names) es ++ ws))
     ∙ no_entry text names es ws
 
 mutual
   groups_walked : (text : List ℕ) (names : List (List ℕ)) (t : Tree)
       → first (group_named text) (walk_tree names t)
-      ≡ cond (bytes_eq text (joined names)) (Some (id_of t)) (group_in (rest text names) t)
+      ≡ cond (bytes_eq text (slash_joined names)) (Some (id_of t)) (group_in (rest text names) t)
   groups_walked text names (node u r es ts) =
-      tested (bytes_eq text (joined names)) u (first (group_named text) (map (walked_entry names) es ++ walk_trees names ts))
-      ∙ ap (λ o. cond (bytes_eq text (joined names)) (Some u) o) (no_entry text names es (walk_trees names ts) ∙ all_groups_walked text names ts)
+      tested (bytes_eq text (slash_joined names)) u (first (group_named text) (map (walked_entry names) es ++ walk_trees names ts))
+      ∙ ap (λ o. cond (bytes_eq text (slash_joined names)) (Some u) o) (no_entry text names es (walk_trees names ts) ∙ all_groups_walked text names ts)
 
   all_groups_walked : (text : List ℕ) (names : List (List ℕ)) (ts : Trees)
       → first (group_named text) (walk_trees names ts) ≡ group_in_all (rest text names) ts
@@ -101,8 +101,8 @@ mutual
       first_append (group_named text) (walk_tree (names ++ name_of t ∷ []) t) (walk_trees names ts)
       ∙ ap (λ o. or_else o (first (group_named text) (walk_trees names ts))) (groups_walked text (names ++ name_of t ∷ []) t)
       ∙ ap (λ (b : Bool). or_else (cond b (Some (id_of t)) (group_in (rest text (names ++ name_of t ∷ [])) t)) (first (group_named text) (walk_trees names ts))) (path_left [] names (name_of t) text)
-      ∙ ap (λ (o : Option (List ℕ)). or_else (cond (is_left (name_of t) (rest text names)) (Some (id_of t)) (group_in o t)) (first (group_named text) (walk_trees names ts))) (one_below [] names (name_of t) text)
-      ∙ ap (or_else (cond (is_left (name_of t) (rest text names)) (Some (id_of t)) (group_in (below (name_of t) (rest text names)) t))) (all_groups_walked text names ts)
+      ∙ ap (λ (o : Option (List ℕ)). or_else (cond (is_exactly (name_of t) (rest text names)) (Some (id_of t)) (group_in o t)) (first (group_named text) (walk_trees names ts))) (one_below [] names (name_of t) text)
+      ∙ ap (or_else (cond (is_exactly (name_of t) (rest text names)) (Some (id_of t)) (group_in (strip_component (name_of t) (rest text names)) t))) (all_groups_walked text names ts)
 
 pub group_by_groups : (doc : BareDoc) (text : List ℕ)
     → cond (bytes_eq (without_slashes text) []) (Some (id_of doc.tree)) (group_in (Some (without_slashes text)) doc.tree) ≡ group_found doc text

@@ -27,7 +27,8 @@ group_id (a_group id group) = Some id
 
 -- an entry that a text names: the text is its path, or a slash and its path
 abbrev pub entry_named : List ℕ → Walked → Option NodeId
-entry_named text w = cond (bytes_eq text w.path || bytes_eq text (codes "/" ++ w.path)) (entry_id w.found) None
+entry_named text w = cond (bytes_eq text w.path || bytes_eq text (codes "/" ++ w.path))
+    (entry_id w.found) None
 
 -- the entry that a text names: the first in document order
 unfoldable pub entry_found : BareDoc → List ℕ → Option NodeId
@@ -46,6 +47,7 @@ without_slashes text = strip_last 47 (without_front text)
 abbrev pub group_named : List ℕ → Walked → Option NodeId
 group_named text w = cond (bytes_eq text w.path) (group_id w.found) None
 
--- the group that a text names, but for slashes: the first in document order. The empty text is the root's path.
+-- the group that a text names, but for slashes: the first in document order. The empty text is the
+-- root's path.
 unfoldable pub group_found : BareDoc → List ℕ → Option NodeId
 group_found doc text = first (group_named (without_slashes text)) (walk doc)

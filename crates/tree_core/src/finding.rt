@@ -5,13 +5,14 @@ ghost use Rattle.vault_model.specs.SeenDoc.{doc_seen};
 ghost use Rattle.vault_model.specs.SeenNodes.{entry_record, entry_row, tree_seen};
 ghost use Rattle.vault_model.specs.Walk.{title_of};
 ghost use Rattle.tree_core.specs.Finding.{entry_found, group_found};
-ghost use Rattle.tree_core.specs.Rests as spec;
+ghost use Rattle.tree_core.specs.Path as spec;
 
-use crate::rests::{behind, below, is_left, without_slashes};
+use crate::path::{is_exactly, strip_component, strip_prefix, without_slashes};
 use uuid::Uuid;
 use vault_model::{Doc, Entry, Group};
 
-/// An entry's title: the value of the field `Title` of its current version, and empty where there is none.
+/// An entry's title: the value of the field `Title` of its current version, and empty where there
+/// is none.
 pub fn title(entry: &Entry) -> &[u8]
     ensures { result.now ≡ title_of (entry_record entry.now) }
 {
@@ -25,11 +26,12 @@ pub fn title(entry: &Entry) -> &[u8]
 
 // Of entries the first of which one of two rests is the title.
 fn entry_among(entries: &[Entry], rest: Option<&[u8]>, other: Option<&[u8]>) -> Option<Uuid>
-    ensures { result ≡ spec.entry_among (option_map (λ r. r.now) rest.entry) (option_map (λ r. r.now) other.entry) (map entry_row entries.now) }
+    ensures { result ≡ spec.entry_among (option_map (λ r. r.now) rest.entry)
+        (option_map (λ r. r.now) other.entry) (map entry_row entries.now) }
 {
     for entry in entries {
         let title = title(entry);
-        if is_left(title, rest) || is_left(title, other) {
+        if is_exactly(title, rest) || is_exactly(title, other) {
             return Some(entry.id);
         }
     }
@@ -38,14 +40,19 @@ fn entry_among(entries: &[Entry], rest: Option<&[u8]>, other: Option<&[u8]>) -> 
 
 // Of a group's entries and those below it the first that one of two rests names.
 pub(crate) fn entry_in(group: &Group, rest: Option<&[u8]>, other: Option<&[u8]>) -> Option<Uuid>
-    ensures { result ≡ spec.entry_in (option_map (λ r. r.now) rest.entry) (option_map (λ r. r.now) other.entry) (tree_seen group.now) }
+    ensures { result ≡ spec.entry_in (option_map (λ r. r.now) rest.entry)
+        (option_map (λ r. r.now) other.entry) (tree_seen group.now) }
 {
     if let Some(id) = entry_among(group.entries.as_slice(), rest, other) {
         return Some(id);
     }
     for child in group.groups.as_slice() {
         let name = child.state.content.name.as_str().as_bytes();
-        if let Some(id) = entry_in(child, below(name, rest), below(name, other)) {
+        if let Some(id) = entry_in(
+            child,
+            strip_component(name, rest),
+            strip_component(name, other),
+        ) {
             return Some(id);
         }
     }
@@ -58,29 +65,30 @@ pub(crate) fn group_in(group: &Group, rest: Option<&[u8]>) -> Option<Uuid>
 {
     for child in group.groups.as_slice() {
         let name = child.state.content.name.as_str().as_bytes();
-        if is_left(name, rest) {
+        if is_exactly(name, rest) {
             return Some(child.id);
         }
-        if let Some(id) = group_in(child, below(name, rest)) {
+        if let Some(id) = group_in(child, strip_component(name, rest)) {
             return Some(id);
         }
     }
     None
 }
 
-/// The entry that a path names: the first in document order of which the text is the path, or a slash and the path.
-/// An entry's path is the names of its groups below the root and its title, with a slash between each two. Takes no
-/// memory.
+/// The entry that a path names: the first in document order of which the text is the path, or a
+/// slash and the path. An entry's path is the names of its groups below the root and its title,
+/// with a slash between each two. Takes no memory.
 pub fn find_entry(doc: &Doc, path: &str) -> Option<Uuid>
     ensures { result ≡ entry_found (doc_seen doc.now) path.now }
 {
     let path = path.as_bytes();
-    entry_in(&doc.root, Some(path), behind(b"/", path))
+    entry_in(&doc.root, Some(path), strip_prefix(b"/", path))
 }
 
-/// The group that a path names: the first in document order whose path the text is, but for one slash in front and one
-/// at its end. A group's path is the names of the groups that lead to it from below the root and its own, with a slash
-/// between each two; the root's path is empty. Takes no memory.
+/// The group that a path names: the first in document order whose path the text is, but for one
+/// slash in front and one at its end. A group's path is the names of the groups that lead to it
+/// from below the root and its own, with a slash between each two; the root's path is empty. Takes
+/// no memory.
 pub fn find_group(doc: &Doc, path: &str) -> Option<Uuid>
     ensures { result ≡ group_found (doc_seen doc.now) path.now }
 {

@@ -2,6 +2,6 @@
 #![tactic(auto)]
 
 mod finding;
-mod rests;
+mod path;
 
 pub use finding::{find_entry, find_group, title};

@@ -1,4 +1,5 @@
--- What a vault holds without memory: secrets are their bytes, and nothing has spare room or a place in memory.
+-- What a vault holds without memory: secrets are their bytes, and nothing has spare room or a place
+-- in memory.
 use Rattle.std.specs.Prelude.{ℕ, Bool, List, Option}
 use Rattle.vault_model.specs.declared.contents.AutoType.{AutoType}
 use Rattle.vault_model.specs.declared.contents.Item.{Item}

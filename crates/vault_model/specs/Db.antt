@@ -130,8 +130,10 @@ pub record IsProperMeta (s : SharedMeta) : Type 0 where
   pub description : is_utf8 s.description.value ≡ true
   pub user : is_utf8 s.user.value ≡ true
   pub color : is_utf8 s.settings.value.color ≡ true
-  pub icons : (u : NodeId) (icon : Icon) → get s.icons u ≡ Some icon → (icon.id ≡ u) × (is_text_icon icon ≡ true)
-  pub items : (k : List ℕ) (item : Item) → get s.items k ≡ Some item → (item.key ≡ k) × (is_text_item item ≡ true)
+  pub icons : (u : NodeId) (icon : Icon) → get s.icons u ≡ Some icon → (icon.id ≡ u)
+      × (is_text_icon icon ≡ true)
+  pub items : (k : List ℕ) (item : Item) → get s.items k ≡ Some item → (item.key ≡ k)
+      × (is_text_item item ≡ true)
 
 -- A database whose parts fit together.
 pub record Sound (m : Db) : Type 0 where
@@ -141,14 +143,18 @@ pub record Sound (m : Db) : Type 0 where
   -- no id is an entry's and a group's, and none is nil
   pub kinds : (u : NodeId) → contains_key m.entries u ≡ true → contains_key m.groups u ≡ false
   pub no_nil : holds m nil_id ≡ false
-  -- each other node has a place and nothing else has one; parents are groups, and lead up to the root
+  -- each other node has a place and nothing else has one; parents are groups, and lead up to the
+  -- root
   pub placed : (u : NodeId) → u ≢ m.root → contains_key m.places u ≡ holds m u
-  pub parents : (u : NodeId) (p : Place) → get m.places u ≡ Some p → contains_key m.groups p.parent ≡ true
+  pub parents : (u : NodeId) (p : Place) → get m.places u ≡ Some p
+      → contains_key m.groups p.parent ≡ true
   pub rooted : (u : NodeId) → holds m u ≡ true → Reaches (parent_in m) u m.root
   -- no tombstone names a node, and each entry has a version
   pub alive : (u : NodeId) → holds m u ≡ true → get m.tombs u ≡ None
   pub versions : (u : NodeId) (v : Versions) → get m.entries u ≡ Some v → keys v ≢ []
   -- what versions, groups, icons and items say is in order
-  pub contents : (u : NodeId) (v : Versions) (k : Mark) (s : Stats) → get m.entries u ≡ Some v → get v k ≡ Some s → is_proper_content k.content ≡ true
-  pub group_contents : (u : NodeId) (s : GroupState) → get m.groups u ≡ Some s → is_proper_group_content s.content ≡ true
+  pub contents : (u : NodeId) (v : Versions) (k : Mark) (s : Stats) → get m.entries u ≡ Some v
+      → get v k ≡ Some s → is_proper_content k.content ≡ true
+  pub group_contents : (u : NodeId) (s : GroupState) → get m.groups u ≡ Some s
+      → is_proper_group_content s.content ≡ true
   pub meta : IsProperMeta m.meta

@@ -1,4 +1,5 @@
--- A new database: a root group with nothing in it, and what a database says of itself before anything was changed.
+-- A new database: a root group with nothing in it, and what a database says of itself before
+-- anything was changed.
 use Rattle.std.specs.Prelude.{ℕ, true, false, List, [], None, codes, negsuc, pos}
 use Rattle.vault_model.specs.declared.contents.Tri.TheVariants.{Inherit}
 use Rattle.vault_model.specs.declared.metas.Meta.{Meta}
@@ -18,7 +19,8 @@ unchanged x = record { changed = 0; value = x }
 abbrev pub new_protection : Protection
 new_protection = record { title = false; user = false; password = true; url = false; notes = false }
 
--- maintenance after 365 days, no limit (-1) on the age of the key, and histories of 10 versions and of 6 MiB
+-- maintenance after 365 days, no limit (-1) on the age of the key, and histories of 10 versions and
+-- of 6 MiB
 abbrev pub new_settings : MetaSettings
 new_settings = record {
   color = [];
@@ -48,7 +50,8 @@ new_meta = record {
   view = new_meta_view;
 }
 
--- a group of this name that is made now: all its times are now, and all else is as in every new group
+-- a group of this name that is made now: all its times are now, and all else is as in every new
+-- group
 abbrev pub new_group : List ℕ → ℕ → GroupRecord
 new_group name now = record {
   placed = now;

@@ -73,8 +73,8 @@ is_from time None = false
 is_from time (Some deleted) = nat_le time deleted
 
 -- some member holds the node
-abbrev pub held : List Db → NodeId → Bool
-held S u = list_any (λ m. holds m u) S
+abbrev pub is_held : List Db → NodeId → Bool
+is_held S u = list_any (λ m. holds m u) S
 
 -- some member has a tombstone of the node at or after its stamp
 abbrev pub buried : List Db → NodeId → Bool
@@ -83,7 +83,7 @@ buried S u = list_any (λ m. is_from (stamp S u) (get m.tombs u)) S
 -- The root is own; another node is own where a member holds it and none has a tombstone of it at or
 -- after its stamp.
 unfoldable pub own : List Db → NodeId → Bool
-own S u = is_id u (root_of S) || held S u && not (buried S u)
+own S u = is_id u (root_of S) || is_held S u && not (buried S u)
 
 -- all ids that a member holds
 abbrev pub ids : List Db → List NodeId
@@ -119,7 +119,13 @@ no_meta = record {
       days = 0;
       key_rec = pos 0;
       key_force = pos 0;
-      protect = record { title = false; user = false; password = false; url = false; notes = false };
+      protect = record {
+        title = false;
+        user = false;
+        password = false;
+        url = false;
+        notes = false;
+      };
       history_items = pos 0;
       history_size = pos 0;
     };
@@ -128,8 +134,8 @@ no_meta = record {
   items = empty;
 }
 
--- The nodes are the kept ones. An entry has all versions of all members, a group has the greatest mark,
--- each stands at its latest place. What is not kept has its latest tombstone.
+-- The nodes are the kept ones. An entry has all versions of all members, a group has the greatest
+-- mark, each is at its latest place. What is not kept has its latest tombstone.
 unfoldable pub join : List Db → Db
 join S = record {
   root = root_of S;
@@ -166,7 +172,8 @@ HaveOneRoot S = (m : Db) → IsIn m S → m.root ≡ root_of S
 
 -- no id is an entry in one member and a group in another
 abbrev pub HaveOneKind : List Db → Type 0
-HaveOneKind S = (m n : Db) (u : NodeId) → IsIn m S → IsIn n S → contains_key m.entries u ≡ true → contains_key n.groups u ≡ false
+HaveOneKind S = (m n : Db) (u : NodeId) → IsIn m S → IsIn n S → contains_key m.entries u ≡ true
+    → contains_key n.groups u ≡ false
 
 -- the latest parents of each own node lead to the root
 abbrev pub IsAcyclic : List Db → Type 0
@@ -181,14 +188,16 @@ pub record Allowed (S : List Db) : Type 0 where
 
 -- no member has a tombstone of the latest parent of an own node
 abbrev pub KeepsParents : List Db → Type 0
-KeepsParents R = (u : NodeId) (p : Place) (m : Db) → own R u ≡ true → latest R u ≡ Some p → IsIn m R → get m.tombs p.parent ≡ None
+KeepsParents R = (u : NodeId) (p : Place) (m : Db) → own R u ≡ true → latest R u ≡ Some p → IsIn m R
+    → get m.tombs p.parent ≡ None
 
 -- Copies of one database in which nothing was changed after it was deleted.
 pub record Compatible (S : List Db) : Type 0 where
   pub sound : (m : Db) → IsIn m S → Sound m
   pub root : HaveOneRoot S
   pub kinds : HaveOneKind S
-  pub tombs : (m n : Db) (u : NodeId) (deleted : ℕ) → IsIn m S → IsIn n S → get m.tombs u ≡ Some deleted → stamp_in n u ≤ deleted
+  pub tombs : (m n : Db) (u : NodeId) (deleted : ℕ) → IsIn m S → IsIn n S
+      → get m.tombs u ≡ Some deleted → stamp_in n u ≤ deleted
 
 -- Agreed members: nothing deleted is later changed or filled, and latest moves never make a cycle,
 -- whichever of the members are looked at.

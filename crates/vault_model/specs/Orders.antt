@@ -1,5 +1,5 @@
--- The orders of what a vault holds: field by field in the order in which the fields are listed, texts
--- and bytes by their bytes, lists as dictionaries order words.
+-- The orders of what a vault holds: field by field in the order in which the fields are listed,
+-- texts and bytes by their bytes, lists as dictionaries order words.
 use Rattle.std.specs.Prelude.{ℕ, List}
 use Rattle.std.specs.declared.cmp.Ordering.{Ordering}
 use Rattle.std.specs.Ordering.{nat_cmp, int_cmp, bool_cmp, on, ordering_then}
@@ -18,7 +18,8 @@ use Rattle.vault_model.specs.declared.metas.Protection.{Protection}
 use Rattle.vault_model.specs.Bare.{BareAttachment, BareContent, BareField}
 
 -- pairs by their first parts and then by their second
-abbrev pub pair_cmp : {A B : Type 0} → (A → A → Ordering) → (B → B → Ordering) → A × B → A × B → Ordering
+abbrev pub pair_cmp : {A B : Type 0} → (A → A → Ordering) → (B → B → Ordering) → A × B → A × B
+    → Ordering
 pair_cmp R S x y = ordering_then (R x.0 y.0) (S x.1 y.1)
 
 -- texts, ids and other bytes, by their bytes
@@ -37,11 +38,13 @@ tri_cmp = on tri_rank nat_cmp
 
 -- fields by key, value and whether they are hidden
 unfoldable pub field_cmp : BareField → BareField → Ordering
-field_cmp = on (λ f. (f.key, (f.value, f.hidden))) (pair_cmp bytes_cmp (pair_cmp bytes_cmp bool_cmp))
+field_cmp = on (λ f. (f.key, (f.value, f.hidden)))
+    (pair_cmp bytes_cmp (pair_cmp bytes_cmp bool_cmp))
 
 -- attachments by name, bytes and whether they are hidden
 unfoldable pub attachment_cmp : BareAttachment → BareAttachment → Ordering
-attachment_cmp = on (λ a. (a.name, (a.bytes, a.hidden))) (pair_cmp bytes_cmp (pair_cmp bytes_cmp bool_cmp))
+attachment_cmp = on (λ a. (a.name, (a.bytes, a.hidden)))
+    (pair_cmp bytes_cmp (pair_cmp bytes_cmp bool_cmp))
 
 -- custom items within a content
 unfoldable pub item_cmp : Item → Item → Ordering
@@ -81,7 +84,8 @@ content_cmp =
         ),
       ),
     ))
-    (pair_cmp nat_cmp (pair_cmp nat_cmp (pair_cmp bool_cmp (pair_cmp nat_cmp (pair_cmp (option_cmp bytes_cmp)
+    (pair_cmp nat_cmp (pair_cmp nat_cmp (pair_cmp bool_cmp
+    (pair_cmp nat_cmp (pair_cmp (option_cmp bytes_cmp)
     (pair_cmp (slice_cmp field_cmp) (pair_cmp (slice_cmp attachment_cmp)
     (pair_cmp bytes_cmp (pair_cmp bytes_cmp (pair_cmp bytes_cmp (pair_cmp bytes_cmp
     (pair_cmp auto_type_cmp (slice_cmp item_cmp)))))))))))))
@@ -114,8 +118,10 @@ group_content_cmp =
         ),
       ),
     ))
-    (pair_cmp nat_cmp (pair_cmp nat_cmp (pair_cmp bool_cmp (pair_cmp bytes_cmp (pair_cmp bytes_cmp (pair_cmp nat_cmp
-    (pair_cmp (option_cmp bytes_cmp) (pair_cmp bytes_cmp (pair_cmp tri_cmp (pair_cmp tri_cmp (slice_cmp item_cmp)))))))))))
+    (pair_cmp nat_cmp (pair_cmp nat_cmp (pair_cmp bool_cmp
+    (pair_cmp bytes_cmp (pair_cmp bytes_cmp (pair_cmp nat_cmp
+    (pair_cmp (option_cmp bytes_cmp) (pair_cmp bytes_cmp
+    (pair_cmp tri_cmp (pair_cmp tri_cmp (slice_cmp item_cmp)))))))))))
 
 -- bins, one that is off below one that is on
 unfoldable pub bin_cmp : Bin → Bin → Ordering
@@ -129,13 +135,28 @@ protection_cmp = on (λ p. (p.title, (p.user, (p.password, (p.url, p.notes)))))
 -- the settings that change together
 unfoldable pub settings_cmp : MetaSettings → MetaSettings → Ordering
 settings_cmp =
-    on (λ s. (s.color, (s.days, (s.key_rec, (s.key_force, (s.protect, (s.history_items, s.history_size)))))))
-    (pair_cmp bytes_cmp (pair_cmp nat_cmp (pair_cmp int_cmp (pair_cmp int_cmp (pair_cmp protection_cmp (pair_cmp int_cmp int_cmp))))))
+    on (λ s. (
+      s.color,
+      (
+        s.days,
+        (
+          s.key_rec,
+          (
+            s.key_force,
+            (s.protect, (s.history_items, s.history_size)),
+          ),
+        ),
+      ),
+    ))
+    (pair_cmp bytes_cmp (pair_cmp nat_cmp (pair_cmp int_cmp
+    (pair_cmp int_cmp (pair_cmp protection_cmp (pair_cmp int_cmp int_cmp))))))
 
 -- icons of one id: the later one, then by the rest
 unfoldable pub icon_cmp : Icon → Icon → Ordering
-icon_cmp = on (λ i. (i.changed, (i.id, (i.bytes, i.name)))) (pair_cmp nat_cmp (pair_cmp bytes_cmp (pair_cmp bytes_cmp bytes_cmp)))
+icon_cmp = on (λ i. (i.changed, (i.id, (i.bytes, i.name))))
+    (pair_cmp nat_cmp (pair_cmp bytes_cmp (pair_cmp bytes_cmp bytes_cmp)))
 
 -- custom items of one key: the later one, then by the rest
 unfoldable pub later_item_cmp : Item → Item → Ordering
-later_item_cmp = on (λ i. (i.changed, (i.key, i.value))) (pair_cmp nat_cmp (pair_cmp bytes_cmp bytes_cmp))
+later_item_cmp = on (λ i. (i.changed, (i.key, i.value)))
+    (pair_cmp nat_cmp (pair_cmp bytes_cmp bytes_cmp))

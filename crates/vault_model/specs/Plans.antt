@@ -119,7 +119,8 @@ abbrev pub run : ℕ → World → List Step → World
 run n w [] = w
 run n w (s ∷ ss) = run n (after_step n w s) ss
 
--- a change only grows: the join of the databases before and after it is the one after it; a merge passes no level
+-- a change only grows: the join of the databases before and after it is the one after it; a merge
+-- passes no level
 abbrev pub IsStep : ℕ → World → Step → Type 0
 IsStep n w (change i d) = join (db_in (w i).doc ∷ db_in d ∷ []) ≡ db_in d
 IsStep n w (merged i js) = FitsLevels n (join (db_in (w i).doc ∷ dbs_of w js))

@@ -33,31 +33,37 @@ is_text_field f = is_utf8 f.key && is_utf8 f.value
 
 -- how an entry is typed is made of texts
 abbrev pub is_text_typing : AutoType → Bool
-is_text_typing a = is_utf8 a.sequence && list_all (λ (p : Association). is_utf8 p.window && is_utf8 p.keys) a.pairs
+is_text_typing a = is_utf8 a.sequence && list_all
+    (λ (p : Association). is_utf8 p.window && is_utf8 p.keys) a.pairs
 
 -- what a version says is made of texts, but for the bytes of its attachments
 abbrev pub is_text_content : BareContent → Bool
 is_text_content c =
-    list_all is_text_field c.fields && list_all (λ (a : BareAttachment). is_utf8 a.name) c.attachments
+    list_all is_text_field c.fields && list_all (λ (a : BareAttachment). is_utf8 a.name)
+    c.attachments
     && is_utf8 c.tags && is_utf8 c.fore && is_utf8 c.back && is_utf8 c.url_override
     && is_text_typing c.auto_type && list_all is_text_item c.items
 
 -- what a group says is made of texts
 abbrev pub is_text_group : GroupContent → Bool
-is_text_group c = is_utf8 c.name && is_utf8 c.notes && is_utf8 c.sequence && list_all is_text_item c.items
+is_text_group c = is_utf8 c.name && is_utf8 c.notes && is_utf8 c.sequence
+    && list_all is_text_item c.items
 
 -- what a database says of itself is made of texts
 abbrev pub is_text_meta : Meta → Bool
 is_text_meta m =
-    is_utf8 m.name.value && is_utf8 m.description.value && is_utf8 m.user.value && is_utf8 m.settings.value.color
+    is_utf8 m.name.value && is_utf8 m.description.value && is_utf8 m.user.value
+    && is_utf8 m.settings.value.color
     && list_all is_text_icon m.icons && list_all is_text_item m.items
 
 -- ---- what versions and groups say
 
--- what a version says is in order: fields, attachments and items rise by key or name, and its texts are in UTF-8
+-- what a version says is in order: fields, attachments and items rise by key or name, and its texts
+-- are in UTF-8
 unfoldable pub is_proper_content : BareContent → Bool
 is_proper_content c =
-    rises (λ (f : BareField). f.key) c.fields && rises (λ (a : BareAttachment). a.name) c.attachments
+    rises (λ (f : BareField). f.key) c.fields
+    && rises (λ (a : BareAttachment). a.name) c.attachments
     && rises (λ (i : Item). i.key) c.items && is_text_content c
 
 -- what a group says is in order: its items rise by key, and its texts are in UTF-8

@@ -18,11 +18,19 @@ use Rattle.vault_model.specs.Tree.{BareDoc, Tree, all_trees, entry_rows, group_r
 
 -- a version: its mark, and how it was used
 abbrev pub bare_version : Version → BareVersion
-bare_version v = record { mark = record { modified = v.modified; content = bare_content v.content }; stats = v.stats }
+bare_version v = record {
+  mark = record { modified = v.modified; content = bare_content v.content };
+  stats = v.stats;
+}
 
 -- an entry without its id, with its versions so seen
 abbrev pub entry_record : Entry → EntryRecord
-entry_record e = record { placed = e.placed; current = bare_version e.current; history = map bare_version e.history }
+entry_record e = record {
+  placed = e.placed;
+  current = bare_version e.current;
+  history = map
+      bare_version e.history;
+}
 
 -- the greatest modification time of an entry's versions, the current one and those before it
 abbrev pub entry_time : EntryRecord → ℕ
@@ -34,7 +42,8 @@ entry_row e = (e.id, entry_record e)
 
 -- one group, with the tree of each group in it in that group's place
 abbrev pub tree_step : Group-F Tree → Tree
-tree_step g = node g.id (record { placed = g.placed; state = g.state; view = g.view }) (map entry_row g.entries) (all_trees g.groups)
+tree_step g = node g.id (record { placed = g.placed; state = g.state; view = g.view })
+    (map entry_row g.entries) (all_trees g.groups)
 
 -- a group with all below it
 abbrev pub tree_seen : Group → Tree
@@ -56,11 +65,13 @@ are_tombs_apart tree tombs = list_all (λ (t : Tombstone). is_elsewhere tree t.i
 
 -- what each version of each entry says is in order
 abbrev pub are_entries_proper : Tree → Bool
-are_entries_proper tree = list_all (λ (r : NodeId × EntryRecord). is_proper_entry r.1) (entry_rows tree)
+are_entries_proper tree = list_all (λ (r : NodeId × EntryRecord). is_proper_entry r.1)
+    (entry_rows tree)
 
 -- what each group says is in order
 abbrev pub are_groups_proper : Tree → Bool
-are_groups_proper tree = list_all (λ (r : NodeId × GroupRecord). is_proper_group_content r.1.state.content) (group_rows tree)
+are_groups_proper tree = list_all (λ (r : NodeId
+    × GroupRecord). is_proper_group_content r.1.state.content) (group_rows tree)
 
 -- icons rise by id
 abbrev pub icons_rise : List Icon → Bool

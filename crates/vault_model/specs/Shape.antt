@@ -49,7 +49,8 @@ pub record Shape : Type 0 where
 
 -- all versions of an entry, those of one mark made one
 abbrev pub versions_of : EntryRecord → Versions
-versions_of e = unite_all stats_join (map (λ (v : BareVersion). insert empty v.mark v.stats) (e.current ∷ e.history))
+versions_of e = unite_all stats_join (map (λ (v : BareVersion). insert empty v.mark v.stats)
+    (e.current ∷ e.history))
 
 -- the lists of a group without children
 abbrev pub no_children : Children
@@ -65,10 +66,11 @@ placed_or None None = 0
 abbrev pub placed_of : Shape → NodeId → ℕ
 placed_of s u = placed_or (get s.entries u) (get s.groups u)
 
--- each child stands in the group whose lists have it
+-- each child is in the group whose lists have it
 abbrev pub place_rows : Shape → List (NodeId × Place)
 place_rows s = flat_map (λ (row : NodeId × Children).
-    map (λ u. (u, record { placed = placed_of s u; parent = row.0 })) (row.1.entries ++ row.1.groups)) (entries s.children)
+    map (λ u. (u, record { placed = placed_of s u; parent = row.0 }))
+    (row.1.entries ++ row.1.groups)) (entries s.children)
 
 -- what every copy of a document shares of what it says of itself
 abbrev pub shared_of : Meta → SharedMeta
@@ -88,7 +90,8 @@ unfoldable pub db_of : Shape → Db
 db_of s = record {
   root = s.root;
   entries = tabulate (keys s.entries) (λ u. option_map versions_of (get s.entries u));
-  groups = tabulate (keys s.groups) (λ u. option_map (λ (g : GroupRecord). g.state) (get s.groups u));
+  groups = tabulate (keys s.groups) (λ u. option_map (λ (g : GroupRecord). g.state)
+      (get s.groups u));
   places = from_entries (place_rows s);
   tombs = s.tombs;
   meta = shared_of s.meta;
@@ -98,7 +101,8 @@ db_of s = record {
 
 -- those that stood before and still do, as they stood, and then the newcomers in their order
 abbrev pub in_order : List NodeId → List NodeId → List NodeId
-in_order old now = filter (λ u. list_any (is_id u) now) old ++ filter (λ u. not (list_any (is_id u) old)) now
+in_order old now = filter (λ u. list_any (is_id u) now) old
+    ++ filter (λ u. not (list_any (is_id u) old)) now
 
 -- the last of some things
 abbrev pub last_of : {A : Type 0} → A → List A → A
@@ -117,7 +121,11 @@ version_of v = record { mark = v.0; stats = v.1 }
 -- of the versions in rising order the greatest is current, and the others are the history
 abbrev pub record_of : ℕ → List (Mark × Stats) → Option EntryRecord
 record_of placed [] = None
-record_of placed (v ∷ vs) = Some (record { placed = placed; current = version_of (last_of v vs); history = map version_of (but_last v vs) })
+record_of placed (v ∷ vs) = Some (record {
+  placed = placed;
+  current = version_of (last_of v vs);
+  history = map version_of (but_last v vs);
+})
 
 -- since when a node has its place in a database
 abbrev pub placed_in : Db → NodeId → ℕ
@@ -128,7 +136,7 @@ abbrev pub stands_in : NodeId → Option Place → Bool
 stands_in g None = false
 stands_in g (Some p) = is_id g p.parent
 
--- those of some ids, which rise, that stand in a group
+-- those of some ids, which rise, that are in a group
 abbrev pub standing : Db → NodeId → List NodeId → List NodeId
 standing m g us = filter (λ u. stands_in g (get m.places u)) us
 
@@ -136,7 +144,8 @@ standing m g us = filter (λ u. stands_in g (get m.places u)) us
 abbrev pub kids : Shape → NodeId → Children
 kids s g = unwrap_or (get s.children g) no_children
 
--- a group's children: those that it had in the older document and still has, and then the newcomers by rising id
+-- a group's children: those that it had in the older document and still has, and then the newcomers
+-- by rising id
 abbrev pub laid_children : Db → Shape → NodeId → Children
 laid_children m t g = record {
   entries = in_order (kids t g).entries (standing m g (keys m.entries));
@@ -147,7 +156,8 @@ laid_children m t g = record {
 abbrev pub new_view : GroupView
 new_view = record { expanded = true; top_entry = nil_id }
 
--- a group as it stands in the database, looked at as in the older document; the root's placed time is the older document's
+-- a group as it is in the database, looked at as in the older document; the root's placed time is
+-- the older document's
 abbrev pub laid_group : Db → Shape → NodeId → GroupState → GroupRecord
 laid_group m t u state = record {
   placed = cond (is_id u m.root) (placed_of t u) (placed_in m u);
@@ -177,7 +187,8 @@ versions_in (Some versions) = entries versions
 unfoldable pub lay : Db → Shape → Shape
 lay m t = record {
   root = m.root;
-  entries = tabulate (keys m.entries) (λ u. record_of (placed_in m u) (versions_in (get m.entries u)));
+  entries = tabulate (keys m.entries) (λ u. record_of (placed_in m u)
+      (versions_in (get m.entries u)));
   groups = tabulate (keys m.groups) (λ u. option_map (laid_group m t u) (get m.groups u));
   children = tabulate (keys m.groups) (λ g. Some (laid_children m t g));
   tombs = m.tombs;

@@ -10,7 +10,8 @@ unfolding field_cmp
 field_cmp_total =
     on_total {J = List ℕ × (List ℕ × Bool)} (λ f. (f.key, (f.value, f.hidden)))
     (then_total (on_total (λ p. p.0) nat_list_cmp_total)
-    (on_total (λ p. p.1) (then_total (on_total (λ p. p.0) nat_list_cmp_total) (on_total (λ p. p.1) bool_cmp_total))))
+    (on_total (λ p. p.1) (then_total (on_total (λ p. p.0) nat_list_cmp_total)
+    (on_total (λ p. p.1) bool_cmp_total))))
 
 -- attachments
 pub attachment_cmp_total : IsTotalOrder attachment_cmp
@@ -18,4 +19,5 @@ unfolding attachment_cmp
 attachment_cmp_total =
     on_total {J = List ℕ × (List ℕ × Bool)} (λ a. (a.name, (a.bytes, a.hidden)))
     (then_total (on_total (λ p. p.0) nat_list_cmp_total)
-    (on_total (λ p. p.1) (then_total (on_total (λ p. p.0) nat_list_cmp_total) (on_total (λ p. p.1) bool_cmp_total))))
+    (on_total (λ p. p.1) (then_total (on_total (λ p. p.0) nat_list_cmp_total)
+    (on_total (λ p. p.1) bool_cmp_total))))

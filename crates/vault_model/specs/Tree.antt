@@ -38,7 +38,8 @@ abbrev pub ids_of : Trees → List NodeId
 ids_of none = []
 ids_of (beside t ts) = id_of t ∷ ids_of ts
 
--- the records of all entries, in document order: the entries of a group, then its groups with all below them
+-- the records of all entries, in document order: the entries of a group, then its groups with all
+-- below them
 abbrev mutual
   pub entry_rows : Tree → List (NodeId × EntryRecord)
   entry_rows (node u r es ts) = es ++ entry_rows_all ts
@@ -61,7 +62,13 @@ abbrev mutual
 -- the children of all groups
 abbrev mutual
   pub child_rows : Tree → List (NodeId × Children)
-  child_rows (node u r es ts) = (u, record { entries = map (λ (e : NodeId × EntryRecord). e.0) es; groups = ids_of ts }) ∷ child_rows_all ts
+  child_rows (node u r es ts) = (
+    u,
+    record {
+      entries = map (λ (e : NodeId × EntryRecord). e.0) es;
+      groups = ids_of ts;
+    },
+  ) ∷ child_rows_all ts
 
   -- the same of groups side by side
   pub child_rows_all : Trees → List (NodeId × Children)
@@ -98,7 +105,8 @@ all_trees (t ∷ ts) = beside t (all_trees ts)
 abbrev pub tree_of : Shape → ℕ → NodeId → GroupRecord → Tree
 tree_of s zero g r = node g r (with_records s.entries (kids s g).entries) none
 tree_of s (suc n) g r = node g r (with_records s.entries (kids s g).entries)
-    (all_trees (map (λ (c : NodeId × GroupRecord). tree_of s n c.0 c.1) (with_records s.groups (kids s g).groups)))
+    (all_trees (map (λ (c : NodeId × GroupRecord). tree_of s n c.0 c.1)
+    (with_records s.groups (kids s g).groups)))
 
 -- the record of no group
 abbrev pub no_group : GroupRecord
@@ -206,7 +214,8 @@ is_elsewhere t u = not (list_any (is_id u) (node_ids t))
 
 -- what each version of an entry says is in order
 abbrev pub is_proper_entry : EntryRecord → Bool
-is_proper_entry e = list_all (λ (v : BareVersion). is_proper_content v.mark.content) (e.current ∷ e.history)
+is_proper_entry e = list_all (λ (v : BareVersion). is_proper_content v.mark.content)
+    (e.current ∷ e.history)
 
 -- A document whose parts are in order.
 pub record IsDoc (d : BareDoc) : Type 0 where
@@ -218,8 +227,10 @@ pub record IsDoc (d : BareDoc) : Type 0 where
   pub tombs_rise : rises (λ (t : Tombstone). t.id) d.tombs ≡ true
   pub tombs_apart : list_all (λ (t : Tombstone). is_elsewhere d.tree t.id) d.tombs ≡ true
   -- what versions, groups, icons and items say is in order
-  pub entries_proper : list_all (λ (r : NodeId × EntryRecord). is_proper_entry r.1) (entry_rows d.tree) ≡ true
-  pub groups_proper : list_all (λ (r : NodeId × GroupRecord). is_proper_group_content r.1.state.content) (group_rows d.tree) ≡ true
+  pub entries_proper : list_all (λ (r : NodeId × EntryRecord). is_proper_entry r.1)
+      (entry_rows d.tree) ≡ true
+  pub groups_proper : list_all (λ (r : NodeId
+      × GroupRecord). is_proper_group_content r.1.state.content) (group_rows d.tree) ≡ true
   pub icons_rise : rises (λ (i : Icon). i.id) d.meta.icons ≡ true
   pub items_rise : rises (λ (i : Item). i.key) d.meta.items ≡ true
   pub meta_texts : is_text_meta d.meta ≡ true

@@ -40,10 +40,12 @@ tabulate [] value = empty
 tabulate (k ∷ ks) value = put_some k (value k) (tabulate ks value)
 
 -- two maps, joined key by key
-unfoldable pub unite : {K A : Type 0} {R : K → K → Ordering} → (A → A → A) → FinMap R A → FinMap R A → FinMap R A
+unfoldable pub unite : {K A : Type 0} {R : K → K → Ordering} → (A → A → A) → FinMap R A → FinMap R A
+    → FinMap R A
 unite join m n = tabulate (keys m ++ keys n) (λ k. merged join (get m k) (get n k))
 
 -- many maps, joined key by key
-abbrev pub unite_all : {K A : Type 0} {R : K → K → Ordering} → (A → A → A) → List (FinMap R A) → FinMap R A
+abbrev pub unite_all : {K A : Type 0} {R : K → K → Ordering} → (A → A → A) → List (FinMap R A)
+    → FinMap R A
 unite_all join [] = empty
 unite_all join (m ∷ ms) = unite join m (unite_all join ms)

@@ -18,19 +18,20 @@ pub record Walked : Type 0 where
   pub path : List ℕ
   pub found : Node
 
--- names behind one another, each after a slash
+-- names one after another, each after a slash
 abbrev pub slashed : List (List ℕ) → List ℕ
 slashed [] = []
 slashed (n ∷ ns) = codes "/" ++ n ++ slashed ns
 
 -- names with a slash between each two
-abbrev pub joined : List (List ℕ) → List ℕ
-joined [] = []
-joined (n ∷ ns) = n ++ slashed ns
+abbrev pub slash_joined : List (List ℕ) → List ℕ
+slash_joined [] = []
+slash_joined (n ∷ ns) = n ++ slashed ns
 
 -- the value of the field of this key, empty where there is none
 abbrev pub value_of : List ℕ → List BareField → List ℕ
-value_of key fields = unwrap_or (option_map (λ (f : BareField). f.value) (find (λ (f : BareField). bytes_eq key f.key) fields)) []
+value_of key fields = unwrap_or (option_map (λ (f : BareField). f.value)
+    (find (λ (f : BareField). bytes_eq key f.key) fields)) []
 
 -- an entry's title: the value of the field `Title` of its current version
 abbrev pub title_of : EntryRecord → List ℕ
@@ -42,12 +43,18 @@ name_of (node u r es ts) = r.state.content.name
 
 -- an entry with its path: the names of its groups below the root, and then its title
 abbrev pub walked_entry : List (List ℕ) → NodeId × EntryRecord → Walked
-walked_entry names e = record { path = joined (names ++ title_of e.1 ∷ []); found = an_entry e.0 e.1 }
+walked_entry names e = record {
+  path = slash_joined (names ++ title_of e.1 ∷ []);
+  found = an_entry
+      e.0 e.1;
+}
 
--- a group, then its entries, and then its groups in their order, each with all below it; the names are those that lead to it from below the root
+-- a group, then its entries, and then its groups in their order, each with all below it; the names
+-- are those that lead to it from below the root
 abbrev mutual
   pub walk_tree : List (List ℕ) → Tree → List Walked
-  walk_tree names (node u r es ts) = record { path = joined names; found = a_group u r } ∷ (map (walked_entry names) es ++ walk_trees names ts)
+  walk_tree names (node u r es ts) = record { path = slash_joined names; found = a_group u r } ∷
+      (map (walked_entry names) es ++ walk_trees names ts)
 
   -- the same of groups side by side
   pub walk_trees : List (List ℕ) → Trees → List Walked

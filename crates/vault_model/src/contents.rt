@@ -70,7 +70,8 @@ pub struct GroupContent {
     pub items: List<Item>,
 }
 
-/// A field of an entry: its key, its value in UTF-8, and whether the value is hidden when it is shown.
+/// A field of an entry: its key, its value in UTF-8, and whether the value is hidden when it is
+/// shown.
 #[derive(Drop)]
 pub struct Field {
     pub key: Text,
@@ -133,7 +134,8 @@ pub struct Attachment {
 impl PartialEq for Attachment {
     ghost eq = { eq_by_cmp (on bare_attachment attachment_cmp) };
 
-    ghost laws = { partial_equiv_from_equiv (eq_by_cmp_equiv (on_total bare_attachment attachment_cmp_total)) };
+    ghost laws = { partial_equiv_from_equiv (eq_by_cmp_equiv
+        (on_total bare_attachment attachment_cmp_total)) };
 
     fn eq(&self, other: &Attachment) -> bool {
         self.cmp(other).is_eq()
@@ -192,15 +194,16 @@ pub struct Content {
     pub items: List<Item>,
 }
 
-/// Orders what two versions say, field by field as the fields are listed: texts and bytes by their bytes,
-/// false below true, nothing below something, lists as dictionaries order words.
+/// Orders what two versions say, field by field as the fields are listed: texts and bytes by their
+/// bytes, false below true, nothing below something, lists as dictionaries order words.
 pub fn compare_content(a: &Content, b: &Content) -> Ordering
     ensures { result ≡ content_cmp (bare_content a.now) (bare_content b.now) }
 {
     a.cmp(b)
 }
 
-/// Orders what two groups say, in the same way; a choice left to the parent is below no, and no below yes.
+/// Orders what two groups say, in the same way; a choice left to the parent is below no, and no
+/// below yes.
 pub fn compare_group(a: &GroupContent, b: &GroupContent) -> Ordering
     ensures { result ≡ group_content_cmp a.now b.now }
 {

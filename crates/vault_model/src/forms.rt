@@ -9,7 +9,8 @@ pub enum DocForm {
     V4,
 }
 
-/// An attachment's bytes as a file keeps them apart from its entries, which refer to them by number.
+/// An attachment's bytes as a file keeps them apart from its entries, which refer to them by
+/// number.
 #[derive(Drop)]
 pub struct PoolItem {
     pub bytes: Rc<Secret>,

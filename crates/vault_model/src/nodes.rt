@@ -56,8 +56,8 @@ pub struct Group {
     pub groups: List<Group>,
 }
 
-/// When an entry was last modified: the greatest modification time of its versions, the current one and those
-/// before it.
+/// When an entry was last modified: the greatest modification time of its versions, the current one
+/// and those before it.
 pub fn entry_stamp(entry: &Entry) -> Stamp
     ensures { result ≡ entry_time (entry_record entry.now) }
 {

@@ -2,7 +2,7 @@ use Rattle.std.proofs.Common.{◌≡◌, drop}
 use Rattle.std.specs.Prelude.{map, option_map}
 use Rattle.vault_model.specs.SeenNodes.{tree_seen}
 use Rattle.vault_model.specs.Tree.{all_trees}
-use Rattle.tree_core.specs.Rests as spec
+use Rattle.tree_core.specs.Path as spec
 use Rattle.tree_core.proofs.finding.+group_in.Given as goal
 
 abbrev pub invariant-loop-child : goal.invariant-loop-child

@@ -1,7 +1,7 @@
 use Rattle.std.proofs.Common.{◌≡◌, drop}
 use Rattle.std.specs.Prelude.{map, option_map}
 use Rattle.vault_model.specs.SeenNodes.{entry_row}
-use Rattle.tree_core.specs.Rests as spec
+use Rattle.tree_core.specs.Path as spec
 use Rattle.tree_core.proofs.finding.entry_among.Given as goal
 
 abbrev pub invariant-loop-entry : goal.invariant-loop-entry

@@ -1,7 +1,7 @@
 use Rattle.std.proofs.lemmas.Bool.Decides.{Decides-eqb}
 use Rattle.std.proofs.lemmas.Slice.Eq.{strip_prefix_is}
 use Rattle.tree_core.proofs.Leading.{stripped}
-use Rattle.tree_core.proofs.rests.behind.Goals as goal
+use Rattle.tree_core.proofs.path.strip_prefix.Goals as goal
 
 pub returns : goal.returns
 returns c =
