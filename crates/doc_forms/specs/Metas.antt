@@ -2,6 +2,7 @@
 use Rattle.std.specs.Prelude.{ℕ, pos, negsuc, Bool, true, false, if◌then◌else◌, Option, Some, None, List, [], ◌∷◌, ◌++◌, codes, option_map, option_and_then, Ok, Err}
 use Rattle.markup_grammar.specs.Attributes.{attribute_text}
 use Rattle.markup_grammar.specs.Elements.{element}
+use Rattle.text_core.specs.Texts.{bytes_of_length}
 use Rattle.vault_model.specs.Db.{nil_id}
 use Rattle.vault_model.specs.Empty.{new_meta, new_protection}
 use Rattle.vault_model.specs.declared.forms.DocForm.{DocForm}
@@ -17,7 +18,7 @@ use Rattle.doc_forms.specs.Children.{Child, value, container}
 use Rattle.doc_forms.specs.ElementTexts.{Setting, is_marked, is_hidden, read_element}
 use Rattle.doc_forms.specs.Refusals.{◌>>=◌, checked_value}
 use Rattle.doc_forms.specs.Tables.{put, custom_data}
-use Rattle.doc_forms.specs.Values.{text_in, bytes_in, value_or, bytes_of_length, id, boolean, number32, number64, signed32, signed64, time}
+use Rattle.doc_forms.specs.Values.{text_in, bytes_in, value_or, id, boolean, number32, number64, signed32, signed64, time}
 
 -- Bytes to which attachments refer by a number, and whether they are hidden.
 pub record ReadBinary : Type 0 where

@@ -5,7 +5,7 @@ use Rattle.std.specs.List.{list_all}
 use Rattle.std.specs.Str.{is_utf8, str_eq_ignore_ascii_case}
 use Rattle.std.specs.Str.Parse.{digits_value}
 use Rattle.jiff_core.specs.Calendar.{days_in_month}
-use Rattle.text_core.specs.Texts.{trim, base64_bytes}
+use Rattle.text_core.specs.Texts.{trim, base64_bytes, bytes_of_length}
 use Rattle.vault_model.specs.Db.{NodeId}
 use Rattle.vault_model.specs.Times.{last_stamp, seconds_of, iso_text}
 use Rattle.vault_model.specs.declared.contents.Tri.{Tri}
@@ -28,11 +28,6 @@ value_or default rule said =
     if length (trim (text_bytes said)) == 0 then Some default else rule (trim (text_bytes said))
 
 -- ---- bytes and ids
-
--- so many bytes, by base64
-abbrev pub bytes_of_length : ℕ → List ℕ → Option (List ℕ)
-bytes_of_length n text =
-    option_and_then (λ bytes. if length bytes == n then Some bytes else None) (base64_bytes text)
 
 -- the 16 bytes of an id, by base64
 abbrev pub id : List ℕ → Option NodeId

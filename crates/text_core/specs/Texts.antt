@@ -1,5 +1,5 @@
 -- Texts as they are compared and decoded: without white space at their ends, and as base64.
-use Rattle.std.specs.Prelude.{ℕ, ◌-◌, Option, List, drop, length, take}
+use Rattle.std.specs.Prelude.{ℕ, ◌-◌, ◌==◌, ◌&&◌, Bool, not, if◌then◌else◌, Option, Some, None, List, drop, length, option_and_then, take}
 use Rattle.std.specs.List.{prefix_len, suffix_len}
 use Rattle.std.specs.Result.{result_ok}
 use Rattle.base64.specs.Engines.{standard}
@@ -15,3 +15,12 @@ trim text =
 -- the bytes that a text spells in base64, where it does
 unfoldable pub base64_bytes : List ℕ → Option (List ℕ)
 base64_bytes text = result_ok (decode_of standard text)
+
+-- so many bytes, by base64
+abbrev pub bytes_of_length : ℕ → List ℕ → Option (List ℕ)
+bytes_of_length n text =
+    option_and_then (λ bytes. if length bytes == n then Some bytes else None) (base64_bytes text)
+
+-- a byte of raw markup that stands for itself wherever it is: neither `&` nor a carriage return
+abbrev pub is_literal : ℕ → Bool
+is_literal b = not (b == 38) && not (b == 13)

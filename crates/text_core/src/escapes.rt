@@ -1,0 +1,68 @@
+//! Raw markup, with its escapes resolved into secret memory.
+
+ghost use Rattle.markup_grammar.specs.Escapes as escapes;
+ghost use Rattle.std.specs.List.{list_all};
+ghost use Rattle.std.specs.Prelude.{◌≡◌, ◌≤◌, ◌++◌, IfOk, OnErr, OnOk};
+ghost use Rattle.std.specs.Str.{str_eq_ignore_ascii_case};
+ghost use Rattle.text_core.specs.Texts as texts;
+
+use crate::spaces::is_word;
+use markup_core::{unescape, unescaped_len};
+use outside_core::NoMemory;
+use secret_core::Secret;
+use std::alloc::Global;
+
+/// The text for which raw markup stands.
+pub fn unescaped(alloc: Global, raw: &str) -> Result<Secret, NoMemory>
+    ensures { IfOk result (λ text. text.bytes ≡ escapes.unescaped raw.now) }
+{
+    let mut text = Secret::with_room(alloc, unescaped_len(raw))?;
+    unescape(raw, &mut text);
+    Ok(text)
+}
+
+/// Makes room for so many bytes after a text, and for as many as it has.
+fn reserve(alloc: Global, text: &mut Secret, more: usize) -> Result<(), NoMemory>
+    ensures bytes { text.new.bytes ≡ text.old.bytes }
+    ensures spare { OnOk result (more ≤ text.new.spare) }
+{
+    if more <= text.spare() {
+        return Ok(());
+    }
+    let Some(room) = text.len().checked_add(more) else {
+        return Err(NoMemory);
+    };
+    let mut larger = Secret::with_room(alloc, room.saturating_add(text.len()))?;
+    larger.extend(text.lend(0, text.len()));
+    *text = larger;
+    Ok(())
+}
+
+/// Appends the text for which raw markup stands. A refusal leaves the text as it was.
+pub fn append_unescaped(alloc: Global, text: &mut Secret, raw: &str) -> Result<(), NoMemory>
+    ensures bytes { OnOk result (text.new.bytes ≡ text.old.bytes ++ escapes.unescaped raw.now) }
+    ensures same { OnErr result (text.new.bytes ≡ text.old.bytes) }
+{
+    reserve(alloc, text, unescaped_len(raw))?;
+    unescape(raw, text);
+    Ok(())
+}
+
+/// Whether raw markup has no escapes, and so stands for itself.
+fn is_literal(raw: &[u8]) -> bool
+    ensures { result ≡ list_all texts.is_literal raw.now }
+{
+    raw.iter().all(|byte| *byte != b'&' && *byte != b'\r')
+}
+
+/// Whether raw markup stands for this word, in any case of its letters. Memory is taken only for escapes.
+#[tactic(auto, using(crate::proofs::Literals::literal_text))]
+pub fn spells_word(alloc: Global, raw: &str, word: &[u8]) -> Result<bool, NoMemory>
+    ensures { IfOk result (λ is_word. is_word ≡ str_eq_ignore_ascii_case (escapes.unescaped raw.now) word.now) }
+{
+    if is_literal(raw.as_bytes()) {
+        return Ok(is_word(raw.as_bytes(), word));
+    }
+    let text = unescaped(alloc, raw)?;
+    Ok(is_word(text.lend(0, text.len()), word))
+}
