@@ -13,7 +13,7 @@ ghost use Rattle.doc_walk.specs.Steps.{Steps};
 ghost use Rattle.doc_walk.specs.Tags.{child_step, contents_step};
 
 use doc_forms::{Binary, DocFail, ElementText};
-use doc_values::{Kind, SecretBytes, appended, is_hidden, is_marked, no_text, number64};
+use doc_values::{Kind, SecretBytes, is_hidden, is_marked, number64, resolved};
 use doc_walk::{Parts, Tag, Walk, contents};
 use markup_core::Attrs;
 use outside_core::List;
@@ -29,7 +29,7 @@ fn own_number(alloc: Global, attrs: &Attrs<'_>) -> Result<Option<u64>, DocFail>
     let Some(raw) = attrs.get("ID") else {
         return Ok(None);
     };
-    let text = appended(alloc, no_text(alloc)?, raw)?;
+    let text = resolved(alloc, raw)?;
     Ok(number64(text.lend(0, text.len())))
 }
 

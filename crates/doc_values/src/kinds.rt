@@ -11,13 +11,14 @@ ghost use Rattle.doc_forms.specs.Entries.{id_or_none};
 ghost use Rattle.doc_forms.specs.Refusals.{Returns};
 ghost use Rattle.doc_forms.specs.SeenTexts.{text_seen};
 
+use crate::marks::base64_bytes;
 use crate::values;
 use doc_forms::{DocFail, ElementText};
 use outside_core::{Bytes, Text};
 use secret_core::Secret;
 use std::alloc::Global;
 use std::str;
-use text_core::trim;
+use text_core::{decode_base64_array, trim};
 use uuid::Uuid;
 use vault_model::{Stamp, Tri};
 
@@ -244,12 +245,12 @@ impl Kind for IdValue {
 
     ghost rule = { spec.value_or nil_id spec.id };
 
-    fn from_text(alloc: Global, text: ElementText) -> Result<Option<Uuid>, DocFail> {
+    fn from_text(_alloc: Global, text: ElementText) -> Result<Option<Uuid>, DocFail> {
         let text = trimmed_text(&text);
         if text.is_empty() {
             return Ok(Some(Uuid::nil()));
         }
-        values::id(alloc, text)
+        Ok(values::id(text))
     }
 }
 
@@ -265,12 +266,12 @@ impl Kind for IdOrNone {
 
     ghost rule = { id_or_none };
 
-    fn from_text(alloc: Global, text: ElementText) -> Result<Option<Option<Uuid>>, DocFail> {
+    fn from_text(_alloc: Global, text: ElementText) -> Result<Option<Option<Uuid>>, DocFail> {
         let text = trimmed_text(&text);
         if text.is_empty() {
             return Ok(Some(None));
         }
-        match values::id(alloc, text)? {
+        match values::id(text) {
             Some(id) => Ok(Some(Some(id))),
             None => Ok(None),
         }
@@ -289,8 +290,8 @@ impl Kind for OwnId {
 
     ghost rule = { λ x. spec.id (texts.trim (text_bytes x)) };
 
-    fn from_text(alloc: Global, text: ElementText) -> Result<Option<Uuid>, DocFail> {
-        values::id(alloc, trimmed_text(&text))
+    fn from_text(_alloc: Global, text: ElementText) -> Result<Option<Uuid>, DocFail> {
+        Ok(values::id(trimmed_text(&text)))
     }
 }
 
@@ -329,12 +330,12 @@ impl Kind for TimeValue {
 
     ghost rule = { spec.value_or 0 spec.time };
 
-    fn from_text(alloc: Global, text: ElementText) -> Result<Option<Stamp>, DocFail> {
+    fn from_text(_alloc: Global, text: ElementText) -> Result<Option<Stamp>, DocFail> {
         let text = trimmed_text(&text);
         if text.is_empty() {
             return Ok(Stamp::of(0));
         }
-        values::time(alloc, text)
+        Ok(values::time(text))
     }
 }
 
@@ -348,14 +349,14 @@ impl Kind for HashOrNone {
 
     ghost seen = { λ o. o };
 
-    ghost rule = { spec.value_or None (λ text. option_map Some (spec.bytes_of_length 32 text)) };
+    ghost rule = { spec.value_or None (λ text. option_map Some (texts.bytes_of_length 32 text)) };
 
-    fn from_text(alloc: Global, text: ElementText) -> Result<Option<Option<[u8; 32]>>, DocFail> {
+    fn from_text(_alloc: Global, text: ElementText) -> Result<Option<Option<[u8; 32]>>, DocFail> {
         let text = trimmed_text(&text);
         if text.is_empty() {
             return Ok(Some(None));
         }
-        match values::bytes_of_length::<32>(alloc, text)? {
+        match decode_base64_array::<32>(text) {
             Some(hash) => Ok(Some(Some(hash))),
             None => Ok(None),
         }
@@ -378,14 +379,7 @@ impl Kind for SecretBytes {
         if text.is_hidden {
             return Ok(Some(text.bytes));
         }
-        let Some(bytes) = values::base64_bytes(alloc, trimmed_text(&text))? else {
-            return Ok(None);
-        };
-        let Ok(mut secret) = Secret::with_room(alloc, bytes.len()) else {
-            return Err(DocFail::NoMemory);
-        };
-        secret.extend(bytes.as_slice());
-        Ok(Some(secret))
+        base64_bytes(alloc, trimmed_text(&text))
     }
 }
 
@@ -416,8 +410,8 @@ impl Kind for OpenBytes {
         if text.is_hidden {
             return Ok(Some(open_bytes(alloc, text.bytes.lend(0, text.bytes.len()))?));
         }
-        match values::base64_bytes(alloc, trimmed_text(&text))? {
-            Some(bytes) => Ok(Some(open_bytes(alloc, bytes.as_slice())?)),
+        match base64_bytes(alloc, trimmed_text(&text))? {
+            Some(bytes) => Ok(Some(open_bytes(alloc, bytes.lend(0, bytes.len()))?)),
             None => Ok(None),
         }
     }

@@ -12,5 +12,5 @@ pub use kinds::{
     OpenBytes, OwnId, SecretBytes, SecretText, Signed32, Signed64, TextValue, TimeValue,
     TrueUnlessFalse,
 };
-pub use marks::{appended, is_hidden, is_marked, no_text};
-pub use values::{base64_bytes, number64};
+pub use marks::{appended, base64_bytes, is_hidden, is_marked, no_text, resolved};
+pub use values::number64;

@@ -1,16 +1,10 @@
-//! Values by their texts: choices, numbers, bytes in base64, ids and times.
+//! Values by their texts: choices, numbers, ids and times.
 
-ghost use Rattle.std.specs.Prelude.{◌≡◌, ◌≤◌, ◌∷◌, Ok, option_map, MatchOption, neg_ℤ, pos};
+ghost use Rattle.std.specs.Prelude.{◌≡◌, ◌≤◌, ◌∷◌, MatchOption, neg_ℤ, pos};
 ghost use Rattle.markup_core.specs.Fronts.{DiffersFirst};
-ghost use Rattle.text_core.specs.Texts as texts;
 ghost use Rattle.doc_forms.specs.Values as spec;
-ghost use Rattle.doc_forms.specs.Refusals.{Returns};
 
-use base64::DecodeAllocError;
-use base64::engine::general_purpose::STANDARD;
-use doc_forms::DocFail;
-use std::alloc::Global;
-use text_core::is_word;
+use text_core::{decode_base64_array, is_word};
 use uuid::Uuid;
 use vault_model::{Stamp, Tri, stamp_of_iso};
 
@@ -95,36 +89,6 @@ pub fn number64(text: &[u8]) -> Option<u64>
     number_up_to(text, u64::MAX)
 }
 
-/// The bytes that base64 spells, where it does.
-#[tactic(auto, unfolding(text_core::specs::Texts::base64_bytes))]
-pub fn base64_bytes(alloc: Global, text: &[u8]) -> Result<Option<Vec<u8>>, DocFail>
-    ensures { Returns (λ o. option_map (λ v. v.items) o) result (Ok (texts.base64_bytes text.now)) }
-{
-    match STANDARD.decode(alloc, text) {
-        Ok(bytes) => Ok(Some(bytes)),
-        Err(DecodeAllocError::OutOfMemory) => Err(DocFail::NoMemory),
-        Err(DecodeAllocError::DecodeError(_)) => Ok(None),
-    }
-}
-
-/// So many bytes, by base64.
-pub fn bytes_of_length<const N: usize>(
-    alloc: Global,
-    text: &[u8],
-) -> Result<Option<[u8; N]>, DocFail>
-    ensures { Returns (λ o. o) result (Ok (spec.bytes_of_length N text.now)) }
-{
-    let Some(bytes) = base64_bytes(alloc, text)? else {
-        return Ok(None);
-    };
-    if bytes.len() != N {
-        return Ok(None);
-    }
-    let mut out = [0; N];
-    out.copy_from_slice(bytes.as_slice());
-    Ok(Some(out))
-}
-
 /// The number from 0 down that has this size.
 fn negated(size: u64) -> i64
     requires { size ≤ 9223372036854775808 }
@@ -158,12 +122,12 @@ pub fn signed32(text: &[u8]) -> Option<i32>
 }
 
 /// The 16 bytes of an id, by base64.
-pub fn id(alloc: Global, text: &[u8]) -> Result<Option<Uuid>, DocFail>
-    ensures { Returns (λ o. o) result (Ok (spec.id text.now)) }
+pub fn id(text: &[u8]) -> Option<Uuid>
+    ensures { result ≡ spec.id text.now }
 {
-    match bytes_of_length::<16>(alloc, text)? {
-        Some(bytes) => Ok(Some(Uuid::from_bytes(bytes))),
-        None => Ok(None),
+    match decode_base64_array::<16>(text) {
+        Some(bytes) => Some(Uuid::from_bytes(bytes)),
+        None => None,
     }
 }
 
@@ -175,12 +139,12 @@ fn iso_time(text: &[u8]) -> Option<Stamp>
 }
 
 /// Seconds since the year 1 as a number of 64 bits, the least byte first, by base64.
-fn counted_time(alloc: Global, text: &[u8]) -> Result<Option<Stamp>, DocFail>
-    ensures { Returns (λ o. o) result (Ok (spec.counted_time text.now)) }
+fn counted_time(text: &[u8]) -> Option<Stamp>
+    ensures { result ≡ spec.counted_time text.now }
 {
-    match bytes_of_length::<8>(alloc, text)? {
-        Some(bytes) => Ok(stamp_from(bytes)),
-        None => Ok(None),
+    match decode_base64_array::<8>(text) {
+        Some(bytes) => stamp_from(bytes),
+        None => None,
     }
 }
 
@@ -192,11 +156,11 @@ fn stamp_from(bytes: [u8; 8]) -> Option<Stamp>
 }
 
 /// A time, in either form.
-pub fn time(alloc: Global, text: &[u8]) -> Result<Option<Stamp>, DocFail>
-    ensures { Returns (λ o. o) result (Ok (spec.time text.now)) }
+pub fn time(text: &[u8]) -> Option<Stamp>
+    ensures { result ≡ spec.time text.now }
 {
     match iso_time(text) {
-        Some(stamp) => Ok(Some(stamp)),
-        None => counted_time(alloc, text),
+        Some(stamp) => Some(stamp),
+        None => counted_time(text),
     }
 }

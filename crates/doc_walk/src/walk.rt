@@ -116,8 +116,9 @@ impl<'t> Walk<'t> {
     }
 
     /// Bytes that the stream hides, in the clear.
-    fn revealed(&mut self, bytes: Vec<u8>) -> Result<ElementText, DocFail>
-        ensures gives { Returns (λ t. (text_seen t, self.new.cursor)) result (Ok (spec.revealed_text self.old.setting.keystream bytes.items self.old.cursor)) }
+    fn revealed(&mut self, bytes: Secret) -> Result<ElementText, DocFail>
+        ensures gives { Returns (λ t. (text_seen t, self.new.cursor)) result
+            (Ok (spec.revealed_text self.old.setting.keystream bytes.bytes self.old.cursor)) }
         ensures answers { self.new.answers ≡ self.old.answers }
         ensures setting { self.new.setting ≡ self.old.setting }
     {
@@ -126,22 +127,19 @@ impl<'t> Walk<'t> {
         if len > STREAM_END || at.offset > STREAM_END - len {
             return Err(DocFail::NoMemory);
         }
-        let Ok(mut secret) = Secret::with_room(self.alloc, bytes.len()) else {
-            return Err(DocFail::NoMemory);
-        };
-        secret.extend(bytes.as_slice());
-        self.stream.apply(secret.lend_mut());
+        let mut bytes = bytes;
+        self.stream.apply(bytes.lend_mut());
         self.at = Cursor {
             offset: at.offset + len,
             nodes: at.nodes,
         };
         Ok(ElementText {
-            bytes: secret,
+            bytes,
             is_hidden: true,
         })
     }
 
-    /// What an element says, told by its own text.
+    /// What an element says at its end, by its own text.
     pub fn own_text(&mut self, tag: &Tag<'_>, text: Secret) -> Result<ElementText, DocFail>
         ensures gives { Returns (λ t. (text_seen t, self.new.cursor)) result (spec.text_at_end self.old.setting tag.now.offset tag.now.attrs.raw.now text.bytes self.old.cursor) }
         ensures answers { self.new.answers ≡ self.old.answers }
@@ -162,7 +160,7 @@ impl<'t> Walk<'t> {
         }
     }
 
-    /// What the element says whose start tag was given, past the elements in it.
+    /// What the element says whose start tag was given. The elements in it are passed over.
     pub fn element_text(&mut self, tag: &Tag<'_>) -> Result<ElementText, DocFail>
         ensures { Steps text_seen self.old self.new result (text_step tag.now) }
     {
@@ -218,7 +216,7 @@ impl<'t> Walk<'t> {
         Ok(())
     }
 
-    /// The same, put in its place.
+    /// The value of the element whose start tag was given, put in its place.
     pub fn keep<K: Kind>(&mut self, tag: &Tag<'_>, into: &mut K::Value) -> Result<(), DocFail>
         ensures { Steps (λ _. K.seen into.new) self.old self.new result (value_step K.rule tag.now) }
     {
