@@ -1,0 +1,10 @@
+mod Burials
+mod ResolvedTrees
+mod RisingTombs
+mod SettledDocuments
+pub mod FirstMissing
+pub mod GroupTrees
+pub mod IdSets
+pub mod Lists
+pub mod NodeIds
+pub mod Positions

@@ -1,0 +1,38 @@
+-- Lists that are made item by item.
+use Rattle.std.proofs.Common.{◌≡◌, List, [], ◌∷◌, ◌++◌, map, refl, sym, ap, ◌∙◌, append_assoc, arith, length}
+
+-- a list with no items
+pub nothing_left : {X : Type 0} (xs : List X) → length xs ≡ 0 → xs ≡ []
+nothing_left [] e = refl
+nothing_left (x ∷ xs) e = absurd (omega arith)
+
+one_after : {Z W : Type 0} (seen : Z → W) (zs : List Z) (z : Z) (ws : List W) → map seen (zs ++ z ∷ []) ++ ws ≡ map seen zs ++ (seen z ∷ ws)
+one_after seen [] z ws = refl
+one_after seen (y ∷ ys) z ws = ap (λ t. seen y ∷ t) (one_after seen ys z ws)
+
+no_more : {W : Type 0} (ws : List W) → ws ++ [] ≡ ws
+no_more [] = refl
+no_more (w ∷ ws) = ap (λ t. w ∷ t) (no_more ws)
+
+-- what was moved with what is left, once one item more is moved
+pub one_moved : {X : Type 0} (moved more rest next all : List X) (x : X)
+    → moved ++ rest ≡ all → rest ≡ x ∷ next → more ≡ moved ++ x ∷ [] → more ++ next ≡ all
+one_moved moved more rest next all x known left after =
+    ap (λ l. l ++ next) after ∙ (append_assoc moved (x ∷ []) next ∙ (ap (λ l. moved ++ l) (sym left) ∙ known))
+
+module _ {X Y Z W : Type 0} (view : X → Y) (made_of : Y → W) (seen : Z → W) (all : List W) where
+  -- what is made with what is left to make, once one item more is made
+  pub made_more : (rest next : List X) (x : X) (made more : List Z) (z : Z)
+      → map seen made ++ map made_of (map view rest) ≡ all
+      → rest ≡ x ∷ next → more ≡ made ++ z ∷ [] → seen z ≡ made_of (view x)
+      → map seen more ++ map made_of (map view next) ≡ all
+  made_more rest next x made more z known left after is_seen =
+      ap (λ t. map seen t ++ map made_of (map view next)) after
+      ∙ (one_after seen made z (map made_of (map view next))
+      ∙ (ap (λ w. map seen made ++ (w ∷ map made_of (map view next))) is_seen
+      ∙ (ap (λ t. map seen made ++ map made_of (map view t)) (sym left) ∙ known)))
+
+  -- all is made
+  pub all_made : (rest : List X) (made : List Z) → map seen made ++ map made_of (map view rest) ≡ all → rest ≡ [] → map seen made ≡ all
+  all_made rest made known none =
+      sym (no_more (map seen made)) ∙ (ap (λ t. map seen made ++ map made_of (map view t)) (sym none) ∙ known)

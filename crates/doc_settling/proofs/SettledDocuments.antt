@@ -1,0 +1,45 @@
+-- What is settled is a document: its parts are in order.
+use Rattle.std.proofs.Common.{◌≡◌, ◌&&◌, true, List, Option, Some, None, Ok, refl, subst}
+use Rattle.vault_model.specs.Db.{NodeId}
+use Rattle.vault_model.specs.Proper.{is_text_meta}
+use Rattle.vault_model.specs.SeenNodes.{are_tombs_apart, icons_rise, items_rise, tombs_rise}
+use Rattle.vault_model.specs.Tree.{Tree, IsDoc, node_ids}
+use Rattle.vault_model.specs.declared.metas.Meta.{Meta}
+use Rattle.vault_model.specs.declared.nodes.Tombstone.{Tombstone}
+use Rattle.vault_model.proofs.Tests.{and_true}
+use Rattle.doc_forms.specs.Attachments.{resolved_tree}
+use Rattle.doc_forms.specs.Ids.{least_duplicate, refuse_duplicate, tombs_of}
+use Rattle.doc_forms.specs.Groups.{ReadTree}
+use Rattle.doc_forms.specs.KeptParts.{is_kept_meta, is_kept_tree}
+use Rattle.doc_forms.specs.Metas.{ReadBinary}
+use Rattle.doc_settling.proofs.ResolvedTrees.{KeptTree, distinct_ids, resolved_keeps}
+use Rattle.doc_settling.proofs.RisingTombs.{apart_tombs, rising_tombs}
+
+-- no id was refused
+pub no_duplicate : (o : Option NodeId) (u : Unit {0}) → refuse_duplicate o ≡ Ok u → o ≡ None
+no_duplicate None u e = refl
+no_duplicate (Some v) u e = cc e
+
+pub settled_doc : (pool : List ReadBinary) (draft : ReadTree) (tree : Tree) (tombs laid : List Tombstone) (meta : Meta)
+    → is_kept_meta meta ≡ true
+    → is_kept_tree 63 draft ≡ true
+    → resolved_tree pool draft ≡ tree
+    → least_duplicate (node_ids tree) ≡ None
+    → tombs_of tree tombs ≡ laid
+    → IsDoc (record { tree = tree; tombs = laid; meta = meta })
+settled_doc pool draft tree tombs laid meta kept_meta kept is_tree none are_tombs =
+    let a = and_true (icons_rise meta.icons && items_rise meta.items) (is_text_meta meta) kept_meta in
+    let b = and_true (icons_rise meta.icons) (items_rise meta.items) a.0 in
+    let keeps = subst KeptTree is_tree (resolved_keeps pool draft kept) in
+    record {
+      distinct = distinct_ids (node_ids tree) none;
+      no_nil = keeps.no_nil;
+      levels = keeps.levels;
+      tombs_rise = subst (λ (ts : List Tombstone). tombs_rise ts ≡ true) are_tombs (rising_tombs tree tombs);
+      tombs_apart = subst (λ (ts : List Tombstone). are_tombs_apart tree ts ≡ true) are_tombs (apart_tombs tree tombs);
+      entries_proper = keeps.entries;
+      groups_proper = keeps.groups;
+      icons_rise = b.0;
+      items_rise = b.1;
+      meta_texts = a.1;
+    }
