@@ -2,23 +2,23 @@
 
 ghost use Rattle.std.specs.Prelude.{map};
 ghost use Rattle.stream_core.specs.InnerStream.{IsAt};
-ghost use Rattle.doc_read.specs.Documents as spec;
-ghost use Rattle.doc_read.specs.Refusals.{Gives};
-ghost use Rattle.doc_read.specs.Seen.{setting_of};
-ghost use Rattle.doc_read.specs.SeenParts.{parts_seen};
-ghost use Rattle.doc_read.specs.SeenRead.{pool_item, read_seen};
+ghost use Rattle.doc_forms.specs.Documents as spec;
+ghost use Rattle.doc_forms.specs.Refusals.{Returns};
+ghost use Rattle.doc_forms.specs.SeenDocuments.{parts_seen, pool_item, read_seen};
+ghost use Rattle.doc_forms.specs.SeenTexts.{setting_of};
 
-use crate::doc_parts::DocParts;
-use crate::fails::{DocFail, ReadDoc};
-use crate::settling::settled;
-use crate::through::read_through;
+use doc_forms::{DocFail, DocParts, ReadDoc};
+use doc_groups::read_document;
+use doc_settling::settle;
 use outside_core::List;
 use std::alloc::Global;
+use std::mem;
 use stream_core::InnerStream;
 use vault_model::{DocForm, PoolItem};
 
 /// Reads what a text says in one form, up to its end, with the stream that hides its values, at its start. The text may
-/// be let go before [`settle`] makes the document, so that the two need not stand in memory together.
+/// be let go before [`settle`] makes the document, so that the two need not be in memory together. The stream is used
+/// up: it must not be used again.
 ///
 /// # Errors
 ///
@@ -30,38 +30,22 @@ pub fn read_parts(
     stream: &mut InnerStream,
 ) -> Result<DocParts, DocFail>
     requires { IsAt stream.old 0 }
-    ensures { Gives parts_seen result (spec.parts_in (setting_of form stream.old) text.now) }
+    ensures { Returns parts_seen result (spec.parts_in (setting_of form stream.old) text.now) }
 {
-    let file = read_through(alloc, text, form, stream)?;
+    let stream = mem::replace(stream, InnerStream::Clear);
+    let file = read_document(alloc, text, form, stream)?;
     Ok(DocParts { file })
 }
 
-/// The document that the parts of a text of one form make, with the binaries that its file keeps apart (which only
-/// KDBX 4 has).
-///
-/// # Errors
-///
-/// Those of [`read_doc`] that come behind the end of the text.
-pub fn settle(
-    alloc: Global,
-    form: DocForm,
-    pool: &List<PoolItem>,
-    parts: DocParts,
-) -> Result<ReadDoc, DocFail>
-    ensures { Gives read_seen result (spec.settled form (map pool_item pool.now) (parts_seen parts)) }
-{
-    settled(alloc, form, pool, parts.file)
-}
-
 /// Reads the document that a text is, in one form, with the binaries that its file keeps apart (which only KDBX 4
-/// has) and the stream that hides its values, at its start.
+/// has) and the stream that hides its values, at its start. The stream is used up: it must not be used again.
 ///
 /// # Errors
 ///
 /// The first of [`DocFail`] that the text earns, as it is read from its start to its end: each is reached at the end of
-/// the element that it concerns, but for [`DocFail::Form`], [`DocFail::Depth`] and [`DocFail::TooDeep`], which are
-/// reached at their place. Behind the end of the text come a missing `KeePassFile`, `Root` or `Group`, then an id that
-/// stands twice, then a reference to a binary that is not there. After a refusal the stream's place is not known.
+/// the element that it concerns, except for [`DocFail::Form`], [`DocFail::Depth`] and [`DocFail::TooDeep`], which are
+/// reached at their offset. After the end of the text come a missing `KeePassFile`, `Root` or `Group`, then an id that
+/// two nodes have, then a reference to a binary that does not exist.
 pub fn read_doc(
     alloc: Global,
     text: &[u8],
@@ -70,7 +54,8 @@ pub fn read_doc(
     stream: &mut InnerStream,
 ) -> Result<ReadDoc, DocFail>
     requires { IsAt stream.old 0 }
-    ensures { Gives read_seen result (spec.document (setting_of form stream.old) (map pool_item pool.now) text.now) }
+    ensures { Returns read_seen result
+        (spec.document (setting_of form stream.old) (map pool_item pool.now) text.now) }
 {
     let parts = read_parts(alloc, text, form, stream)?;
     settle(alloc, form, pool, parts)

@@ -1,0 +1,2 @@
+mod EntryPuts
+mod Moves

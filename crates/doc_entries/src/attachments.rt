@@ -1,0 +1,130 @@
+//! Attachments before their bytes are resolved.
+
+ghost use Rattle.std.specs.Prelude.{codes, Ok, option_map};
+ghost use Rattle.markup_grammar.specs.Attributes.{attribute_text};
+ghost use Rattle.doc_forms.specs.Children.{by_name};
+ghost use Rattle.doc_forms.specs.Entries.{ReadAttachment};
+ghost use Rattle.doc_forms.specs.Entries as spec;
+ghost use Rattle.doc_forms.specs.Refusals.{Returns};
+ghost use Rattle.doc_forms.specs.SeenDrafts.{attachment_seen, source_seen};
+ghost use Rattle.doc_forms.specs.SeenTexts.{text_seen};
+ghost use Rattle.doc_walk.specs.Steps.{Steps};
+ghost use Rattle.doc_walk.specs.Tags.{child_step, contents_step};
+
+use doc_forms::{AttachmentDraft, DocFail, ElementText, SourceDraft};
+use doc_values::{Kind, SecretBytes, TextValue, is_marked, no_text, number64, resolved};
+use doc_walk::{Parts, Tag, Walk, contents};
+use markup_core::Attrs;
+use outside_core::Text;
+use secret_core::Secret;
+use std::alloc::Global;
+use std::rc::Rc;
+
+/// Bytes of the attachment's own, which several may share.
+fn own_source(alloc: Global, bytes: Secret) -> Result<SourceDraft, DocFail>
+    ensures { Returns source_seen result (Ok (spec.own_bytes bytes.bytes)) }
+{
+    match Rc::new(alloc, bytes) {
+        Ok(shared) => Ok(SourceDraft::OwnBytes(shared)),
+        Err(_) => Err(DocFail::NoMemory),
+    }
+}
+
+/// Where the bytes of an attachment are whose `Value` begins at an offset and has this text.
+fn source_in(
+    alloc: Global,
+    offset: usize,
+    attrs: &Attrs<'_>,
+    text: ElementText,
+) -> Result<Option<SourceDraft>, DocFail>
+    ensures { Returns (λ o. option_map source_seen o) result
+        (Ok (spec.source_in offset (attribute_text attrs.now.raw.now (codes "Ref")) (text_seen text))) }
+{
+    let Some(raw) = attrs.get("Ref") else {
+        return match SecretBytes::from_text(alloc, text)? {
+            Some(bytes) => Ok(Some(own_source(alloc, bytes)?)),
+            None => Ok(None),
+        };
+    };
+    let digits = resolved(alloc, raw)?;
+    match number64(digits.lend(0, digits.len())) {
+        Some(number) => Ok(Some(SourceDraft::PoolNumber(offset, number))),
+        None => Ok(None),
+    }
+}
+
+/// Whether a `Value` has bytes of its own that are marked as compressed.
+fn is_compressed(alloc: Global, attrs: &Attrs<'_>) -> Result<bool, DocFail>
+    ensures { Returns (λ b. b) result (Ok (spec.is_compressed attrs.now.raw.now)) }
+{
+    if attrs.get("Ref").is_some() {
+        return Ok(false);
+    }
+    is_marked(alloc, attrs, "Compressed")
+}
+
+/// What is known of an entry's `Binary` before its end.
+#[derive(Drop)]
+struct AttachmentKnown {
+    attachment: AttachmentDraft,
+}
+
+/// The `Value` of an attachment, whose start tag was given.
+fn attachment_value(
+    known: &mut AttachmentKnown,
+    walk: &mut Walk<'_>,
+    tag: &Tag<'_>,
+) -> Result<(), DocFail>
+    ensures { Steps (λ _. attachment_seen known.new.attachment) walk.old walk.new result
+        (child_step spec.attachment_value (attachment_seen known.old.attachment) tag.now) }
+{
+    let text = walk.element_text(tag)?;
+    let Some(source) = source_in(walk.alloc(), tag.offset, &tag.attrs, text)? else {
+        return Err(DocFail::BadValue(tag.offset));
+    };
+    if is_compressed(walk.alloc(), &tag.attrs)? {
+        return Err(DocFail::Compressed(tag.offset));
+    }
+    known.attachment.hidden = walk.is_hidden(tag)?;
+    known.attachment.source = source;
+    Ok(())
+}
+
+impl Parts for AttachmentKnown {
+    ghost Bare = { ReadAttachment };
+
+    ghost seen = { λ k. attachment_seen k.attachment };
+
+    ghost child = { λ s. by_name s (spec.attachment_rows s) };
+
+    fn read_child(&mut self, walk: &mut Walk<'_>, tag: &Tag<'_>) -> Result<(), DocFail> {
+        match tag.name {
+            "Key" => walk.keep::<TextValue>(tag, &mut self.attachment.name),
+            "Value" => attachment_value(self, walk, tag),
+            _ => walk.pass(tag),
+        }
+    }
+}
+
+/// An attachment of which nothing is known yet.
+fn no_attachment(alloc: Global) -> Result<AttachmentDraft, DocFail>
+    ensures { Returns attachment_seen result (Ok spec.no_attachment) }
+{
+    Ok(AttachmentDraft {
+        name: Text::new(alloc),
+        source: own_source(alloc, no_text(alloc)?)?,
+        hidden: false,
+    })
+}
+
+/// The attachment whose start tag was given.
+pub(crate) fn attachment(walk: &mut Walk<'_>, tag: &Tag<'_>) -> Result<AttachmentDraft, DocFail>
+    ensures { Steps attachment_seen walk.old walk.new result
+        (contents_step (λ s. by_name s (spec.attachment_rows s)) spec.no_attachment tag.now) }
+{
+    let mut known = AttachmentKnown {
+        attachment: no_attachment(walk.alloc())?,
+    };
+    contents(walk, tag, &mut known)?;
+    Ok(known.attachment)
+}

@@ -1,0 +1,116 @@
+//! The history of an entry.
+
+ghost use Rattle.std.specs.Prelude.{◌≡◌, ◌∷◌, ◌++◌, List, [], map, Ok};
+ghost use Rattle.doc_entries.specs.EntrySteps.{history_item_step};
+ghost use Rattle.doc_entries.specs.SeenBuilders.{entry_known};
+ghost use Rattle.doc_forms.specs.Children.{by_name};
+ghost use Rattle.doc_forms.specs.Entries.{EntryParts, ReadVersion};
+ghost use Rattle.doc_forms.specs.Entries as spec;
+ghost use Rattle.doc_forms.specs.Refusals.{Returns};
+ghost use Rattle.doc_forms.specs.SeenDrafts.{version_seen};
+ghost use Rattle.doc_walk.specs.Steps.{Steps};
+ghost use Rattle.doc_walk.specs.Tags.{contents_step};
+
+use crate::builders::{EntryBuilder, no_entry, version_of};
+use crate::versions::version_child;
+use doc_forms::{DocFail, VersionDraft};
+use doc_values::IdOrNone;
+use doc_walk::{Parts, Tag, Walk, contents};
+
+/// What is known of a history item before its end.
+#[derive(Drop)]
+struct ItemDraft {
+    known: EntryBuilder,
+}
+
+impl Parts for ItemDraft {
+    ghost Bare = { EntryParts };
+
+    ghost seen = { λ d. entry_known d.known };
+
+    ghost child = { λ s. by_name s (spec.history_item_rows s) };
+
+    fn read_child(&mut self, walk: &mut Walk<'_>, tag: &Tag<'_>) -> Result<(), DocFail> {
+        match tag.name {
+            "UUID" => {
+                let _ = walk.value::<IdOrNone>(tag)?;
+                Ok(())
+            }
+            _ => version_child(&mut self.known, walk, tag),
+        }
+    }
+}
+
+/// The history item whose start tag was given.
+fn history_item(walk: &mut Walk<'_>, tag: &Tag<'_>) -> Result<VersionDraft, DocFail>
+    ensures { Steps version_seen walk.old walk.new result (history_item_step tag.now) }
+{
+    let mut draft = ItemDraft {
+        known: no_entry(walk.alloc()),
+    };
+    contents(walk, tag, &mut draft)?;
+    walk.count()?;
+    let EntryBuilder {
+        id: _,
+        times,
+        content,
+        fields,
+        attachments,
+        history: _,
+    } = draft.known;
+    version_of(walk.alloc(), times, content, fields, attachments)
+}
+
+/// Appends a version to others.
+fn add_version(versions: &mut Vec<VersionDraft>, version: VersionDraft) -> Result<(), DocFail>
+    ensures { Returns (λ _. map version_seen versions.new.items) result
+        (Ok (map version_seen versions.old.items ++ version_seen version ∷ [])) }
+{
+    match versions.push(version) {
+        Ok(()) => Ok(()),
+        Err(_) => Err(DocFail::NoMemory),
+    }
+}
+
+/// What is known of a `History` before its end.
+#[derive(Drop)]
+struct HistoryDraft {
+    versions: Vec<VersionDraft>,
+}
+
+impl Parts for HistoryDraft {
+    ghost Bare = { List ReadVersion };
+
+    ghost seen = { λ d. map version_seen d.versions.items };
+
+    ghost child = { λ s. by_name s (spec.history_rows s) };
+
+    fn read_child(&mut self, walk: &mut Walk<'_>, tag: &Tag<'_>) -> Result<(), DocFail> {
+        match tag.name {
+            "Entry" => {
+                let version = history_item(walk, tag)?;
+                add_version(&mut self.versions, version)
+            }
+            _ => walk.pass(tag),
+        }
+    }
+}
+
+/// The versions of a `History`, whose start tag was given, put in their place, in memory that has room for them alone.
+pub(crate) fn history(
+    walk: &mut Walk<'_>,
+    tag: &Tag<'_>,
+    into: &mut Vec<VersionDraft>,
+) -> Result<(), DocFail>
+    ensures { Steps (λ _. map version_seen into.new.items) walk.old walk.new result
+        (contents_step (λ s. by_name s (spec.history_rows s)) [] tag.now) }
+{
+    let mut draft = HistoryDraft {
+        versions: Vec::new(walk.alloc()),
+    };
+    contents(walk, tag, &mut draft)?;
+    let mut versions = draft.versions;
+    versions.shrink_to_fit();
+    *into = versions;
+    Ok(())
+}

@@ -1,0 +1,3 @@
+mod GroupWalks
+mod Onward
+mod Walks

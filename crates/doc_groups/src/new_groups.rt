@@ -1,0 +1,101 @@
+//! Groups before and at their end.
+
+ghost use Rattle.std.specs.Prelude.{◌≡◌, ◌++◌, ◌∷◌, [], Ok};
+ghost use Rattle.doc_forms.specs.Groups as spec;
+ghost use Rattle.doc_forms.specs.Refusals.{Returns};
+ghost use Rattle.doc_forms.specs.SeenDrafts.{draft_seen, entry_seen, group_parts_seen};
+
+use doc_forms::{DocFail, EntryDraft, GroupBuilder, GroupDraft};
+use doc_walk::no_times;
+use outside_core::{List, Text};
+use std::alloc::Global;
+use uuid::Uuid;
+use vault_model::{GroupContent, GroupState, GroupView, Stats, Tri};
+
+/// A group of which nothing is known yet.
+pub(crate) fn no_group(alloc: Global) -> GroupBuilder
+    ensures { group_parts_seen result ≡ spec.no_group }
+{
+    let times = no_times();
+    GroupBuilder {
+        id: None,
+        times,
+        content: GroupContent {
+            created: times.created,
+            expiry: times.expiry,
+            expires: false,
+            name: Text::new(alloc),
+            notes: Text::new(alloc),
+            icon: 48,
+            custom_icon: None,
+            sequence: Text::new(alloc),
+            auto_type: Tri::Inherit,
+            searching: Tri::Inherit,
+            items: List::new(alloc),
+        },
+        view: GroupView {
+            expanded: true,
+            top_entry: Uuid::nil(),
+        },
+        entries: Vec::new(alloc),
+        groups: Vec::new(alloc),
+    }
+}
+
+/// The group of an id of which all is known.
+pub(crate) fn draft_of(id: Uuid, builder: GroupBuilder) -> GroupDraft
+    ensures { draft_seen result ≡ spec.node id (spec.record_of (group_parts_seen builder))
+        (group_parts_seen builder).entries (group_parts_seen builder).groups }
+{
+    let GroupBuilder {
+        id: _,
+        times,
+        content,
+        view,
+        entries,
+        groups,
+    } = builder;
+    let mut content = content;
+    content.created = times.created;
+    content.expiry = times.expiry;
+    content.expires = times.expires;
+    GroupDraft {
+        id,
+        placed: times.placed,
+        state: GroupState {
+            modified: times.modified,
+            content,
+            stats: Stats {
+                accessed: times.accessed,
+                usage: times.usage,
+            },
+        },
+        view,
+        entries,
+        groups,
+    }
+}
+
+/// Appends an entry to those of a group.
+pub(crate) fn add_entry(known: &mut GroupBuilder, entry: EntryDraft) -> Result<(), DocFail>
+    ensures { Returns (λ _. group_parts_seen known.new) result (Ok (record (group_parts_seen known.old) {
+      entries = (group_parts_seen known.old).entries ++ entry_seen entry ∷ [];
+    })) }
+{
+    if known.entries.push(entry).is_err() {
+        return Err(DocFail::NoMemory);
+    }
+    Ok(())
+}
+
+/// Appends a group to those in a group.
+pub(crate) fn add_group(known: &mut GroupBuilder, draft: GroupDraft) -> Result<(), DocFail>
+    ensures { Returns (λ _. group_parts_seen known.new) result (Ok (record (group_parts_seen known.old) {
+      groups = spec.append_tree (group_parts_seen known.old).groups (draft_seen draft);
+    })) }
+{
+    if known.groups.push(draft).is_err() {
+        return Err(DocFail::NoMemory);
+    }
+    Ok(())
+}

@@ -1,0 +1,5 @@
+mod LastPlaces
+mod Numbers
+mod Puts
+mod Rising
+mod TimeTexts

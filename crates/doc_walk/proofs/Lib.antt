@@ -1,0 +1,6 @@
+pub mod ContentPieces
+pub mod Goes
+pub mod Pieces
+pub mod Rests
+pub mod Rows
+pub mod Walks

@@ -1,0 +1,81 @@
+//! An element that holds others.
+
+ghost use Rattle.doc_forms.specs.ElementTexts.{Setting};
+ghost use Rattle.doc_forms.specs.Children.{Child};
+ghost use Rattle.doc_walk.specs.Steps.{Steps};
+ghost use Rattle.doc_walk.specs.Tags.{contents_step, child_step};
+
+use crate::walk::{Tag, Walk};
+use doc_forms::DocFail;
+use doc_values::{appended, is_marked, no_text};
+use markup_core::{MarkupFail, Piece};
+
+/// What is known of an element before its end, while the elements in it are read one after another.
+pub trait Parts: Drop {
+    /// What is known, without memory.
+    ghost Bare: { Type 0 };
+
+    ghost seen: { Self → Bare };
+
+    /// How an element is read that stands in it.
+    ghost child: { Setting → Child Bare };
+
+    /// Reads the element whose start tag was given.
+    fn read_child(&mut self, walk: &mut Walk<'_>, tag: &Tag<'_>) -> Result<(), DocFail>
+        ensures { Steps (λ _. seen self.new) walk.old walk.new result (child_step child (seen self.old) tag.now) };
+}
+
+/// All that stands in the element whose start tag was given, and its end.
+pub fn contents<P: Parts>(walk: &mut Walk<'_>, tag: &Tag<'_>, parts: &mut P) -> Result<(), DocFail>
+    ensures { Steps (λ _. P.seen parts.new) walk.old walk.new result (contents_step P.child (P.seen parts.old) tag.now) }
+{
+    let hides = is_marked(walk.alloc(), &tag.attrs, "Protected")?;
+    let mut text = no_text(walk.alloc())?;
+    'pieces: loop {
+        match walk.next_piece() {
+            Ok(
+                Piece::Start {
+                    name,
+                    attrs,
+                    place: offset,
+                },
+            ) => {
+                parts.read_child(
+                    walk,
+                    &Tag {
+                        name,
+                        attrs,
+                        offset,
+                    },
+                )?;
+            }
+            Ok(Piece::Words { raw, place: _ }) => {
+                if hides {
+                    text = appended(walk.alloc(), text, raw)?;
+                }
+            }
+            Ok(Piece::Stop { place: _ }) => {
+                let _ = walk.own_text(tag, text)?;
+                return Ok(());
+            }
+            Ok(Piece::Finish) => return Err(DocFail::NoMemory),
+            Err(MarkupFail::Form(at)) => return Err(DocFail::Form(at)),
+            Err(MarkupFail::Depth(at)) => return Err(DocFail::Depth(at)),
+        }
+    }
+}
+
+/// All that stands in the element whose start tag was given, of which this is known at first, put in its place.
+pub fn hold<P: Parts>(
+    walk: &mut Walk<'_>,
+    tag: &Tag<'_>,
+    first: P,
+    into: &mut P,
+) -> Result<(), DocFail>
+    ensures { Steps (λ _. P.seen into.new) walk.old walk.new result (contents_step P.child (P.seen first) tag.now) }
+{
+    let mut parts = first;
+    contents(walk, tag, &mut parts)?;
+    *into = parts;
+    Ok(())
+}

@@ -1,0 +1,12 @@
+//! A walk over the elements of a document: what each says, and what it uses up of the stream that hides values.
+#![tactic(auto)]
+
+mod containers;
+mod custom_items;
+mod element_times;
+mod walk;
+
+pub use containers::{Parts, contents, hold};
+pub use custom_items::custom_data;
+pub use element_times::{never, no_times, times};
+pub use walk::{Tag, Walk};
