@@ -5,7 +5,8 @@ ghost use Rattle.std.specs.Char.{encode_utf8};
 ghost use Rattle.std.specs.Prelude.{◌≡◌, ◌≤◌, ℕ, List, ◌∷◌, ◌++◌};
 ghost use Rattle.markup_grammar.specs.Attributes.{attributes};
 ghost use Rattle.markup_grammar.specs.Bytes.{is_space, is_text, is_value, AllAre};
-ghost use Rattle.markup_grammar.specs.Elements.{content_of};
+ghost use Rattle.markup_grammar.specs.Answers.{refusal_of};
+ghost use Rattle.markup_grammar.specs.Elements.{content_of, first_cut};
 ghost use Rattle.markup_grammar.specs.Escapes.{unescaped, escaped};
 ghost use Rattle.markup_grammar.specs.Reading.{answers};
 ghost use Rattle.markup_grammar.specs.References.{Reference, IsReference, reference_body, character};
@@ -18,6 +19,11 @@ ghost use Rattle.markup_grammar.specs.TreeElements.{tree_content};
 pub fn elements_of_texts()
     ensures { (text : List ℕ) (tree : Tree) → IsText text tree → height tree.root ≤ 256
         → content_of (answers text) ≡ tree_content tree }
+{}
+
+/// In the elements that are told of a text, the cut that is come to first is the refusal of the text; a whole text has none.
+pub fn cuts_of_texts()
+    ensures { (text : List ℕ) → first_cut (content_of (answers text)) ≡ refusal_of (answers text) }
 {}
 
 /// The attributes that are told of a tag are those that it spells, in their order.
