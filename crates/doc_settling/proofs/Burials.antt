@@ -1,5 +1,5 @@
 -- Tombstones that are kept by their ids, and one more.
-use Rattle.std.proofs.Common.{◌≡◌, ◌<◌, ◌≤◌, ◌-◌, ℕ, Bool, not, cond, max, List, [], ◌∷◌, Option, Some, None, length, drop, get_or, map, refl, sym, ap, ◌∙◌, arith}
+use Rattle.std.proofs.Common.{◌≡◌, ◌<◌, ◌≤◌, ◌-◌, ℕ, Bool, not, cond, max, List, [], ◌∷◌, Option, Some, None, length, drop, get_or, map, refl, sym, ap, ◌∙◌, arith, ◌++◌, true, false, append_assoc}
 use Rattle.std.proofs.lemmas.Map.{lookup-none}
 use Rattle.std.proofs.lemmas.Map.Entries.{none_below_head}
 use Rattle.std.proofs.lemmas.Map.Keys.{sorted_tail}
@@ -77,3 +77,24 @@ pub tombs_left : (tree : Tree) (tombs lent : List Tombstone) (ids : BTreeSet Nod
     → lent ≡ tombs
     → filter (λ (t : Tombstone). not (contains id_cmp ids t.id)) (bury_all lent) ≡ tombs_of tree tombs
 tombs_left tree tombs lent ids are same = λ i. filter (λ (t : Tombstone). not (are t.id i)) (bury_all (same i))
+
+-- ---- a loop over the tombstones that are kept by their ids
+
+module _ (stays : Tombstone → Bool) (whole others : List Tombstone) (e : NodeId × ℕ) (left next : List (NodeId × ℕ)) where
+  by_first : (b : Bool) → stays (tomb_of e) ≡ b → left ≡ e ∷ next
+      → filter stays (map tomb_of left) ≡ cond b (tomb_of e ∷ filter stays (map tomb_of next)) (filter stays (map tomb_of next))
+  by_first b is first =
+      ap (λ l. filter stays (map tomb_of l)) first
+      ∙ ap (λ t. cond t (tomb_of e ∷ filter stays (map tomb_of next)) (filter stays (map tomb_of next))) is
+
+  -- one that names a node is passed over
+  pub one_left_out : whole ≡ others ++ filter stays (map tomb_of left) → left ≡ e ∷ next → stays (tomb_of e) ≡ false
+      → whole ≡ others ++ filter stays (map tomb_of next)
+  one_left_out known first is = known ∙ ap (λ l. others ++ l) (by_first false is first)
+
+  -- another one is kept
+  pub one_kept : (more : List Tombstone) → whole ≡ others ++ filter stays (map tomb_of left) → left ≡ e ∷ next → stays (tomb_of e) ≡ true
+      → more ≡ others ++ tomb_of e ∷ [] → whole ≡ more ++ filter stays (map tomb_of next)
+  one_kept more known first is added =
+      known ∙ (ap (λ l. others ++ l) (by_first true is first)
+      ∙ (sym (append_assoc others (tomb_of e ∷ []) (filter stays (map tomb_of next))) ∙ ap (λ l. l ++ filter stays (map tomb_of next)) (sym added)))

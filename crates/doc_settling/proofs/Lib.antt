@@ -2,6 +2,7 @@ mod Burials
 mod ResolvedTrees
 mod RisingTombs
 mod SettledDocuments
+mod SoundTrees
 pub mod FirstMissing
 pub mod GroupTrees
 pub mod IdSets

@@ -1,5 +1,12 @@
 -- Lists that are made item by item.
-use Rattle.std.proofs.Common.{◌≡◌, List, [], ◌∷◌, ◌++◌, map, refl, sym, ap, ◌∙◌, append_assoc, arith, length}
+use Rattle.std.proofs.Common.{◌≡◌, ℕ, suc, ◌+◌, ◌<◌, List, [], ◌∷◌, ◌++◌, drop, get_or, map, refl, sym, ap, ◌∙◌, append_assoc, arith, length}
+use Rattle.std.proofs.Math.Seq.{drop-cons}
+use Rattle.vault_model.specs.declared.forms.PoolItem.{PoolItem}
+use Rattle.doc_forms.specs.declared.drafts.Binary.{Binary}
+use Rattle.doc_forms.specs.Attachments.{binaries_from}
+use Rattle.doc_forms.specs.Metas.{ReadBinary}
+use Rattle.doc_forms.specs.SeenDocuments.{pool_item}
+use Rattle.doc_forms.specs.SeenDrafts.{binary_seen}
 
 -- a list with no items
 pub nothing_left : {X : Type 0} (xs : List X) → length xs ≡ 0 → xs ≡ []
@@ -36,3 +43,21 @@ module _ {X Y Z W : Type 0} (view : X → Y) (made_of : Y → W) (seen : Z → W
   pub all_made : (rest : List X) (made : List Z) → map seen made ++ map made_of (map view rest) ≡ all → rest ≡ [] → map seen made ≡ all
   all_made rest made known none =
       sym (no_more (map seen made)) ∙ (ap (λ t. map seen made ++ map made_of (map view t)) (sym none) ∙ known)
+
+-- ---- binaries by their order
+
+-- what is numbered with what is left to number, once one binary more is numbered
+pub numbered_more : (given : List PoolItem) (at : ℕ) (item : PoolItem) (binaries more : List Binary) (number : ℕ) (binary : Binary) (whole : List ReadBinary)
+    → at < length given → item ≡ get_or given at item
+    → map binary_seen binaries ++ binaries_from number (map pool_item (drop at given)) ≡ whole
+    → more ≡ binaries ++ binary ∷ []
+    → binary_seen binary ≡ record { number = number; bytes = (pool_item item).0; hidden = (pool_item item).1 }
+    → map binary_seen more ++ binaries_from (number + 1) (map pool_item (drop (at + 1) given)) ≡ whole
+numbered_more given at item binaries more number binary whole within is known added is_binary =
+    let next : suc at ≡ at + 1 = omega arith in
+    let left : drop at given ≡ item ∷ drop (at + 1) given =
+    drop-cons given at item within ∙ ap (λ y. y ∷ drop (suc at) given) (sym is) ∙ ap (λ n. item ∷ drop n given) next in
+    ap (λ l. map binary_seen l ++ binaries_from (number + 1) (map pool_item (drop (at + 1) given))) added
+    ∙ (one_after binary_seen binaries binary (binaries_from (number + 1) (map pool_item (drop (at + 1) given)))
+    ∙ (ap (λ b. map binary_seen binaries ++ (b ∷ binaries_from (number + 1) (map pool_item (drop (at + 1) given)))) is_binary
+    ∙ (ap (λ l. map binary_seen binaries ++ binaries_from number (map pool_item l)) (sym left) ∙ known)))

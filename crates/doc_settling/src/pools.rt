@@ -12,7 +12,7 @@ use outside_core::{List, NoMemory};
 use std::alloc::Global;
 use std::collections::BTreeMap;
 use std::marker::Model;
-use vault_model::{DocForm, PoolItem};
+use vault_model::PoolItem;
 
 /// Puts an item after the others.
 pub(crate) fn push<T: Drop>(list: &mut List<T>, item: T) -> Result<(), NoMemory>
@@ -25,7 +25,7 @@ pub(crate) fn push<T: Drop>(list: &mut List<T>, item: T) -> Result<(), NoMemory>
 }
 
 /// The binaries that a file keeps apart, by their order from 0 on. Their bytes are shared.
-fn numbered(alloc: Global, given: &[PoolItem]) -> Result<List<Binary>, NoMemory>
+pub(crate) fn numbered(alloc: Global, given: &[PoolItem]) -> Result<List<Binary>, NoMemory>
     ensures { IfOk result (λ l. map binary_seen l ≡ spec.binaries_from 0 (map pool_item given.now)) }
 {
     let mut binaries = List::new(alloc);
@@ -40,22 +40,6 @@ fn numbered(alloc: Global, given: &[PoolItem]) -> Result<List<Binary>, NoMemory>
         number += 1;
     }
     Ok(binaries)
-}
-
-/// The binaries to which attachments refer: those that the file keeps apart, by their order from 0 on, or the
-/// document's own.
-pub(crate) fn binaries_of(
-    alloc: Global,
-    form: DocForm,
-    given: &[PoolItem],
-    own: List<Binary>,
-) -> Result<List<Binary>, NoMemory>
-    ensures { IfOk result (λ l. map binary_seen l ≡ spec.pool_from form (map pool_item given.now) (map binary_seen own)) }
-{
-    match form {
-        DocForm::V4 => numbered(alloc, given),
-        _ => Ok(own),
-    }
 }
 
 /// Some binaries, with the position of the last one of each number.

@@ -1,20 +1,19 @@
 //! What comes after the end of the text: a missing element, a duplicate id, a missing binary, or the document.
 
-ghost use Rattle.doc_forms.specs.Attachments as attachments;
+ghost use Rattle.doc_forms.specs.Attachments.{pool_from};
 ghost use Rattle.doc_forms.specs.Documents as spec;
-ghost use Rattle.doc_forms.specs.Ids as ids;
 ghost use Rattle.doc_forms.specs.KeptParts.{is_kept_meta, is_kept_tree};
 ghost use Rattle.doc_forms.specs.Refusals.{Returns};
 ghost use Rattle.doc_forms.specs.SeenDocuments.{parts_seen, pool_item, read_seen};
 ghost use Rattle.doc_forms.specs.SeenDrafts.{binary_seen, draft_seen, meta_parts};
-ghost use Rattle.doc_settling.specs.Trees.{ArePartsOf};
-ghost use Rattle.doc_forms.specs.declared.fails.DocFail.TheVariants as DocFail;
-ghost use Rattle.std.specs.Prelude.{◌≡◌, IfErr, IfOk, map, true};
+ghost use Rattle.doc_settling.specs.Trees.{ArePartsOf, refusal_of, sound_tree};
+ghost use Rattle.std.specs.Prelude.{◌≡◌, IfOk, map, true};
+ghost use Rattle.vault_model.specs.SeenNodes.{tree_seen};
 
 use crate::attachments::resolved_tree;
 use crate::ids::ids_of;
 use crate::missing::{Missing, missing_in};
-use crate::pools::{Pool, binaries_of};
+use crate::pools::{Pool, numbered};
 use crate::tombs::tombs_without;
 use doc_forms::{
     Binary, DocFail, DocParts, FileBuilder, GroupDraft, MetaBuilder, ReadDoc, RequiredElement,
@@ -38,13 +37,13 @@ pub struct TreeParts {
 /// The parts of a tree that was read, with the binaries to which its attachments refer.
 fn tree_parts(
     alloc: Global,
-    binaries: &List<Binary>,
+    binaries: &[Binary],
     draft: GroupDraft,
     tombs: &List<Tombstone>,
 ) -> Result<TreeParts, NoMemory>
     ensures { IfOk result (λ parts. ArePartsOf (map binary_seen binaries.now) (draft_seen draft) tombs.now parts) }
 {
-    let pool = Pool::new(alloc, binaries.as_slice())?;
+    let pool = Pool::new(alloc, binaries)?;
     let missing = missing_in(&pool, &draft);
     let root = resolved_tree(alloc, &pool, draft)?;
     let ids = ids_of(alloc, &root)?;
@@ -62,40 +61,61 @@ fn parts_of(
     alloc: Global,
     form: DocForm,
     given: &List<PoolItem>,
-    own: List<Binary>,
+    own: &List<Binary>,
     draft: GroupDraft,
     tombs: &List<Tombstone>,
-) -> Result<TreeParts, DocFail>
-    ensures parts { IfOk result (λ parts.
-        ArePartsOf (attachments.pool_from form (map pool_item given.now) (map binary_seen own)) (draft_seen draft) tombs.now parts) }
-    ensures memory { IfErr result (λ e. e ≡ DocFail.NoMemory) }
+) -> Result<TreeParts, NoMemory>
+    ensures { IfOk result (λ parts.
+        ArePartsOf (pool_from form (map pool_item given.now) (map binary_seen own.now)) (draft_seen draft) tombs.now parts) }
 {
-    let Ok(binaries) = binaries_of(alloc, form, given.as_slice(), own) else {
+    match form {
+        DocForm::V4 => {
+            let binaries = numbered(alloc, given.as_slice())?;
+            tree_parts(alloc, binaries.as_slice(), draft, tombs)
+        }
+        _ => tree_parts(alloc, own.as_slice(), draft, tombs),
+    }
+}
+
+/// Refuses an id that two nodes have, and then a reference to a binary that does not exist.
+fn refuse(duplicate: Option<Uuid>, missing: Missing) -> Result<(), DocFail>
+    ensures { result ≡ refusal_of duplicate missing }
+{
+    match (duplicate, missing) {
+        (Some(id), _) => Err(DocFail::DuplicateId(id)),
+        (None, Some((_, number))) => Err(DocFail::BinaryRef(number)),
+        (None, None) => Ok(()),
+    }
+}
+
+/// A tree in which no id and no reference is refused, with the tombstones that name none of its nodes.
+#[derive(Drop)]
+struct SoundTree {
+    root: Group,
+    tombs: List<Tombstone>,
+}
+
+/// A tree that was read, or its first refusal.
+fn sound_tree(
+    alloc: Global,
+    form: DocForm,
+    given: &List<PoolItem>,
+    own: &List<Binary>,
+    draft: GroupDraft,
+    tombs: &List<Tombstone>,
+) -> Result<SoundTree, DocFail>
+    ensures { Returns (λ tree. (tree_seen tree.root, tree.tombs)) result
+        (sound_tree (pool_from form (map pool_item given.now) (map binary_seen own.now)) (draft_seen draft) tombs.now) }
+{
+    let Ok(parts) = parts_of(alloc, form, given, own, draft, tombs) else {
         return Err(DocFail::NoMemory);
     };
-    match tree_parts(alloc, &binaries, draft, tombs) {
-        Ok(parts) => Ok(parts),
-        Err(NoMemory) => Err(DocFail::NoMemory),
-    }
-}
-
-/// Refuses an id that two nodes have.
-fn refuse_duplicate(duplicate: Option<Uuid>) -> Result<(), DocFail>
-    ensures { result ≡ ids.refuse_duplicate duplicate }
-{
-    match duplicate {
-        Some(id) => Err(DocFail::DuplicateId(id)),
-        None => Ok(()),
-    }
-}
-
-/// Refuses a reference to a binary that does not exist.
-fn refuse_missing(missing: Missing) -> Result<(), DocFail>
-    ensures { result ≡ attachments.refuse_missing missing }
-{
-    match missing {
-        Some((_, number)) => Err(DocFail::BinaryRef(number)),
-        None => Ok(()),
+    match refuse(parts.duplicate, parts.missing) {
+        Ok(()) => Ok(SoundTree {
+            root: parts.root,
+            tombs: parts.tombs,
+        }),
+        Err(refusal) => Err(refusal),
     }
 }
 
@@ -124,20 +144,17 @@ fn settled_tree(
         (spec.settled_tree form (map pool_item given.now) (meta_parts meta) (draft_seen draft) tombs.now) }
 {
     let header_hash = hash_of(form, &meta);
-    let MetaBuilder {
-        meta,
-        hash: _,
-        binaries,
-    } = meta;
-    let parts = parts_of(alloc, form, given, binaries, draft, tombs)?;
-    refuse_duplicate(parts.duplicate)?;
-    refuse_missing(parts.missing)?;
-    let doc = Doc {
-        meta,
-        root: parts.root,
-        tombs: parts.tombs,
-    };
-    Ok(ReadDoc { doc, header_hash })
+    match sound_tree(alloc, form, given, &meta.binaries, draft, tombs) {
+        Ok(tree) => {
+            let doc = Doc {
+                meta: meta.meta,
+                root: tree.root,
+                tombs: tree.tombs,
+            };
+            Ok(ReadDoc { doc, header_hash })
+        }
+        Err(refusal) => Err(refusal),
+    }
 }
 
 /// The document that the parts of a text of one form make, with the binaries that its file keeps apart (which only

@@ -1,9 +1,11 @@
 pub mod Alive
 pub mod Asides
+pub mod Balance
 pub mod CharacterTold
 pub mod Classes
 pub mod Clean
 pub mod Closes
+pub mod CutsTold
 pub mod Edges
 pub mod ElementsTold
 pub mod EscapedRuns

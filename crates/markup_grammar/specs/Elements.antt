@@ -1,6 +1,6 @@
--- The tree of elements that a reader's answers spell, which ends in a cut where the text is
--- refused.
-use Rattle.std.specs.Prelude.{ℕ, List, [], ◌∷◌, ◌++◌}
+-- The tree of elements that a reader's answers spell, which ends in a cut where the text is refused.
+use Rattle.std.specs.Prelude.{ℕ, Option, Some, None, List, [], ◌∷◌, ◌++◌}
+use Rattle.std.specs.Option.{option_or}
 use Rattle.markup_grammar.specs.Answers.{Answer, start, words, stop, finish, form, depth}
 use Rattle.markup_grammar.specs.Escapes.{unescaped}
 
@@ -63,3 +63,14 @@ abbrev pub joined : Content → List ℕ
 joined (last text) = text
 joined (also text e more) = text ++ joined more
 joined (cut text answer) = text
+
+abbrev mutual
+  -- the answer of the first cut in an element, its children read in their order
+  pub first_cut_in : Element → Option Answer
+  first_cut_in (element place name raw content) = first_cut content
+
+  -- the same of what an element holds
+  pub first_cut : Content → Option Answer
+  first_cut (last text) = None
+  first_cut (also text e more) = option_or (first_cut_in e) (first_cut more)
+  first_cut (cut text answer) = Some answer

@@ -5,7 +5,8 @@ ghost use Rattle.std.specs.Char.{encode_utf8};
 ghost use Rattle.std.specs.Prelude.{◌≡◌, ◌≤◌, ℕ, List, ◌∷◌, ◌++◌};
 ghost use Rattle.markup_grammar.specs.Attributes.{attributes};
 ghost use Rattle.markup_grammar.specs.Bytes.{is_space, is_text, is_value, AllAre};
-ghost use Rattle.markup_grammar.specs.Elements.{content_of};
+ghost use Rattle.markup_grammar.specs.Answers.{refusal_of};
+ghost use Rattle.markup_grammar.specs.Elements.{content_of, first_cut};
 ghost use Rattle.markup_grammar.specs.Escapes.{unescaped, escaped};
 ghost use Rattle.markup_grammar.specs.Reading.{answers};
 ghost use Rattle.markup_grammar.specs.References.{Reference, IsReference, reference_body, character};
@@ -21,7 +22,12 @@ pub fn elements_of_texts()
         → content_of (answers text) ≡ tree_content tree }
 {}
 
-/// The attributes that are reported of a tag are those that it spells, in their order.
+/// In the elements that are told of a text, the cut that is come to first is the refusal of the text; a whole text has none.
+pub fn cuts_of_texts()
+    ensures { (text : List ℕ) → first_cut (content_of (answers text)) ≡ refusal_of (answers text) }
+{}
+
+/// The attributes that are told of a tag are those that it spells, in their order.
 pub fn attributes_of_tags()
     ensures { (list : List Attribute) (space : List ℕ) → AreAttributes list → AllAre is_space space
         → attributes (spelled_attributes list space) ≡ named_values list }

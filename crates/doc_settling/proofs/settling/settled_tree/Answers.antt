@@ -1,23 +1,19 @@
-use Rattle.std.proofs.Common.{map, ap, sym, ◌∙◌}
+use Rattle.std.proofs.Common.{ℕ, List, Ok, Option, ap, map, sym, ◌∙◌}
 use Rattle.vault_model.specs.SeenNodes.{tree_seen}
-use Rattle.vault_model.specs.Tree.{node_ids}
 use Rattle.doc_forms.specs.Attachments.{pool_from}
-use Rattle.doc_forms.specs.Ids.{least_duplicate, tombs_of}
 use Rattle.doc_forms.specs.SeenDocuments.{pool_item}
-use Rattle.doc_forms.specs.SeenDrafts.{binary_seen, draft_seen}
-use Rattle.doc_settling.proofs.SettledDocuments.{no_duplicate, settled_doc}
+use Rattle.doc_forms.specs.SeenDrafts.{binary_seen, draft_seen, meta_parts}
+use Rattle.doc_settling.proofs.SettledDocuments.{settled_doc}
+use Rattle.doc_settling.proofs.SoundTrees.{is_sound, settled_refused, settled_sound}
 use Rattle.doc_settling.proofs.settling.settled_tree.Goals as goal
 
 pub invariant_of-doc : goal.invariant_of-doc
 invariant_of-doc c =
-    let parts = c.in_ok-parts.parts in
-    let are = c.in_ok-parts.ensures.parts in
+    let tree = c.in-Ok.tree in
     let pool = pool_from c.args.form (map pool_item c.args.given.now) (map binary_seen c.args.meta.binaries) in
-    let none = no_duplicate parts.duplicate c.in_ok-refuse_duplicate.field-0 (sym c.refuse_duplicate.ensures ∙ c.in_ok-refuse_duplicate.was) in
-    let doc = settled_doc pool (draft_seen c.args.draft) (tree_seen parts.root) c.args.tombs.now parts.tombs c.args.meta.meta
-    c.requires.meta c.requires.tree (sym are.tree)
-    (ap (λ t. least_duplicate (node_ids t)) are.tree ∙ (sym are.duplicate ∙ none))
-    (ap (λ t. tombs_of t c.args.tombs.now) are.tree ∙ sym are.tombs_are) in
+    let sound = is_sound pool (draft_seen c.args.draft) c.args.tombs.now (tree_seen tree.root) tree.tombs c.in-Ok.ensures in
+    let doc = settled_doc pool (draft_seen c.args.draft) (tree_seen tree.root) c.args.tombs.now tree.tombs c.args.meta.meta
+    c.requires.meta c.requires.tree sound.tree_is sound.distinct sound.tombs_are in
     record {
       distinct = doc.distinct;
       no_nil = doc.no_nil;
@@ -30,3 +26,15 @@ invariant_of-doc c =
       rising_items = doc.items_rise;
       meta_texts = doc.meta_texts;
     }
+
+pub returns-in-Ok : goal.returns-in-Ok
+returns-in-Ok c =
+    let tree = c.in-Ok.tree in
+    let pool = pool_from c.args.form (map pool_item c.args.given.now) (map binary_seen c.args.meta.binaries) in
+    settled_sound c.args.form pool (meta_parts c.args.meta) (draft_seen c.args.draft) c.args.tombs.now (tree_seen tree.root) tree.tombs c.in-Ok.ensures
+    ∙ ap (λ (hash : Option (List ℕ)). Ok (record { tree = tree_seen tree.root; tombs = tree.tombs; meta = c.args.meta.meta }, hash)) (sym c.hash_of-header_hash.ensures)
+
+pub returns-in-Err : goal.returns-in-Err
+returns-in-Err c =
+    let pool = pool_from c.args.form (map pool_item c.args.given.now) (map binary_seen c.args.meta.binaries) in
+    settled_refused c.args.form pool (meta_parts c.args.meta) (draft_seen c.args.draft) c.args.tombs.now c.in-Err.refusal c.in-Err.ensures

@@ -12,13 +12,13 @@ returns c =
     let read = draft_seen c.args.draft in
     let tree = tree_seen c.in_ok-root.root in
     let tombs = c.args.tombs.now in
-    let pool : c.in_ok-pool.pool ≡ map binary_seen c.args.binaries.now = c.in_ok-pool.ensures ∙ ap (map binary_seen) c.as_slice.ensures in
+    let pool : c.in_ok-pool.pool ≡ map binary_seen c.args.binaries.now = c.in_ok-pool.ensures in
     let tree_is : tree ≡ resolved_tree (map binary_seen c.args.binaries.now) read = c.in_ok-root.ensures ∙ ap (λ p. resolved_tree p read) pool in
     record {
       tree = tree_is;
       duplicate = c.in_ok-ids.ensures.duplicate ∙ ap (λ t. least_duplicate (node_ids t)) tree_is;
       missing = c.missing_in-missing.ensures ∙ ap (λ p. first_missing (missing_in p read)) pool;
       tombs_are = c.in_ok-tombs.ensures
-          ∙ (tombs_left tree tombs c.as_slice-2.result.now c.in_ok-ids.ids.ids c.in_ok-ids.ensures.ids c.as_slice-2.ensures
+          ∙ (tombs_left tree tombs c.as_slice.result.now c.in_ok-ids.ids.ids c.in_ok-ids.ensures.ids c.as_slice.ensures
           ∙ ap (λ t. tombs_of t tombs) tree_is);
     }
