@@ -2,14 +2,13 @@
 
 ghost use Rattle.std.specs.Prelude.{◌≡◌, ◌%◌, length};
 
-use crate::question::Question;
-use anyhow::{bail, ensure};
+use crate::question::{Fault, Question};
 use block_core::{Aes256, Block16, Twofish256, cbc_decrypt, cbc_encrypt, pad_len, unpad};
 use secret_core::Key;
 use std::alloc::Global;
 
-// The cipher of AES under the key that is the first word after the name.
-fn aes_of(question: &Question<'_>) -> anyhow::Result<Aes256> {
+// The cipher of AES under the key that is the first word behind the name.
+fn aes_of(question: &Question<'_>) -> Result<Aes256, Fault> {
     let mut key = Key::of(&question.array(1)?);
     let cipher = Aes256::new(&key);
     key.clear();
@@ -18,7 +17,7 @@ fn aes_of(question: &Question<'_>) -> anyhow::Result<Aes256> {
 }
 
 // The same of Twofish.
-fn twofish_of(question: &Question<'_>) -> anyhow::Result<Twofish256> {
+fn twofish_of(question: &Question<'_>) -> Result<Twofish256, Fault> {
     let mut key = Key::of(&question.array(1)?);
     let cipher = Twofish256::new(&key);
     key.clear();
@@ -31,67 +30,70 @@ fn enciphered<B: Block16>(
     alloc: Global,
     cipher: &B,
     question: &Question<'_>,
-) -> anyhow::Result<String> {
+) -> Result<String, Fault> {
     let plain: [u8; 16] = question.array(2)?;
     let mut block = plain;
     cipher.encrypt(&mut block);
     let enciphered = hex::encode(alloc, &block)?;
     cipher.decrypt(&mut block);
-    ensure!(block == plain, "the block is deciphered as another");
+    if block != plain {
+        return Err(Fault::NotUndone);
+    }
     Ok(enciphered)
 }
 
-// The third word's blocks enciphered by chaining from the second on; deciphered again they must be
-// the same.
+// The third word's blocks enciphered by chaining from the second on; deciphered again they must be the same.
 fn chained<B: Block16>(
     alloc: Global,
     cipher: &B,
     question: &Question<'_>,
-) -> anyhow::Result<String> {
+) -> Result<String, Fault> {
     let iv: [u8; 16] = question.array(2)?;
     let plain = question.bytes(alloc, 3)?;
     let mut text = plain.clone()?;
     if text.len() % 16 != 0 {
-        bail!("the text is no whole blocks");
+        return Err(Fault::BadWord(3));
     }
     cbc_encrypt(cipher, &iv, &mut text);
     let enciphered = hex::encode(alloc, text.as_slice())?;
     if text.len() % 16 != 0 {
-        bail!("what was enciphered is no whole blocks");
+        return Err(Fault::NotUndone);
     }
     cbc_decrypt(cipher, &iv, &mut text);
-    ensure!(text == plain, "the text is deciphered as another");
+    if text != plain {
+        return Err(Fault::NotUndone);
+    }
     Ok(enciphered)
 }
 
 /// A block under AES-256: key, block.
-pub fn aes(alloc: Global, question: &Question<'_>) -> anyhow::Result<String> {
+pub fn aes(alloc: Global, question: &Question<'_>) -> Result<String, Fault> {
     enciphered(alloc, &aes_of(question)?, question)
 }
 
 /// Chained blocks under AES-256: key, initialization vector, text.
-pub fn chained_aes(alloc: Global, question: &Question<'_>) -> anyhow::Result<String> {
+pub fn chained_aes(alloc: Global, question: &Question<'_>) -> Result<String, Fault> {
     chained(alloc, &aes_of(question)?, question)
 }
 
 /// A block under Twofish with a key of 256 bits: key, block.
-pub fn twofish(alloc: Global, question: &Question<'_>) -> anyhow::Result<String> {
+pub fn twofish(alloc: Global, question: &Question<'_>) -> Result<String, Fault> {
     enciphered(alloc, &twofish_of(question)?, question)
 }
 
 /// Chained blocks under Twofish with a key of 256 bits: key, initialization vector, text.
-pub fn chained_twofish(alloc: Global, question: &Question<'_>) -> anyhow::Result<String> {
+pub fn chained_twofish(alloc: Global, question: &Question<'_>) -> Result<String, Fault> {
     chained(alloc, &twofish_of(question)?, question)
 }
 
 /// How many bytes of padding a text of this length is given.
-pub fn padding_length(alloc: Global, question: &Question<'_>) -> anyhow::Result<String> {
+pub fn padding_length(alloc: Global, question: &Question<'_>) -> Result<String, Fault> {
     let count = pad_len(question.short_number(1)? as usize);
     Ok(format!(in alloc; "{count}")?)
 }
 
 /// The length of a text without its padding.
-pub fn unpadded_length(alloc: Global, question: &Question<'_>) -> anyhow::Result<String> {
+pub fn unpadded_length(alloc: Global, question: &Question<'_>) -> Result<String, Fault> {
     match unpad(&question.bytes(alloc, 1)?) {
         Ok(len) => Ok(format!(in alloc; "{len}")?),
         Err(fail) => Ok(format!(in alloc; "{fail:?}")?),

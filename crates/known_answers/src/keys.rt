@@ -2,8 +2,7 @@
 
 ghost use Rattle.std.specs.Prelude.{◌≡◌};
 
-use crate::question::Question;
-use anyhow::bail;
+use crate::question::{Fault, Question};
 use key_core::{
     ArgonKind, FileKeys, Kdf, KeyFileFail, check_kdf, composite, file_keys, read_key_file,
     transform,
@@ -13,7 +12,7 @@ use secret_core::Key;
 use std::alloc::Global;
 
 /// What a question about keys computes; this is its name.
-pub fn computed(alloc: Global, name: &str, question: &Question<'_>) -> anyhow::Result<String> {
+pub fn computed(alloc: Global, name: &str, question: &Question<'_>) -> Result<String, Fault> {
     match name {
         "composite-key" => composite_key(alloc, question),
         "key-file" => key_of_file(alloc, question),
@@ -35,12 +34,12 @@ pub fn computed(alloc: Global, name: &str, question: &Question<'_>) -> anyhow::R
             )
         }
         "file-keys" => keys_of_file(alloc, question),
-        _ => bail!("there is no primitive of this name"),
+        _ => Err(Fault::NoPrimitive),
     }
 }
 
-// The digits of a key, which is spent.
-fn spent(alloc: Global, mut key: Key) -> anyhow::Result<String> {
+/// The digits of a key, which is spent.
+pub fn spent(alloc: Global, mut key: Key) -> Result<String, Fault> {
     let digits = hex::encode(alloc, key.bytes());
     key.clear();
     key.release();
@@ -48,9 +47,9 @@ fn spent(alloc: Global, mut key: Key) -> anyhow::Result<String> {
 }
 
 // The composite key: password, key of the key file; `none` stands for one that is missing.
-fn composite_key(alloc: Global, question: &Question<'_>) -> anyhow::Result<String> {
-    let password = question.word(1)?;
-    let key_file = question.word(2)?;
+fn composite_key(alloc: Global, question: &Question<'_>) -> Result<String, Fault> {
+    let password = question.word(1);
+    let key_file = question.word(2);
     if password == "none" {
         let key: [u8; 32] = question.array(2)?;
         return spent(alloc, composite(None, Some(Key::of(&key))));
@@ -64,7 +63,7 @@ fn composite_key(alloc: Global, question: &Question<'_>) -> anyhow::Result<Strin
 }
 
 // The key of a key file, or why it has none: the file's bytes.
-fn key_of_file(alloc: Global, question: &Question<'_>) -> anyhow::Result<String> {
+fn key_of_file(alloc: Global, question: &Question<'_>) -> Result<String, Fault> {
     let file = question.bytes(alloc, 1)?;
     match read_key_file(alloc, &file) {
         Ok(key) => spent(alloc, key),
@@ -74,12 +73,12 @@ fn key_of_file(alloc: Global, question: &Question<'_>) -> anyhow::Result<String>
             let found = hex::encode(alloc, &found)?;
             Ok(format!(in alloc; "hash {kept}, found {found}")?)
         }
-        Err(KeyFileFail::NoMemory) => bail!("no memory"),
+        Err(KeyFileFail::NoMemory) => Err(Fault::NoMemory),
     }
 }
 
 // AES with the rounds and the seed that begin at this word.
-fn aes_kdf(question: &Question<'_>, index: usize) -> anyhow::Result<Kdf> {
+fn aes_kdf(question: &Question<'_>, index: usize) -> Result<Kdf, Fault> {
     Ok(Kdf::Aes {
         rounds: question.number(index)?,
         seed: question.array(index.saturating_add(1))?,
@@ -92,14 +91,14 @@ fn argon_kdf(
     kind: ArgonKind,
     question: &Question<'_>,
     index: usize,
-) -> anyhow::Result<Kdf> {
+) -> Result<Kdf, Fault> {
     let passes = question.number(index)?;
     let bytes = question.number(index.saturating_add(1))?;
     let lanes = question.short_number(index.saturating_add(2))?;
     let text = question.bytes(alloc, index.saturating_add(3))?;
     let mut salt = Bytes::new(alloc);
     let Ok(()) = salt.add(&text) else {
-        bail!("no memory");
+        return Err(Fault::NoMemory);
     };
     Ok(Kdf::Argon {
         kind,
@@ -111,7 +110,7 @@ fn argon_kdf(
 }
 
 // Whether all numbers of a key derivation function are allowed, or the first that is not.
-fn limits(alloc: Global, kdf: &Kdf) -> anyhow::Result<String> {
+fn limits(alloc: Global, kdf: &Kdf) -> Result<String, Fault> {
     match check_kdf(kdf) {
         Ok(()) => Ok(format!(in alloc; "allowed")?),
         Err(fail) => Ok(format!(in alloc; "{fail:?}")?),
@@ -119,9 +118,9 @@ fn limits(alloc: Global, kdf: &Kdf) -> anyhow::Result<String> {
 }
 
 // The transformed key: key, and what the function takes.
-fn transformed(alloc: Global, question: &Question<'_>, kdf: &Kdf) -> anyhow::Result<String> {
-    if let Err(fail) = check_kdf(kdf) {
-        bail!("{fail:?}");
+fn transformed(alloc: Global, question: &Question<'_>, kdf: &Kdf) -> Result<String, Fault> {
+    if let Err(_) = check_kdf(kdf) {
+        return Err(Fault::BadWord(2));
     }
     let mut key = Key::of(&question.array(1)?);
     let transformed = transform(alloc, &key, kdf);
@@ -129,19 +128,19 @@ fn transformed(alloc: Global, question: &Question<'_>, kdf: &Kdf) -> anyhow::Res
     key.release();
     match transformed {
         Ok(key) => spent(alloc, key),
-        Err(fail) => bail!("{fail:?}"),
+        Err(_) => Err(Fault::NoMemory),
     }
 }
 
 // The digits of a file's keys, cipher key and MAC base, which are lent.
-fn digits(alloc: Global, keys: &FileKeys) -> anyhow::Result<String> {
+fn digits(alloc: Global, keys: &FileKeys) -> Result<String, Fault> {
     let cipher = hex::encode(alloc, keys.cipher.bytes())?;
     let base = hex::encode(alloc, keys.base.bytes())?;
     Ok(format!(in alloc; "{cipher} {base}")?)
 }
 
 // The keys of a file, cipher key and MAC base: transformed key, master seed.
-fn keys_of_file(alloc: Global, question: &Question<'_>) -> anyhow::Result<String> {
+fn keys_of_file(alloc: Global, question: &Question<'_>) -> Result<String, Fault> {
     let transformed: [u8; 32] = question.array(1)?;
     let seed: [u8; 32] = question.array(2)?;
     let mut keys = file_keys(Key::of(&transformed), &seed);

@@ -2,8 +2,7 @@
 
 ghost use Rattle.std.specs.Prelude.{◌≡◌, ℕ, ◌+◌, ◌<◌, ◌≤◌, ◌^◌, length};
 
-use crate::question::Question;
-use anyhow::{bail, ensure};
+use crate::question::{Fault, Question};
 use mac_core::{BlockFail, BlockReader, BlockWriter, Hmac256};
 use secret_core::{Key64, Secret};
 use std::alloc::Global;
@@ -21,7 +20,7 @@ const WORDS: usize = 1000;
 const SIZES: [usize; 3] = [1, 7, 4096];
 
 /// The MAC of a text: key, text. By pieces of seven bytes it must be the same.
-pub fn hmac(alloc: Global, question: &Question<'_>) -> anyhow::Result<String> {
+pub fn hmac(alloc: Global, question: &Question<'_>) -> Result<String, Fault> {
     let key = question.bytes(alloc, 1)?;
     let text = question.bytes(alloc, 2)?;
     let mut whole = Hmac256::new(&key);
@@ -31,14 +30,15 @@ pub fn hmac(alloc: Global, question: &Question<'_>) -> anyhow::Result<String> {
     for piece in text.chunks(7) {
         by_pieces.update(piece);
     }
-    ensure!(by_pieces.finish() == mac, "by pieces the MAC is another");
+    if by_pieces.finish() != mac {
+        return Err(Fault::NotTheSameCut(7));
+    }
     Ok(hex::encode(alloc, &mac)?)
 }
 
-/// The heads of blocks with these contents and of the end block: MAC base, contents. The file of
-/// the blocks must be read as the contents, however it is cut, and refused where its last MAC is
-/// damaged.
-pub fn blocks(alloc: Global, question: &Question<'_>) -> anyhow::Result<String> {
+/// The heads of blocks with these contents and of the end block: MAC base, contents. The file of the blocks must be
+/// read as the contents, however it is cut, and refused where its last MAC is damaged.
+pub fn blocks(alloc: Global, question: &Question<'_>) -> Result<String, Fault> {
     let mut base = Key64::of(&question.array(1)?);
     let answer = written_and_read(alloc, &base, question);
     base.clear();
@@ -47,11 +47,7 @@ pub fn blocks(alloc: Global, question: &Question<'_>) -> anyhow::Result<String> 
 }
 
 // The heads under this base; the blocks are read again.
-fn written_and_read(
-    alloc: Global,
-    base: &Key64,
-    question: &Question<'_>,
-) -> anyhow::Result<String> {
+fn written_and_read(alloc: Global, base: &Key64, question: &Question<'_>) -> Result<String, Fault> {
     let mut file = File {
         bytes: Vec::new(alloc),
         heads: Vec::new(alloc),
@@ -60,7 +56,7 @@ fn written_and_read(
     };
     write(alloc, base, question, &mut file)?;
     let Ok(mut out) = Secret::with_room(alloc, file.bytes.len().saturating_add(4)) else {
-        bail!("no memory");
+        return Err(Fault::NoMemory);
     };
     read_at_cuts(base, &file, &mut out)?;
     read_damaged(base, &mut file, &mut out)?;
@@ -79,7 +75,7 @@ struct File {
 
 impl File {
     // Puts a block at the end.
-    fn add(&mut self, head: &[u8; 36], content: &[u8]) -> anyhow::Result<()> {
+    fn add(&mut self, head: &[u8; 36], content: &[u8]) -> Result<(), Fault> {
         self.bytes.extend_from_slice(head)?;
         self.bytes.extend_from_slice(content)?;
         self.heads.extend_from_slice(head)?;
@@ -94,9 +90,11 @@ fn write(
     base: &Key64,
     question: &Question<'_>,
     file: &mut File,
-) -> anyhow::Result<()> {
+) -> Result<(), Fault> {
     let end = question.len();
-    ensure!(end <= WORDS, "there are too many blocks");
+    if end > WORDS {
+        return Err(Fault::BadWord(WORDS));
+    }
     let mut writer = BlockWriter::new(base);
     'contents: for index in 2..end {
         let content = question.bytes(alloc, index)?;
@@ -108,8 +106,8 @@ fn write(
     file.add(&head, b"")
 }
 
-// Feeds a reader by pieces of this size: what it answers to the last one. Nothing where it answers
-// otherwise than with false to one before, or the output is full.
+// Feeds a reader by pieces of this size: what it answers to the last one. Nothing where it answers otherwise than
+// with false to one before, or the output is full.
 fn fed(
     reader: &mut BlockReader<'_>,
     bytes: &[u8],
@@ -137,8 +135,8 @@ fn fed(
     Some(reader.feed(rest, out))
 }
 
-// Whether a file that is cut here is read as these contents by pieces of this size: it is
-// unfinished at the cut, and whole at its end and with more bytes after it.
+// Whether a file that is cut here is read as these contents by pieces of this size: it is unfinished at the cut, and
+// whole at its end and with more bytes behind it.
 fn is_read(base: &Key64, file: &File, cut: usize, size: usize, out: &mut Secret) -> bool
     requires size { 0 < size }
 {
@@ -157,42 +155,47 @@ fn is_read(base: &Key64, file: &File, cut: usize, size: usize, out: &mut Secret)
 }
 
 // Reads a file that is cut at each of its first places, and whole by pieces of each size.
-fn read_at_cuts(base: &Key64, file: &File, out: &mut Secret) -> anyhow::Result<()> {
+fn read_at_cuts(base: &Key64, file: &File, out: &mut Secret) -> Result<(), Fault> {
     for size in SIZES {
-        ensure!(
-            is_read(base, file, 0, size, out),
-            "by pieces of {size} bytes the file is read otherwise"
-        );
+        if !is_read(base, file, 0, size, out) {
+            return Err(Fault::NotTheSameCut(size));
+        }
     }
     for cut in 0..file.bytes.len().min(CUTS) {
-        let size = SIZES[cut % 3];
-        ensure!(
-            is_read(base, file, cut, size, out),
-            "cut at {cut} the file is read otherwise"
-        );
+        if !is_read(base, file, cut, SIZES[cut % 3], out) {
+            return Err(Fault::NotTheSameCut(cut));
+        }
     }
     Ok(())
 }
 
-// Damages the MAC of the last block of a file, which must then be refused.
-fn read_damaged(base: &Key64, file: &mut File, out: &mut Secret) -> anyhow::Result<()> {
+// Damages the MAC of the last block of a file, which must then be refused, by pieces of each size and for ever.
+fn read_damaged(base: &Key64, file: &mut File, out: &mut Secret) -> Result<(), Fault> {
     let len = file.bytes.len();
     if len < 36 || len > 1_000_000 {
-        bail!("the file has no end block");
+        return Err(Fault::NotRefused);
     }
     file.bytes[len - 32] ^= 4;
-    let refused = Some(Err(BlockFail::BlockMac(file.last)));
     for size in SIZES {
-        out.cut(0);
-        let mut reader = BlockReader::new(base, OFFSET);
-        let answer = fed(&mut reader, &file.bytes, size, out);
-        ensure!(answer == refused, "the damaged file is answered {answer:?}");
-        ensure!(
-            fed(&mut reader, b"more", 4, out) == refused,
-            "the refusal does not last"
-        );
-        let end = Err(BlockFail::Truncated(OFFSET + len as u64 + 4));
-        ensure!(reader.end() == end, "the damaged file has an end");
+        if !is_refused(base, file, size, out) {
+            return Err(Fault::NotRefused);
+        }
     }
     Ok(())
+}
+
+// Whether a file is refused for the MAC of its last block by pieces of this size, and then with more bytes too.
+fn is_refused(base: &Key64, file: &File, size: usize, out: &mut Secret) -> bool
+    requires { 0 < size }
+{
+    let len = file.bytes.len();
+    if len > 1_000_000 {
+        return false;
+    }
+    let refused = Some(Err(BlockFail::BlockMac(file.last)));
+    out.cut(0);
+    let mut reader = BlockReader::new(base, OFFSET);
+    fed(&mut reader, &file.bytes, size, out) == refused
+        && fed(&mut reader, b"more", 4, out) == refused
+        && reader.end() == Err(BlockFail::Truncated(OFFSET + len as u64 + 4))
 }

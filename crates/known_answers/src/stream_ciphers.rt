@@ -3,8 +3,7 @@
 ghost use Rattle.std.specs.Prelude.{◌≡◌, ◌+◌, ◌≤◌, ◌^◌, length};
 ghost use Rattle.stream_core.specs.InnerStream.{IsAt};
 
-use crate::question::Question;
-use anyhow::ensure;
+use crate::question::{Fault, Question};
 use std::alloc::Global;
 use stream_core::{ChaCha20, InnerStream, Salsa20};
 
@@ -34,16 +33,15 @@ fn apply_in_pieces(stream: &mut InnerStream, offset: usize, text: &mut [u8])
     apply_at(stream, offset + from, &mut text[from..]);
 }
 
-// A text enciphered by a stream, of which so many bytes are passed over: the number is the word of
-// this index, and the text the next one. In pieces under a second stream it must be enciphered as
-// the same.
+// A text enciphered by a stream, of which so many bytes are passed over: the number is the word of this
+// index, and the text the next one. In pieces under a second stream it must be enciphered as the same.
 fn enciphered(
     alloc: Global,
     question: &Question<'_>,
     index: usize,
     mut whole: InnerStream,
     mut cut: InnerStream,
-) -> anyhow::Result<String>
+) -> Result<String, Fault>
     requires index { index ≤ 100 }
     requires whole { IsAt whole 0 }
     requires cut { IsAt cut 0 }
@@ -56,12 +54,14 @@ fn enciphered(
     apply_at(&mut whole, skip, &mut text);
     apply_at(&mut cut, 0, &mut skipped);
     apply_in_pieces(&mut cut, skip, &mut again);
-    ensure!(text == again, "in pieces the text is enciphered as another");
+    if text != again {
+        return Err(Fault::NotTheSameCut(skip));
+    }
     Ok(hex::encode(alloc, text.as_slice())?)
 }
 
 /// A text under ChaCha20: key, nonce, bytes of the stream that are passed over, text.
-pub fn chacha20(alloc: Global, question: &Question<'_>) -> anyhow::Result<String> {
+pub fn chacha20(alloc: Global, question: &Question<'_>) -> Result<String, Fault> {
     let key: [u8; 32] = question.array(1)?;
     let nonce: [u8; 12] = question.array(2)?;
     let whole = InnerStream::ChaCha(ChaCha20::new(&key, &nonce));
@@ -70,7 +70,7 @@ pub fn chacha20(alloc: Global, question: &Question<'_>) -> anyhow::Result<String
 }
 
 /// A text under Salsa20: key, nonce, bytes of the stream that are passed over, text.
-pub fn salsa20(alloc: Global, question: &Question<'_>) -> anyhow::Result<String> {
+pub fn salsa20(alloc: Global, question: &Question<'_>) -> Result<String, Fault> {
     let key: [u8; 32] = question.array(1)?;
     let nonce: [u8; 8] = question.array(2)?;
     let whole = InnerStream::Salsa(Salsa20::new(&key, &nonce));
@@ -78,10 +78,9 @@ pub fn salsa20(alloc: Global, question: &Question<'_>) -> anyhow::Result<String>
     enciphered(alloc, question, 3, whole, cut)
 }
 
-/// A text under an inner stream: the stream's number, or `clear`, stream key, bytes that are passed
-/// over, text.
-pub fn inner_stream(alloc: Global, question: &Question<'_>) -> anyhow::Result<String> {
-    if question.word(1)? == "clear" {
+/// A text under an inner stream: the stream's number, or `clear`, stream key, bytes that are passed over, text.
+pub fn inner_stream(alloc: Global, question: &Question<'_>) -> Result<String, Fault> {
+    if question.word(1) == "clear" {
         return enciphered(alloc, question, 3, InnerStream::Clear, InnerStream::Clear);
     }
     let id = question.short_number(1)?;
