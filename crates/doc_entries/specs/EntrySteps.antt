@@ -5,7 +5,8 @@ use Rattle.doc_walk.specs.Steps.{Rest}
 
 -- a history item
 abbrev pub history_item_step : Tag → Rest ReadVersion
-history_item_step tag s content cursor = history_item_at s tag.offset tag.attrs.raw.now content cursor
+history_item_step tag s content cursor = history_item_at s tag.offset tag.attrs.raw.now content
+    cursor
 
 -- an entry
 abbrev pub entry_step : Tag → Rest ReadEntry

@@ -38,7 +38,8 @@ fn source_in(
     text: ElementText,
 ) -> Result<Option<SourceDraft>, DocFail>
     ensures { Returns (λ o. option_map source_seen o) result
-        (Ok (spec.source_in offset (attribute_text attrs.now.raw.now (codes "Ref")) (text_seen text))) }
+        (Ok (spec.source_in offset (attribute_text attrs.now.raw.now (codes "Ref"))
+        (text_seen text))) }
 {
     let Some(raw) = attrs.get("Ref") else {
         return match SecretBytes::from_text(alloc, text)? {

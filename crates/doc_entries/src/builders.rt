@@ -16,8 +16,8 @@ use std::alloc::Global;
 use uuid::Uuid;
 use vault_model::{Content, Field, Stats};
 
-/// What is known of an entry, or of a history item, before its end. Its content has neither times nor fields: they are
-/// beside it.
+/// What is known of an entry, or of a history item, before its end. Its content has neither times
+/// nor fields: they are beside it.
 #[derive(Drop)]
 pub(crate) struct EntryBuilder {
     pub(crate) id: Option<Uuid>,
@@ -94,7 +94,8 @@ fn push(fields: &mut Vec<Field>, field: Field) -> Result<(), DocFail>
     }
 }
 
-/// Fields in memory that has room for them alone. They are moved from the last one on, which moves no other.
+/// Fields in memory that has room for them alone. They are moved from the last one on, which moves
+/// no other.
 fn packed(alloc: Global, fields: List<Field>) -> Result<Vec<Field>, DocFail>
     ensures { Returns (λ v. v.items) result (Ok fields) }
 {

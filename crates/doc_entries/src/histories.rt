@@ -96,7 +96,8 @@ impl Parts for HistoryDraft {
     }
 }
 
-/// The versions of a `History`, whose start tag was given, put in their place, in memory that has room for them alone.
+/// The versions of a `History`, whose start tag was given, put in their place, in memory that has
+/// room for them alone.
 pub(crate) fn history(
     walk: &mut Walk<'_>,
     tag: &Tag<'_>,

@@ -1,4 +1,5 @@
-//! Entries as a document says them, with their history, before the bytes of their attachments are resolved.
+//! Entries as a document says them, with their history, before the bytes of their attachments are
+//! resolved.
 #![tactic(auto)]
 
 mod attachments;

@@ -14,8 +14,8 @@ use doc_forms::DocFail;
 use doc_values::{IdOrNone, Number32, TextValue};
 use doc_walk::{Tag, Walk, custom_data, times};
 
-/// Reads a child of an entry or a history item after those that [`version_child`] reads: its times, a field, an
-/// attachment, how it is typed, or its custom items.
+/// Reads a child of an entry or a history item after those that [`version_child`] reads: its times,
+/// a field, an attachment, how it is typed, or its custom items.
 fn part_child(known: &mut EntryBuilder, walk: &mut Walk<'_>, tag: &Tag<'_>) -> Result<(), DocFail>
     ensures { Steps (λ _. entry_known known.new) walk.old walk.new result
         (child_step (λ s. by_name s (spec.part_rows s)) (entry_known known.old) tag.now) }

@@ -1,4 +1,5 @@
--- The bytes of attachments: resolved among the binaries to which they refer, and the first reference to none.
+-- The bytes of attachments: resolved among the binaries to which they refer, and the first
+-- reference to none.
 use Rattle.std.specs.Prelude.{ℕ, ◌+◌, ◌==◌, ◌&&◌, nat_le, Bool, true, if◌then◌else◌, is_some, Option, Some, None, List, [], ◌∷◌, ◌++◌, map, flat_map, Result, Ok, Err}
 use Rattle.vault_model.specs.Bare.{BareAttachment}
 use Rattle.vault_model.specs.Db.{NodeId}
@@ -42,11 +43,13 @@ binary_in pool (pool_number offset n) = binary_of pool n
 
 -- ---- the bytes of attachments
 
--- an attachment with its bytes: of a binary to which it refers both the bytes and whether they are hidden count
+-- an attachment with its bytes: of a binary to which it refers both the bytes and whether they are
+-- hidden count
 abbrev pub with_bytes : ReadAttachment → ReadSource → Option ReadBinary → BareAttachment
 with_bytes a (own_bytes bytes) binary = record { name = a.name; bytes = bytes; hidden = a.hidden }
 with_bytes a (pool_number offset n) None = record { name = a.name; bytes = []; hidden = a.hidden }
-with_bytes a (pool_number offset n) (Some b) = record { name = a.name; bytes = b.bytes; hidden = b.hidden }
+with_bytes a (pool_number offset n) (Some b) = record
+    { name = a.name; bytes = b.bytes; hidden = b.hidden }
 
 -- an attachment with the bytes that are its own or those of its binary
 abbrev pub resolved_attachment : List ReadBinary → ReadAttachment → BareAttachment
@@ -76,7 +79,8 @@ resolved_entry pool e = (
 abbrev mutual
   -- a tree with the bytes of its attachments
   pub resolved_tree : List ReadBinary → ReadTree → Tree
-  resolved_tree pool (node u r es ts) = vault.node u r (map (resolved_entry pool) es) (resolved_trees pool ts)
+  resolved_tree pool (node u r es ts) = vault.node u r (map (resolved_entry pool) es)
+      (resolved_trees pool ts)
 
   -- the same of groups side by side
   pub resolved_trees : List ReadBinary → ReadTrees → Trees
@@ -85,14 +89,16 @@ abbrev mutual
 
 -- ---- missing binaries
 
--- A reference to a binary that does not exist: the offset of the element that refers, and the number.
+-- A reference to a binary that does not exist: the offset of the element that refers, and the
+-- number.
 abbrev pub Missing : Type 0
 Missing = ℕ × ℕ
 
 -- what is missing of an attachment's source
 abbrev pub missing_source : List ReadBinary → ReadSource → List Missing
 missing_source pool (own_bytes bytes) = []
-missing_source pool (pool_number offset n) = if is_some (binary_of pool n) then [] else (offset, n) ∷ []
+missing_source pool (pool_number offset n) = if is_some (binary_of pool n) then [] else (offset, n)
+    ∷ []
 
 -- what is missing of an attachment
 abbrev pub missing_attachment : List ReadBinary → ReadAttachment → List Missing

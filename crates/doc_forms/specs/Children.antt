@@ -7,7 +7,8 @@ use Rattle.doc_forms.specs.declared.fails.DocFail.TheVariants.{TooMany}
 use Rattle.doc_forms.specs.ElementTexts.{ElementText, Setting, is_hidden, read_element, read_rest, text_at_end}
 use Rattle.doc_forms.specs.Refusals.{◌>>=◌, checked_value, markup_refusal}
 
--- How a child is read of an element of which this much is known: what is known then, and how much has been read.
+-- How a child is read of an element of which this much is known: what is known then, and how much
+-- has been read.
 abbrev pub Child : Type 0 → Type 0
 Child P = P → Element → Cursor → Result (P × Cursor) DocFail
 
@@ -30,7 +31,8 @@ by_name s (row ∷ rows) parts e cursor =
     if bytes_eq (name_of e) row.0 then row.1 parts e cursor else by_name s rows parts e cursor
 
 -- all elements of some content, one after another
-abbrev pub all_children : {P : Type 0} → Child P → Content → P → Cursor → Result (P × Cursor) DocFail
+abbrev pub all_children : {P : Type 0} → Child P → Content → P → Cursor
+    → Result (P × Cursor) DocFail
 all_children child (last text) parts cursor = Ok (parts, cursor)
 all_children child (also text e more) parts cursor =
     child parts e cursor >>= λ x. all_children child more x.0 x.1
@@ -40,7 +42,8 @@ all_children child (cut text answer) parts cursor = markup_refusal answer
 
 -- a value, which the element at an offset says by a rule
 abbrev pub value_by : {A : Type 0}
-    → Setting → (ElementText → Option A) → ℕ → List ℕ → Content → Cursor → Result (A × Cursor) DocFail
+    → Setting → (ElementText → Option A) → ℕ → List ℕ → Content → Cursor
+    → Result (A × Cursor) DocFail
 value_by s rule offset raw content cursor = do
   x ← read_rest s offset raw [] content cursor
   v ← checked_value offset (rule x.0)
@@ -59,7 +62,8 @@ hidden_value s rule keep parts (element offset name raw content) cursor =
 
 -- ---- containers
 
--- all children of the element at an offset, of which this text comes before this content, and then its end
+-- all children of the element at an offset, of which this text comes before this content, and then
+-- its end
 abbrev pub children_and_end : {P : Type 0}
     → Setting → Child P → ℕ → List ℕ → List ℕ → Content → P → Cursor → Result (P × Cursor) DocFail
 children_and_end s child offset raw text content parts cursor = do
@@ -71,7 +75,8 @@ children_and_end s child offset raw text content parts cursor = do
 abbrev pub container : {P Q : Type 0}
     → Setting → List (List ℕ × Child Q) → Q → (P → Q → P) → Child P
 container s rows first keep parts (element offset name raw content) cursor =
-    children_and_end s (by_name s rows) offset raw [] content first cursor >>= λ x. Ok (keep parts x.0, x.1)
+    children_and_end s (by_name s rows) offset raw [] content first cursor >>= λ x. Ok
+    (keep parts x.0, x.1)
 
 -- one more group, entry or history item has ended
 abbrev pub count_node : Cursor → Result Cursor DocFail

@@ -37,7 +37,8 @@ tomb_rows s =
 -- the children of `DeletedObjects`
 abbrev pub tombs_rows : Setting → List (List ℕ × Child (List Tombstone))
 tombs_rows s =
-    (codes "DeletedObject", container s (tomb_rows s) no_tomb (λ tombs tomb. tombs ++ tomb ∷ [])) ∷ []
+    (codes "DeletedObject", container s (tomb_rows s) no_tomb (λ tombs tomb. tombs ++ tomb ∷ [])) ∷
+    []
 
 -- What is known of `Root` before its end: the root group, and the tombstones in their order.
 pub record RootParts : Type 0 where
@@ -83,11 +84,13 @@ file_rows s = (codes "Meta", metas s (λ p v. record p { meta = v })) ∷ (codes
 
 -- the whole text, of which the outermost element is known by its name alone
 abbrev pub document_rows : Setting → List (List ℕ × Child (Option FileParts))
-document_rows s = (codes "KeePassFile", container s (file_rows s) no_file_parts (λ p v. Some v)) ∷ []
+document_rows s = (codes "KeePassFile", container s (file_rows s) no_file_parts (λ p v. Some v)) ∷
+    []
 
 -- what the text says up to its end, and how much has been read then
 abbrev pub parts_at_end : Setting → List ℕ → Result (Option FileParts × Cursor) DocFail
-parts_at_end s text = all_children (by_name s (document_rows s)) (content_of (answers text)) None start
+parts_at_end s text = all_children (by_name s (document_rows s)) (content_of (answers text)) None
+    start
 
 -- what is known of a document at the end of its text
 abbrev pub parts_in : Setting → List ℕ → Result (Option FileParts) DocFail
@@ -109,9 +112,11 @@ hash_of _ meta = None
 abbrev pub DocumentAndHash : Type 0
 DocumentAndHash = BareDoc × Option (List ℕ)
 
--- what a tree makes with the rest, where the binaries to which attachments refer are known, or the first refusal
+-- what a tree makes with the rest, where the binaries to which attachments refer are known, or the
+-- first refusal
 abbrev pub settled_with :
-    DocForm → List ReadBinary → MetaParts → ReadTree → List Tombstone → Result DocumentAndHash DocFail
+    DocForm → List ReadBinary → MetaParts → ReadTree → List Tombstone
+    → Result DocumentAndHash DocFail
 settled_with form pool meta tree tombs = do
   _ ← refuse_duplicate (least_duplicate (node_ids (resolved_tree pool tree)))
   _ ← refuse_missing (first_missing (missing_in pool tree))
@@ -127,7 +132,8 @@ settled_with form pool meta tree tombs = do
 -- the same with the binaries that the file keeps apart, or the document's own
 abbrev pub settled_tree : DocForm → List (List ℕ × Bool) → MetaParts → ReadTree → List Tombstone
     → Result DocumentAndHash DocFail
-settled_tree form given meta tree tombs = settled_with form (pool_from form given meta.binaries) meta tree tombs
+settled_tree form given meta tree tombs = settled_with form (pool_from form given meta.binaries)
+    meta tree tombs
 
 -- what the parts of a text make, or the first refusal after its end
 abbrev pub settled_document :

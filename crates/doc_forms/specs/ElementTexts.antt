@@ -1,4 +1,5 @@
--- What an element says: its own text, or the bytes that its text hides, and how much of the inner stream that uses.
+-- What an element says: its own text, or the bytes that its text hides, and how much of the inner
+-- stream that uses.
 use Rattle.std.specs.Prelude.{ℕ, ◌+◌, Bool, true, false, ◌||◌, if◌then◌else◌, Option, Some, None, List, ◌++◌, length, codes, Result, Ok, Err}
 use Rattle.std.specs.Str.{str_eq_ignore_ascii_case}
 use Rattle.markup_grammar.specs.Attributes.{attribute_text}
@@ -66,18 +67,21 @@ may_hide Plain = false
 may_hide V3 = true
 may_hide V4 = true
 
--- what the element at an offset says at its end, by its own text: that text, or as base64 the bytes that the
--- keystream hides
-abbrev pub text_at_end : Setting → ℕ → List ℕ → List ℕ → Cursor → Result (ElementText × Cursor) DocFail
+-- what the element at an offset says at its end, by its own text: that text, or as base64 the bytes
+-- that the keystream hides
+abbrev pub text_at_end : Setting → ℕ → List ℕ → List ℕ → Cursor
+    → Result (ElementText × Cursor) DocFail
 text_at_end s offset raw text cursor =
     if is_protected raw
     then (if may_hide s.form
-    then (checked_value offset (base64_bytes (trim text)) >>= λ bytes. Ok (revealed_text s.keystream bytes cursor))
+    then (checked_value offset (base64_bytes (trim text)) >>= λ bytes. Ok
+    (revealed_text s.keystream bytes cursor))
     else Err (BadValue offset))
     else Ok (plain_text text, cursor)
 
 -- the same of an element with this content
-abbrev pub element_text : Setting → ℕ → List ℕ → Content → Cursor → Result (ElementText × Cursor) DocFail
+abbrev pub element_text : Setting → ℕ → List ℕ → Content → Cursor
+    → Result (ElementText × Cursor) DocFail
 element_text s offset raw content cursor = text_at_end s offset raw (joined content) cursor
 
 abbrev mutual
@@ -93,6 +97,7 @@ abbrev mutual
   pass_over s (cut text answer) cursor = markup_refusal answer
 
 -- an element of which this text comes before this content: what it says
-abbrev pub read_rest : Setting → ℕ → List ℕ → List ℕ → Content → Cursor → Result (ElementText × Cursor) DocFail
+abbrev pub read_rest : Setting → ℕ → List ℕ → List ℕ → Content → Cursor
+    → Result (ElementText × Cursor) DocFail
 read_rest s offset raw text content cursor =
     pass_over s content cursor >>= λ after. text_at_end s offset raw (text ++ joined content) after

@@ -32,8 +32,8 @@ field_rows s =
     ∷ (codes "Value", hidden_value s text_in (λ p v h. record p { value = v; hidden = h }))
     ∷ []
 
--- Where an attachment's bytes are: in its own element, or in the binary of a number, to which the element at an offset
--- refers.
+-- Where an attachment's bytes are: in its own element, or in the binary of a number, to which the
+-- element at an offset refers.
 pub data ReadSource : Type 0 where
   own_bytes : List ℕ → ReadSource
   pool_number : ℕ → ℕ → ReadSource
@@ -97,14 +97,19 @@ with_association p pair = record p { pairs = p.pairs ++ pair ∷ [] }
 abbrev pub auto_type_rows : Setting → List (List ℕ × Child AutoType)
 auto_type_rows s =
     (codes "Enabled", value s (value_or true boolean) (λ p v. record p { enabled = v }))
-    ∷ (codes "DataTransferObfuscation", value s (value_or 0 number32) (λ p v. record p { obfuscation = v }))
+    ∷ (
+      codes "DataTransferObfuscation",
+      value s (value_or 0 number32)
+          (λ p v. record p { obfuscation = v }),
+    )
     ∷ (codes "DefaultSequence", value s text_in (λ p v. record p { sequence = v }))
     ∷ (codes "Association", container s (association_rows s) no_association with_association)
     ∷ []
 
 -- ---- versions
 
--- A version of an entry before the bytes of its attachments are resolved: what it says without them, and these.
+-- A version of an entry before the bytes of its attachments are resolved: what it says without
+-- them, and these.
 pub record ReadVersion : Type 0 where
   pub modified : ℕ
   pub content : BareContent
@@ -139,7 +144,14 @@ no_content = record {
 
 -- an entry of which nothing is known
 abbrev pub no_entry : EntryParts
-no_entry = record { id = None; times = no_times; content = no_content; attachments = []; history = [] }
+no_entry = record {
+  id = None;
+  times = no_times;
+  content = no_content;
+  attachments = [];
+  history =
+      [];
+}
 
 -- what is known with its content changed
 abbrev pub with_content : (BareContent → BareContent) → EntryParts → EntryParts
@@ -151,7 +163,8 @@ id_or_none x = value_or None (λ text. option_map Some (id text)) x
 
 -- what is known with one field more
 abbrev pub with_field : EntryParts → BareField → EntryParts
-with_field p f = with_content (λ c. record c { fields = put (λ (g : BareField). g.key) f c.fields }) p
+with_field p f = with_content (λ c. record c { fields = put (λ (g : BareField). g.key) f c.fields })
+    p
 
 -- what is known with one attachment more
 abbrev pub with_attachment : EntryParts → ReadAttachment → EntryParts
@@ -162,7 +175,8 @@ with_attachment p a =
 abbrev pub held_rows : Setting → List (List ℕ × Child EntryParts)
 held_rows s = (
   codes "AutoType",
-  container s (auto_type_rows s) no_auto_type (λ p v. with_content (λ c. record c { auto_type = v }) p),
+  container s (auto_type_rows s) no_auto_type
+      (λ p v. with_content (λ c. record c { auto_type = v }) p),
 )
     ∷ (codes "CustomData", custom_data s (λ p v. with_content (λ c. record c { items = v }) p))
     ∷ []
@@ -179,16 +193,31 @@ part_rows s =
 abbrev pub text_rows : Setting → List (List ℕ × Child EntryParts)
 text_rows s =
     (codes "ForegroundColor", value s text_in (λ p v. with_content (λ c. record c { fore = v }) p))
-    ∷ (codes "BackgroundColor", value s text_in (λ p v. with_content (λ c. record c { back = v }) p))
-    ∷ (codes "OverrideURL", value s text_in (λ p v. with_content (λ c. record c { url_override = v }) p))
+    ∷ (
+      codes "BackgroundColor",
+      value s text_in
+          (λ p v. with_content (λ c. record c { back = v }) p),
+    )
+    ∷ (
+      codes "OverrideURL",
+      value s text_in (λ p v. with_content
+          (λ c. record c { url_override = v }) p),
+    )
     ∷ (codes "Tags", value s text_in (λ p v. with_content (λ c. record c { tags = v }) p))
     ∷ part_rows s
 
 -- the children that an entry and a history item have in common, except for the id
 abbrev pub version_rows : Setting → List (List ℕ × Child EntryParts)
-version_rows s =
-    (codes "IconID", value s (value_or 0 number32) (λ p v. with_content (λ c. record c { icon = v }) p))
-    ∷ (codes "CustomIconUUID", value s id_or_none (λ p v. with_content (λ c. record c { custom_icon = v }) p))
+version_rows s = (
+  codes "IconID",
+  value s (value_or 0 number32)
+      (λ p v. with_content (λ c. record c { icon = v }) p),
+)
+    ∷ (
+      codes "CustomIconUUID",
+      value s id_or_none
+          (λ p v. with_content (λ c. record c { custom_icon = v }) p),
+    )
     ∷ text_rows s
 
 -- the version that the parts of an entry make
@@ -211,7 +240,8 @@ abbrev pub history_item_rows : Setting → List (List ℕ × Child EntryParts)
 history_item_rows s = (codes "UUID", value s id_or_none (λ p v. p)) ∷ version_rows s
 
 -- a history item that begins at an offset
-abbrev pub history_item_at : Setting → ℕ → List ℕ → Content → Cursor → Result (ReadVersion × Cursor) DocFail
+abbrev pub history_item_at : Setting → ℕ → List ℕ → Content → Cursor
+    → Result (ReadVersion × Cursor) DocFail
 history_item_at s offset raw content cursor = do
   x ← children_and_end s (by_name s (history_item_rows s)) offset raw [] content no_entry cursor
   after ← count_node x.1
@@ -261,7 +291,10 @@ entry_at s offset raw content cursor = do
   x ← children_and_end s (by_name s (entry_rows s)) offset raw [] content no_entry cursor
   after ← count_node x.1
   u ← node_id offset x.0.id
-  Ok (record { id = u; placed = x.0.times.placed; current = version_of x.0; history = x.0.history }, after)
+  Ok (
+    record { id = u; placed = x.0.times.placed; current = version_of x.0; history = x.0.history },
+    after,
+  )
 
 -- the same, kept with what is known of its parent
 abbrev pub entry : {P : Type 0} → Setting → (P → ReadEntry → P) → Child P

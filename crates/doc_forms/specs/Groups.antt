@@ -93,17 +93,23 @@ group_rows s =
     )
     ∷ (
       codes "EnableAutoType",
-      value s (value_or Inherit choice) (λ p v. with_group_content (λ c. record c { auto_type = v }) p),
+      value s (value_or Inherit choice) (λ p v. with_group_content (λ c. record c { auto_type = v })
+          p),
     )
     ∷ (
       codes "EnableSearching",
-      value s (value_or Inherit choice) (λ p v. with_group_content (λ c. record c { searching = v }) p),
+      value s (value_or Inherit choice) (λ p v. with_group_content (λ c. record c { searching = v })
+          p),
     )
     ∷ (
       codes "LastTopVisibleEntry",
       value s (value_or nil_id id) (λ p v. record p { view = record p.view { top_entry = v } }),
     )
-    ∷ (codes "CustomData", custom_data s (λ p v. with_group_content (λ c. record c { items = v }) p))
+    ∷ (
+      codes "CustomData",
+      custom_data s (λ p v. with_group_content (λ c. record c { items = v })
+          p),
+    )
     ∷ (codes "Entry", entry s (λ p e. record p { entries = p.entries ++ e ∷ [] }))
     ∷ []
 
@@ -123,7 +129,8 @@ record_of p = record {
   view = p.view;
 }
 
--- the end of a group that begins at the offset and has this text; one that may not be there is refused
+-- the end of a group that begins at the offset and has this text; one that may not be there is
+-- refused
 abbrev pub group_end : Setting → Bool → ℕ → List ℕ → List ℕ → GroupParts → Cursor
     → Result (ReadTree × Cursor) DocFail
 group_end s fits offset raw text p cursor = do
@@ -140,12 +147,14 @@ abbrev mutual
       >>= λ x. group_end s fits offset raw (joined content) x.0 x.1
 
   -- the children of a group
-  pub group_parts : Setting → ℕ → Content → GroupParts → Cursor → Result (GroupParts × Cursor) DocFail
+  pub group_parts : Setting → ℕ → Content → GroupParts → Cursor
+      → Result (GroupParts × Cursor) DocFail
   group_parts s levels (last text) p cursor = Ok (p, cursor)
   group_parts s levels (also text e more) p cursor =
       (if bytes_eq (name_of e) (codes "Group")
       then (if levels == 0 then Err (TooDeep (offset_of e))
-      else (group s (levels - 1) true e cursor >>= λ x. Ok (record p { groups = append_tree p.groups x.0 }, x.1)))
+      else (group s (levels - 1) true e cursor >>= λ x. Ok
+      (record p { groups = append_tree p.groups x.0 }, x.1)))
       else by_name s (group_rows s) p e cursor)
       >>= λ x. group_parts s levels more x.0 x.1
   group_parts s levels (cut text answer) p cursor = markup_refusal answer
@@ -155,5 +164,6 @@ abbrev pub group_child : Setting → ℕ → Child GroupParts
 group_child s levels p e cursor =
     if bytes_eq (name_of e) (codes "Group")
     then (if levels == 0 then Err (TooDeep (offset_of e))
-    else (group s (levels - 1) true e cursor >>= λ x. Ok (record p { groups = append_tree p.groups x.0 }, x.1)))
+    else (group s (levels - 1) true e cursor >>= λ x. Ok
+    (record p { groups = append_tree p.groups x.0 }, x.1)))
     else by_name s (group_rows s) p e cursor

@@ -1,5 +1,5 @@
--- What holds of the parts of each document that was read: their texts are in UTF-8, keys rise, no id is nil, and the tree
--- is no higher than it may be.
+-- What holds of the parts of each document that was read: their texts are in UTF-8, keys rise, no
+-- id is nil, and the tree is no higher than it may be.
 use Rattle.std.specs.Prelude.{ℕ, ◌-◌, Bool, true, not, ◌&&◌, Option, Some, None, nat_lt, bytes_eq}
 use Rattle.std.specs.List.{list_all}
 use Rattle.std.specs.Str.{is_utf8}

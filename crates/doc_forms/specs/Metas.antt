@@ -26,8 +26,8 @@ pub record ReadBinary : Type 0 where
   pub bytes : List ℕ
   pub hidden : Bool
 
--- What is known of a database before its end: what it says of itself, the hash of its file's header, and the binaries,
--- in their order.
+-- What is known of a database before its end: what it says of itself, the hash of its file's
+-- header, and the binaries, in their order.
 pub record MetaParts : Type 0 where
   pub meta : Meta
   pub hash : Option (List ℕ)
@@ -57,7 +57,9 @@ with_view change p = record p { meta = record p.meta { view = change p.meta.view
 -- with its recycle bin changed
 abbrev pub with_bin : (Bin → Bin) → MetaParts → MetaParts
 with_bin change p =
-    record p { meta = record p.meta { bin = record p.meta.bin { value = change p.meta.bin.value } } }
+    record p {
+      meta = record p.meta { bin = record p.meta.bin { value = change p.meta.bin.value } };
+    }
 
 -- ---- protection, icons and binaries
 
@@ -84,8 +86,11 @@ icon_rows s =
 
 -- the children of `CustomIcons`: of two icons of one id the last counts
 abbrev pub icons_rows : Setting → List (List ℕ × Child (List Icon))
-icons_rows s =
-    (codes "Icon", container s (icon_rows s) no_icon (λ icons icon. put (λ (i : Icon). i.id) icon icons)) ∷ []
+icons_rows s = (
+  codes "Icon",
+  container s (icon_rows s) no_icon
+      (λ icons icon. put (λ (i : Icon). i.id) icon icons),
+) ∷ []
 
 -- a binary, after those before it: its number is its attribute `ID`
 abbrev pub binary : Setting → Child (List ReadBinary)
@@ -94,13 +99,19 @@ binary s binaries (element offset name raw content) cursor = do
   number ← checked_value offset (option_and_then number64 (attribute_text raw (codes "ID")))
   bytes ← checked_value offset (bytes_in x.0)
   if is_marked (codes "Compressed") raw then Err (Compressed offset)
-      else Ok (binaries ++ record { number = number; bytes = bytes; hidden = is_hidden raw } ∷ [], x.1)
+      else Ok (
+        binaries ++ record { number = number; bytes = bytes; hidden = is_hidden raw } ∷ [],
+        x.1,
+      )
 
 -- `Binaries`, which are unknown where the file keeps them apart
 abbrev pub binaries_rows : DocForm → Setting → List (List ℕ × Child MetaParts)
 binaries_rows V4 s = []
-binaries_rows _ s =
-    (codes "Binaries", container s ((codes "Binary", binary s) ∷ []) [] (λ p v. record p { binaries = v })) ∷ []
+binaries_rows _ s = (
+  codes "Binaries",
+  container s ((codes "Binary", binary s) ∷ []) []
+      (λ p v. record p { binaries = v }),
+) ∷ []
 
 -- ---- what a database says of itself
 
@@ -110,7 +121,8 @@ meta_rows s =
     (codes "Generator", value s text_in (λ p v. p))
     ∷ (
       codes "HeaderHash",
-      value s (value_or None (λ text. option_map Some (bytes_of_length 32 text))) (λ p v. record p { hash = v }),
+      value s (value_or None (λ text. option_map Some (bytes_of_length 32 text)))
+          (λ p v. record p { hash = v }),
     )
     ∷ (
       codes "SettingsChanged",
@@ -123,16 +135,19 @@ meta_rows s =
     )
     ∷ (
       codes "DatabaseNameChanged",
-      value s (value_or 0 time) (λ p v. with_meta (λ m. record m { name = record m.name { changed = v } }) p),
+      value s (value_or 0 time) (λ p v. with_meta
+          (λ m. record m { name = record m.name { changed = v } }) p),
     )
     ∷ (
       codes "DatabaseDescription",
-      value s text_in (λ p v. with_meta (λ m. record m { description = record m.description { value = v } }) p),
+      value s text_in (λ p v. with_meta (λ m. record m
+          { description = record m.description { value = v } }) p),
     )
     ∷ (
       codes "DatabaseDescriptionChanged",
       value s (value_or 0 time)
-          (λ p v. with_meta (λ m. record m { description = record m.description { changed = v } }) p),
+          (λ p v. with_meta (λ m. record m { description = record m.description { changed = v } })
+          p),
     )
     ∷ (
       codes "DefaultUserName",
@@ -140,7 +155,8 @@ meta_rows s =
     )
     ∷ (
       codes "DefaultUserNameChanged",
-      value s (value_or 0 time) (λ p v. with_meta (λ m. record m { user = record m.user { changed = v } }) p),
+      value s (value_or 0 time) (λ p v. with_meta
+          (λ m. record m { user = record m.user { changed = v } }) p),
     )
     ∷ (
       codes "MaintenanceHistoryDays",
@@ -153,15 +169,18 @@ meta_rows s =
     )
     ∷ (
       codes "MasterKeyChangeRec",
-      value s (value_or (negsuc 0) signed64) (λ p v. with_settings (λ m. record m { key_rec = v }) p),
+      value s (value_or (negsuc 0) signed64) (λ p v. with_settings (λ m. record m { key_rec = v })
+          p),
     )
     ∷ (
       codes "MasterKeyChangeForce",
-      value s (value_or (negsuc 0) signed64) (λ p v. with_settings (λ m. record m { key_force = v }) p),
+      value s (value_or (negsuc 0) signed64) (λ p v. with_settings (λ m. record m { key_force = v })
+          p),
     )
     ∷ (
       codes "MemoryProtection",
-      container s (protection_rows s) new_protection (λ p v. with_settings (λ m. record m { protect = v }) p),
+      container s (protection_rows s) new_protection
+          (λ p v. with_settings (λ m. record m { protect = v }) p),
     )
     ∷ (
       codes "CustomIcons",
@@ -171,10 +190,15 @@ meta_rows s =
       codes "RecycleBinEnabled",
       value s (value_or true boolean) (λ p v. with_bin (λ m. record m { enabled = v }) p),
     )
-    ∷ (codes "RecycleBinUUID", value s (value_or nil_id id) (λ p v. with_bin (λ m. record m { id = v }) p))
+    ∷ (
+      codes "RecycleBinUUID",
+      value s (value_or nil_id id)
+          (λ p v. with_bin (λ m. record m { id = v }) p),
+    )
     ∷ (
       codes "RecycleBinChanged",
-      value s (value_or 0 time) (λ p v. with_meta (λ m. record m { bin = record m.bin { changed = v } }) p),
+      value s (value_or 0 time) (λ p v. with_meta
+          (λ m. record m { bin = record m.bin { changed = v } }) p),
     )
     ∷ (
       codes "EntryTemplatesGroup",
@@ -196,11 +220,13 @@ meta_rows s =
     )
     ∷ (
       codes "HistoryMaxItems",
-      value s (value_or (pos 10) signed32) (λ p v. with_settings (λ m. record m { history_items = v }) p),
+      value s (value_or (pos 10) signed32) (λ p v. with_settings
+          (λ m. record m { history_items = v }) p),
     )
     ∷ (
       codes "HistoryMaxSize",
-      value s (value_or (pos 6291456) signed64) (λ p v. with_settings (λ m. record m { history_size = v }) p),
+      value s (value_or (pos 6291456) signed64)
+          (λ p v. with_settings (λ m. record m { history_size = v }) p),
     )
     ∷ (codes "CustomData", custom_data s (λ p v. with_meta (λ m. record m { items = v }) p))
     ∷ binaries_rows s.form s

@@ -1,4 +1,5 @@
--- What is seen of documents in memory: of their parts, of one that was read, and of the binaries that a file keeps apart.
+-- What is seen of documents in memory: of their parts, of one that was read, and of the binaries
+-- that a file keeps apart.
 use Rattle.std.specs.Prelude.{ℕ, Bool, List, Option, option_map}
 use Rattle.vault_model.specs.SeenDoc.{doc_seen}
 use Rattle.vault_model.specs.declared.forms.PoolItem.{PoolItem}

@@ -10,7 +10,8 @@ use Rattle.doc_forms.specs.ElementTexts.{Setting, plain_text, hidden_bytes}
 
 -- the text as it is, or the bytes that it hid
 abbrev pub text_seen : ElementText → texts.ElementText
-text_seen said = if said.is_hidden then hidden_bytes said.bytes.bytes else plain_text said.bytes.bytes
+text_seen said = if said.is_hidden then hidden_bytes said.bytes.bytes else plain_text
+    said.bytes.bytes
 
 -- the same with the cursor
 abbrev pub text_and_cursor : ElementText × Cursor → texts.ElementText × Cursor

@@ -1,4 +1,5 @@
--- Lists in which a key occurs once, and the elements that several kinds of others hold: times and custom items.
+-- Lists in which a key occurs once, and the elements that several kinds of others hold: times and
+-- custom items.
 use Rattle.std.specs.Prelude.{ℕ, false, if◌then◌else◌, List, [], ◌∷◌, codes}
 use Rattle.std.specs.List.{prefix_len}
 use Rattle.std.specs.Ordering.{is_gt, is_eq}
@@ -38,7 +39,16 @@ without_key key k (x ∷ xs) = if is_eq (bytes_cmp k (key x)) then xs else x ∷
 -- the times where no element says any
 abbrev pub no_times : Times
 no_times =
-    record { modified = 0; created = 0; accessed = 0; expiry = 0; expires = false; usage = 0; placed = 0 }
+    record {
+      modified = 0;
+      created = 0;
+      accessed = 0;
+      expiry = 0;
+      expires = false;
+      usage = 0;
+      placed
+          = 0;
+    }
 
 -- the children of `Times`
 abbrev pub times_rows : Setting → List (List ℕ × Child Times)
@@ -71,8 +81,11 @@ item_rows s =
 
 -- the children of `CustomData`: of two items of one key the last counts
 abbrev pub items_rows : Setting → List (List ℕ × Child (List Item))
-items_rows s =
-    (codes "Item", container s (item_rows s) no_item (λ items item. put (λ (i : Item). i.key) item items)) ∷ []
+items_rows s = (
+  codes "Item",
+  container s (item_rows s) no_item
+      (λ items item. put (λ (i : Item). i.key) item items),
+) ∷ []
 
 -- `CustomData`
 abbrev pub custom_data : {P : Type 0} → Setting → (P → List Item → P) → Child P

@@ -22,7 +22,8 @@ abbrev pub bytes_in : ElementText → Option (List ℕ)
 bytes_in (plain_text text) = base64_bytes (trim text)
 bytes_in (hidden_bytes bytes) = Some bytes
 
--- every other value is read from its text without white space at its ends, or is the default where that is empty
+-- every other value is read from its text without white space at its ends, or is the default where
+-- that is empty
 abbrev pub value_or : {A : Type 0} → A → (List ℕ → Option A) → ElementText → Option A
 value_or default rule said =
     if length (trim (text_bytes said)) == 0 then Some default else rule (trim (text_bytes said))
@@ -64,7 +65,8 @@ whole_number (b ∷ rest) =
 -- a whole number between these two, of a signed type
 abbrev pub number_between : ℤ → ℤ → List ℕ → Option ℤ
 number_between least most text =
-    option_and_then (λ n. if int_le least n && int_le n most then Some n else None) (whole_number text)
+    option_and_then (λ n. if int_le least n && int_le n most then Some n else None)
+    (whole_number text)
 
 -- a whole number from 0 on as such
 abbrev pub natural_number : ℤ → Option ℕ
@@ -94,7 +96,8 @@ signed64 text = number_between (neg_ℤ (pos 9223372036854775808)) (pos 92233720
 -- the number of digits alone, if it is at most this one
 abbrev pub digits_up_to : ℕ → List ℕ → Option ℕ
 digits_up_to most digits =
-    if are_digits digits && nat_le (digits_value 10 digits) most then Some (digits_value 10 digits) else None
+    if are_digits digits && nat_le (digits_value 10 digits) most then Some (digits_value 10 digits)
+    else None
 
 -- ---- times
 
@@ -124,7 +127,8 @@ stamp_in_range n = if nat_le n last_stamp then Some n else None
 
 -- seconds since the year 1 as a number of 64 bits, by base64
 abbrev pub counted_time : List ℕ → Option ℕ
-counted_time text = option_and_then (λ bytes. stamp_in_range (little_endian bytes)) (bytes_of_length 8 text)
+counted_time text = option_and_then (λ bytes. stamp_in_range (little_endian bytes))
+    (bytes_of_length 8 text)
 
 -- the calendar has the day in the years 1 to 9999, and the clock the time
 abbrev pub is_moment : Moment → Bool

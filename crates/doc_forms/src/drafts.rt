@@ -14,7 +14,8 @@ use vault_model::{
 pub enum SourceDraft {
     /// In the attachment's own element.
     OwnBytes(Rc<Secret>),
-    /// In the binary of a number, to which the element at an offset refers: the offset, and the number.
+    /// In the binary of a number, to which the element at an offset refers: the offset, and the
+    /// number.
     PoolNumber(usize, u64),
 }
 
@@ -26,8 +27,8 @@ pub struct AttachmentDraft {
     pub hidden: bool,
 }
 
-/// A version of an entry. Its content has no fields and no attachments: they are kept beside it, the fields in memory
-/// that has room for them alone.
+/// A version of an entry. Its content has no fields and no attachments: they are kept beside it,
+/// the fields in memory that has room for them alone.
 #[derive(Drop)]
 pub struct VersionDraft {
     pub modified: Stamp,
@@ -86,8 +87,8 @@ pub struct GroupBuilder {
     pub groups: Vec<GroupDraft>,
 }
 
-/// What is known of `Meta` before its end: what the database says of itself, the hash of its file's header, and the
-/// binaries, in their order.
+/// What is known of `Meta` before its end: what the database says of itself, the hash of its file's
+/// header, and the binaries, in their order.
 #[derive(Drop)]
 pub struct MetaBuilder {
     pub meta: Meta,

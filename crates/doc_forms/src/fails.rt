@@ -15,14 +15,17 @@ pub enum RequiredElement {
     Uuid,
 }
 
-/// Why a text is no document. An offset is that of an element's `<`, in bytes from the start of the text.
+/// Why a text is no document. An offset is that of an element's `<`, in bytes from the start of the
+/// text.
 #[derive(Clone, Copy, Debug, PartialEq, Eq)]
 pub enum DocFail {
-    /// The text leaves the grammar of markup: the length of its longest prefix that begins a text of the grammar.
+    /// The text leaves the grammar of markup: the length of its longest prefix that begins a text
+    /// of the grammar.
     Form(usize),
     /// More than 256 elements are open: the offset of the 257th.
     Depth(usize),
-    /// The element at the offset says what its kind cannot say, or it is a second `Root` or a second root group.
+    /// The element at the offset says what its kind cannot say, or it is a second `Root` or a
+    /// second root group.
     BadValue(usize),
     /// The attachment's bytes at the offset are compressed.
     Compressed(usize),
@@ -32,7 +35,8 @@ pub enum DocFail {
     TooMany(u64),
     /// The group or the entry at the offset has the nil id.
     NilId(usize),
-    /// The element is missing, in a group or an entry at the offset; of the other three the offset is 0.
+    /// The element is missing, in a group or an entry at the offset; of the other three the offset
+    /// is 0.
     MissingElement(RequiredElement, usize),
     /// Two nodes have this id, the least of which that is so.
     DuplicateId(Uuid),

@@ -1,4 +1,5 @@
-//! What a document says: the definitions of its meaning, and the types in which a reader gathers it.
+//! What a document says: the definitions of its meaning, and the types in which a reader gathers
+//! it.
 #![tactic(auto)]
 
 pub mod cursor;

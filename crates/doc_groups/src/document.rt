@@ -25,7 +25,8 @@ fn document_child(
     tag: &Tag<'_>,
 ) -> Result<(), DocFail>
     ensures { Steps (λ _. option_map file_parts known.new) walk.old walk.new result
-        (child_step (λ s. by_name s (spec.document_rows s)) (option_map file_parts known.old) tag.now) }
+        (child_step (λ s. by_name s (spec.document_rows s)) (option_map file_parts known.old)
+        tag.now) }
 {
     match tag.name {
         "KeePassFile" => {

@@ -13,14 +13,16 @@ use doc_forms::{DocFail, GroupBuilder};
 use doc_values::{ChoiceValue, IdOrNone, IdValue, Number32, OwnId, TextValue, TrueUnlessFalse};
 use doc_walk::{Tag, Walk, custom_data, times};
 
-/// Reads a child of a group after those that [`view_child`] reads: its first visible entry, its items, or an entry.
+/// Reads a child of a group after those that [`view_child`] reads: its first visible entry, its
+/// items, or an entry.
 fn content_child(
     known: &mut GroupBuilder,
     walk: &mut Walk<'_>,
     tag: &Tag<'_>,
 ) -> Result<(), DocFail>
     ensures { Steps (λ _. group_parts_seen known.new) walk.old walk.new result
-        (child_step (λ s. by_name s (drop 10 (spec.group_rows s))) (group_parts_seen known.old) tag.now) }
+        (child_step (λ s. by_name s (drop 10 (spec.group_rows s))) (group_parts_seen known.old)
+        tag.now) }
 {
     match tag.name {
         "LastTopVisibleEntry" => walk.keep::<IdValue>(tag, &mut known.view.top_entry),
@@ -33,11 +35,12 @@ fn content_child(
     }
 }
 
-/// Reads a child of a group after those that [`read_child`] reads: whether the group is expanded, its key strokes, its
-/// choices, or one of the others.
+/// Reads a child of a group after those that [`read_child`] reads: whether the group is expanded,
+/// its key strokes, its choices, or one of the others.
 fn view_child(known: &mut GroupBuilder, walk: &mut Walk<'_>, tag: &Tag<'_>) -> Result<(), DocFail>
     ensures { Steps (λ _. group_parts_seen known.new) walk.old walk.new result
-        (child_step (λ s. by_name s (drop 6 (spec.group_rows s))) (group_parts_seen known.old) tag.now) }
+        (child_step (λ s. by_name s (drop 6 (spec.group_rows s))) (group_parts_seen known.old)
+        tag.now) }
 {
     match tag.name {
         "IsExpanded" => walk.keep::<TrueUnlessFalse>(tag, &mut known.view.expanded),

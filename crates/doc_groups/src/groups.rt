@@ -17,7 +17,8 @@ use doc_walk::{Tag, Walk};
 use markup_core::{MarkupFail, Piece};
 use secret_core::Secret;
 
-/// The end of the group whose start tag was given, which has this text. One that does not fit where it is is refused.
+/// The end of the group whose start tag was given, which has this text. One that does not fit where
+/// it is is refused.
 fn group_end(
     walk: &mut Walk<'_>,
     tag: &Tag<'_>,
@@ -61,8 +62,8 @@ fn group_child(
     add_group(known, draft)
 }
 
-/// The group whose start tag was given, below which so many levels are allowed. One that does not fit where it is is
-/// refused at its end.
+/// The group whose start tag was given, below which so many levels are allowed. One that does not
+/// fit where it is is refused at its end.
 #[cycle(tree)]
 pub(crate) fn group(
     walk: &mut Walk<'_>,

@@ -78,9 +78,10 @@ pub(crate) fn draft_of(id: Uuid, builder: GroupBuilder) -> GroupDraft
 
 /// Appends an entry to those of a group.
 pub(crate) fn add_entry(known: &mut GroupBuilder, entry: EntryDraft) -> Result<(), DocFail>
-    ensures { Returns (λ _. group_parts_seen known.new) result (Ok (record (group_parts_seen known.old) {
-      entries = (group_parts_seen known.old).entries ++ entry_seen entry ∷ [];
-    })) }
+    ensures { Returns (λ _. group_parts_seen known.new) result
+        (Ok (record (group_parts_seen known.old) {
+          entries = (group_parts_seen known.old).entries ++ entry_seen entry ∷ [];
+        })) }
 {
     if known.entries.push(entry).is_err() {
         return Err(DocFail::NoMemory);
@@ -90,9 +91,10 @@ pub(crate) fn add_entry(known: &mut GroupBuilder, entry: EntryDraft) -> Result<(
 
 /// Appends a group to those in a group.
 pub(crate) fn add_group(known: &mut GroupBuilder, draft: GroupDraft) -> Result<(), DocFail>
-    ensures { Returns (λ _. group_parts_seen known.new) result (Ok (record (group_parts_seen known.old) {
-      groups = spec.append_tree (group_parts_seen known.old).groups (draft_seen draft);
-    })) }
+    ensures { Returns (λ _. group_parts_seen known.new) result
+        (Ok (record (group_parts_seen known.old) {
+          groups = spec.append_tree (group_parts_seen known.old).groups (draft_seen draft);
+        })) }
 {
     if known.groups.push(draft).is_err() {
         return Err(DocFail::NoMemory);

@@ -19,14 +19,20 @@ use doc_values::{
 use doc_walk::{Parts, Tag, Walk, contents, custom_data};
 use vault_model::DocForm;
 
-/// Reads a child of `Meta` where binaries stand in the document: `Binaries`, after those that [`limit_child`] reads.
+/// Reads a child of `Meta` where binaries are in the document: `Binaries`, after those that
+/// [`limit_child`] reads.
 fn binaries_child(
     known: &mut MetaBuilder,
     walk: &mut Walk<'_>,
     tag: &Tag<'_>,
 ) -> Result<(), DocFail>
     ensures { Steps (λ _. meta_parts known.new) walk.old walk.new result
-        (child_step (λ s. by_name s ((codes "Binaries", container s ((codes "Binary", spec.binary s) ∷ []) [] (λ p v. record p { binaries = v })) ∷ [])) (meta_parts known.old) tag.now) }
+        (child_step (λ s. by_name s ((
+          codes "Binaries",
+          container s
+              ((codes "Binary", spec.binary s) ∷ []) [] (λ p v. record p { binaries = v }),
+        ) ∷ []))
+        (meta_parts known.old) tag.now) }
 {
     match tag.name {
         "Binaries" => binaries(walk, tag, &mut known.binaries),
@@ -34,7 +40,8 @@ fn binaries_child(
     }
 }
 
-/// Reads a child of `Meta` after those that [`limit_child`] reads. A file of version 4 keeps its binaries elsewhere.
+/// Reads a child of `Meta` after those that [`limit_child`] reads. A file of version 4 keeps its
+/// binaries elsewhere.
 fn last_child(known: &mut MetaBuilder, walk: &mut Walk<'_>, tag: &Tag<'_>) -> Result<(), DocFail>
     ensures { Steps (λ _. meta_parts known.new) walk.old walk.new result
         (child_step (λ s. by_name s (spec.binaries_rows s.form s)) (meta_parts known.old) tag.now) }
@@ -45,7 +52,8 @@ fn last_child(known: &mut MetaBuilder, walk: &mut Walk<'_>, tag: &Tag<'_>) -> Re
     }
 }
 
-/// Reads a child of `Meta` after those that [`bin_child`] reads: the limits of histories, and custom items.
+/// Reads a child of `Meta` after those that [`bin_child`] reads: the limits of histories, and
+/// custom items.
 fn limit_child(known: &mut MetaBuilder, walk: &mut Walk<'_>, tag: &Tag<'_>) -> Result<(), DocFail>
     ensures { Steps (λ _. meta_parts known.new) walk.old walk.new result
         (child_step (λ s. by_name s (drop 23 (spec.meta_rows s))) (meta_parts known.old) tag.now) }
@@ -64,7 +72,8 @@ fn limit_child(known: &mut MetaBuilder, walk: &mut Walk<'_>, tag: &Tag<'_>) -> R
     }
 }
 
-/// Reads a child of `Meta` after those that [`setting_child`] reads: the recycle bin, the templates, and the view.
+/// Reads a child of `Meta` after those that [`setting_child`] reads: the recycle bin, the
+/// templates, and the view.
 fn bin_child(known: &mut MetaBuilder, walk: &mut Walk<'_>, tag: &Tag<'_>) -> Result<(), DocFail>
     ensures { Steps (λ _. meta_parts known.new) walk.old walk.new result
         (child_step (λ s. by_name s (drop 16 (spec.meta_rows s))) (meta_parts known.old) tag.now) }
@@ -110,7 +119,8 @@ fn setting_child(known: &mut MetaBuilder, walk: &mut Walk<'_>, tag: &Tag<'_>) ->
     }
 }
 
-/// Reads a child of `Meta` after those that [`name_child`] reads itself: the description, and the user name of new entries.
+/// Reads a child of `Meta` after those that [`name_child`] reads itself: the description, and the
+/// user name of new entries.
 fn description_child(
     known: &mut MetaBuilder,
     walk: &mut Walk<'_>,

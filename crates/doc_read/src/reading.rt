@@ -16,9 +16,9 @@ use std::mem;
 use stream_core::InnerStream;
 use vault_model::{DocForm, PoolItem};
 
-/// Reads what a text says in one form, up to its end, with the stream that hides its values, at its start. The text may
-/// be let go before [`settle`] makes the document, so that the two need not be in memory together. The stream is used
-/// up: it must not be used again.
+/// Reads what a text says in one form, up to its end, with the stream that hides its values, at its
+/// start. The text may be dropped before [`settle`] makes the document, so that the two need not be
+/// in memory together. The stream is used up: it must not be used again.
 ///
 /// # Errors
 ///
@@ -37,15 +37,17 @@ pub fn read_parts(
     Ok(DocParts { file })
 }
 
-/// Reads the document that a text is, in one form, with the binaries that its file keeps apart (which only KDBX 4
-/// has) and the stream that hides its values, at its start. The stream is used up: it must not be used again.
+/// Reads the document that a text is, in one form, with the binaries that its file keeps apart
+/// (which only KDBX 4 has) and the stream that hides its values, at its start. The stream is used
+/// up: it must not be used again.
 ///
 /// # Errors
 ///
-/// The first of [`DocFail`] that the text earns, as it is read from its start to its end: each is reached at the end of
-/// the element that it concerns, except for [`DocFail::Form`], [`DocFail::Depth`] and [`DocFail::TooDeep`], which are
-/// reached at their offset. After the end of the text come a missing `KeePassFile`, `Root` or `Group`, then an id that
-/// two nodes have, then a reference to a binary that does not exist.
+/// The first of [`DocFail`] that the text earns, as it is read from its start to its end: each is
+/// reached at the end of the element that it concerns, except for [`DocFail::Form`],
+/// [`DocFail::Depth`] and [`DocFail::TooDeep`], which are reached at their offset. After the end of
+/// the text come a missing `KeePassFile`, `Root` or `Group`, then an id that two nodes have, then a
+/// reference to a binary that does not exist.
 pub fn read_doc(
     alloc: Global,
     text: &[u8],

@@ -1,4 +1,5 @@
--- What is known of a tree before the document is made: the tree with the bytes of its attachments, and what may be wrong.
+-- What is known of a tree before the document is made: the tree with the bytes of its attachments,
+-- and what may be wrong.
 use Rattle.std.specs.Prelude.{◌≡◌, List, Option, Result, Ok}
 use Rattle.vault_model.specs.SeenNodes.{tree_seen}
 use Rattle.vault_model.specs.Db.{NodeId}
@@ -13,7 +14,8 @@ use Rattle.doc_forms.specs.declared.fails.DocFail.{DocFail}
 use Rattle.doc_settling.specs.declared.settling.TreeParts.{TreeParts}
 
 -- These are the parts of a tree that was read, with these binaries and these tombstones.
-pub record ArePartsOf (pool : List ReadBinary) (read : ReadTree) (tombs : List Tombstone) (parts : TreeParts) : Type 0 where
+pub record ArePartsOf (pool : List ReadBinary) (read : ReadTree) (tombs : List Tombstone)
+    (parts : TreeParts) : Type 0 where
   pub tree : tree_seen parts.root ≡ resolved_tree pool read
   pub duplicate : parts.duplicate ≡ least_duplicate (node_ids (resolved_tree pool read))
   pub missing : parts.missing ≡ first_missing (missing_in pool read)
@@ -23,8 +25,11 @@ pub record ArePartsOf (pool : List ReadBinary) (read : ReadTree) (tombs : List T
 abbrev pub refusal_of : Option NodeId → Option Missing → Result (Unit {0}) DocFail
 refusal_of duplicate missing = refuse_duplicate duplicate >>= λ _. refuse_missing missing
 
--- the tree with the bytes of its attachments and the tombstones that name none of its nodes, or its first refusal
-abbrev pub sound_tree : List ReadBinary → ReadTree → List Tombstone → Result (Tree × List Tombstone) DocFail
+-- the tree with the bytes of its attachments and the tombstones that name none of its nodes, or its
+-- first refusal
+abbrev pub sound_tree : List ReadBinary → ReadTree → List Tombstone
+    → Result (Tree × List Tombstone) DocFail
 sound_tree pool read tombs =
-    refusal_of (least_duplicate (node_ids (resolved_tree pool read))) (first_missing (missing_in pool read))
+    refusal_of (least_duplicate (node_ids (resolved_tree pool read)))
+    (first_missing (missing_in pool read))
     >>= λ _. Ok (resolved_tree pool read, tombs_of (resolved_tree pool read) tombs)

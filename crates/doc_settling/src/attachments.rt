@@ -20,7 +20,8 @@ fn resolved_attachment(
     pool: &Pool<'_>,
     draft: &AttachmentDraft,
 ) -> Result<Attachment, NoMemory>
-    ensures { IfOk result (λ a. bare_attachment a ≡ spec.resolved_attachment pool.now (attachment_seen draft.now)) }
+    ensures { IfOk result (λ a. bare_attachment a
+        ≡ spec.resolved_attachment pool.now (attachment_seen draft.now)) }
 {
     let name = Text::of(alloc, draft.name.as_str())?;
     let (bytes, hidden) = match &draft.source {
@@ -43,7 +44,8 @@ fn resolved_attachments(
     pool: &Pool<'_>,
     drafts: &[AttachmentDraft],
 ) -> Result<List<Attachment>, NoMemory>
-    ensures { IfOk result (λ l. map bare_attachment l ≡ map (spec.resolved_attachment pool.now) (map attachment_seen drafts.now)) }
+    ensures { IfOk result (λ l. map bare_attachment l
+        ≡ map (spec.resolved_attachment pool.now) (map attachment_seen drafts.now)) }
 {
     let mut resolved = List::new(alloc);
     for draft in drafts {
@@ -69,7 +71,8 @@ fn resolved_version(
     pool: &Pool<'_>,
     draft: VersionDraft,
 ) -> Result<Version, NoMemory>
-    ensures { IfOk result (λ v. bare_version v ≡ spec.resolved_version pool.now (version_seen draft)) }
+    ensures { IfOk result (λ v. bare_version v
+        ≡ spec.resolved_version pool.now (version_seen draft)) }
 {
     let VersionDraft {
         modified,
@@ -93,7 +96,8 @@ fn resolved_versions(
     pool: &Pool<'_>,
     drafts: Vec<VersionDraft>,
 ) -> Result<List<Version>, NoMemory>
-    ensures { IfOk result (λ l. map bare_version l ≡ map (spec.resolved_version pool.now) (map version_seen drafts.items)) }
+    ensures { IfOk result (λ l. map bare_version l
+        ≡ map (spec.resolved_version pool.now) (map version_seen drafts.items)) }
 {
     let mut resolved = List::new(alloc);
     for draft in drafts {
@@ -126,7 +130,8 @@ fn resolved_entries(
     pool: &Pool<'_>,
     drafts: Vec<EntryDraft>,
 ) -> Result<List<Entry>, NoMemory>
-    ensures { IfOk result (λ l. map entry_row l ≡ map (spec.resolved_entry pool.now) (map entry_seen drafts.items)) }
+    ensures { IfOk result (λ l. map entry_row l
+        ≡ map (spec.resolved_entry pool.now) (map entry_seen drafts.items)) }
 {
     let mut resolved = List::new(alloc);
     for draft in drafts {

@@ -17,7 +17,8 @@ use vault_model::{Entry, Group};
 
 /// Adds the ids of some entries.
 fn push_entry_ids(ids: &mut Vec<Uuid>, entries: &[Entry]) -> Result<(), NoMemory>
-    ensures { OnOk result (ids.new.items ≡ ids.old.items ++ map (λ e. e.0) (map entry_row entries.now)) }
+    ensures { OnOk result (ids.new.items ≡ ids.old.items
+        ++ map (λ e. e.0) (map entry_row entries.now)) }
 {
     for entry in entries {
         ids.push(entry.id)?;
@@ -57,7 +58,8 @@ pub(crate) struct IdSet {
 /// The set of some ids, which are put into it from the last to the first.
 fn set_of(alloc: Global, ids: &[Uuid]) -> Result<IdSet, NoMemory>
     ensures duplicate { IfOk result (λ s. s.duplicate ≡ spec.least_duplicate ids.now) }
-    ensures ids { IfOk result (λ s. (u : NodeId) → contains id_cmp s.ids u ≡ list_any (is_id u) ids.now) }
+    ensures ids { IfOk result (λ s. (u : NodeId)
+        → contains id_cmp s.ids u ≡ list_any (is_id u) ids.now) }
 {
     let mut set = BTreeSet::new(alloc);
     let mut duplicate = None;
@@ -77,7 +79,8 @@ fn set_of(alloc: Global, ids: &[Uuid]) -> Result<IdSet, NoMemory>
 
 /// The ids of all nodes of a tree.
 pub(crate) fn ids_of(alloc: Global, root: &Group) -> Result<IdSet, NoMemory>
-    ensures duplicate { IfOk result (λ s. s.duplicate ≡ spec.least_duplicate (node_ids (tree_seen root.now))) }
+    ensures duplicate { IfOk result (λ s. s.duplicate
+        ≡ spec.least_duplicate (node_ids (tree_seen root.now))) }
     ensures ids { IfOk result (λ s. (u : NodeId)
         → contains id_cmp s.ids u ≡ list_any (is_id u) (node_ids (tree_seen root.now))) }
 {

@@ -1,4 +1,5 @@
-//! Settling: the document that the parts of a text make at its end, or the first refusal that comes then.
+//! Settling: the document that the parts of a text make at its end, or the first refusal that comes
+//! then.
 #![tactic(auto)]
 
 mod attachments;

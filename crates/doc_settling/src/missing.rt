@@ -8,11 +8,12 @@ ghost use Rattle.std.specs.Prelude.{◌≡◌, map};
 use crate::pools::Pool;
 use doc_forms::{AttachmentDraft, EntryDraft, GroupDraft, SourceDraft, VersionDraft};
 
-/// The first reference in a text to a binary that does not exist: the offset of the element that refers, and the
-/// number.
+/// The first reference in a text to a binary that does not exist: the offset of the element that
+/// refers, and the number.
 pub(crate) type Missing = Option<(usize, u64)>;
 
-/// Of two that may be missing the one that is first in the text; at one offset the first of the two.
+/// Of two that may be missing the one that is first in the text; at one offset the first of the
+/// two.
 fn first_of(one: Missing, other: Missing) -> Missing
     ensures { result ≡ spec.first_missing_of one other }
 {
@@ -27,7 +28,8 @@ fn first_of(one: Missing, other: Missing) -> Missing
 
 /// What is missing of an attachment.
 fn missing_of(pool: &Pool<'_>, attachment: &AttachmentDraft) -> Missing
-    ensures { result ≡ spec.first_missing (spec.missing_attachment pool.now (attachment_seen attachment.now)) }
+    ensures { result ≡ spec.first_missing (spec.missing_attachment pool.now
+        (attachment_seen attachment.now)) }
 {
     match attachment.source {
         SourceDraft::OwnBytes(_) => None,
@@ -51,7 +53,8 @@ fn missing_in_version(pool: &Pool<'_>, version: &VersionDraft) -> Missing
 
 /// What is missing first in some versions.
 fn missing_in_versions(pool: &Pool<'_>, versions: &[VersionDraft]) -> Missing
-    ensures { result ≡ spec.first_missing (flat_map (spec.missing_version pool.now) (map version_seen versions.now)) }
+    ensures { result ≡ spec.first_missing (flat_map (spec.missing_version pool.now)
+        (map version_seen versions.now)) }
 {
     let mut missing = None;
     for version in versions {
@@ -62,7 +65,8 @@ fn missing_in_versions(pool: &Pool<'_>, versions: &[VersionDraft]) -> Missing
 
 /// What is missing first in some entries.
 fn missing_in_entries(pool: &Pool<'_>, entries: &[EntryDraft]) -> Missing
-    ensures { result ≡ spec.first_missing (flat_map (spec.missing_entry pool.now) (map entry_seen entries.now)) }
+    ensures { result ≡ spec.first_missing (flat_map (spec.missing_entry pool.now)
+        (map entry_seen entries.now)) }
 {
     let mut missing = None;
     for entry in entries {

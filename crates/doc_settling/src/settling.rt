@@ -1,4 +1,5 @@
-//! What comes after the end of the text: a missing element, a duplicate id, a missing binary, or the document.
+//! What comes after the end of the text: a missing element, a duplicate id, a missing binary, or
+//! the document.
 
 ghost use Rattle.doc_forms.specs.Attachments.{pool_from};
 ghost use Rattle.doc_forms.specs.Documents as spec;
@@ -24,8 +25,9 @@ use std::alloc::Global;
 use uuid::Uuid;
 use vault_model::{Doc, DocForm, Group, PoolItem, Tombstone};
 
-/// What is known of a tree before the document is made: the tree, the least id that two of its nodes have, the first
-/// reference to a binary that does not exist, and the tombstones that name no node.
+/// What is known of a tree before the document is made: the tree, the least id that two of its
+/// nodes have, the first reference to a binary that does not exist, and the tombstones that name no
+/// node.
 #[derive(Drop)]
 pub struct TreeParts {
     pub root: Group,
@@ -41,7 +43,8 @@ fn tree_parts(
     draft: GroupDraft,
     tombs: &List<Tombstone>,
 ) -> Result<TreeParts, NoMemory>
-    ensures { IfOk result (λ parts. ArePartsOf (map binary_seen binaries.now) (draft_seen draft) tombs.now parts) }
+    ensures { IfOk result (λ parts. ArePartsOf (map binary_seen binaries.now) (draft_seen draft)
+        tombs.now parts) }
 {
     let pool = Pool::new(alloc, binaries)?;
     let missing = missing_in(&pool, &draft);
@@ -88,7 +91,8 @@ fn refuse(duplicate: Option<Uuid>, missing: Missing) -> Result<(), DocFail>
     }
 }
 
-/// A tree in which no id and no reference is refused, with the tombstones that name none of its nodes.
+/// A tree in which no id and no reference is refused, with the tombstones that name none of its
+/// nodes.
 #[derive(Drop)]
 struct SoundTree {
     root: Group,
@@ -105,7 +109,8 @@ fn sound_tree(
     tombs: &List<Tombstone>,
 ) -> Result<SoundTree, DocFail>
     ensures { Returns (λ tree. (tree_seen tree.root, tree.tombs)) result
-        (sound_tree (pool_from form (map pool_item given.now) (map binary_seen own.now)) (draft_seen draft) tombs.now) }
+        (sound_tree (pool_from form (map pool_item given.now) (map binary_seen own.now))
+        (draft_seen draft) tombs.now) }
 {
     let Ok(parts) = parts_of(alloc, form, given, own, draft, tombs) else {
         return Err(DocFail::NoMemory);
@@ -141,7 +146,8 @@ fn settled_tree(
     requires meta { is_kept_meta meta.meta ≡ true }
     requires tree { is_kept_tree 63 (draft_seen draft) ≡ true }
     ensures { Returns read_seen result
-        (spec.settled_tree form (map pool_item given.now) (meta_parts meta) (draft_seen draft) tombs.now) }
+        (spec.settled_tree form (map pool_item given.now) (meta_parts meta) (draft_seen draft)
+        tombs.now) }
 {
     let header_hash = hash_of(form, &meta);
     match sound_tree(alloc, form, given, &meta.binaries, draft, tombs) {
@@ -157,20 +163,22 @@ fn settled_tree(
     }
 }
 
-/// The document that the parts of a text of one form make, with the binaries that its file keeps apart (which only
-/// KDBX 4 has).
+/// The document that the parts of a text of one form make, with the binaries that its file keeps
+/// apart (which only KDBX 4 has).
 ///
 /// # Errors
 ///
 /// [`DocFail::MissingElement`] for a missing `KeePassFile`, `Root` or `Group`, in this order; then
-/// [`DocFail::DuplicateId`], and then [`DocFail::BinaryRef`]. [`DocFail::NoMemory`] where memory runs out.
+/// [`DocFail::DuplicateId`], and then [`DocFail::BinaryRef`]. [`DocFail::NoMemory`] where memory
+/// runs out.
 pub fn settle(
     alloc: Global,
     form: DocForm,
     pool: &List<PoolItem>,
     parts: DocParts,
 ) -> Result<ReadDoc, DocFail>
-    ensures { Returns read_seen result (spec.settled_document form (map pool_item pool.now) (parts_seen parts)) }
+    ensures { Returns read_seen result (spec.settled_document form (map pool_item pool.now)
+        (parts_seen parts)) }
 {
     let FileBuilder { meta, root } = parts
         .file

@@ -39,13 +39,15 @@ fn latest_of(alloc: Global, tombs: &[Tombstone]) -> Result<BTreeMap<Uuid, Stamp>
     Ok(latest)
 }
 
-/// Tombstones in the order of their ids, of two of one id that of the later time, without those of these ids.
+/// Tombstones in the order of their ids, of two of one id that of the later time, without those of
+/// these ids.
 pub(crate) fn tombs_without(
     alloc: Global,
     ids: &BTreeSet<Uuid>,
     tombs: &[Tombstone],
 ) -> Result<List<Tombstone>, NoMemory>
-    ensures { IfOk result (λ l. l ≡ filter (λ t. not (contains id_cmp ids.now t.id)) (spec.bury_all tombs.now)) }
+    ensures { IfOk result (λ l. l ≡ filter (λ t. not (contains id_cmp ids.now t.id))
+        (spec.bury_all tombs.now)) }
 {
     let latest = latest_of(alloc, tombs)?;
     let mut others = List::new(alloc);

@@ -105,8 +105,8 @@ impl<T: Keyed> KeyedList<T> {
         }
     }
 
-    /// How many items have lesser keys than this one. A key that comes after the last one is compared with that alone,
-    /// so that items which come in their order are put in linear time.
+    /// How many items have lesser keys than this one. A key that comes after the last one is
+    /// compared with that alone, so that items which come in their order are put in linear time.
     fn position(&self, key: &[u8]) -> usize
         ensures position { result ≡ spec.position_of T.key key.now self.now }
         ensures within { result ≤ length self.now }

@@ -1,4 +1,5 @@
-//! The values of a document: how the text of an element is read by its kind, and lists in which a key occurs once.
+//! The values of a document: how the text of an element is read by its kind, and lists in which a
+//! key occurs once.
 #![tactic(auto)]
 
 mod keyed;

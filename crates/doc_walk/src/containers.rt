@@ -17,17 +17,19 @@ pub trait Parts: Drop {
 
     ghost seen: { Self → Bare };
 
-    /// How an element is read that stands in it.
+    /// How an element is read that is in it.
     ghost child: { Setting → Child Bare };
 
     /// Reads the element whose start tag was given.
     fn read_child(&mut self, walk: &mut Walk<'_>, tag: &Tag<'_>) -> Result<(), DocFail>
-        ensures { Steps (λ _. seen self.new) walk.old walk.new result (child_step child (seen self.old) tag.now) };
+        ensures { Steps (λ _. seen self.new) walk.old walk.new result
+            (child_step child (seen self.old) tag.now) };
 }
 
-/// All that stands in the element whose start tag was given, and its end.
+/// All that is in the element whose start tag was given, and its end.
 pub fn contents<P: Parts>(walk: &mut Walk<'_>, tag: &Tag<'_>, parts: &mut P) -> Result<(), DocFail>
-    ensures { Steps (λ _. P.seen parts.new) walk.old walk.new result (contents_step P.child (P.seen parts.old) tag.now) }
+    ensures { Steps (λ _. P.seen parts.new) walk.old walk.new result
+        (contents_step P.child (P.seen parts.old) tag.now) }
 {
     let hides = is_marked(walk.alloc(), &tag.attrs, "Protected")?;
     let mut text = no_text(walk.alloc())?;
@@ -65,14 +67,16 @@ pub fn contents<P: Parts>(walk: &mut Walk<'_>, tag: &Tag<'_>, parts: &mut P) -> 
     }
 }
 
-/// All that stands in the element whose start tag was given, of which this is known at first, put in its place.
+/// All that is in the element whose start tag was given, of which this is known at first, put in
+/// its place.
 pub fn hold<P: Parts>(
     walk: &mut Walk<'_>,
     tag: &Tag<'_>,
     first: P,
     into: &mut P,
 ) -> Result<(), DocFail>
-    ensures { Steps (λ _. P.seen into.new) walk.old walk.new result (contents_step P.child (P.seen first) tag.now) }
+    ensures { Steps (λ _. P.seen into.new) walk.old walk.new result
+        (contents_step P.child (P.seen first) tag.now) }
 {
     let mut parts = first;
     contents(walk, tag, &mut parts)?;

@@ -57,7 +57,8 @@ pub fn no_times() -> Times
     }
 }
 
-/// The `Times` of a group, an entry or a history item, whose start tag was given, put in their place.
+/// The `Times` of a group, an entry or a history item, whose start tag was given, put in their
+/// place.
 pub fn times(walk: &mut Walk<'_>, tag: &Tag<'_>, into: &mut Times) -> Result<(), DocFail>
     ensures { Steps (λ _. into.new) walk.old walk.new result
         (contents_step (λ s. by_name s (spec.times_rows s)) spec.no_times tag.now) }

@@ -1,4 +1,5 @@
-//! A walk over the elements of a document: what each says, and what it uses up of the stream that hides values.
+//! A walk over the elements of a document: what each says, and what it uses up of the stream that
+//! hides values.
 #![tactic(auto)]
 
 mod containers;

@@ -48,7 +48,12 @@ impl<'t> Model for Walk<'t> {
 
     ghost Value = { Course };
 
-    ghost view = { λ w. record { setting = setting_of w.form w.stream; answers = w.reader; cursor = w.at } };
+    ghost view = { λ w. record {
+      setting = setting_of w.form w.stream;
+      answers = w.reader;
+      cursor =
+          w.at;
+    } };
 
     ghost invariant = { λ w. IsAt w.stream w.at.offset };
 }
@@ -141,7 +146,9 @@ impl<'t> Walk<'t> {
 
     /// What an element says at its end, by its own text.
     pub fn own_text(&mut self, tag: &Tag<'_>, text: Secret) -> Result<ElementText, DocFail>
-        ensures gives { Returns (λ t. (text_seen t, self.new.cursor)) result (spec.text_at_end self.old.setting tag.now.offset tag.now.attrs.raw.now text.bytes self.old.cursor) }
+        ensures gives { Returns (λ t. (text_seen t, self.new.cursor)) result
+            (spec.text_at_end self.old.setting tag.now.offset tag.now.attrs.raw.now text.bytes
+            self.old.cursor) }
         ensures answers { self.new.answers ≡ self.old.answers }
         ensures setting { self.new.setting ≡ self.old.setting }
     {

@@ -7,7 +7,8 @@ use crate::question::{Fault, Question};
 use argon_core::{ArgonKind, ArgonParams, argon2, blake2b};
 use std::alloc::Global;
 
-// Writes the digest of a text that is hashed in two pieces, the first of this length, or of all where it is shorter.
+// Writes the digest of a text that is hashed in two pieces, the first of this length, or of all
+// where it is shorter.
 fn put_digest(out: &mut [u8], text: &[u8], cut: usize)
     requires some { 1 ≤ length out.old }
     requires few { length out.old ≤ 64 }
@@ -35,8 +36,8 @@ pub fn digest(alloc: Global, question: &Question<'_>) -> Result<String, Fault> {
     Ok(hex::encode(alloc, &whole[..size])?)
 }
 
-/// A tag of Argon2d, or the first limit that is not met: passes, memory in KiB, lanes, password, salt, secret, extra
-/// data.
+/// A tag of Argon2d, or the first limit that is not met: passes, memory in KiB, lanes, password,
+/// salt, secret, extra data.
 pub fn argon2d(alloc: Global, question: &Question<'_>) -> Result<String, Fault> {
     tag(alloc, ArgonKind::D, question)
 }

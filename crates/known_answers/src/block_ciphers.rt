@@ -7,7 +7,7 @@ use block_core::{Aes256, Block16, Twofish256, cbc_decrypt, cbc_encrypt, pad_len,
 use secret_core::Key;
 use std::alloc::Global;
 
-// The cipher of AES under the key that is the first word behind the name.
+// The cipher of AES under the key that is the first word after the name.
 fn aes_of(question: &Question<'_>) -> Result<Aes256, Fault> {
     let mut key = Key::of(&question.array(1)?);
     let cipher = Aes256::new(&key);
@@ -42,7 +42,8 @@ fn enciphered<B: Block16>(
     Ok(enciphered)
 }
 
-// The third word's blocks enciphered by chaining from the second on; deciphered again they must be the same.
+// The third word's blocks enciphered by chaining from the second on; deciphered again they must be
+// the same.
 fn chained<B: Block16>(
     alloc: Global,
     cipher: &B,

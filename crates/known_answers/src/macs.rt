@@ -36,8 +36,9 @@ pub fn hmac(alloc: Global, question: &Question<'_>) -> Result<String, Fault> {
     Ok(hex::encode(alloc, &mac)?)
 }
 
-/// The heads of blocks with these contents and of the end block: MAC base, contents. The file of the blocks must be
-/// read as the contents, however it is cut, and refused where its last MAC is damaged.
+/// The heads of blocks with these contents and of the end block: MAC base, contents. The file of
+/// the blocks must be read as the contents, however it is cut, and refused where its last MAC is
+/// damaged.
 pub fn blocks(alloc: Global, question: &Question<'_>) -> Result<String, Fault> {
     let mut base = Key64::of(&question.array(1)?);
     let answer = written_and_read(alloc, &base, question);
@@ -106,8 +107,8 @@ fn write(
     file.add(&head, b"")
 }
 
-// Feeds a reader by pieces of this size: what it answers to the last one. Nothing where it answers otherwise than
-// with false to one before, or the output is full.
+// Feeds a reader by pieces of this size: what it answers to the last one. Nothing where it answers
+// otherwise than with false to one before, or the output is full.
 fn fed(
     reader: &mut BlockReader<'_>,
     bytes: &[u8],
@@ -135,8 +136,8 @@ fn fed(
     Some(reader.feed(rest, out))
 }
 
-// Whether a file that is cut here is read as these contents by pieces of this size: it is unfinished at the cut, and
-// whole at its end and with more bytes behind it.
+// Whether a file that is cut here is read as these contents by pieces of this size: it is
+// unfinished at the cut, and whole at its end and with more bytes after it.
 fn is_read(base: &Key64, file: &File, cut: usize, size: usize, out: &mut Secret) -> bool
     requires size { 0 < size }
 {
@@ -169,7 +170,8 @@ fn read_at_cuts(base: &Key64, file: &File, out: &mut Secret) -> Result<(), Fault
     Ok(())
 }
 
-// Damages the MAC of the last block of a file, which must then be refused, by pieces of each size and for ever.
+// Damages the MAC of the last block of a file, which must then be refused, by pieces of each size
+// and for ever.
 fn read_damaged(base: &Key64, file: &mut File, out: &mut Secret) -> Result<(), Fault> {
     let len = file.bytes.len();
     if len < 36 || len > 1_000_000 {
@@ -184,7 +186,8 @@ fn read_damaged(base: &Key64, file: &mut File, out: &mut Secret) -> Result<(), F
     Ok(())
 }
 
-// Whether a file is refused for the MAC of its last block by pieces of this size, and then with more bytes too.
+// Whether a file is refused for the MAC of its last block by pieces of this size, and then with
+// more bytes too.
 fn is_refused(base: &Key64, file: &File, size: usize, out: &mut Secret) -> bool
     requires { 0 < size }
 {

@@ -1,6 +1,7 @@
-//! Computes published values of the primitives and compares them. Each line of standard input asks a question, a
-//! primitive and what it is computed of, and gives the answer after ` = `; for each a line is printed that ends in
-//! `ok`, or says what was computed. Empty lines and lines that begin with `#` are passed over.
+//! Computes published values of the primitives and compares them. Each line of standard input asks
+//! a question, a primitive and what it is computed of, and gives the answer after ` = `; for each a
+//! line is printed that ends in `ok`, or says what was computed. Empty lines and lines that begin
+//! with `#` are passed over.
 #![tactic(auto)]
 
 mod argon;

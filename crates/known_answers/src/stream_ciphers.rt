@@ -33,8 +33,9 @@ fn apply_in_pieces(stream: &mut InnerStream, offset: usize, text: &mut [u8])
     apply_at(stream, offset + from, &mut text[from..]);
 }
 
-// A text enciphered by a stream, of which so many bytes are passed over: the number is the word of this
-// index, and the text the next one. In pieces under a second stream it must be enciphered as the same.
+// A text enciphered by a stream, of which so many bytes are passed over: the number is the word of
+// this index, and the text the next one. In pieces under a second stream it must be enciphered as
+// the same.
 fn enciphered(
     alloc: Global,
     question: &Question<'_>,
@@ -78,7 +79,8 @@ pub fn salsa20(alloc: Global, question: &Question<'_>) -> Result<String, Fault> 
     enciphered(alloc, question, 3, whole, cut)
 }
 
-/// A text under an inner stream: the stream's number, or `clear`, stream key, bytes that are passed over, text.
+/// A text under an inner stream: the stream's number, or `clear`, stream key, bytes that are passed
+/// over, text.
 pub fn inner_stream(alloc: Global, question: &Question<'_>) -> Result<String, Fault> {
     if question.word(1) == "clear" {
         return enciphered(alloc, question, 3, InnerStream::Clear, InnerStream::Clear);

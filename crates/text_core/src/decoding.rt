@@ -23,7 +23,8 @@ fn zeros(alloc: Global, len: usize) -> Result<Secret, NoMemory>
 /// The bytes that a text spells in base64, where it does.
 #[tactic(auto, unfolding(crate::specs::Texts::base64_bytes))]
 pub fn decode_base64(alloc: Global, text: &[u8]) -> Result<Option<Secret>, NoMemory>
-    ensures { IfOk result (λ decoded. option_map (λ secret. secret.bytes) decoded ≡ texts.base64_bytes text.now) }
+    ensures { IfOk result (λ decoded. option_map (λ secret. secret.bytes) decoded
+        ≡ texts.base64_bytes text.now) }
 {
     let mut bytes = zeros(alloc, decoded_len_estimate(text.len()))?;
     match STANDARD.decode_slice_unchecked(text, bytes.lend_mut()) {

@@ -55,10 +55,12 @@ fn is_literal(raw: &[u8]) -> bool
     raw.iter().all(|byte| *byte != b'&' && *byte != b'\r')
 }
 
-/// Whether raw markup stands for this word, in any case of its letters. Memory is taken only for escapes.
+/// Whether raw markup stands for this word, in any case of its letters. Memory is taken only for
+/// escapes.
 #[tactic(auto, using(crate::proofs::Literals::literal_text))]
 pub fn spells_word(alloc: Global, raw: &str, word: &[u8]) -> Result<bool, NoMemory>
-    ensures { IfOk result (λ is_word. is_word ≡ str_eq_ignore_ascii_case (escapes.unescaped raw.now) word.now) }
+    ensures { IfOk result (λ is_word. is_word
+        ≡ str_eq_ignore_ascii_case (escapes.unescaped raw.now) word.now) }
 {
     if is_literal(raw.as_bytes()) {
         return Ok(is_word(raw.as_bytes(), word));
