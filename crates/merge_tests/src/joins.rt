@@ -1,13 +1,13 @@
 //! What is expected is worked out by hand from the rules of a merge: an entry has all versions of all copies, each
 //! version being told apart by its time and by what it says; a node stands at its latest place; a node is deleted
 //! where a copy deleted it at or after its newest change in every copy.
-use slow_merge::databases::Database;
-use slow_merge::joins::{is_rooted, join};
 use crate::samples::{
     BANK, HOME, Lender, ROOT, WORK, id, new_lender, place, stamp, with_bank, with_filled_group,
     with_groups, with_move, with_tomb,
 };
 use outside_core::NoMemory;
+use slow_merge::databases::Database;
+use slow_merge::joins::{is_rooted, join};
 use std::alloc::Global;
 use std::test::Fail;
 
