@@ -15,7 +15,7 @@ pub fn parts_are_kept()
 {}
 
 /// The definition of a document never answers with want of memory: each refusal of a text is another one.
-pub fn refusals_are_others()
+pub fn documents_never_lack_memory()
     ensures { (s : Setting) (given : List (List ℕ × Bool)) (text : List ℕ) → document s given text ≢ Err NoMemory }
 {}
 
