@@ -9,8 +9,8 @@ use Rattle.kdbx_frame.specs.declared.settings.Cipher.{Cipher}
 use Rattle.kdbx_frame.specs.declared.settings.Cipher.TheVariants.{Aes, Twofish, ChaCha}
 use Rattle.kdbx_frame.specs.declared.header.Header.{Header}
 use Rattle.stream_core.specs.InnerStream.{Keystream}
-use Rattle.doc_read.specs.Documents.{Read}
-use Rattle.doc_read.specs.declared.fails.DocFail.{DocFail}
+use Rattle.doc_forms.specs.Documents.{DocumentAndHash}
+use Rattle.doc_forms.specs.declared.fails.DocFail.{DocFail}
 use Rattle.kdbx_open.specs.declared.fail.OpenFail.{OpenFail}
 use Rattle.kdbx_open.specs.declared.fail.OpenFail.TheVariants.{BadPadding, File, KeyOrHeader}
 use Rattle.kdbx_open.specs.Documents.{document_in, documented, framed, known}
@@ -106,7 +106,7 @@ bytes_known : (id : ℕ) (o : Option Keystream) → IsOfBytes (only (known id o)
 bytes_known id None fail h = cc
 bytes_known id (Some s) fail h = cc
 
-bytes_documented : (r : Result Read DocFail) → IsOfBytes (only (documented r))
+bytes_documented : (r : Result DocumentAndHash DocFail) → IsOfBytes (only (documented r))
 bytes_documented (Ok x) fail h = cc
 bytes_documented (Err e) fail h = cc
 

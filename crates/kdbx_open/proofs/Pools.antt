@@ -5,11 +5,11 @@ use Rattle.vault_model.specs.Tree.{BareDoc}
 use Rattle.vault_model.specs.declared.forms.DocForm.TheVariants.{V4}
 use Rattle.vault_model.specs.declared.forms.PoolItem.{PoolItem}
 use Rattle.kdbx_frame.specs.Seen.{binary_seen}
-use Rattle.doc_read.specs.Documents.{Read, document}
-use Rattle.doc_read.specs.Passing.{Setting}
-use Rattle.doc_read.specs.Refusals as documents
-use Rattle.doc_read.specs.SeenRead.{pool_item}
-use Rattle.doc_read.specs.declared.fails.DocFail.{DocFail}
+use Rattle.doc_forms.specs.Documents.{DocumentAndHash, document}
+use Rattle.doc_forms.specs.ElementTexts.{Setting}
+use Rattle.doc_forms.specs.Refusals as documents
+use Rattle.doc_forms.specs.SeenDocuments.{pool_item}
+use Rattle.doc_forms.specs.declared.fails.DocFail.{DocFail}
 use Rattle.kdbx_open.specs.Causes.{of_document}
 use Rattle.kdbx_open.specs.Documents.{document_of, documented, given}
 use Rattle.kdbx_open.specs.Readings.{Answers, only}
@@ -25,7 +25,7 @@ abbrev setting : Keystream → Setting
 setting stream = record { form = V4; keystream = stream }
 
 -- a document that was read
-pub document_said : (stream : Keystream) (pool : List PoolItem) (text : List ℕ) (read : Read)
+pub document_said : (stream : Keystream) (pool : List PoolItem) (text : List ℕ) (read : DocumentAndHash)
     → document (setting stream) (map pool_item pool) text ≡ Ok read
     → document_of stream (map binary_seen pool) text ≡ Ok read.0
 document_said stream pool text read h =

@@ -4,10 +4,10 @@ use Rattle.secret_core.specs.declared.files.ReadFail.TheVariants.{FileFault}
 use Rattle.kdbx_frame.specs.declared.fail.FrameFail.{FrameFail}
 use Rattle.kdbx_frame.specs.declared.fail.FrameFail.TheVariants as frame
 use Rattle.kdbx_frame.specs.Results as frames
-use Rattle.doc_read.specs.declared.fails.DocFail.{DocFail}
-use Rattle.doc_read.specs.declared.fails.DocFail.TheVariants as document
-use Rattle.doc_read.specs.Refusals as documents
-use Rattle.doc_read.specs.Documents.{Read}
+use Rattle.doc_forms.specs.declared.fails.DocFail.{DocFail}
+use Rattle.doc_forms.specs.declared.fails.DocFail.TheVariants as document
+use Rattle.doc_forms.specs.Refusals as documents
+use Rattle.doc_forms.specs.Documents.{DocumentAndHash}
 use Rattle.vault_model.specs.Tree.{BareDoc}
 use Rattle.kdbx_open.specs.declared.fail.OpenFail.{OpenFail}
 use Rattle.kdbx_open.specs.declared.fail.OpenFail.TheVariants.{File, NoMemory}
@@ -37,7 +37,7 @@ frame_refused seen frame.NoMemory defined h = tt
 frame_refused seen fail defined h = ap framed h
 
 -- a refusal of the document, as it is passed on
-pub document_refused : {X : Type 0} (seen : X → BareDoc) (fail : DocFail) (defined : Result Read DocFail)
+pub document_refused : {X : Type 0} (seen : X → BareDoc) (fail : DocFail) (defined : Result DocumentAndHash DocFail)
     → documents.Fails fail defined → Answers seen (Err (of_document fail)) (only (documented defined))
 document_refused seen document.NoMemory defined h = tt
 document_refused seen fail defined h = ap documented h

@@ -5,8 +5,8 @@ use Rattle.secret_core.specs.declared.files.ReadFail.{ReadFail}
 use Rattle.secret_core.specs.declared.files.ReadFail.TheVariants as read
 use Rattle.kdbx_frame.specs.declared.fail.FrameFail.{FrameFail}
 use Rattle.kdbx_frame.specs.declared.fail.FrameFail.TheVariants as frame
-use Rattle.doc_read.specs.declared.fails.DocFail.{DocFail}
-use Rattle.doc_read.specs.declared.fails.DocFail.TheVariants as document
+use Rattle.doc_forms.specs.declared.fails.DocFail.{DocFail}
+use Rattle.doc_forms.specs.declared.fails.DocFail.TheVariants as document
 use Rattle.kdbx_open.specs.declared.fail.OpenFail.{OpenFail}
 use Rattle.kdbx_open.specs.declared.fail.OpenFail.TheVariants.{File, Frame, Doc, NoMemory}
 

@@ -5,8 +5,8 @@ use Rattle.kdbx_frame.specs.Inner.{Binary, inner_of}
 use Rattle.stream_core.specs.InnerStream.{Keystream, keystream_of}
 use Rattle.vault_model.specs.Tree.{BareDoc}
 use Rattle.vault_model.specs.declared.forms.DocForm.TheVariants.{V4}
-use Rattle.doc_read.specs.Documents.{Read, document}
-use Rattle.doc_read.specs.declared.fails.DocFail.{DocFail}
+use Rattle.doc_forms.specs.Documents.{DocumentAndHash, document}
+use Rattle.doc_forms.specs.declared.fails.DocFail.{DocFail}
 use Rattle.kdbx_open.specs.declared.fail.OpenFail.{OpenFail}
 use Rattle.kdbx_open.specs.declared.fail.OpenFail.TheVariants.{Frame, StreamUnknown, Doc}
 use Rattle.kdbx_open.specs.Readings.{Reading, only, ◌>>=◌}
@@ -26,7 +26,7 @@ abbrev pub given : Binary → List ℕ × Bool
 given b = (b.bytes, b.hidden)
 
 -- a document, or its refusal; what it says of a header's hash counts in a file of version 3.1 alone
-abbrev pub documented : Result Read DocFail → Result BareDoc OpenFail
+abbrev pub documented : Result DocumentAndHash DocFail → Result BareDoc OpenFail
 documented (Ok read) = Ok read.0
 documented (Err fail) = Err (Doc fail)
 

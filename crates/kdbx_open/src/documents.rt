@@ -4,10 +4,10 @@ ghost use Rattle.std.specs.Prelude.{◌≡◌, ◌≤◌, IfOk, drop, length, ma
 ghost use Rattle.stream_core.specs.InnerStream.{IsAt, keystream, keystream_of};
 ghost use Rattle.vault_model.specs.SeenDoc.{doc_seen};
 ghost use Rattle.vault_model.specs.declared.forms.DocForm.TheVariants.{V4};
-ghost use Rattle.doc_read.specs.Documents.{document};
-ghost use Rattle.doc_read.specs.Refusals as reader;
-ghost use Rattle.doc_read.specs.Seen.{setting_of};
-ghost use Rattle.doc_read.specs.SeenRead.{pool_item, read_seen};
+ghost use Rattle.doc_forms.specs.Documents.{document};
+ghost use Rattle.doc_forms.specs.Refusals as reader;
+ghost use Rattle.doc_forms.specs.SeenTexts.{setting_of};
+ghost use Rattle.doc_forms.specs.SeenDocuments.{pool_item, read_seen};
 ghost use Rattle.kdbx_frame.specs.Seen.{binary_seen};
 ghost use Rattle.kdbx_open.specs.Documents.{document_in, document_of, known};
 ghost use Rattle.kdbx_open.specs.Readings.{Answers, only};
@@ -39,7 +39,7 @@ fn read_behind(
 ) -> Result<ReadDoc, DocFail>
     requires start { IsAt stream.old 0 }
     requires within { from ≤ length text.bytes }
-    ensures { reader.Gives read_seen result (document (setting_of V4 stream.old) (map pool_item pool.now) (drop from text.bytes)) }
+    ensures { reader.Returns read_seen result (document (setting_of V4 stream.old) (map pool_item pool.now) (drop from text.bytes)) }
 {
     let (_fields, document) = text.lend(0, text.len()).split_at(from);
     let parts = read_parts(alloc, document, DocForm::V4, stream)?;

@@ -7,8 +7,8 @@ use Rattle.key_core.specs.KeyFile.{key_file_key}
 use Rattle.key_core.specs.Keys.{composite_key}
 use Rattle.key_core.specs.declared.key_file.KeyFileFail.{KeyFileFail}
 use Rattle.vault_model.specs.Tree.{BareDoc}
-use Rattle.doc_read.specs.Documents.{Read}
-use Rattle.doc_read.specs.declared.fails.DocFail.{DocFail}
+use Rattle.doc_forms.specs.Documents.{DocumentAndHash}
+use Rattle.doc_forms.specs.declared.fails.DocFail.{DocFail}
 use Rattle.kdbx_open.specs.Files.{bytes_of, opening_of}
 use Rattle.kdbx_open.specs.Opening.{Vault, opening}
 use Rattle.kdbx_open.specs.Readings.{followed as read_followed}
@@ -55,7 +55,7 @@ given name files made x bytes there gives =
 
 -- ---- plain documents
 
-built_by : (name : List ℕ) (r : Result Read DocFail) (doc : BareDoc) → built name r ≡ Ok doc → (read : Read) × ((r ≡ Ok read) × (read.0 ≡ doc))
+built_by : (name : List ℕ) (r : Result DocumentAndHash DocFail) (doc : BareDoc) → built name r ≡ Ok doc → (read : DocumentAndHash) × ((r ≡ Ok read) × (read.0 ≡ doc))
 built_by name (Ok read) doc h = (read, (refl, cc))
 built_by name (Err fail) doc h = cc
 

@@ -13,9 +13,9 @@ use Rattle.mac_core.specs.declared.fail.BlockFail.TheVariants as block
 use Rattle.stream_core.specs.InnerStream.{NoKeystream}
 use Rattle.vault_model.specs.Tree.{BareDoc}
 use Rattle.vault_model.specs.declared.forms.DocForm.TheVariants.{Plain}
-use Rattle.doc_read.specs.Documents.{Read, document}
-use Rattle.doc_read.specs.declared.fails.DocFail.{DocFail}
-use Rattle.doc_read.specs.declared.fails.DocFail.TheVariants as doc
+use Rattle.doc_forms.specs.Documents.{DocumentAndHash, document}
+use Rattle.doc_forms.specs.declared.fails.DocFail.{DocFail}
+use Rattle.doc_forms.specs.declared.fails.DocFail.TheVariants as doc
 use Rattle.kdbx_frame.specs.declared.fail.FrameFail.{FrameFail}
 use Rattle.kdbx_frame.specs.declared.fail.FrameFail.TheVariants as frame
 use Rattle.kdbx_open.specs.declared.fail.OpenFail.{OpenFail}
@@ -108,11 +108,11 @@ of_file name made None = Err (refusal_of NoSuchFile name)
 of_file name made (Some bytes) = cond (nat_le (length bytes) file_limit) (made bytes) (Err (refusal_of TooLarge name))
 
 -- What a text says as a plain document, which hides nothing and has no binaries beside it.
-unfoldable pub plain_document : List ℕ → Result Read DocFail
+unfoldable pub plain_document : List ℕ → Result DocumentAndHash DocFail
 plain_document text = document (record { form = Plain; keystream = NoKeystream }) [] text
 
 -- The document that the file of this name holds, or the refusal.
-abbrev pub built : List ℕ → Result Read DocFail → Result BareDoc Refusal
+abbrev pub built : List ℕ → Result DocumentAndHash DocFail → Result BareDoc Refusal
 built name (Ok read) = Ok read.0
 built name (Err fail) = Err (refusal_of (document_answer fail) name)
 

@@ -5,7 +5,7 @@ use Rattle.outside_core.specs.Files.{FileMap}
 use Rattle.key_core.specs.KeyFile.{key_file_key}
 use Rattle.key_core.specs.Keys.{composite_key}
 use Rattle.vault_model.specs.Tree.{BareDoc}
-use Rattle.doc_read.specs.Documents.{Read}
+use Rattle.doc_forms.specs.Documents.{DocumentAndHash}
 use Rattle.kdbx_open.specs.Opening.{Vault}
 use Rattle.kdbx_open.specs.Sealed.{Sealed}
 use Rattle.keepass_cli.specs.declared.command.Command.{Command}
@@ -25,7 +25,7 @@ pub record IsThere (files : FileMap) (name bytes : List ℕ) : Type 0 where
 pub record IsPlain (file : List ℕ) (files : FileMap) (doc : BareDoc) : Type 0 where
   pub bytes : List ℕ
   pub there : IsThere files file bytes
-  pub read : Read
+  pub read : DocumentAndHash
   pub says : plain_document bytes ≡ Ok read
   pub is : read.0 ≡ doc
 

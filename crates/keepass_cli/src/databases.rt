@@ -4,8 +4,8 @@ ghost use Rattle.std.specs.FinMap as map;
 ghost use Rattle.outside_core.specs.Files.{FileMap};
 ghost use Rattle.key_core.specs.KeyFile.{key_file_key};
 ghost use Rattle.vault_model.specs.SeenDoc.{doc_seen};
-ghost use Rattle.doc_read.specs.Refusals as reader;
-ghost use Rattle.doc_read.specs.SeenRead.{read_seen};
+ghost use Rattle.doc_forms.specs.Refusals as reader;
+ghost use Rattle.doc_forms.specs.SeenDocuments.{read_seen};
 ghost use Rattle.keepass_cli.specs.Databases as spec;
 ghost use Rattle.keepass_cli.specs.Databases.{IsUnopened, IsUnread, built, database_of, held_in, key_in, keyed, plain_document, plain_of, sealed_in};
 ghost use Rattle.keepass_cli.specs.Opening.{CanOpen};
@@ -129,7 +129,7 @@ fn unopened(alloc: Global, fail: OpenFail, name: &str) -> Stop
 // The plain document that a text is, which is let go before the document stands.
 #[tactic(auto, unfolding(crate::specs::Databases::plain_document))]
 fn read_plain(alloc: Global, text: Secret) -> Result<ReadDoc, DocFail>
-    ensures { reader.Gives read_seen result (plain_document text.bytes) }
+    ensures { reader.Returns read_seen result (plain_document text.bytes) }
 {
     let mut stream = InnerStream::Clear;
     let parts = read_parts(alloc, text.lend(0, text.len()), DocForm::Plain, &mut stream)?;
