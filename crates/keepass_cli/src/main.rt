@@ -2,23 +2,44 @@
 #![tactic(auto)]
 
 use keepass_call::keepass;
+use outside_core::{Sink, write_all};
 use outside_host::{HostDice, HostFiles, HostInput, HostOutput};
 use std::alloc::AllocGlobal;
 use std::env;
+use std::io::ErrorKind;
 use std::process::ExitCode;
 use std::time::{Clock, SystemTime};
 
 /// The seconds from the beginning of the year 1 to that of 1970.
 const SECONDS_TO_1970: u64 = 62_135_596_800;
 
-// The words after the program's name; none where one of them is not UTF-8.
-fn words_after_name(rt: &(impl env::Env + AllocGlobal)) -> Vec<String> {
-    let Ok(args) = env::args(rt) else {
-        return Vec::new(rt.alloc());
+// Why the call is not made.
+enum NoWords {
+    NotUtf8,
+    OutOfMemory,
+}
+
+// The words after the program's name.
+fn words_after_name(rt: &(impl env::Env + AllocGlobal)) -> Result<Vec<String>, NoWords> {
+    match env::args(rt) {
+        Ok(args) => match args.skip(1).collect(rt.alloc()) {
+            Ok(words) => Ok(words),
+            Err(_) => Err(NoWords::OutOfMemory),
+        },
+        Err(error) if error.kind() == ErrorKind::OutOfMemory => Err(NoWords::OutOfMemory),
+        Err(_) => Err(NoWords::NotUtf8),
+    }
+}
+
+// Writes the line of a call that is not made, and gives its status.
+fn refuse<E: Sink>(err: &mut E, why: &NoWords) -> u8 {
+    let (line, status): (&[u8], u8) = match why {
+        NoWords::NotUtf8 => (b"keepass: words: not UTF-8\n", 1),
+        NoWords::OutOfMemory => (b"keepass: words: out of memory\n", 9),
     };
-    match args.skip(1).collect(rt.alloc()) {
-        Ok(words) => words,
-        Err(_) => Vec::new(rt.alloc()),
+    match write_all(err, line) {
+        Ok(()) => status,
+        Err(_) => 10,
     }
 }
 
@@ -35,13 +56,16 @@ fn seconds(rt: &impl Clock) -> u64 {
 
 fn main(rt: HostRuntime) -> ExitCode {
     let alloc = rt.alloc();
-    let words = words_after_name(&rt);
-    let now = seconds(&rt);
     let stderr = rt.stderr();
+    let mut err = HostOutput::new(&stderr);
+    let words = match words_after_name(&rt) {
+        Ok(words) => words,
+        Err(why) => return ExitCode::from(refuse(&mut err, &why)),
+    };
+    let now = seconds(&rt);
     let mut files = HostFiles::new(&rt, alloc);
     let mut input = HostInput::new(rt.reader());
     let mut out = HostOutput::new(&rt);
-    let mut err = HostOutput::new(&stderr);
     let mut dice = HostDice::new(&rt);
     ExitCode::from(keepass(
         alloc,

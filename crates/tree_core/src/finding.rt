@@ -86,7 +86,7 @@ pub fn find_entry(doc: &Doc, path: &str) -> Option<Uuid>
 }
 
 /// The group that a path names: the first in document order whose path the text is, but for one
-/// slash in front and one at its end. A group's path is the names of the groups that lead to it
+/// leading slash and one at its end. A group's path is the names of the groups that lead to it
 /// from below the root and its own, with a slash between each two; the root's path is empty. Takes
 /// no memory.
 pub fn find_group(doc: &Doc, path: &str) -> Option<Uuid>
