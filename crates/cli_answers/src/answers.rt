@@ -160,7 +160,8 @@ fn compared<const N: usize>(
 
 // A line by its number, and what is wrong with it.
 fn line_is(alloc: Global, number: u64, wrong: &str) -> Result<String, AllocError>
-    ensures { IfOk result (λ text. string_bytes text ≡ codes "line " ++ decimal number ++ wrong.now) }
+    ensures { IfOk result (λ text. string_bytes text
+        ≡ codes "line " ++ decimal number ++ wrong.now) }
 {
     let mut text = format!(in alloc; "line {number}")?;
     text.push_str(wrong)?;

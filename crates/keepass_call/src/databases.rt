@@ -214,7 +214,8 @@ fn key_of<F: FileStore>(
     key_file: Option<&str>,
 ) -> Result<Option<Key>, Stop>
     ensures told { (m : FileMap) → F.files files.old ≡ Some m
-        → Returns (λ key. key) result (spec.key_of (option_map (λ name. name.now) key_file.entry) m) }
+        → Returns (λ key. key) result
+        (spec.key_of (option_map (λ name. name.now) key_file.entry) m) }
     ensures given { IfOk result (λ key. IsSome key_file.entry → IsSome key) }
     ensures some_file { IfOk result (SomeKey (option_map (λ name. name.now) key_file.entry)) }
     ensures cause { IfErr result (IsFileStop (key_files

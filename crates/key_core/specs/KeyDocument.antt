@@ -18,12 +18,15 @@ abbrev mutual
   is_whole (also text e more) = is_whole_element e && is_whole more
   is_whole (cut text answer) = false
 
+  -- what an element holds goes up to its end
   pub is_whole_element : Element → Bool
   is_whole_element (element place name raw content) = is_whole content
 
+-- the name of an element
 abbrev pub name_of : Element → List ℕ
 name_of (element place name raw content) = name
 
+-- what an element holds
 abbrev pub held_by : Element → Content
 held_by (element place name raw content) = content
 
@@ -84,6 +87,7 @@ compared key kept =
     if bytes_eq kept (take 4 (sha256 key)) then Ok key else Err
     (KeyFileHash kept (take 4 (sha256 key)))
 
+-- a key that is checked against its hash, where one is stored with it
 abbrev pub proved_by : ℕ → Option (List ℕ) → List ℕ → Result (List ℕ) KeyFileFail
 proved_by place None key = Ok key
 proved_by place (Some digits) key = elim (formed place (hexadecimal_hash digits))

@@ -77,9 +77,11 @@ told_or name place hash told content =
 abbrev pub Says : Type 0
 Says = Option Version × Option Told
 
+-- the version and the key that the content of a root gives
 abbrev pub says_of : Content → Says
 says_of root = (version_of root, told_of root)
 
+-- the version and the key that a document has as it is read
 abbrev pub says_by : Document → Says
 says_by document = (document.version, option_map told_by document.data)
 

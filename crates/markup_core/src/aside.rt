@@ -73,7 +73,8 @@ fn aside_end(text: &[u8], at: usize) -> Result<usize, usize>
 /// The end of the comment whose `<!` is before a place: after the first `-->` past `<!--`.
 fn comment_end(text: &[u8], at: usize) -> Result<usize, usize>
     requires { at ≤ length text.now }
-    ensures comment { (level : Level) → Leads text.now (bang level) at (λ end. between level) result }
+    ensures comment { (level : Level)
+        → Leads text.now (bang level) at (λ end. between level) result }
     ensures within { EndsWithin text.now at result }
     ensures closes { IfOk result (λ end. EndsTag text.now end) }
 {

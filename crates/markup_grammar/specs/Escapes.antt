@@ -48,6 +48,7 @@ pub data Place : Type 0 where
 abbrev pub plainly_given : ℕ → List ℕ
 plainly_given b = if b == 38 then [] else (if b == 13 then 10 ∷ [] else b ∷ [])
 
+-- where a byte of plain text leads: into a reference, after a carriage return, or on in plain text
 abbrev pub place_after_text : ℕ → Place
 place_after_text b = if b == 38 then reference [] else (if b == 13 then returned else plain)
 

@@ -19,6 +19,7 @@ pub data Around : Type 0 where
   aside : Aside → Around
 
 mutual
+  -- an element: a start tag, its content and an end tag, or an empty element
   pub data Element : Type 0 where
     -- a name, the raw text of its attributes, what stands between its two tags, and the white space
     -- in its end tag
