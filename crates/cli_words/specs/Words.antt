@@ -47,17 +47,17 @@ nothing_said = record {
 }
 
 -- This, unless it was said before.
-abbrev pub once : Bool → Said → Option Said
-once true said = None
-once false said = Some said
+abbrev pub unless_said : Bool → Said → Option Said
+unless_said true said = None
+unless_said false said = Some said
 
 -- A flag more.
 abbrev pub with_flag : Said → Flag → Option Said
-with_flag said Recursive = once said.recursive (record said { recursive = true })
-with_flag said Flat = once said.flat (record said { flat = true })
-with_flag said Quiet = once said.quiet (record said { quiet = true })
-with_flag said Plain = once said.plain (record said { plain = true })
-with_flag said NoPassword = once said.no_password (record said { no_password = true })
+with_flag said Recursive = unless_said said.recursive (record said { recursive = true })
+with_flag said Flat = unless_said said.flat (record said { flat = true })
+with_flag said Quiet = unless_said said.quiet (record said { quiet = true })
+with_flag said Plain = unless_said said.plain (record said { plain = true })
+with_flag said NoPassword = unless_said said.no_password (record said { no_password = true })
 
 -- The flag of this letter.
 abbrev pub flag_of_letter : ℕ → Option Flag
@@ -89,11 +89,11 @@ with_letters (letter ∷ letters) said =
 
 -- The key file, whose name is due in the next word.
 abbrev pub with_key_due : Said → Option Said
-with_key_due said = once (is_some said.key_file) (record said { is_due = true })
+with_key_due said = unless_said (is_some said.key_file) (record said { is_due = true })
 
 -- The key file of this name.
 abbrev pub with_key : Said → List ℕ → Option Said
-with_key said name = once (is_some said.key_file) (record said { key_file = Some name })
+with_key said name = unless_said (is_some said.key_file) (record said { key_file = Some name })
 
 -- A name after the letter of an option, from which `=` may part it.
 abbrev pub without_sign : List ℕ → List ℕ
@@ -137,7 +137,8 @@ with_value said word = if is_option word then None else Some
 -- The file, or the group after it.
 abbrev pub with_position : Said → List ℕ → Option (List ℕ) → Option Said
 with_position said word None = Some (record said { file = Some word })
-with_position said word (Some file) = once (is_some said.group) (record said { group = Some word })
+with_position said word (Some file) =
+    unless_said (is_some said.group) (record said { group = Some word })
 
 -- A word more.
 abbrev pub with_word : Said → List ℕ → Option Said

@@ -80,8 +80,8 @@ fn flag_of_name(name: &str) -> Option<Flag>
 }
 
 // This, unless it was said before.
-fn once<'a>(before: bool, said: SaidWords<'a>) -> Option<SaidWords<'a>>
-    ensures { option_map said_seen result ≡ spec.once before (said_seen said.entry) }
+fn unless_said<'a>(before: bool, said: SaidWords<'a>) -> Option<SaidWords<'a>>
+    ensures { option_map said_seen result ≡ spec.unless_said before (said_seen said.entry) }
 {
     if before { None } else { Some(said) }
 }
@@ -91,29 +91,29 @@ fn with_flag<'a>(said: SaidWords<'a>, flag: Flag) -> Option<SaidWords<'a>>
     ensures { option_map said_seen result ≡ spec.with_flag (said_seen said.entry) flag }
 {
     match flag {
-        Flag::Recursive => once(
+        Flag::Recursive => unless_said(
             said.recursive,
             SaidWords {
                 recursive: true,
                 ..said
             },
         ),
-        Flag::Flat => once(said.flat, SaidWords { flat: true, ..said }),
-        Flag::Quiet => once(
+        Flag::Flat => unless_said(said.flat, SaidWords { flat: true, ..said }),
+        Flag::Quiet => unless_said(
             said.quiet,
             SaidWords {
                 quiet: true,
                 ..said
             },
         ),
-        Flag::Plain => once(
+        Flag::Plain => unless_said(
             said.plain,
             SaidWords {
                 plain: true,
                 ..said
             },
         ),
-        Flag::NoPassword => once(
+        Flag::NoPassword => unless_said(
             said.no_password,
             SaidWords {
                 no_password: true,
@@ -148,7 +148,7 @@ fn with_letters<'a>(said: SaidWords<'a>, letters: &[u8]) -> Option<SaidWords<'a>
 fn with_key_due<'a>(said: SaidWords<'a>) -> Option<SaidWords<'a>>
     ensures { option_map said_seen result ≡ spec.with_key_due (said_seen said.entry) }
 {
-    once(
+    unless_said(
         said.key_file.is_some(),
         SaidWords {
             is_due: true,
@@ -161,7 +161,7 @@ fn with_key_due<'a>(said: SaidWords<'a>) -> Option<SaidWords<'a>>
 fn with_key<'a>(said: SaidWords<'a>, name: &'a str) -> Option<SaidWords<'a>>
     ensures { option_map said_seen result ≡ spec.with_key (said_seen said.entry) name.now }
 {
-    once(
+    unless_said(
         said.key_file.is_some(),
         SaidWords {
             key_file: Some(name),
@@ -233,7 +233,7 @@ fn with_position<'a>(said: SaidWords<'a>, word: &'a str) -> Option<SaidWords<'a>
             file: Some(word),
             ..said
         }),
-        Some(_) => once(
+        Some(_) => unless_said(
             said.group.is_some(),
             SaidWords {
                 group: Some(word),
