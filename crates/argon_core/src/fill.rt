@@ -13,7 +13,7 @@ use crate::params::{ArgonKind, Instance, Segment};
 const ADDRESSES_IN_BLOCK: usize = 128;
 
 // Fills place `at` of the memory from the blocks before it and of another lane. After the first
-// pass what stood there is mixed in.
+// pass what was there is mixed in.
 fn refill(memory: &mut [Block], before: usize, other: usize, at: usize, is_first: bool)
     requires few { length memory.old ≤ 1048576 }
     requires before { before < length memory.old }

@@ -128,7 +128,7 @@ fn unopened(alloc: Global, fail: OpenFail, name: &str) -> Stop
     }
 }
 
-// The plain document that a text is, which is dropped before the document stands.
+// The plain document that a text is, which is dropped before the document is made.
 #[tactic(auto, unfolding(crate::specs::Databases::plain_document))]
 fn read_plain(alloc: Global, text: Secret) -> Result<ReadDoc, DocFail>
     ensures { reader.Returns read_seen result (plain_document text.bytes) }

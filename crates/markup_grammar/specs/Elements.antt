@@ -54,7 +54,7 @@ left (finish ∷ more) = last [] ∷ []
 left (form place ∷ more) = cut [] (form place) ∷ []
 left (depth place ∷ more) = cut [] (depth place) ∷ []
 
--- what a text holds, told by all answers of a reader on it
+-- what a text holds, by all answers of a reader on it
 abbrev pub content_of : List Answer → Content
 content_of answers = inner (left answers)
 

@@ -28,7 +28,7 @@ by_name name =
     else (if bytes_eq name (codes "apos") then Some 39
     else None))))
 
--- the character that a reference stands for, told by what stands between its `&` and its `;`
+-- the character that a reference stands for, by what is between its `&` and its `;`
 unfoldable pub referred : List ℕ → Option ℕ
 referred [] = None
 referred (b ∷ rest) = if b == 35 then behind_hash rest else by_name (b ∷ rest)

@@ -43,7 +43,7 @@ pub record IsStartTag (bytes : List ℕ) : Type 0 where
   pub spells : (bytes ≡ start_tag name raw) ⊎ (bytes ≡ empty_tag name raw)
   pub utf8 : IsUtf8 bytes
 
--- at n stands a whole start tag where 256 elements are open
+-- at n there is a whole start tag where 256 elements are open
 pub record IsTooDeep (text : List ℕ) (n : ℕ) : Type 0 where
   pub names : List (List ℕ)
   pub tag : List ℕ

@@ -57,7 +57,7 @@ version time title notes = record {
   stats = record { accessed = time; usage = 0 };
 }
 
--- an entry that stands where it stands since a time, with its current version and those before it
+-- an entry that is where it is since a time, with its current version and those before it
 abbrev pub entry : ℕ → BareVersion → List BareVersion → EntryRecord
 entry placed current history = record { placed = placed; current = current; history = history }
 
