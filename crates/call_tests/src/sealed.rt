@@ -108,7 +108,7 @@ fn the_password_is_a_line_of_input(rt: HostRuntime) -> Result<(), Fail> {
     opens(&rt, b"\xff\n", &form)
 }
 
-/// The codes are those of Python's hmac.
+/// The MACs are those of Python's hmac.
 #[test]
 fn another_password_is_refused(rt: HostRuntime) -> Result<(), Fail> {
     let line =

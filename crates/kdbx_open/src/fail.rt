@@ -22,7 +22,7 @@ pub enum OpenFail {
     Frame(FrameFail),
     /// The header's HMAC is not right: the composite key is another, or the header was changed.
     KeyOrHeader {
-        /// The code that the file keeps.
+        /// The MAC that the file keeps.
         kept: [u8; 32],
         /// The MAC of the header as it is, under the composite key.
         found: [u8; 32],

@@ -61,7 +61,7 @@ fn first_attribute(bytes: &[u8]) -> Option<Attribute<'_>>
     })
 }
 
-/// A front of some bytes, the byte after it, and the rest.
+/// A prefix of some bytes, the byte after it, and the rest.
 #[derive(Clone, Copy)]
 struct Cut<'a> {
     front: &'a [u8],

@@ -74,7 +74,7 @@ pub fn escape(text: &str, out: &mut Secret)
     }
 }
 
-/// The part at the front of raw markup, and how many bytes it takes there.
+/// The part at the start of raw markup, and how many bytes it takes there.
 fn part_at(raw: &[u8]) -> (Part<'_>, usize)
     requires { 0 < length raw.now }
     ensures text { spec.unescaped raw.now ≡ parts.part_text result.0

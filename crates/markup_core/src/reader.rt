@@ -14,7 +14,7 @@ const OPEN_LIMIT: usize = 256;
 /// elements are open.
 #[derive(Drop)]
 pub struct Reader<'a> {
-    /// The longest front of the text that begins a text in UTF-8.
+    /// The longest prefix of the text that begins a text in UTF-8.
     text: &'a [u8],
     /// Whether it is the whole text.
     is_whole: bool,

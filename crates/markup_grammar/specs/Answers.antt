@@ -11,7 +11,7 @@ pub data Answer : Type 0 where
   stop : ℕ → Answer
   -- the end of a text that is in the grammar
   finish : Answer
-  -- a text that leaves the grammar: the length of its longest front that begins a text of the
+  -- a text that leaves the grammar: the length of its longest prefix that begins a text of the
   -- grammar
   form : ℕ → Answer
   -- a text of too many open elements: the place of the start tag that opens the 257th

@@ -1,4 +1,5 @@
--- The tree of elements that a reader's answers spell, which ends in a cut where the text is refused.
+-- The tree of elements that a reader's answers spell, which ends in a cut where the text is
+-- refused.
 use Rattle.std.specs.Prelude.{ℕ, Option, Some, None, List, [], ◌∷◌, ◌++◌}
 use Rattle.std.specs.Option.{option_or}
 use Rattle.markup_grammar.specs.Answers.{Answer, start, words, stop, finish, form, depth}

@@ -60,7 +60,7 @@ pub data Spot : Type 0 where
 -- Where a reader is. A tag or a run of text that has begun carries its place and what it has
 -- come to.
 pub data State : Type 0 where
-  -- at the very front of the text
+  -- at the very start of the text
   fresh : State
   -- after the first byte of the byte order mark, and after the second
   mark_one : State

@@ -12,7 +12,7 @@ pub fn utf8_texts()
     ensures run { (text : List ℕ) → IsUtf8 text → utf8_run text none_left ≡ Some none_left }
 {}
 
-/// The front of a text that the machine passes over is the longest that begins a text in UTF-8.
+/// The prefix of a text that the machine passes over is the longest that begins a text in UTF-8.
 pub fn utf8_fronts()
     ensures { (text : List ℕ) → IsUtf8Front text (utf8_front text) }
 {}

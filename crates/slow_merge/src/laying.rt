@@ -305,8 +305,8 @@ fn new_view() -> GroupView
     }
 }
 
-/// A group as it is in the database, looked at as in the older document; since when the root is
-/// is the older document's to say.
+/// A group as it is in the database, looked at as in the older document, which also says since when
+/// the root is where it is.
 fn laid_group<'a>(
     laid: &Database<'a>,
     older: &Sheet<'a>,
