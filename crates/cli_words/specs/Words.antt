@@ -47,17 +47,17 @@ nothing_said = record {
 }
 
 -- This, unless it was said before.
-abbrev pub unless_said : Bool → Said → Option Said
-unless_said true said = None
-unless_said false said = Some said
+abbrev pub unless_given : Bool → Said → Option Said
+unless_given true said = None
+unless_given false said = Some said
 
 -- A flag more.
 abbrev pub with_flag : Said → Flag → Option Said
-with_flag said Recursive = unless_said said.recursive (record said { recursive = true })
-with_flag said Flat = unless_said said.flat (record said { flat = true })
-with_flag said Quiet = unless_said said.quiet (record said { quiet = true })
-with_flag said Plain = unless_said said.plain (record said { plain = true })
-with_flag said NoPassword = unless_said said.no_password (record said { no_password = true })
+with_flag said Recursive = unless_given said.recursive (record said { recursive = true })
+with_flag said Flat = unless_given said.flat (record said { flat = true })
+with_flag said Quiet = unless_given said.quiet (record said { quiet = true })
+with_flag said Plain = unless_given said.plain (record said { plain = true })
+with_flag said NoPassword = unless_given said.no_password (record said { no_password = true })
 
 -- The flag of this letter.
 abbrev pub flag_of_letter : ℕ → Option Flag
@@ -89,11 +89,11 @@ with_letters (letter ∷ letters) said =
 
 -- The key file, whose name is due in the next word.
 abbrev pub with_key_due : Said → Option Said
-with_key_due said = unless_said (is_some said.key_file) (record said { is_due = true })
+with_key_due said = unless_given (is_some said.key_file) (record said { is_due = true })
 
 -- The key file of this name.
 abbrev pub with_key : Said → List ℕ → Option Said
-with_key said name = unless_said (is_some said.key_file) (record said { key_file = Some name })
+with_key said name = unless_given (is_some said.key_file) (record said { key_file = Some name })
 
 -- A name after the letter of an option, from which `=` may part it.
 abbrev pub without_sign : List ℕ → List ℕ
@@ -138,7 +138,7 @@ with_value said word = if is_option word then None else Some
 abbrev pub with_position : Said → List ℕ → Option (List ℕ) → Option Said
 with_position said word None = Some (record said { file = Some word })
 with_position said word (Some file) =
-    unless_said (is_some said.group) (record said { group = Some word })
+    unless_given (is_some said.group) (record said { group = Some word })
 
 -- A word more.
 abbrev pub with_word : Said → List ℕ → Option Said
@@ -154,8 +154,8 @@ with_words [] said = Some said
 with_words (word ∷ words) said = option_and_then (with_words words) (with_word said word)
 
 -- The words are no command.
-abbrev pub wrong : Result Command Refusal
-wrong = Err (refusal_of WrongWords (codes "words"))
+abbrev pub wrong_words : Result Command Refusal
+wrong_words = Err (refusal_of WrongWords (codes "words"))
 
 -- Nothing is due, and what opens the database fits it: nothing at a plain document, else a password
 -- or a key file.
@@ -175,21 +175,21 @@ access_of said = record {
 }
 
 -- The command `ls` of a file.
-abbrev pub listed : Bool → Said → Option (List ℕ) → Result Command Refusal
-listed true said (Some file) = Ok (Ls (access_of said) file said.group said.recursive said.flat)
-listed true said None = wrong
-listed false said file = wrong
+abbrev pub ls_command : Bool → Said → Option (List ℕ) → Result Command Refusal
+ls_command true said (Some file) = Ok (Ls (access_of said) file said.group said.recursive said.flat)
+ls_command true said None = wrong_words
+ls_command false said file = wrong_words
 
 -- The command `ls` whose other words say this.
 abbrev pub ls_of : Option Said → Result Command Refusal
-ls_of None = wrong
-ls_of (Some said) = listed (is_whole said) said said.file
+ls_of None = wrong_words
+ls_of (Some said) = ls_command (is_whole said) said said.file
 
 -- The command that the words are: `ls DATABASE [GROUP]`, with its options in any order after `ls`.
 abbrev pub command_of : List (List ℕ) → Result Command Refusal
-command_of [] = wrong
+command_of [] = wrong_words
 command_of (name ∷ words) = if bytes_eq name (codes "ls") then ls_of (with_words words nothing_said)
-    else wrong
+    else wrong_words
 
 -- The key file that a command names, where it names one.
 abbrev pub key_files : Option (List ℕ) → List (List ℕ)

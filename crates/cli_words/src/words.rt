@@ -80,8 +80,8 @@ fn flag_of_name(name: &str) -> Option<Flag>
 }
 
 // This, unless it was said before.
-fn unless_said<'a>(before: bool, said: SaidWords<'a>) -> Option<SaidWords<'a>>
-    ensures { option_map said_seen result ≡ spec.unless_said before (said_seen said.entry) }
+fn unless_given<'a>(before: bool, said: SaidWords<'a>) -> Option<SaidWords<'a>>
+    ensures { option_map said_seen result ≡ spec.unless_given before (said_seen said.entry) }
 {
     if before { None } else { Some(said) }
 }
@@ -91,29 +91,29 @@ fn with_flag<'a>(said: SaidWords<'a>, flag: Flag) -> Option<SaidWords<'a>>
     ensures { option_map said_seen result ≡ spec.with_flag (said_seen said.entry) flag }
 {
     match flag {
-        Flag::Recursive => unless_said(
+        Flag::Recursive => unless_given(
             said.recursive,
             SaidWords {
                 recursive: true,
                 ..said
             },
         ),
-        Flag::Flat => unless_said(said.flat, SaidWords { flat: true, ..said }),
-        Flag::Quiet => unless_said(
+        Flag::Flat => unless_given(said.flat, SaidWords { flat: true, ..said }),
+        Flag::Quiet => unless_given(
             said.quiet,
             SaidWords {
                 quiet: true,
                 ..said
             },
         ),
-        Flag::Plain => unless_said(
+        Flag::Plain => unless_given(
             said.plain,
             SaidWords {
                 plain: true,
                 ..said
             },
         ),
-        Flag::NoPassword => unless_said(
+        Flag::NoPassword => unless_given(
             said.no_password,
             SaidWords {
                 no_password: true,
@@ -148,7 +148,7 @@ fn with_letters<'a>(said: SaidWords<'a>, letters: &[u8]) -> Option<SaidWords<'a>
 fn with_key_due<'a>(said: SaidWords<'a>) -> Option<SaidWords<'a>>
     ensures { option_map said_seen result ≡ spec.with_key_due (said_seen said.entry) }
 {
-    unless_said(
+    unless_given(
         said.key_file.is_some(),
         SaidWords {
             is_due: true,
@@ -161,7 +161,7 @@ fn with_key_due<'a>(said: SaidWords<'a>) -> Option<SaidWords<'a>>
 fn with_key<'a>(said: SaidWords<'a>, name: &'a str) -> Option<SaidWords<'a>>
     ensures { option_map said_seen result ≡ spec.with_key (said_seen said.entry) name.now }
 {
-    unless_said(
+    unless_given(
         said.key_file.is_some(),
         SaidWords {
             key_file: Some(name),
@@ -233,7 +233,7 @@ fn with_position<'a>(said: SaidWords<'a>, word: &'a str) -> Option<SaidWords<'a>
             file: Some(word),
             ..said
         }),
-        Some(_) => unless_said(
+        Some(_) => unless_given(
             said.group.is_some(),
             SaidWords {
                 group: Some(word),
@@ -311,9 +311,9 @@ fn text_of(alloc: Global, word: Option<&str>) -> Result<Option<Text>, NoMemory>
 }
 
 // The command `ls` of a file.
-fn listed(alloc: Global, said: &SaidWords<'_>, file: &str) -> Result<Command, NoMemory>
+fn ls_command(alloc: Global, said: &SaidWords<'_>, file: &str) -> Result<Command, NoMemory>
     ensures { IfOk result (λ command. Ok command
-        ≡ spec.listed true (said_seen said.now) (Some file.now)) }
+        ≡ spec.ls_command true (said_seen said.now) (Some file.now)) }
 {
     let key_file = text_of(alloc, said.key_file)?;
     let access = Access {
@@ -340,7 +340,7 @@ fn ls_of(alloc: Global, said: Option<SaidWords<'_>>) -> Result<Command, Stop>
         return Err(refused(alloc, Reason::WrongWords, "words"));
     };
     match said.file {
-        Some(file) if is_whole(&said) => match listed(alloc, &said, file) {
+        Some(file) if is_whole(&said) => match ls_command(alloc, &said, file) {
             Ok(command) => Ok(command),
             Err(NoMemory) => Err(Stop::NoMemory),
         },

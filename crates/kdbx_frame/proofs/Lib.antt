@@ -1,2 +1,2 @@
 mod HeaderVectors
-pub mod Steps
+pub mod Refusals

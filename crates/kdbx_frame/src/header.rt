@@ -1,14 +1,15 @@
-// The header of a file.
+//! The header of a file.
 
 ghost use Rattle.std.specs.Prelude.{◌≡◌, ◌+◌, ◌≤◌, ◌<◌, ◌^◌, IfOk, Ok, length, take};
-ghost use Rattle.kdbx_frame.specs.Results.{Gives};
-ghost use Rattle.kdbx_frame.specs.Header.{hashed, header_at, opened};
+ghost use Rattle.outside_core.specs.Results.{Returns};
+ghost use Rattle.kdbx_frame.specs.Results.{known};
+ghost use Rattle.kdbx_frame.specs.Header.{check_hash, header_at, rest_after_version};
 ghost use Rattle.kdbx_frame.specs.Settings.{IsInOrder};
 
 use crate::FrameFail;
 use crate::fields::fields_from;
-use crate::parts::{array_of, past, same, taken, u32_of};
-use crate::settings::{Judged, Settings, judged_of};
+use crate::parts::{array_of, out_of_bounds, same, split_bytes, u32_of};
+use crate::settings::{CheckedHeader, Settings, checked_header};
 use outside_core::Bytes;
 use sha2::{Digest, Sha256};
 use std::alloc::Global;
@@ -22,14 +23,14 @@ const SIGNATURE: [u8; 8] = [0x03, 0xD9, 0xA2, 0x9A, 0x67, 0xFB, 0x4B, 0xB5];
 /// Version 4.0.
 const VERSION_40: u32 = 0x0004_0000;
 
-/// A header that was read: the settings, and what is needed beside them to open the file.
+/// A header that was read: the settings, and what it takes beside them to open the file.
 #[derive(Debug, Drop)]
 pub struct Header {
     /// What the user chose.
     pub settings: Settings,
     /// The master seed, which the file's keys are made from.
     pub seed: [u8; 32],
-    /// The IV of the cipher. A nonce of ChaCha20 stands in the first 12 bytes, and the rest is 0.
+    /// The IV of the cipher. A nonce of ChaCha20 is the first 12 bytes, and the rest is 0.
     pub iv: [u8; 16],
     /// The inner stream of a file of version 3.1; 0 in version 4.0, whose inner fields have it.
     pub stream_id: u32,
@@ -41,16 +42,16 @@ pub struct Header {
     pub size: usize,
 }
 
-// What follows the signature and the version.
-fn opened(size: u64, text: &[u8]) -> Result<&[u8], FrameFail>
-    ensures gives { Gives (λ x. x.now) result (opened size text.now) }
+// The bytes after the signature and the version.
+fn rest_after_version(size: u64, text: &[u8]) -> Result<&[u8], FrameFail>
+    ensures gives { Returns known (λ x. x.now) result (rest_after_version size text.now) }
     ensures shorter { IfOk result (λ x. length x.now ≤ length text.now) }
 {
-    let (signature, rest) = taken(FrameFail::NotKdbx, SIGNATURE.len(), text)?;
+    let (signature, rest) = split_bytes(FrameFail::NotKdbx, SIGNATURE.len(), text)?;
     if !same(signature, &SIGNATURE) {
         return Err(FrameFail::NotKdbx);
     }
-    let (version, rest) = taken(past(size, 12), 4, rest)?;
+    let (version, rest) = split_bytes(out_of_bounds(size, 12), 4, rest)?;
     let version = u32_of(version);
     if version != VERSION_40 {
         return Err(FrameFail::Version(version));
@@ -58,15 +59,15 @@ fn opened(size: u64, text: &[u8]) -> Result<&[u8], FrameFail>
     Ok(rest)
 }
 
-// Looks whether the hash that follows a header is its SHA-256, and whether there are bytes of an HMAC behind it.
+// Checks that the hash after a header is its SHA-256, and that 32 bytes of an HMAC follow the hash.
 fn check_hash(size: u64, header: &[u8], rest: &[u8]) -> Result<(), FrameFail>
     requires { length header.now < 2 ^ 62 }
-    ensures gives { Gives (λ x. x) result (hashed size header.now rest.now) }
+    ensures gives { Returns known (λ x. x) result (check_hash size header.now rest.now) }
     ensures within { IfOk result (λ _. 64 ≤ length rest.now) }
 {
     let end = header.len() as u64;
-    let (kept, rest) = taken(past(size, end + 32), 32, rest)?;
-    taken(past(size, end + 64), 32, rest)?;
+    let (kept, rest) = split_bytes(out_of_bounds(size, end + 32), 32, rest)?;
+    split_bytes(out_of_bounds(size, end + 64), 32, rest)?;
     let found = Sha256::digest(header);
     if !same(kept, &found) {
         return Err(FrameFail::HeaderHash {
@@ -77,19 +78,19 @@ fn check_hash(size: u64, header: &[u8], rest: &[u8]) -> Result<(), FrameFail>
     Ok(())
 }
 
-// The header at the front of these bytes of a file of this size.
+// The header at the start of these bytes, with which a file of this size begins.
 #[tactic(auto, unfolding(crate::specs::Header::header_at))]
 fn header_at(alloc: Global, size: u64, text: &[u8]) -> Result<Header, FrameFail>
     requires { length text.now ≤ 65536 }
-    ensures gives { Gives (λ x. x) result (header_at size text.now) }
+    ensures gives { Returns known (λ x. x) result (header_at size text.now) }
     ensures in_order { IfOk result (λ h. IsInOrder h.settings) }
     ensures within { IfOk result (λ h. h.size + 64 ≤ length text.now) }
 {
-    let rest = opened(size, text)?;
+    let rest = rest_after_version(size, text)?;
     let (found, rest) = fields_from(size, text.len(), rest)?;
     let len = text.len() - rest.len();
     check_hash(size, &text[..len], rest)?;
-    let Judged { settings, seed, iv } = judged_of(alloc, found)?;
+    let CheckedHeader { settings, seed, iv } = checked_header(alloc, found)?;
     Ok(Header {
         settings,
         seed,
@@ -102,7 +103,7 @@ fn header_at(alloc: Global, size: u64, text: &[u8]) -> Result<Header, FrameFail>
 }
 
 // The bytes of a file that its header may reach into.
-fn front(text: &[u8]) -> &[u8]
+fn prefix(text: &[u8]) -> &[u8]
     ensures value { result.now ≡ take 65536 text.now }
     ensures limit { length result.now ≤ 65536 }
     ensures within { length result.now ≤ length text.now }
@@ -114,16 +115,18 @@ fn front(text: &[u8]) -> &[u8]
     }
 }
 
-/// Reads the header of a file of `file_len` bytes from the file's first 65,536 bytes, or from all of them.
+/// Reads the header of a file of `file_len` bytes from the file's first 65,536 bytes, or from all
+/// of them.
 ///
-/// The refusals are those of FrameFail in their order; of Truncated, TooLarge, FieldTwice, FieldLength and Dictionary
-/// the first from the left comes. The header's hash is checked here, and its HMAC is only seen to stand there, in the
-/// 32 bytes behind the hash: who has the key checks it. The layout is that of KeePass's documentation of KDBX 4.
+/// The refusals are those of FrameFail in their order; of Truncated, TooLarge, FieldTwice,
+/// FieldLength and Dictionary the first from the left comes. The hash of the header is checked
+/// here. The HMAC is not: its 32 bytes follow the hash, and who has the key checks them. The layout
+/// is that of KeePass's documentation of KDBX 4.
 pub fn read_header(alloc: Global, text: &[u8], file_len: u64) -> Result<Header, FrameFail>
-    ensures gives { Gives (λ x. x) result (header_at file_len (take 65536 text.now)) }
+    ensures gives { Returns known (λ x. x) result (header_at file_len (take 65536 text.now)) }
     ensures in_order { IfOk result (λ h. IsInOrder h.settings) }
     ensures within { IfOk result (λ h. h.size + 64 ≤ length text.now) }
     ensures limit { IfOk result (λ h. h.size + 64 ≤ 65536) }
 {
-    header_at(alloc, file_len, front(text))
+    header_at(alloc, file_len, prefix(text))
 }

@@ -1,15 +1,16 @@
-// What the fields of a header settle.
+//! The settings that the fields of a header give.
 
 ghost use Rattle.std.specs.Prelude.{◌≡◌, ◌-◌, ◌≤◌, ◌++◌, IfOk, IfSome, Ok, length, option_map, replicate};
 ghost use Rattle.key_core.specs.Kdf.{IsChecked};
-ghost use Rattle.kdbx_frame.specs.Results.{Gives};
-ghost use Rattle.kdbx_frame.specs.Settings.{IsInOrder, cipher_of, iv_of, judged_of, kdf_of, settled_of, uncompressed};
-ghost use Rattle.kdbx_frame.specs.Seen.{HasSmall, found_seen, judged_seen, told_seen};
+ghost use Rattle.outside_core.specs.Results.{Returns};
+ghost use Rattle.kdbx_frame.specs.Results.{known};
+ghost use Rattle.kdbx_frame.specs.Settings.{IsInOrder, cipher_of, iv_of, checked_header, kdf_of, settings_and_iv, refuse_compression};
+ghost use Rattle.kdbx_frame.specs.Seen.{HasSmall, header_fields_seen, checked_header_seen, description_seen};
 
 use crate::FrameFail;
-use crate::dictionary::Told;
-use crate::fields::Found;
-use crate::parts::{copy_of, needed, same};
+use crate::dictionary::KdfDescription;
+use crate::fields::HeaderFields;
+use crate::parts::{copy_of, required, same};
 use key_core::{Kdf, check_kdf};
 use outside_core::Bytes;
 use std::alloc::Global;
@@ -35,7 +36,7 @@ pub enum Cipher {
     ChaCha,
 }
 
-/// What a user chose for a file, which a rewriting of the file keeps.
+/// What a user chose for a file, which is kept when the file is written again.
 #[derive(Debug, Drop)]
 pub struct Settings {
     /// The version of the format.
@@ -44,27 +45,32 @@ pub struct Settings {
     pub cipher: Cipher,
     /// The key derivation, with its costs within their limits.
     pub kdf: Kdf,
-    /// The public data, which stands in the header in the clear, if any.
+    /// The public data, which is in the header in the clear, if any.
     pub public: Option<Bytes>,
 }
 
-/// What the fields settle, with the master seed and the IV.
+/// What the fields of a header give: all of them are there, known and within their limits.
 #[derive(Drop)]
-pub struct Judged {
+pub struct CheckedHeader {
+    /// What the user chose.
     pub settings: Settings,
+    /// The master seed.
     pub seed: [u8; 32],
+    /// The IV of the cipher, with zeros after it up to 16 bytes.
     pub iv: [u8; 16],
 }
 
-/// The ids of the ciphers.
+/// The id of AES-256.
 const AES: [u8; 16] = [
     0x31, 0xC1, 0xF2, 0xE6, 0xBF, 0x71, 0x43, 0x50, 0xBE, 0x58, 0x05, 0x21, 0x6A, 0xFC, 0x5A, 0xFF,
 ];
 
+/// The id of Twofish.
 const TWOFISH: [u8; 16] = [
     0xAD, 0x68, 0xF2, 0x9F, 0x57, 0x6F, 0x4B, 0xB9, 0xA3, 0x6A, 0xD4, 0x7A, 0xF9, 0x65, 0x34, 0x6C,
 ];
 
+/// The id of ChaCha20.
 const CHACHA: [u8; 16] = [
     0xD6, 0x03, 0x8A, 0x2B, 0x8B, 0x6F, 0x4C, 0xB5, 0xA5, 0x24, 0x33, 0x9A, 0x31, 0xDB, 0xB5, 0x9A,
 ];
@@ -74,7 +80,7 @@ const ARGON_VERSION: u32 = 0x13;
 
 // The cipher of an id.
 fn cipher_of(id: [u8; 16]) -> Result<Cipher, FrameFail>
-    ensures { Gives (λ x. x) result (cipher_of id) }
+    ensures { Returns known (λ x. x) result (cipher_of id) }
 {
     if same(&id, &AES) {
         Ok(Cipher::Aes)
@@ -87,8 +93,8 @@ fn cipher_of(id: [u8; 16]) -> Result<Cipher, FrameFail>
     }
 }
 
-// The bytes with zeros behind them, up to sixteen.
-fn filled(iv: &[u8]) -> [u8; 16]
+// The bytes with zeros after them, up to sixteen.
+fn padded_iv(iv: &[u8]) -> [u8; 16]
     requires { length iv.now ≤ 16 }
     ensures { result ≡ iv.now ++ replicate (16 - length iv.now) 0 }
 {
@@ -99,7 +105,7 @@ fn filled(iv: &[u8]) -> [u8; 16]
 
 // The IV of a cipher as it is kept.
 fn iv_of(cipher: Cipher, iv: &[u8]) -> Result<[u8; 16], FrameFail>
-    ensures { Gives (λ x. x) result (iv_of cipher iv.now) }
+    ensures { Returns known (λ x. x) result (iv_of cipher iv.now) }
 {
     let len = match cipher {
         Cipher::Aes | Cipher::Twofish => 16,
@@ -108,12 +114,12 @@ fn iv_of(cipher: Cipher, iv: &[u8]) -> Result<[u8; 16], FrameFail>
     if iv.len() != len {
         return Err(FrameFail::FieldLength(7, iv.len() as u64));
     }
-    Ok(filled(iv))
+    Ok(padded_iv(iv))
 }
 
-// Whether the content is not compressed.
-fn uncompressed(flag: u32) -> Result<(), FrameFail>
-    ensures { Gives (λ x. x) result (uncompressed flag) }
+// Refuses compressed content.
+fn refuse_compression(flag: u32) -> Result<(), FrameFail>
+    ensures { Returns known (λ x. x) result (refuse_compression flag) }
 {
     if flag != 0 {
         return Err(FrameFail::Compressed(flag));
@@ -121,16 +127,16 @@ fn uncompressed(flag: u32) -> Result<(), FrameFail>
     Ok(())
 }
 
-// The key derivation that a dictionary tells.
-fn kdf_of(alloc: Global, told: Told) -> Result<Kdf, FrameFail>
-    ensures gives { Gives (λ x. x) result (kdf_of (told_seen told.entry)) }
+// The key derivation that a dictionary describes.
+fn kdf_of(alloc: Global, described: KdfDescription) -> Result<Kdf, FrameFail>
+    ensures gives { Returns known (λ x. x) result (kdf_of (description_seen described.entry)) }
     ensures checked { IfOk result IsChecked }
 {
-    let kdf = match told {
-        Told::Wrong(version) => return Err(FrameFail::Variant(version as u64)),
-        Told::Unknown(id) => return Err(FrameFail::KdfUnknown(Uuid::from_bytes(id))),
-        Told::Aes { rounds, seed } => Kdf::Aes { rounds, seed },
-        Told::Argon {
+    let kdf = match described {
+        KdfDescription::WrongVersion(version) => return Err(FrameFail::Variant(version as u64)),
+        KdfDescription::UnknownId(id) => return Err(FrameFail::KdfUnknown(Uuid::from_bytes(id))),
+        KdfDescription::Aes { rounds, seed } => Kdf::Aes { rounds, seed },
+        KdfDescription::Argon {
             kind,
             passes,
             memory,
@@ -161,7 +167,7 @@ fn kdf_of(alloc: Global, told: Told) -> Result<Kdf, FrameFail>
 // The public data in memory of its own, if any.
 fn public_of(alloc: Global, public: Option<&[u8]>) -> Result<Option<Bytes>, FrameFail>
     requires { HasSmall public }
-    ensures gives { Gives (λ x. x) result (Ok (option_map (λ x. x.now) public.entry)) }
+    ensures gives { Returns known (λ x. x) result (Ok (option_map (λ x. x.now) public.entry)) }
     ensures small { IfOk result (λ x. IfSome x (λ bytes. length bytes ≤ 65536)) }
 {
     match public {
@@ -170,24 +176,26 @@ fn public_of(alloc: Global, public: Option<&[u8]>) -> Result<Option<Bytes>, Fram
     }
 }
 
-// The settings, with the IV, of fields that stand.
-#[tactic(auto, unfolding(crate::specs::Settings::settled_of))]
-fn settled_of(
+// The settings and the IV that required fields give.
+#[tactic(auto, unfolding(crate::specs::Settings::settings_and_iv))]
+fn settings_and_iv(
     alloc: Global,
     id: [u8; 16],
     flag: u32,
     iv: &[u8],
-    told: Told,
+    described: KdfDescription,
     public: Option<&[u8]>,
 ) -> Result<(Settings, [u8; 16]), FrameFail>
     requires { HasSmall public }
-    ensures gives { Gives (λ x. (x.0, x.1)) result (settled_of id flag iv.now (told_seen told.entry) (option_map (λ x. x.now) public.entry)) }
+    ensures gives { Returns known (λ x. (x.0, x.1)) result
+        (settings_and_iv id flag iv.now (description_seen described.entry)
+        (option_map (λ x. x.now) public.entry)) }
     ensures in_order { IfOk result (λ x. IsInOrder x.0) }
 {
     let cipher = cipher_of(id)?;
     let iv = iv_of(cipher, iv)?;
-    uncompressed(flag)?;
-    let kdf = kdf_of(alloc, told)?;
+    refuse_compression(flag)?;
+    let kdf = kdf_of(alloc, described)?;
     let public = public_of(alloc, public)?;
     let settings = Settings {
         version: FileVersion::V40,
@@ -198,19 +206,21 @@ fn settled_of(
     Ok((settings, iv))
 }
 
-/// What the fields settle. The refusals are FieldMissing, CipherUnknown, FieldLength of the IV, Compressed, KdfUnknown,
-/// Variant and KdfLimit, the first in this order.
-#[tactic(auto, unfolding(crate::specs::Settings::judged_of))]
-pub fn judged_of(alloc: Global, found: Found) -> Result<Judged, FrameFail>
+/// The settings, master seed and IV that the fields of a header give. The refusals are
+/// FieldMissing, CipherUnknown, FieldLength of the IV, Compressed, KdfUnknown, Variant and
+/// KdfLimit, the first in this order.
+#[tactic(auto, unfolding(crate::specs::Settings::checked_header))]
+pub fn checked_header(alloc: Global, found: HeaderFields) -> Result<CheckedHeader, FrameFail>
     requires { HasSmall found.public }
-    ensures gives { Gives judged_seen result (judged_of (found_seen found.entry)) }
+    ensures gives { Returns known checked_header_seen result
+        (checked_header (header_fields_seen found.entry)) }
     ensures in_order { IfOk result (λ j. IsInOrder j.settings) }
 {
-    let id = needed(2, found.cipher)?;
-    let flag = needed(3, found.compression)?;
-    let seed = needed(4, found.seed)?;
-    let iv = needed(7, found.iv)?;
-    let told = needed(11, found.kdf)?;
-    let (settings, iv) = settled_of(alloc, id, flag, iv, told, found.public)?;
-    Ok(Judged { settings, seed, iv })
+    let id = required(2, found.cipher)?;
+    let flag = required(3, found.compression)?;
+    let seed = required(4, found.seed)?;
+    let iv = required(7, found.iv)?;
+    let described = required(11, found.kdf)?;
+    let (settings, iv) = settings_and_iv(alloc, id, flag, iv, described, found.public)?;
+    Ok(CheckedHeader { settings, seed, iv })
 }

@@ -3,7 +3,7 @@ use Rattle.std.proofs.Common.{◌≡◌, sym, ap, subst, Result, Ok, Err}
 use Rattle.secret_core.specs.declared.files.ReadFail.TheVariants as read
 use Rattle.kdbx_frame.specs.declared.fail.FrameFail.{FrameFail}
 use Rattle.kdbx_frame.specs.declared.fail.FrameFail.TheVariants as frame
-use Rattle.kdbx_frame.specs.Results as frames
+use Rattle.kdbx_frame.specs.Results.{known}
 use Rattle.doc_forms.specs.declared.fails.DocFail.{DocFail}
 use Rattle.doc_forms.specs.declared.fails.DocFail.TheVariants as document
 use Rattle.doc_forms.specs.Refusals as documents
@@ -12,7 +12,7 @@ use Rattle.kdbx_open.specs.declared.fail.OpenFail.{OpenFail}
 use Rattle.kdbx_open.specs.declared.fail.OpenFail.TheVariants.{Doc, File, Frame, NoMemory}
 use Rattle.kdbx_open.specs.Causes.{of_document, of_frame}
 use Rattle.kdbx_open.specs.Documents.{documented, framed}
-use Rattle.outside_core.specs.Results.{◌>>=◌}
+use Rattle.outside_core.specs.Results.{◌>>=◌, Fails}
 use Rattle.kdbx_open.specs.Results.{Refuses, Returns, ReturnsFromStore}
 
 -- A part is refused, and so are all parts.
@@ -31,7 +31,7 @@ goes_on view result part next x p = subst (λ r. Returns view result (r >>= next
 
 -- A refusal of the header or of the inner fields, as it is passed on.
 pub frame_refused : {A : Type 0} (fail : FrameFail) (defined : Result A FrameFail)
-    → frames.Fails fail defined → Refuses (of_frame fail) (framed defined)
+    → Fails (known fail) defined → Refuses (of_frame fail) (framed defined)
 frame_refused frame.NoMemory defined h = tt
 frame_refused fail defined h = ap framed h
 

@@ -75,6 +75,7 @@ pub fn document_after_fields(alloc: Global, text: Secret) -> Result<Doc, OpenFai
     ensures { Returns doc_seen result (document_after_fields text.bytes) }
 {
     let inner = read_inner(alloc, text.lend(0, text.len()))?;
-    let stream = stream_of(inner.stream_id, inner.stream_key.as_slice())?;
+    let key = inner.stream_key.lend(0, inner.stream_key.len());
+    let stream = stream_of(inner.stream_id, key)?;
     document_of(alloc, stream, &inner.pool, text, inner.size)
 }

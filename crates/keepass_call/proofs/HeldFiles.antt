@@ -22,7 +22,7 @@ use Rattle.cli_answers.specs.declared.answers.Refusal.{Refusal}
 use Rattle.cli_words.specs.declared.command.Command.{Command}
 use Rattle.cli_words.specs.declared.command.Command.TheVariants.{Ls}
 use Rattle.keepass_call.specs.declared.execute.Output.{Output}
-use Rattle.keepass_call.specs.Databases.{built, database_of, file_limit, held_in, key_in, key_of, keyed, of_file, opened, plain_document, plain_of, sealed_in}
+use Rattle.keepass_call.specs.Databases.{document_or_refusal, database_of, file_limit, held_in, key_in, key_of, key_or_refusal, of_file, document_of_vault, plain_document, plain_of, sealed_in}
 use Rattle.keepass_call.specs.Held.{GivesKey, Holds, HoldsBy, IsCarried, IsPlain, IsSealed, IsThere}
 use Rattle.cli_answers.specs.Messages.{refusal_of}
 use Rattle.keepass_call.specs.Outcome.{answer_of, output_of}
@@ -58,23 +58,23 @@ given name files made x bytes there gives =
 
 -- ---- plain documents
 
-built_by : (name : List ℕ) (r : Result DocumentAndHash DocFail) (doc : BareDoc) → built name r ≡ Ok doc → (read : DocumentAndHash) × ((r ≡ Ok read) × (read.0 ≡ doc))
+built_by : (name : List ℕ) (r : Result DocumentAndHash DocFail) (doc : BareDoc) → document_or_refusal name r ≡ Ok doc → (read : DocumentAndHash) × ((r ≡ Ok read) × (read.0 ≡ doc))
 built_by name (Ok read) doc h = (read, (refl, cc))
 built_by name (Err fail) doc h = cc
 
 plain_held : (file : List ℕ) (files : FileMap) (doc : BareDoc) → plain_of file (map.get files file) ≡ Ok doc → IsPlain file files doc
 plain_held file files doc h =
-    let u = used file files (λ bytes. built file (plain_document bytes)) doc (map.get files file) refl h in
+    let u = used file files (λ bytes. document_or_refusal file (plain_document bytes)) doc (map.get files file) refl h in
     let b = built_by file (plain_document u.bytes) doc u.gives in
     record { bytes = u.bytes; there = u.there; read = b.0; says = b.1.0; is = b.1.1 }
 
 plain_given : (file : List ℕ) (files : FileMap) (doc : BareDoc) → IsPlain file files doc → plain_of file (map.get files file) ≡ Ok doc
 plain_given file files doc h =
-    given file files (λ bytes. built file (plain_document bytes)) doc h.bytes h.there (ap (built file) h.says ∙ ap Ok h.is)
+    given file files (λ bytes. document_or_refusal file (plain_document bytes)) doc h.bytes h.there (ap (document_or_refusal file) h.says ∙ ap Ok h.is)
 
 -- ---- key files
 
-keyed_by : (name : List ℕ) (r : Result (List ℕ) KeyFileFail) (key : List ℕ) → keyed name r ≡ Ok key → r ≡ Ok key
+keyed_by : (name : List ℕ) (r : Result (List ℕ) KeyFileFail) (key : List ℕ) → key_or_refusal name r ≡ Ok key → r ≡ Ok key
 keyed_by name (Ok k) key h = cc
 keyed_by name (Err fail) key h = cc
 
@@ -87,13 +87,13 @@ key_held : (key_file : Option (List ℕ)) (files : FileMap) (key : Option (List 
 key_held None files key h = cc
 key_held (Some name) files key h =
     let s = some_key (key_in name (map.get files name)) key h in
-    let u = used name files (λ bytes. keyed name (key_file_key bytes)) s.0 (map.get files name) refl s.1.0 in
+    let u = used name files (λ bytes. key_or_refusal name (key_file_key bytes)) s.0 (map.get files name) refl s.1.0 in
     (s.0, (record { bytes = u.bytes; there = u.there; gives = keyed_by name (key_file_key u.bytes) s.0 u.gives }, s.1.1))
 
 key_given : (key_file : Option (List ℕ)) (files : FileMap) (key : Option (List ℕ)) → GivesKey key_file files key → key_of key_file files ≡ Ok key
 key_given None files key h = ap Ok (sym h)
 key_given (Some name) files key (k, (is, same)) =
-    ap (λ r. r >>= (λ x. Ok (Some x))) (given name files (λ bytes. keyed name (key_file_key bytes)) k is.bytes is.there (ap (keyed name) is.gives))
+    ap (λ r. r >>= (λ x. Ok (Some x))) (given name files (λ bytes. key_or_refusal name (key_file_key bytes)) k is.bytes is.there (ap (key_or_refusal name) is.gives))
     ∙ ap Ok (sym same)
 
 -- ---- sealed files
@@ -123,7 +123,7 @@ opening_given : (file : Option (List ℕ)) (composite : List ℕ) (vault : Vault
 opening_given file composite vault bytes is within sealed =
     opened_of_held file composite vault (subst (λ (f : Option (List ℕ)). IfSome f (λ b. length b ≤ file_limit)) (sym is) within) (bytes, (is, sealed))
 
-opened_by : (name : List ℕ) (r : Result Vault OpenFail) (doc : BareDoc) → opened name r ≡ Ok doc → (vault : Vault) × ((r ≡ Ok vault) × (vault.doc ≡ doc))
+opened_by : (name : List ℕ) (r : Result Vault OpenFail) (doc : BareDoc) → document_of_vault name r ≡ Ok doc → (vault : Vault) × ((r ≡ Ok vault) × (vault.doc ≡ doc))
 opened_by name (Ok vault) doc h = (vault, (refl, cc))
 opened_by name (Err fail) doc h = cc
 
@@ -156,7 +156,7 @@ sealed_held key_file file password files doc h =
 sealed_again : (file : List ℕ) (files : FileMap) (password key : Option (List ℕ)) (vault : Vault) → opening_of (map.get files file) (composite_key password key) ≡ Ok vault
     → sealed_in file files password key ≡ Ok vault.doc
 unfolding sealed_in
-sealed_again file files password key vault h = ap (opened file) h
+sealed_again file files password key vault h = ap (document_of_vault file) h
 
 sealed_given : (key_file : Option (List ℕ)) (file : List ℕ) (password : Option (List ℕ)) (files : FileMap) (doc : BareDoc)
     → IsSealed key_file file password files doc → held_in false key_file file password files ≡ Ok doc

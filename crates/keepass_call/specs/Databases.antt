@@ -114,22 +114,22 @@ unfoldable pub plain_document : List ℕ → Result DocumentAndHash DocFail
 plain_document text = document (record { form = Plain; keystream = NoKeystream }) [] text
 
 -- The document that the file of this name holds, or the refusal.
-abbrev pub built : List ℕ → Result DocumentAndHash DocFail → Result BareDoc Refusal
-built name (Ok read) = Ok read.0
-built name (Err fail) = Err (refusal_of (document_answer fail) name)
+abbrev pub document_or_refusal : List ℕ → Result DocumentAndHash DocFail → Result BareDoc Refusal
+document_or_refusal name (Ok read) = Ok read.0
+document_or_refusal name (Err fail) = Err (refusal_of (document_answer fail) name)
 
 -- What a file of this name holds as a plain document.
 abbrev pub plain_of : List ℕ → Option (List ℕ) → Result BareDoc Refusal
-plain_of name = of_file name (λ bytes. built name (plain_document bytes))
+plain_of name = of_file name (λ bytes. document_or_refusal name (plain_document bytes))
 
 -- The key that the key file of this name gives, or the refusal.
-abbrev pub keyed : List ℕ → Result (List ℕ) KeyFileFail → Result (List ℕ) Refusal
-keyed name (Ok key) = Ok key
-keyed name (Err fail) = Err (refusal_of (key_answer fail) name)
+abbrev pub key_or_refusal : List ℕ → Result (List ℕ) KeyFileFail → Result (List ℕ) Refusal
+key_or_refusal name (Ok key) = Ok key
+key_or_refusal name (Err fail) = Err (refusal_of (key_answer fail) name)
 
 -- The key of the key file of this name.
 abbrev pub key_in : List ℕ → Option (List ℕ) → Result (List ℕ) Refusal
-key_in name = of_file name (λ bytes. keyed name (key_file_key bytes))
+key_in name = of_file name (λ bytes. key_or_refusal name (key_file_key bytes))
 
 -- The key of the key file, where one is named.
 abbrev pub key_of : Option (List ℕ) → FileMap → Result (Option (List ℕ)) Refusal
@@ -137,14 +137,14 @@ key_of None files = Ok None
 key_of (Some name) files = key_in name (map.get files name) >>= λ key. Ok (Some key)
 
 -- What is held by the file of this name, by what opening it answers.
-abbrev pub opened : List ℕ → Result Vault OpenFail → Result BareDoc Refusal
-opened name (Ok vault) = Ok vault.doc
-opened name (Err fail) = Err (refusal_of (open_answer fail) name)
+abbrev pub document_of_vault : List ℕ → Result Vault OpenFail → Result BareDoc Refusal
+document_of_vault name (Ok vault) = Ok vault.doc
+document_of_vault name (Err fail) = Err (refusal_of (open_answer fail) name)
 
 -- What a file holds under the composite key of a password and a key file's key.
 unfoldable pub sealed_in : List ℕ → FileMap → Option (List ℕ) → Option (List ℕ)
     → Result BareDoc Refusal
-sealed_in file files password key = opened file
+sealed_in file files password key = document_of_vault file
     (opening_of (map.get files file) (composite_key password key))
 
 -- The document that a file holds: by itself, or else sealed, the key file being read first.

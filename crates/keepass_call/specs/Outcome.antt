@@ -152,7 +152,7 @@ pub record IsAsSaid (said : Outcome) (result : ℕ) (before now : Seen) : Type 0
   pub left : IsLeft before.left now.left said.left
   pub stream : now.stream ≡ before.stream
 
--- A status that may come in the place of the outcome's: want of memory, or a fault of an object
+-- A status that may be in the place of the outcome's: want of memory, or a fault of an object
 -- whose count rose.
 abbrev pub IsOther : ℕ → Counts → Counts → Type 0
 IsOther result before now =

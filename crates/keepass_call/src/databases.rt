@@ -7,7 +7,7 @@ ghost use Rattle.vault_model.specs.SeenDoc.{doc_seen};
 ghost use Rattle.doc_forms.specs.Refusals as reader;
 ghost use Rattle.doc_forms.specs.SeenDocuments.{read_seen};
 ghost use Rattle.keepass_call.specs.Databases as spec;
-ghost use Rattle.keepass_call.specs.Databases.{IsUnopened, IsUnread, built, database_of, held_in, key_in, keyed, plain_document, plain_of, sealed_in};
+ghost use Rattle.keepass_call.specs.Databases.{IsUnopened, IsUnread, document_or_refusal, database_of, held_in, key_in, key_or_refusal, plain_document, plain_of, sealed_in};
 ghost use Rattle.keepass_call.specs.SomeFiles.{IsSealedUnder, IsSomeKey, SomeDatabase, SomeHolds, SomeKey, SomePlain};
 ghost use Rattle.key_core.specs.Keys.{composite_key};
 ghost use Rattle.cli_lines.specs.Passwords.{CanOpen};
@@ -141,7 +141,8 @@ fn read_plain(alloc: Global, text: Secret) -> Result<ReadDoc, DocFail>
 
 // The plain document in these bytes of a file.
 fn build(alloc: Global, name: &str, bytes: Secret) -> Result<Doc, Stop>
-    ensures gives { Returns doc_seen result (built name.now (plain_document bytes.bytes)) }
+    ensures gives { Returns doc_seen result
+        (document_or_refusal name.now (plain_document bytes.bytes)) }
     ensures some_file { IfOk result (λ doc. SomePlain (doc_seen doc)) }
     ensures cause { IfErr result IsPlainStop }
 {
@@ -177,7 +178,8 @@ fn open_plain<F: FileStore>(alloc: Global, files: &mut F, name: &str) -> Result<
 
 // The key in these bytes of a key file.
 fn key_by(alloc: Global, name: &str, bytes: &Secret) -> Result<Key, Stop>
-    ensures gives { Returns (λ key. key) result (keyed name.now (key_file_key bytes.now.bytes)) }
+    ensures gives { Returns (λ key. key) result
+        (key_or_refusal name.now (key_file_key bytes.now.bytes)) }
     ensures some_file { IfOk result IsSomeKey }
     ensures cause { IfErr result IsPlainStop }
 {

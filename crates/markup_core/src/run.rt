@@ -57,7 +57,7 @@ fn space_len(bytes: &[u8]) -> usize
     bytes.iter().take_while(|b| is_space(**b)).count()
 }
 
-/// How many bytes they begin with that may are in a name.
+/// How many bytes they begin with that may be in a name.
 fn in_name_len(bytes: &[u8]) -> usize
     ensures len { result ≡ prefix_len bytes_of.is_name_byte bytes.now }
     ensures within { result ≤ length bytes.now }
@@ -91,7 +91,7 @@ pub(crate) fn space_end(text: &[u8], at: usize) -> usize
     at + space_len(after(text, at))
 }
 
-/// The end of the bytes at a place that may are in a name.
+/// The end of the bytes at a place that may be in a name.
 pub(crate) fn in_name_end(text: &[u8], at: usize) -> usize
     requires { at ≤ length text.now }
     ensures run { result ≡ run_end bytes_of.is_name_byte text.now at }

@@ -40,7 +40,7 @@ utf8_first b =
     else (if b == 0xF4 then Some three_low
     else None)))))))
 
--- past one byte more, where it may are there
+-- past one byte more, where it may be there
 unfoldable pub utf8_step : Partial → ℕ → Option Partial
 utf8_step none_left b = utf8_first b
 utf8_step one b = if lies_in 0x80 0xBF b then Some none_left else None
@@ -51,17 +51,17 @@ utf8_step three b = if lies_in 0x80 0xBF b then Some two else None
 utf8_step three_low b = if lies_in 0x80 0x8F b then Some two else None
 utf8_step three_high b = if lies_in 0x90 0xBF b then Some two else None
 
--- what follows a byte that may are there, or this value where it may not
+-- what follows a byte that may be there, or this value where it may not
 abbrev pub past_step : {A : Type 0} → Option Partial → A → (Partial → A) → A
 past_step None stopped more = stopped
 past_step (Some next) stopped more = more next
 
--- past all these bytes, where each may are there
+-- past all these bytes, where each may be there
 unfoldable pub utf8_run : List ℕ → Partial → Option Partial
 utf8_run [] state = Some state
 utf8_run (b ∷ rest) state = past_step (utf8_step state b) None (λ next. utf8_run rest next)
 
--- how many of these bytes may are there
+-- how many of these bytes may be there
 unfoldable pub utf8_front_from : Partial → List ℕ → ℕ
 utf8_front_from state [] = 0
 utf8_front_from state (b ∷ rest) = past_step (utf8_step state b) 0

@@ -181,7 +181,7 @@ fn is_on_trail(members: &[Database], steps: usize, from: Uuid, id: &Uuid) -> boo
 #[tactic(auto, unfolding(vault_model::specs::Join::kept))]
 pub(crate) fn is_kept(members: &[Database], held: &[Uuid], id: &Uuid) -> bool
     requires some { 0 < length members.now }
-    requires is_held { is_held.now ≡ ids (databases members.now) }
+    requires held { held.now ≡ ids (databases members.now) }
     ensures { result ≡ kept (databases members.now) id.now }
 {
     for own in held {
@@ -298,7 +298,7 @@ fn joined_entry<'a>(
     id: &Uuid,
 ) -> Result<Option<VersionTable<'a>>, NoMemory>
     requires some { 0 < length members.now }
-    requires is_held { is_held.now ≡ ids (databases members.now) }
+    requires held { held.now ≡ ids (databases members.now) }
     ensures { IfOk result (λ v. v ≡ table.get (join (databases members.now)).entries id.now) }
 {
     if is_kept(members, held, id) {
@@ -312,7 +312,7 @@ fn joined_entry<'a>(
 /// The state of a group in the join.
 fn joined_group<'a>(members: &[Database<'a>], held: &[Uuid], id: &Uuid) -> Option<LentState<'a>>
     requires some { 0 < length members.now }
-    requires is_held { is_held.now ≡ ids (databases members.now) }
+    requires held { held.now ≡ ids (databases members.now) }
     ensures { result ≡ table.get (join (databases members.now)).groups id.now }
 {
     if is_kept(members, held, id) {
@@ -325,7 +325,7 @@ fn joined_group<'a>(members: &[Database<'a>], held: &[Uuid], id: &Uuid) -> Optio
 /// The place of a node in the join.
 fn joined_place(members: &[Database], held: &[Uuid], id: &Uuid) -> Option<Spot>
     requires some { 0 < length members.now }
-    requires is_held { is_held.now ≡ ids (databases members.now) }
+    requires held { held.now ≡ ids (databases members.now) }
     ensures { result ≡ table.get (join (databases members.now)).places id.now }
 {
     if is_kept(members, held, id) {
@@ -338,7 +338,7 @@ fn joined_place(members: &[Database], held: &[Uuid], id: &Uuid) -> Option<Spot>
 /// The tombstone of an id in the join: the latest, unless the node is kept.
 fn joined_tomb(members: &[Database], held: &[Uuid], id: &Uuid) -> Option<Stamp>
     requires some { 0 < length members.now }
-    requires is_held { is_held.now ≡ ids (databases members.now) }
+    requires held { held.now ≡ ids (databases members.now) }
     ensures { result ≡ table.get (join (databases members.now)).tombs id.now }
 {
     if is_kept(members, held, id) {
@@ -356,7 +356,7 @@ fn joined_entries<'a>(
     known: &[Uuid],
 ) -> Result<Table<VersionTable<'a>>, NoMemory>
     requires some { 0 < length members.now }
-    requires is_held { is_held.now ≡ ids (databases members.now) }
+    requires held { held.now ≡ ids (databases members.now) }
     requires known { known.now ≡ known_ids (databases members.now) }
     ensures { IfOk result (λ t. t ≡ (join (databases members.now)).entries) }
 {
@@ -376,7 +376,7 @@ fn joined_groups<'a>(
     known: &[Uuid],
 ) -> Result<Table<LentState<'a>>, NoMemory>
     requires some { 0 < length members.now }
-    requires is_held { is_held.now ≡ ids (databases members.now) }
+    requires held { held.now ≡ ids (databases members.now) }
     requires known { known.now ≡ known_ids (databases members.now) }
     ensures { IfOk result (λ t. t ≡ (join (databases members.now)).groups) }
 {
@@ -396,7 +396,7 @@ fn joined_places(
     known: &[Uuid],
 ) -> Result<Table<Spot>, NoMemory>
     requires some { 0 < length members.now }
-    requires is_held { is_held.now ≡ ids (databases members.now) }
+    requires held { held.now ≡ ids (databases members.now) }
     requires known { known.now ≡ known_ids (databases members.now) }
     ensures { IfOk result (λ t. t ≡ (join (databases members.now)).places) }
 {
@@ -416,7 +416,7 @@ fn joined_tombs(
     known: &[Uuid],
 ) -> Result<Table<Stamp>, NoMemory>
     requires some { 0 < length members.now }
-    requires is_held { is_held.now ≡ ids (databases members.now) }
+    requires held { held.now ≡ ids (databases members.now) }
     requires known { known.now ≡ known_ids (databases members.now) }
     ensures { IfOk result (λ t. t ≡ (join (databases members.now)).tombs) }
 {
