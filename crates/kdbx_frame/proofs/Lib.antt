@@ -1,2 +1,3 @@
 mod HeaderVectors
+pub mod Prefixes
 pub mod Refusals

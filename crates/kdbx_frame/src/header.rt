@@ -1,9 +1,9 @@
 //! The header of a file.
 
-ghost use Rattle.std.specs.Prelude.{◌≡◌, ◌+◌, ◌≤◌, ◌<◌, ◌^◌, IfOk, Ok, length, take};
+ghost use Rattle.std.specs.Prelude.{ℕ, List, ◌≡◌, ◌+◌, ◌≤◌, ◌<◌, ◌^◌, IfOk, Ok, length, take};
 ghost use Rattle.outside_core.specs.Results.{Returns};
 ghost use Rattle.kdbx_frame.specs.Results.{known};
-ghost use Rattle.kdbx_frame.specs.Header.{check_hash, header_at, rest_after_version};
+ghost use Rattle.kdbx_frame.specs.Header.{check_hash, header_at, header_of, rest_after_version};
 ghost use Rattle.kdbx_frame.specs.Settings.{IsInOrder};
 
 use crate::FrameFail;
@@ -122,8 +122,14 @@ fn prefix(text: &[u8]) -> &[u8]
 /// FieldLength and Dictionary the first from the left comes. The hash of the header is checked
 /// here. The HMAC is not: its 32 bytes follow the hash, and who has the key checks them. The layout
 /// is that of KeePass's documentation of KDBX 4.
+///
+/// A text of fewer bytes is the whole file, and the answer is that of every file of this length that
+/// the text is a prefix of.
 pub fn read_header(alloc: Global, text: &[u8], file_len: u64) -> Result<Header, FrameFail>
+    requires enough { length text.now < 65536 → length text.now ≡ file_len }
     ensures gives { Returns known (λ x. x) result (header_at file_len (take 65536 text.now)) }
+    ensures file { (file : List ℕ) → length file ≡ file_len
+        → text.now ≡ take (length text.now) file → Returns known (λ x. x) result (header_of file) }
     ensures in_order { IfOk result (λ h. IsInOrder h.settings) }
     ensures within { IfOk result (λ h. h.size + 64 ≤ length text.now) }
     ensures limit { IfOk result (λ h. h.size + 64 ≤ 65536) }
