@@ -143,16 +143,19 @@ next_from i seen pass slice lane place =
     then first_block i lane column
     else mixed_from i seen pass slice lane place
 
--- the pass, the slice, the lane and the place in its segment of block n in order of filling
+-- the pass of block n in order of filling
 abbrev pub pass_of : ArgonParams → ℕ → ℕ
 pass_of p n = n / memory_len p
 
+-- its slice
 abbrev pub slice_of : ArgonParams → ℕ → ℕ
 slice_of p n = n % memory_len p / segment_len p / p.lanes
 
+-- its lane
 abbrev pub lane_of : ArgonParams → ℕ → ℕ
 lane_of p n = n % memory_len p / segment_len p % p.lanes
 
+-- its place in its segment
 abbrev pub place_of : ArgonParams → ℕ → ℕ
 place_of p n = n % memory_len p % segment_len p
 

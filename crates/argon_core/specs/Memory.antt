@@ -5,7 +5,7 @@ use Rattle.argon_core.specs.Argon2.{blocks, lane_len, latest, memory_len, offset
 use Rattle.argon_core.specs.declared.params.ArgonParams.{ArgonParams}
 use Rattle.argon_core.specs.declared.params.Instance.{Instance}
 
--- where the block of a lane and a column stands
+-- where the block of a lane and a column is
 abbrev pub place_in : ArgonParams → ℕ → ℕ → ℕ
 place_in p lane column = lane * lane_len p + column
 

@@ -13,7 +13,7 @@ use crate::params::{ArgonKind, Instance, Segment};
 const ADDRESSES_IN_BLOCK: usize = 128;
 
 // Fills place `at` of the memory from the blocks before it and of another lane. After the first
-// pass what stood there is mixed in.
+// pass what was there is mixed in.
 fn refill(memory: &mut [Block], before: usize, other: usize, at: usize, is_first: bool)
     requires few { length memory.old ≤ 1048576 }
     requires before { before < length memory.old }
@@ -126,7 +126,8 @@ impl Instance {
     fn finished_len(&self, at: Segment) -> usize
         requires limits { IsWithinLimits self.now.params }
         requires slice { at.slice < 4 }
-        ensures len { result ≡ (if at.pass == 0 then at.slice else 3) * segment_len self.now.params }
+        ensures len { result
+            ≡ (if at.pass == 0 then at.slice else 3) * segment_len self.now.params }
         ensures some { (at.pass ≡ 0 → 0 < at.slice) → 2 ≤ result }
         ensures few { result + segment_len self.now.params ≤ 1048576 }
     {
@@ -174,7 +175,8 @@ impl Instance {
         requires slice { at.slice < 4 }
         requires place { place < segment_len self.now.params }
         requires later { at.pass ≡ 0 → at.slice ≡ 0 → (2 ≤ place) × (is_own ≡ true) }
-        ensures column { result ≡ other_column self.now.params at.pass at.slice place is_own chooser }
+        ensures column { result
+            ≡ other_column self.now.params at.pass at.slice place is_own chooser }
         ensures within { result < lane_len self.now.params }
     {
         let window = self.window_len(at, place, is_own);
@@ -281,7 +283,8 @@ impl Instance {
         requires lane { at.lane < self.now.params.lanes }
         ensures { let p = self.now.params in
             let before = segment_time p at.pass at.slice at.lane in
-            HoldsBlocks self.now memory.old before → HoldsBlocks self.now memory.new (before + segment_len p) }
+            HoldsBlocks self.now memory.old before
+            → HoldsBlocks self.now memory.new (before + segment_len p) }
     {
         let is_independent = self.is_independent(at);
         let mut addresses = [0; 128];

@@ -59,14 +59,14 @@ fn salsa(text: &mut [u8], turns: u32)
     }
 }
 
-// Writes a digest into the front of the text.
+// Writes a digest at the start of the text.
 fn put(text: &mut [u8], digest: &[u8; 32]) {
     for (place, byte) in text.iter_mut().zip(digest) {
         *place = *byte;
     }
 }
 
-// The code of as many pieces as asked, in the front of the text.
+// The MAC of as many pieces as asked, at the start of the text.
 fn hmac(text: &mut [u8], turns: u32) {
     let mut code = Hmac256::new(&KEY);
     for _ in 0..turns {
@@ -75,7 +75,7 @@ fn hmac(text: &mut [u8], turns: u32) {
     put(text, &code.finish());
 }
 
-// Argon2 with 64 MiB, as many passes as asked, and 2 lanes, its tag in the front of the text.
+// Argon2 with 64 MiB, as many passes as asked, and 2 lanes, its tag at the start of the text.
 fn argon(rt: &impl AllocGlobal, kind: ArgonKind, text: &mut [u8], turns: u32) {
     let params = ArgonParams {
         passes: turns,
@@ -97,7 +97,7 @@ fn argon(rt: &impl AllocGlobal, kind: ArgonKind, text: &mut [u8], turns: u32) {
     }
 }
 
-// Transforms a key by AES, with the rounds of as many turns as asked, into the front of the text.
+// Transforms a key by AES, with the rounds of as many turns as asked, to the start of the text.
 fn transform_by_aes(rt: &impl AllocGlobal, text: &mut [u8], turns: u32) {
     let kdf = Kdf::Aes {
         rounds: turns as u64 * ROUNDS,

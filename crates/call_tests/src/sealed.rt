@@ -1,7 +1,7 @@
 //! Calls over KDBX files in memory. The files hold a root group with the entries Bank and Mail and
 //! a group Work, under ChaCha20 and 100 rounds of AES. They were composed in Python, from hashlib,
 //! hmac and the ciphers of `cryptography`, and `keepassxc-cli ls` (2.7.4) lists them. Their headers
-//! have 203 bytes, of which the compression flag is from 38 on, and the end block's code stands
+//! have 203 bytes, of which the compression flag is from 38 on, and the end block's MAC is
 //! from 772 on.
 use crate::calls::{Outcome, Outside, comes_to, outside_with};
 use std::alloc::{AllocGlobal, Global};
@@ -81,7 +81,7 @@ fn meets(
     comes_to(rt, words, &mut outside, wanted)
 }
 
-/// As many letters, a line feed's bytes behind them.
+/// As many letters, a line feed's bytes after them.
 fn letters(alloc: Global, count: usize, end: &[u8]) -> Result<Vec<u8>, Fail> {
     let mut line = vec![in alloc; b'a'; count]?;
     for byte in end {
@@ -108,7 +108,7 @@ fn the_password_is_a_line_of_input(rt: HostRuntime) -> Result<(), Fail> {
     opens(&rt, b"\xff\n", &form)
 }
 
-/// The codes are those of Python's hmac.
+/// The MACs are those of Python's hmac.
 #[test]
 fn another_password_is_refused(rt: HostRuntime) -> Result<(), Fail> {
     let line =

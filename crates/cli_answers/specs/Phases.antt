@@ -6,7 +6,7 @@ use Rattle.cli_answers.specs.declared.answers.Refusal.{Refusal}
 use Rattle.cli_answers.specs.declared.answers.Stop.{Stop}
 use Rattle.cli_answers.specs.declared.answers.Stop.TheVariants.{Refused, FileFault, InputFault, NoMemory}
 
--- ---- how the code stands to it
+-- ---- how the code relates to it
 
 -- A phase that stopped was refused as it is defined; a fault and want of memory say nothing of
 -- that.
@@ -40,12 +40,12 @@ abbrev pub ReturnsInput : {X Y : Type 0} → (X → Y) → Result X Stop → Opt
 ReturnsInput seen (Ok x) left defined = (defined.answer ≡ Ok (seen x)) × (left ≡ Some defined.left)
 ReturnsInput seen (Err stop) left defined = RefusesInput stop left defined
 
--- This is left of the input, as it tells; or it says nothing, and no line is asked for.
+-- This is left of the input, as it reports; or it reports nothing, and no line is asked for.
 abbrev pub TellsInput : Bool → Option (List ℕ) → List ℕ → Type 0
 TellsInput asked (Some left) input = left ≡ input
 TellsInput asked None input = asked ≡ false
 
--- Of the input is left what is defined, if it tells what is left.
+-- Of the input is left what is defined, if it reports what is left.
 abbrev pub IsLeft : Option (List ℕ) → Option (List ℕ) → List ℕ → Type 0
 IsLeft before now defined = now ≡ option_map (λ left. defined) before
 

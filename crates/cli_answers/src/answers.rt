@@ -16,7 +16,7 @@ pub enum Reason {
     WrongWords,
     /// The path names no group.
     NoSuchPath,
-    /// The file keeps another hash or code of its header than the header has under the key.
+    /// The file keeps another hash or MAC of its header than the header has under the key.
     DamagedOrWrongKey { kept: [u8; 32], found: [u8; 32] },
     /// The block of this number is not the one that was written.
     DamagedBlock(u64),
@@ -28,7 +28,7 @@ pub enum Reason {
     NotKdbx,
     /// The file, or its deciphered text, ends before a part of it does, at the place.
     EndsEarly(u64),
-    /// The field of this number is missing, stands twice or has a wrong length.
+    /// The field of this number is missing, occurs twice or has a wrong length.
     BadHeaderField(u8),
     /// The dictionary of the key derivation is malformed at the place.
     BadDictionary(u64),
@@ -160,7 +160,8 @@ fn compared<const N: usize>(
 
 // A line by its number, and what is wrong with it.
 fn line_is(alloc: Global, number: u64, wrong: &str) -> Result<String, AllocError>
-    ensures { IfOk result (λ text. string_bytes text ≡ codes "line " ++ decimal number ++ wrong.now) }
+    ensures { IfOk result (λ text. string_bytes text
+        ≡ codes "line " ++ decimal number ++ wrong.now) }
 {
     let mut text = format!(in alloc; "line {number}")?;
     text.push_str(wrong)?;
@@ -210,7 +211,7 @@ pub fn text_of_reason(alloc: Global, reason: &Reason) -> Result<String, AllocErr
     }
 }
 
-/// The line that tells an answer: `keepass: SUBJECT: TEXT` and LF.
+/// The line that reports an answer: `keepass: SUBJECT: TEXT` and LF.
 pub fn line(alloc: Global, subject: &str, text: &str) -> Result<Bytes, NoMemory>
     ensures { IfOk result (λ line. line ≡ error_line subject.now text.now) }
 {

@@ -16,7 +16,7 @@ abbrev pub waiting : Bool → List ℕ → List ℕ
 waiting true rest = 13 ∷ rest
 waiting false rest = rest
 
--- A line with bytes in front.
+-- A line with bytes before it.
 abbrev pub with_bytes : List ℕ → InputAnswer (List ℕ) → InputAnswer (List ℕ)
 with_bytes [] taken = taken
 with_bytes (b ∷ bs) taken = with_byte b (with_bytes bs taken)

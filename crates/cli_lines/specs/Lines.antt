@@ -17,7 +17,7 @@ whole left = record { answer = Ok []; left = left }
 abbrev pub too_long : List ℕ → InputAnswer (List ℕ)
 too_long left = record { answer = Err (refusal_of LineLimit (codes "input")); left = left }
 
--- A line with one byte more in front.
+-- A line with one byte more before it.
 abbrev pub with_byte : ℕ → InputAnswer (List ℕ) → InputAnswer (List ℕ)
 with_byte b taken = record { answer = taken.answer >>= λ line. Ok (b ∷ line); left = taken.left }
 

@@ -37,7 +37,8 @@ fn front_below(alloc: Global, front: &[u8], name: &[u8], flat: bool) -> Result<B
 
 // Adds a line for the title of each entry.
 fn add_titles(text: &mut Bytes, front: &[u8], entries: &[Entry]) -> Result<(), NoMemory>
-    ensures { OnOk result (text.new ≡ text.old ++ title_lines front.now (map entry_row entries.now)) }
+    ensures { OnOk result (text.new ≡ text.old
+        ++ title_lines front.now (map entry_row entries.now)) }
 {
     for entry in entries {
         text.add(front)?;

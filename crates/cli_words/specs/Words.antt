@@ -17,8 +17,8 @@ is_option [] = false
 is_option (b ∷ []) = false
 is_option (b ∷ c ∷ bs) = b == 45
 
--- What the words after a command's name say: which flags stand, the key file, whether its name is
--- due, whether `--` stood, after which no word is an option, the file and the group.
+-- What the words after a command's name say: which flags are there, the key file, whether its name
+-- is due, whether `--` was there, after which no word is an option, the file and the group.
 pub record Said : Type 0 where
   pub recursive : Bool
   pub flat : Bool
@@ -100,7 +100,7 @@ abbrev pub without_sign : List ℕ → List ℕ
 without_sign [] = []
 without_sign (b ∷ bs) = if b == 61 then bs else b ∷ bs
 
--- The option `k` with what stands after it in its word.
+-- The option `k` with what comes after it in its word.
 abbrev pub with_joined_key : Said → List ℕ → Option Said
 with_joined_key said [] = with_key_due said
 with_joined_key said (b ∷ bs) = with_key said (without_sign (b ∷ bs))
@@ -110,7 +110,7 @@ abbrev pub with_short : Said → List ℕ → Option (List ℕ) → Option Said
 with_short said letters None = with_letters letters said
 with_short said letters (Some joined) = with_joined_key said joined
 
--- An option by its name: a flag, or the key file, whose name may stand after `=`.
+-- An option by its name: a flag, or the key file, whose name may come after `=`.
 abbrev pub with_long : Said → Option Flag → Option (List ℕ) → Option Said
 with_long said (Some flag) value = with_flag said flag
 with_long said None (Some name) = with_key said name
@@ -137,7 +137,8 @@ with_value said word = if is_option word then None else Some
 -- The file, or the group after it.
 abbrev pub with_position : Said → List ℕ → Option (List ℕ) → Option Said
 with_position said word None = Some (record said { file = Some word })
-with_position said word (Some file) = unless_given (is_some said.group) (record said { group = Some word })
+with_position said word (Some file) =
+    unless_given (is_some said.group) (record said { group = Some word })
 
 -- A word more.
 abbrev pub with_word : Said → List ℕ → Option Said

@@ -28,7 +28,7 @@ pub enum Command {
         group: Option<Text>,
         /// Whether the groups below it are listed too.
         recursive: bool,
-        /// Whether each name stands after the path that leads to it.
+        /// Whether each name comes after the path that leads to it.
         flat: bool,
     },
 }

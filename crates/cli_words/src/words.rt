@@ -32,7 +32,7 @@ struct SaidWords<'a> {
     key_file: Option<&'a str>,
     // Whether the next word is the key file's name.
     is_due: bool,
-    // Whether `--` stood, after which no word is an option.
+    // Whether `--` was there, after which no word is an option.
     ended: bool,
     file: Option<&'a str>,
     group: Option<&'a str>,
@@ -243,7 +243,7 @@ fn with_position<'a>(said: SaidWords<'a>, word: &'a str) -> Option<SaidWords<'a>
     }
 }
 
-// A word more, or none where it must not stand.
+// A word more, or none where it must not be there.
 fn with_word<'a>(said: SaidWords<'a>, word: &'a str) -> Option<SaidWords<'a>>
     ensures { option_map said_seen result ≡ spec.with_word (said_seen said.entry) word.now }
 {
@@ -265,7 +265,7 @@ fn with_word<'a>(said: SaidWords<'a>, word: &'a str) -> Option<SaidWords<'a>>
     }
 }
 
-// What all words say, or none where one must not stand.
+// What all words say, or none where one must not be there.
 fn said_by<'a>(words: &'a [String]) -> Option<SaidWords<'a>>
     ensures { option_map said_seen result ≡ with_words (map string_bytes words.now) nothing_said }
 {

@@ -28,5 +28,6 @@ pub record Steps {X Y : Type 0} (view : X → Y) (old new : Course) (result : Re
 abbrev pub map_rest : {Y Z : Type 0} → (Y → Z) → Rest Y → Rest Z
 map_rest keep rest s content cursor = rest s content cursor >>= λ x. Ok (keep x.0, x.1)
 
+-- a course of this setting, these answers and this cursor
 abbrev pub course_of : Setting → List Answer → Cursor → Course
 course_of setting answers cursor = record { setting = setting; answers = answers; cursor = cursor }

@@ -226,7 +226,8 @@ impl<'t> Walk<'t> {
 
     /// The value of the element whose start tag was given, put in its place.
     pub fn keep<K: Kind>(&mut self, tag: &Tag<'_>, into: &mut K::Value) -> Result<(), DocFail>
-        ensures { Steps (λ _. K.seen into.new) self.old self.new result (value_step K.rule tag.now) }
+        ensures { Steps (λ _. K.seen into.new) self.old self.new result
+            (value_step K.rule tag.now) }
     {
         *into = self.value::<K>(tag)?;
         Ok(())

@@ -36,8 +36,8 @@ pub record MemoryIsOutermost {X : Type 0} (result : Result X OpenFail) : Type 0 
   pub frame : IsErrOf result (Frame frame.NoMemory) → ⊥
   pub document : IsErrOf result (Doc document.NoMemory) → ⊥
 
--- What an answer shows of the store's counts, which never fall, whether or not the store tells its
--- files.
+-- What an answer shows of the store's counts, which never fall, whether or not the store reports
+-- its files.
 pub record HasOpenCause {X : Type 0} (faults_before faults_now absences_before absences_now : ℕ)
     (result : Result X OpenFail) : Type 0 where
   pub faults_later : faults_before ≤ faults_now

@@ -26,7 +26,8 @@ pub fn read_content(
     blocks: &[u8],
 ) -> Result<Secret, OpenFail>
     requires { length blocks.now ≤ size }
-    ensures gives { Returns (λ s. s.bytes) result (of_blocks (contents_of base.now size blocks.now)) }
+    ensures gives { Returns (λ s. s.bytes) result
+        (of_blocks (contents_of base.now size blocks.now)) }
     ensures within { IfOk result (λ s. length s.bytes ≤ length blocks.now) }
 {
     let mut content = Secret::with_room(alloc, blocks.len())?;

@@ -22,9 +22,9 @@ pub enum OpenFail {
     Frame(FrameFail),
     /// The header's HMAC is not right: the composite key is another, or the header was changed.
     KeyOrHeader {
-        /// The code that the file keeps.
+        /// The MAC that the file keeps.
         kept: [u8; 32],
-        /// The code of the header as it stands, under the composite key.
+        /// The MAC of the header as it is, under the composite key.
         found: [u8; 32],
     },
     /// A block's MAC is not right, or the file ends before its end block does.

@@ -130,7 +130,8 @@ fn open_named<F: FileStore>(
     composite: &Key,
 ) -> Result<Unsealed, OpenFail>
     ensures told { IfSome (F.files files.old)
-        (λ m. ReturnsFromStore unsealed_seen result (opening_of (map.get m name.now) composite.now)) }
+        (λ m. ReturnsFromStore unsealed_seen result
+        (opening_of (map.get m name.now) composite.now)) }
     ensures some_file { ReturnsOfSomeFile unsealed_seen composite.now result }
     ensures cause { HasOpenCause (F.faults files.old) (F.faults files.new) (F.absences files.old)
         (F.absences files.new) result }

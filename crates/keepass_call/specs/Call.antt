@@ -17,7 +17,7 @@ pub record IsCall (words : List (List ℕ)) (result : ℕ) (before now : Seen) (
   pub near : WhereTold words before (λ input files.
       AgreesUpToFailure (files_named (command_of words)) (outcome words input files) result before
       now counts counts')
-  -- A refusal is the outcome's, or tells a fault whose count rose.
+  -- A refusal is the outcome's, or reports a fault whose count rose.
   pub refused : WhereTold words before (λ input files.
       IsRefused (files_named (command_of words)) (outcome words input files) result before now
       counts counts')
@@ -28,7 +28,7 @@ pub record IsCall (words : List (List ℕ)) (result : ℕ) (before now : Seen) (
   -- What can be carried out is.
   pub complete : WhereTold words before (λ input files. IsComplete words input files result counts
       counts')
-  -- Told or not: what is listed at status 0 is a document that some file holds.
+  -- Reported or not: what is listed at status 0 is a document that some file holds.
   pub some_file : result ≡ 0 → PrintsOfSomeFile words before.written now.written
-  -- Told or not: no file changes, and statuses have their causes.
+  -- Reported or not: no file changes, and statuses have their causes.
   pub safe : IsSafe result before now counts counts'

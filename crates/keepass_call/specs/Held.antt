@@ -1,4 +1,4 @@
--- What a call that was carried out rests on: files that hold what was used of them, told of all
+-- What a call that was carried out rests on: files that hold what was used of them, speaking of all
 -- their bytes.
 use Rattle.std.specs.Prelude.{◌≡◌, ◌≤◌, ℕ, Bool, true, false, List, length, Option, None, Some, ◌⊎◌, Ok}
 use Rattle.std.specs.FinMap as map

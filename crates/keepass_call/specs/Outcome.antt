@@ -85,8 +85,8 @@ ended files left (Err refusal) =
 abbrev pub outcome : List (List ℕ) → List ℕ → FileMap → Outcome
 outcome words input files = ended files (left_of words input) (answer_of words input files)
 
--- What the outside tells at one moment: what was written to standard output and to standard error,
--- the files and the draft, and what is left of the input and of the dice.
+-- What the outside reports at one moment: what was written to standard output and to standard
+-- error, the files and the draft, and what is left of the input and of the dice.
 pub record Seen : Type 0 where
   pub written : Option (List ℕ)
   pub errors : Option (List ℕ)
@@ -137,7 +137,7 @@ pub record NoFaults (before now : Counts) : Type 0 where
 abbrev pub Gains : Option (List ℕ) → Option (List ℕ) → List ℕ → Type 0
 Gains before now text = now ≡ option_map (λ w. w ++ text) before
 
--- The draft is the one that stood before.
+-- The draft is the one of before.
 pub record SameDraft (before now : Seen) : Type 0 where
   pub name : now.draft_name ≡ before.draft_name
   pub bytes : now.draft_bytes ≡ before.draft_bytes
@@ -179,13 +179,13 @@ pub record AgreesUpToFailure (names : List (List ℕ)) (said : Outcome) (result 
       ⊎ TellsFault names result before now counts counts'
   pub files : (now.files ≡ before.files) ⊎ (now.files ≡ Some said.files)
 
--- A refusal is the one that the words come to, or it tells a fault whose count rose.
+-- A refusal is the one that the words come to, or it reports a fault whose count rose.
 abbrev pub IsRefused : List (List ℕ) → Outcome → ℕ → Seen → Seen → Counts → Counts → Type 0
 IsRefused names said result before now counts counts' =
     result ≢ 0 → result ≢ 9 → result ≢ 10
     → IsAsSaid said result before now ⊎ TellsFault names result before now counts counts'
 
--- This holds of the files and the input, if the outside tells the files and, where the words ask
+-- This holds of the files and the input, if the outside reports the files and, where the words ask
 -- for a line, what is left of the input.
 abbrev pub WhereTold : List (List ℕ) → Seen → (List ℕ → FileMap → Type 0) → Type 0
 WhereTold words before P =

@@ -1,4 +1,4 @@
--- How a call tells what it came to.
+-- How a call reports what it came to.
 use Rattle.std.specs.Prelude.{◌≡◌, ℕ, List, Option, codes, ◌⊎◌}
 use Rattle.outside_core.specs.Counts.{Increased}
 use Rattle.outside_core.specs.Streams.{GainsPrefix}

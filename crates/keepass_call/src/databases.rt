@@ -128,7 +128,7 @@ fn unopened(alloc: Global, fail: OpenFail, name: &str) -> Stop
     }
 }
 
-// The plain document that a text is, which is dropped before the document stands.
+// The plain document that a text is, which is dropped before the document is made.
 #[tactic(auto, unfolding(crate::specs::Databases::plain_document))]
 fn read_plain(alloc: Global, text: Secret) -> Result<ReadDoc, DocFail>
     ensures { reader.Returns read_seen result (plain_document text.bytes) }
@@ -141,7 +141,8 @@ fn read_plain(alloc: Global, text: Secret) -> Result<ReadDoc, DocFail>
 
 // The plain document in these bytes of a file.
 fn build(alloc: Global, name: &str, bytes: Secret) -> Result<Doc, Stop>
-    ensures gives { Returns doc_seen result (document_or_refusal name.now (plain_document bytes.bytes)) }
+    ensures gives { Returns doc_seen result
+        (document_or_refusal name.now (plain_document bytes.bytes)) }
     ensures some_file { IfOk result (λ doc. SomePlain (doc_seen doc)) }
     ensures cause { IfErr result IsPlainStop }
 {
@@ -177,7 +178,8 @@ fn open_plain<F: FileStore>(alloc: Global, files: &mut F, name: &str) -> Result<
 
 // The key in these bytes of a key file.
 fn key_by(alloc: Global, name: &str, bytes: &Secret) -> Result<Key, Stop>
-    ensures gives { Returns (λ key. key) result (key_or_refusal name.now (key_file_key bytes.now.bytes)) }
+    ensures gives { Returns (λ key. key) result
+        (key_or_refusal name.now (key_file_key bytes.now.bytes)) }
     ensures some_file { IfOk result IsSomeKey }
     ensures cause { IfErr result IsPlainStop }
 {
@@ -214,7 +216,8 @@ fn key_of<F: FileStore>(
     key_file: Option<&str>,
 ) -> Result<Option<Key>, Stop>
     ensures told { (m : FileMap) → F.files files.old ≡ Some m
-        → Returns (λ key. key) result (spec.key_of (option_map (λ name. name.now) key_file.entry) m) }
+        → Returns (λ key. key) result
+        (spec.key_of (option_map (λ name. name.now) key_file.entry) m) }
     ensures given { IfOk result (λ key. IsSome key_file.entry → IsSome key) }
     ensures some_file { IfOk result (SomeKey (option_map (λ name. name.now) key_file.entry)) }
     ensures cause { IfErr result (IsFileStop (key_files

@@ -27,7 +27,8 @@ fn list(
     file: &str,
 ) -> Result<Output, Stop>
     ensures told { Returns (λ done. done) result
-        (listing_of file.now manner.recursive manner.flat (tree_listed path.now (doc_seen doc.now))) }
+        (listing_of file.now manner.recursive manner.flat
+        (tree_listed path.now (doc_seen doc.now))) }
     ensures cause { IfErr result IsPlainStop }
 {
     let Some(group) = group_listed(doc, path) else {

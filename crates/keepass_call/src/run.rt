@@ -139,7 +139,7 @@ fn tell<E: Sink>(alloc: Global, err: &mut E, stop: Stop) -> u8
 /// is what the outcome says to which its words come over its input and its files; they come to one
 /// alone. What is listed at status 0 is a document that the file holds: by itself, or sealed under
 /// the composite key of the line of input and the key file. Where an object fails, no file is
-/// changed, what was printed is a prefix of the outcome's text, and the status tells of the
+/// changed, what was printed is a prefix of the outcome's text, and the status reports the
 /// failure. Words that can be carried out come to status 0 where nothing fails.
 pub fn keepass<F: FileStore, S: Source, O: Sink, E: Sink, D: Dice>(
     alloc: Global,

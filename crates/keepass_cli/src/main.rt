@@ -43,7 +43,7 @@ fn refuse<E: Sink>(err: &mut E, why: &NoWords) -> u8 {
     }
 }
 
-// The seconds since the year 1, by the host's clock; those up to 1970 where it tells no time.
+// The seconds since the year 1, by the host's clock; those up to 1970 where it gives no time.
 fn seconds(rt: &impl Clock) -> u64 {
     let Ok(time) = SystemTime::now(rt) else {
         return SECONDS_TO_1970;

@@ -1,4 +1,4 @@
--- What a key document says: its version, and the text of its key. Of an element that stands twice
+-- What a key document says: its version, and the text of its key. Of an element that occurs twice
 -- the last counts.
 use Rattle.std.specs.Prelude.{ℕ, Bool, true, false, ◌&&◌, if◌then◌else◌, Option, Some, None, List, ◌∷◌, take, bytes_eq, codes, Result, Ok, Err}
 use Rattle.sha2.specs.Sha256.{sha256}
@@ -18,12 +18,15 @@ abbrev mutual
   is_whole (also text e more) = is_whole_element e && is_whole more
   is_whole (cut text answer) = false
 
+  -- what an element holds goes up to its end
   pub is_whole_element : Element → Bool
   is_whole_element (element place name raw content) = is_whole content
 
+-- the name of an element
 abbrev pub name_of : Element → List ℕ
 name_of (element place name raw content) = name
 
+-- what an element holds
 abbrev pub held_by : Element → Content
 held_by (element place name raw content) = content
 
@@ -45,11 +48,11 @@ version_by place text =
 abbrev pub version_in : Element → Option Version
 version_in (element place name raw content) = Some (version_by place (joined content))
 
--- the version that a Meta tells
+-- the version that a Meta gives
 abbrev pub version_of_meta : Content → Option Version
 version_of_meta meta = last_says (codes "Version") version_in None meta
 
--- the version that the root tells in its Meta
+-- the version that the root gives in its Meta
 abbrev pub version_of : Content → Option Version
 version_of root = last_says (codes "Meta") (λ meta. version_of_meta (held_by meta)) None root
 
@@ -65,11 +68,11 @@ abbrev pub told_in : Element → Option Told
 told_in (element place name raw content) =
     Some (record { place = place; hash = attribute_text raw (codes "Hash"); text = joined content })
 
--- the key that a Key tells
+-- the key that a Key gives
 abbrev pub told_of_key : Content → Option Told
 told_of_key key = last_says (codes "Data") told_in None key
 
--- the key that the root tells in its Key
+-- the key that the root gives in its Key
 abbrev pub told_of : Content → Option Told
 told_of root = last_says (codes "Key") (λ key. told_of_key (held_by key)) None root
 
@@ -84,6 +87,7 @@ compared key kept =
     if bytes_eq kept (take 4 (sha256 key)) then Ok key else Err
     (KeyFileHash kept (take 4 (sha256 key)))
 
+-- a key that is checked against its hash, where one is stored with it
 abbrev pub proved_by : ℕ → Option (List ℕ) → List ℕ → Result (List ℕ) KeyFileFail
 proved_by place None key = Ok key
 proved_by place (Some digits) key = elim (formed place (hexadecimal_hash digits))

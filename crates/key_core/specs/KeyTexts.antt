@@ -8,12 +8,12 @@ use Rattle.base64.specs.GeneralPurpose.{decoded_of}
 use Rattle.hex.specs.Hex.{decode_sized}
 use Rattle.markup_grammar.specs.Bytes.{is_space}
 
--- a text without the white space at its front
+-- a text without the white space at its start
 abbrev pub without_front : List ℕ → List ℕ
 without_front [] = []
 without_front (b ∷ rest) = if is_space b then without_front rest else b ∷ rest
 
--- a text without the white space at its front and its end
+-- a text without the white space at its start and its end
 abbrev pub trimmed : List ℕ → List ℕ
 trimmed text = reverse (without_front (reverse (without_front text)))
 

@@ -1,4 +1,4 @@
--- The keys of a vault file, from what its owner knows and has to those under which the file stands.
+-- The keys of a vault file, from what its owner knows and has to those that seal the file.
 -- Keys, seeds and salts are lists of bytes.
 use Rattle.std.specs.Prelude.{ℕ, ◌/◌, List, [], ◌∷◌, ◌++◌, take, drop, Option, Some, None}
 use Rattle.std.specs.Option.{option_map}

@@ -38,7 +38,7 @@ pub record IsRead {A : Type 0} (value says : A) (old new : List Answer) : Type 0
   pub rest : left new ≡ outer (left old)
   pub shorter : length new < length old
 
--- it was read and says this, or it or what stands round it is cut
+-- it was read and says this, or it or what is around it is cut
 abbrev pub Reads : {A B : Type 0} → (B → A) → A → List Answer → Result B Stopped → List Answer
     → Type 0
 Reads view says old (Ok x) new = IsRead (view x) says old new
@@ -59,7 +59,7 @@ abbrev pub version_or : List ℕ → ℕ → Option Version → Content → Opti
 version_or name place version content =
     if bytes_eq name (codes "Version") then Some (version_by place (joined content)) else version
 
--- the key that a Data at this place tells, with this raw hash and this content
+-- the key that a Data at this place gives, with this raw hash and this content
 abbrev pub told_here : ℕ → Option (List ℕ) → Content → Told
 told_here place hash content = record {
   place = place;
@@ -73,13 +73,15 @@ abbrev pub told_or : List ℕ → ℕ → Option (List ℕ) → Option Told → 
 told_or name place hash told content =
     if bytes_eq name (codes "Data") then Some (told_here place hash content) else told
 
--- the version and the key that a root tells
+-- the version and the key that a root gives
 abbrev pub Says : Type 0
 Says = Option Version × Option Told
 
+-- the version and the key that the content of a root gives
 abbrev pub says_of : Content → Says
 says_of root = (version_of root, told_of root)
 
+-- the version and the key that a document has as it is read
 abbrev pub says_by : Document → Says
 says_by document = (document.version, option_map told_by document.data)
 

@@ -36,7 +36,7 @@ pub(crate) struct Data {
     pub(crate) text: Secret,
 }
 
-/// What the root of a key document tells.
+/// What the root of a key document says.
 #[derive(Drop)]
 pub(crate) struct Document {
     pub(crate) version: Option<Version>,
@@ -54,7 +54,7 @@ fn version_by(place: usize, text: &[u8]) -> Version
     }
 }
 
-// Reads an element of a Meta up to its end: a Version tells a version, and another element leaves
+// Reads an element of a Meta up to its end: a Version gives a version, and another element leaves
 // it.
 fn read_in_meta(
     alloc: Global,
@@ -74,7 +74,7 @@ fn read_in_meta(
     Ok(Some(version_by(place, text.lend(0, text.len()))))
 }
 
-// Reads a Meta up to its end: the version that its last Version tells.
+// Reads a Meta up to its end: the version that its last Version gives.
 fn read_meta(alloc: Global, reader: &mut Reader<'_>) -> Result<Option<Version>, Stopped>
     ensures { Reads (λ v. v) (spec.version_of_meta (inner (left reader.old))) reader.old result
         reader.new }
@@ -117,7 +117,7 @@ fn read_data(
     Ok(Data { place, hash, text })
 }
 
-// Reads an element of a Key up to its end: a Data tells a key, and another element leaves it.
+// Reads an element of a Key up to its end: a Data gives a key, and another element leaves it.
 fn read_in_key(
     alloc: Global,
     reader: &mut Reader<'_>,
@@ -136,7 +136,7 @@ fn read_in_key(
     Ok(Some(read_data(alloc, reader, hash, place)?))
 }
 
-// Reads a Key up to its end: the key that its last Data tells.
+// Reads a Key up to its end: the key that its last Data gives.
 fn read_key(alloc: Global, reader: &mut Reader<'_>) -> Result<Option<Data>, Stopped>
     ensures { Reads (option_map told_by) (spec.told_of_key (inner (left reader.old))) reader.old
         result reader.new }
@@ -153,7 +153,7 @@ fn read_key(alloc: Global, reader: &mut Reader<'_>) -> Result<Option<Data>, Stop
     }
 }
 
-// Reads an element of the root up to its end: a Meta tells the version, and a Key the key.
+// Reads an element of the root up to its end: a Meta gives the version, and a Key the key.
 fn read_in_root(
     alloc: Global,
     reader: &mut Reader<'_>,
@@ -202,7 +202,7 @@ fn begins(reader: &mut Reader<'_>) -> bool
     }
 }
 
-// Passes over what stands after the root.
+// Passes over what comes after the root.
 fn reach_end(reader: &mut Reader<'_>) -> Result<(), Stopped>
     ensures { Ends reader.old result }
 {
@@ -217,7 +217,7 @@ fn reach_end(reader: &mut Reader<'_>) -> Result<(), Stopped>
     }
 }
 
-/// What a text tells that is a key document. Any other text is cut.
+/// What a text says that is a key document. Any other text is cut.
 pub(crate) fn read_document(alloc: Global, bytes: &[u8]) -> Result<Document, Stopped>
     ensures { IsDocument (spec.root_of (answers bytes.now)) result }
 {

@@ -36,8 +36,8 @@ pub enum KeyFileFail {
 /// Text in the grammar of `markup_core` whose root is `KeyFile` is a key document. Its version is
 /// in the root's `Meta`, in `Version`, and its key in the root's `Key`, in `Data`. Version 1 writes
 /// the key's 32 bytes in base64. Version 2 writes them in 64 hexadecimal digits, white space
-/// between them, and where the attribute `Hash` stands, it is the first four bytes of the key's
-/// SHA-256 in eight hexadecimal digits. Of an element that stands twice the last counts. Any other
+/// between them, and where the attribute `Hash` is there, it is the first four bytes of the key's
+/// SHA-256 in eight hexadecimal digits. Of an element that occurs twice the last counts. Any other
 /// file is the key itself, where it is 32 bytes; the key in hexadecimal digits, where it is 64 of
 /// them; and else its SHA-256 is the key.
 pub fn read_key_file(alloc: Global, bytes: &[u8]) -> Result<Key, KeyFileFail>

@@ -19,7 +19,7 @@ fn is_space(byte: u8) -> bool
     byte == b'\t' || byte == b'\n' || byte == b'\r' || byte == b' '
 }
 
-/// The text without the white space at its front.
+/// The text without the white space at its start.
 pub(crate) fn without_front(text: &[u8]) -> &[u8]
     ensures { result.now ≡ texts.without_front text.now }
 {
@@ -33,7 +33,7 @@ pub(crate) fn without_front(text: &[u8]) -> &[u8]
     rest
 }
 
-/// The text without the white space at its front and its end.
+/// The text without the white space at its start and its end.
 pub(crate) fn trimmed(text: &[u8]) -> &[u8]
     ensures { result.now ≡ texts.trimmed text.now }
 {

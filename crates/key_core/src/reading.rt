@@ -35,7 +35,7 @@ pub(crate) enum Item<'a> {
     /// An element in it, which is the innermost from here on: its name, its attributes, and its
     /// place.
     Child(&'a str, Attrs<'a>, usize),
-    /// A run of text, as it stands.
+    /// A run of text, as it is.
     Words(&'a str),
     /// Its end. The one round it is the innermost from here on.
     End,

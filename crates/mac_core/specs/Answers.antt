@@ -4,7 +4,7 @@ use Rattle.mac_core.specs.Blocks.{IsDamaged, IsUnfinished, IsWhole, concatenated
 use Rattle.mac_core.specs.declared.fail.BlockFail.{BlockFail}
 use Rattle.mac_core.specs.declared.fail.BlockFail.TheVariants.{BlockMac, Truncated}
 
--- what a reading began with: the MAC base, the place of the first block in the file, and what stood
+-- what a reading began with: the MAC base, the place of the first block in the file, and what was
 -- in the output before
 pub record Start : Type 0 where
   pub base : List ℕ

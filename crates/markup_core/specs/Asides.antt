@@ -21,7 +21,7 @@ abbrev pub IsOutside : Level → Type 0
 IsOutside (within name names) = ⊥
 IsOutside _ = Unit {0}
 
--- this many dashes stand side by side at the end of what was read of a comment
+-- this many dashes are side by side at the end of what was read of a comment
 abbrev pub dashes_of : ℕ → Dashes
 dashes_of zero = no_dash
 dashes_of (suc zero) = one_dash

@@ -20,7 +20,7 @@ seen_from r at =
     seen r.is_whole (length r.text.now) r.depth
     (left r.text.now (state_at at (open_names r.text.now r.spans r.depth)) at)
 
--- the answers that are left: where an empty element's `/` stands next, its end comes first
+-- the answers that are left: where an empty element's `/` comes next, its end comes first
 unfoldable pub answers_left : Inside → List Answer
 answers_left r = if r.is_empty then stop r.at ∷ seen_from r (r.at + 2) else seen_from r r.at
 

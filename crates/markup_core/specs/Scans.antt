@@ -7,8 +7,8 @@ use Rattle.markup_grammar.specs.Bytes.{begins_name, is_name_byte}
 use Rattle.markup_grammar.specs.Machine.{State, in_words, in_reference, in_tag, valuing, referring, Names, Ref, on, off, step, verdict}
 use Rattle.markup_core.specs.Left.{left, StandsAt, BeginsWithout, FailsFirst}
 
--- reading goes from one state to another, which may tell by the place of its end, and gives nothing
--- on the way; or it is refused at a place
+-- reading goes from one state to another, which may report by the place of its end, and gives
+-- nothing on the way; or it is refused at a place
 abbrev pub Leads : List ℕ → State → ℕ → (ℕ → State) → Result ℕ ℕ → Type 0
 Leads text from at to (Ok end) = left text from at ≡ left text (to end) end
 Leads text from at to (Err place) = left text from at ≡ form place ∷ []
@@ -40,7 +40,7 @@ pub record Await (text : List ℕ) (s : List ℕ → ℕ → State) (least : ℕ
       → step (s (c ∷ more) at) at b ≡ (if b == c then on [] (s more (at + 1)) else off)
   pub ends : (c : ℕ) (more : List ℕ) (at : ℕ) → verdict (s (c ∷ more) at) at ≡ form at
 
--- where references stand: in a run of text, by its place and the names of the open elements, or in
+-- where references are: in a run of text, by its place and the names of the open elements, or in
 -- a value, by its quote and its tag
 pub data Host : Type 0 where
   of_run : ℕ → List ℕ → Names → Host

@@ -1,4 +1,4 @@
--- What is at a place of a text, told by the answers that it gives.
+-- What is at a place of a text, by the answers that it gives.
 use Rattle.std.specs.Prelude.{ℕ, zero, suc, ◌+◌, ◌≡◌, ◌≤◌, List, [], ◌∷◌, slice_range, Result, Ok, Err}
 use Rattle.markup_grammar.specs.Answers.{start, words, stop, finish, form}
 use Rattle.markup_grammar.specs.Machine.{State, fresh, between, within, behind, outside, Names}
@@ -34,7 +34,7 @@ Tells text names s at (Ok (Words place end)) =
 Tells text names s at (Ok (Stop place end)) = Leaves text names s at place end
 Tells text names s at (Ok End) = left text s at ≡ finish ∷ []
 
--- a token lies after its place, and where it begins and ends stand bytes of ASCII
+-- a token lies after its place, and where it begins and ends there are bytes of ASCII
 abbrev pub TokenStands : List ℕ → ℕ → Result Token ℕ → Type 0
 TokenStands text at (Ok (Start place tag)) = (at ≤ place) × StandsAt text place 60
     × TagStands text (place + 1) tag

@@ -29,7 +29,7 @@ pub(crate) fn asides_end(text: &[u8], at: usize) -> Result<usize, usize>
     }
 }
 
-/// The same outside the outermost element, where white space too may stand among them.
+/// The same outside the outermost element, where white space too may be among them.
 pub(crate) fn outside_end(text: &[u8], at: usize) -> Result<usize, usize>
     requires { at ≤ length text.now }
     ensures asides { (level : Level) → IsOutside level
@@ -73,7 +73,8 @@ fn aside_end(text: &[u8], at: usize) -> Result<usize, usize>
 /// The end of the comment whose `<!` is before a place: after the first `-->` past `<!--`.
 fn comment_end(text: &[u8], at: usize) -> Result<usize, usize>
     requires { at ≤ length text.now }
-    ensures comment { (level : Level) → Leads text.now (bang level) at (λ end. between level) result }
+    ensures comment { (level : Level)
+        → Leads text.now (bang level) at (λ end. between level) result }
     ensures within { EndsWithin text.now at result }
     ensures closes { IfOk result (λ end. EndsTag text.now end) }
 {
@@ -108,7 +109,7 @@ fn ends_comment(byte: u8, dashes: usize) -> bool
     2 <= dashes && byte == b'>'
 }
 
-/// How many dashes stand side by side after the byte, where these stand before it.
+/// How many dashes are side by side after the byte, where these are before it.
 fn dashes_behind(byte: u8, dashes: usize) -> usize
     requires { dashes + 1 < 2 ^ 64 }
     ensures { result ≡ (if byte == 45 then dashes + 1 else 0) }

@@ -18,7 +18,7 @@ pub struct Attrs<'a> {
 }
 
 impl<'a> Attrs<'a> {
-    /// The raw value of the last attribute of this name, as it stands between its quotes:
+    /// The raw value of the last attribute of this name, as it is between its quotes:
     /// `unescape` gives the text for which it stands.
     pub fn get(&self, name: &str) -> Option<&'a str>
         ensures { option_copied result ≡ attribute self.now.raw.now name.now }
@@ -35,7 +35,7 @@ impl<'a> Attrs<'a> {
     }
 }
 
-/// An attribute, and what stands after it.
+/// An attribute, and what comes after it.
 #[derive(Drop)]
 struct Attribute<'a> {
     name: &'a [u8],
@@ -61,7 +61,7 @@ fn first_attribute(bytes: &[u8]) -> Option<Attribute<'_>>
     })
 }
 
-/// A front of some bytes, the byte after it, and the rest.
+/// A prefix of some bytes, the byte after it, and the rest.
 #[derive(Clone, Copy)]
 struct Cut<'a> {
     front: &'a [u8],
@@ -120,7 +120,7 @@ fn is_quoted(quote: u8, byte: u8) -> bool
     byte != quote
 }
 
-/// How much white space stands here.
+/// How much white space is here.
 fn space_len(bytes: &[u8]) -> usize
     ensures len { result ≡ prefix_len bytes_of.is_space bytes.now }
     ensures within { result ≤ length bytes.now }
@@ -128,7 +128,7 @@ fn space_len(bytes: &[u8]) -> usize
     bytes.iter().take_while(|b| is_space(**b)).count()
 }
 
-/// How many bytes the name has that stands here.
+/// How many bytes the name has that is here.
 fn name_len(bytes: &[u8]) -> usize
     ensures len { result ≡ prefix_len runs.is_in_name bytes.now }
     ensures within { result ≤ length bytes.now }
@@ -136,7 +136,7 @@ fn name_len(bytes: &[u8]) -> usize
     bytes.iter().take_while(|b| is_in_name(**b)).count()
 }
 
-/// How many bytes stand here before the next quote.
+/// How many bytes are here before the next quote.
 fn equals_len(bytes: &[u8]) -> usize
     ensures len { result ≡ prefix_len runs.is_before_quote bytes.now }
     ensures within { result ≤ length bytes.now }
@@ -144,7 +144,7 @@ fn equals_len(bytes: &[u8]) -> usize
     bytes.iter().take_while(|b| is_before_quote(**b)).count()
 }
 
-/// How many bytes the value has that stands here, up to this quote.
+/// How many bytes the value has that is here, up to this quote.
 fn value_len(bytes: &[u8], quote: u8) -> usize
     ensures len { result ≡ prefix_len (runs.is_quoted quote) bytes.now }
     ensures within { result ≤ length bytes.now }

@@ -74,7 +74,7 @@ pub fn escape(text: &str, out: &mut Secret)
     }
 }
 
-/// The part at the front of raw markup, and how many bytes it takes there.
+/// The part at the start of raw markup, and how many bytes it takes there.
 fn part_at(raw: &[u8]) -> (Part<'_>, usize)
     requires { 0 < length raw.now }
     ensures text { spec.unescaped raw.now ≡ parts.part_text result.0
@@ -93,7 +93,7 @@ fn part_at(raw: &[u8]) -> (Part<'_>, usize)
     (Part::Plain(&raw[..len]), len)
 }
 
-/// How many bytes of a line end stand after its carriage return: one, a line feed, or none.
+/// How many bytes of a line end come after its carriage return: one, a line feed, or none.
 fn line_feed_len(bytes: &[u8]) -> usize
     ensures text { spec.unescaped_from spec.returned bytes.now
         ≡ spec.unescaped (drop result bytes.now) }
@@ -123,7 +123,7 @@ fn reference_at(bytes: &[u8]) -> (Part<'_>, usize)
     }
 }
 
-/// The character that a reference stands for, told by what stands between its `&` and its `;`.
+/// The character that a reference stands for, by what is between its `&` and its `;`.
 fn referred(name: &[u8]) -> Option<char>
     ensures value { result ≡ spec.referred name.now }
     ensures some { OnSome result (2 ≤ length name.now) }
@@ -203,7 +203,7 @@ fn plain_len(raw: &[u8]) -> usize
     raw.iter().take_while(|b| is_plain(**b)).count()
 }
 
-/// How many bytes stand before the first `;`.
+/// How many bytes come before the first `;`.
 fn reference_len(bytes: &[u8]) -> usize
     ensures len { result ≡ prefix_len parts.is_inside_reference bytes.now }
     ensures within { result ≤ length bytes.now }

@@ -6,7 +6,7 @@ ghost use Rattle.markup_grammar.specs.Utf8.{utf8_front};
 
 use std::str;
 
-/// The length of the longest front of the bytes that begins a text in UTF-8: it may end inside a
+/// The length of the longest prefix of the bytes that begins a text in UTF-8: it may end inside a
 /// character.
 pub(crate) fn front_len(text: &[u8]) -> usize
     ensures { result ≡ utf8_front text.now }

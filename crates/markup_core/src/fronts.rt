@@ -15,7 +15,8 @@ pub(crate) fn after(bytes: &[u8], place: usize) -> &[u8]
 /// What follows this byte, where the bytes begin with it.
 #[inline(always)]
 pub(crate) fn strip(bytes: &[u8], byte: u8) -> Option<&[u8]>
-    ensures { MatchOption result (DiffersFirst byte bytes.now) (λ rest. bytes.now ≡ byte ∷ rest.now) }
+    ensures { MatchOption result (DiffersFirst byte bytes.now)
+        (λ rest. bytes.now ≡ byte ∷ rest.now) }
 {
     match bytes {
         [first, rest @ ..] if *first == byte => Some(rest),

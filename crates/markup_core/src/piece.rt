@@ -13,7 +13,7 @@ pub enum Piece<'a> {
         place: usize,
     },
     /// A longest run of text inside an element, up to the next `<`, with its references as they
-    /// stand. It is not empty.
+    /// are. It is not empty.
     Words {
         raw: &'a str,
         place: usize,
@@ -29,7 +29,7 @@ pub enum Piece<'a> {
 /// Why a reader stops before the end of a text.
 #[derive(Clone, Copy, Debug, PartialEq, Eq)]
 pub enum MarkupFail {
-    /// The text is none of the grammar. It carries the length of the longest front of it that
+    /// The text is none of the grammar. It carries the length of the longest prefix of it that
     /// begins one.
     Form(usize),
     /// More than 256 elements would be open at once. It carries the place of the start tag's `<`.

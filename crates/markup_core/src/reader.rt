@@ -10,11 +10,11 @@ use std::str;
 /// The most elements that may be open at once.
 const OPEN_LIMIT: usize = 256;
 
-/// Gives the pieces of a text, one a call, and keeps no more than where it stands and which
+/// Gives the pieces of a text, one a call, and keeps no more than where it is and which
 /// elements are open.
 #[derive(Drop)]
 pub struct Reader<'a> {
-    /// The longest front of the text that begins a text in UTF-8.
+    /// The longest prefix of the text that begins a text in UTF-8.
     text: &'a [u8],
     /// Whether it is the whole text.
     is_whole: bool,

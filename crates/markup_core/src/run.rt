@@ -121,7 +121,7 @@ pub(crate) fn quoted_end(text: &[u8], at: usize, quote: u8) -> usize
     at + quoted_len(after(text, at), quote)
 }
 
-/// The end of the name that is at a place, or the place where none stands.
+/// The end of the name that is at a place, or the place where none is.
 pub(crate) fn name_end(text: &[u8], at: usize) -> Result<usize, usize>
     requires { at ≤ length text.now }
     ensures name { NameEnds text.now at result }

@@ -16,7 +16,7 @@ use crate::run::{literal_end, name_end, past, plain_end, quoted_end, space_end, 
 pub(crate) struct StartTag {
     /// The end of its name.
     pub(crate) name_end: usize,
-    /// The end of its attributes, with white space before and after them. There stands `>` or `/>`.
+    /// The end of its attributes, with white space before and after them. There is `>` or `/>`.
     pub(crate) attrs_end: usize,
     /// Whether it ends in `/>`.
     pub(crate) is_empty: bool,

@@ -94,7 +94,7 @@ fn inner_token(text: &[u8], at: usize, name: &[u8]) -> Result<Token, usize>
     Ok(Token::Start { place, tag })
 }
 
-/// The end, where only white space, comments and instructions stand from a place on.
+/// The end, where only white space, comments and instructions come from a place on.
 fn last_token(text: &[u8], at: usize) -> Result<Token, usize>
     requires { at ≤ length text.now }
     ensures token { Tells text.now [] (between behind) at result }

@@ -5,13 +5,13 @@ use Rattle.std.specs.Prelude.{ℕ, ◌+◌, ◌-◌, ◌≡◌, nat_lt, Bool, tr
 pub data Answer : Type 0 where
   -- a start tag: its place, its name, and the raw text between the name and the tag's `>` or `/>`
   start : ℕ → List ℕ → List ℕ → Answer
-  -- a run of text: its place, and the run as it stands
+  -- a run of text: its place, and the run as it is
   words : ℕ → List ℕ → Answer
   -- the place of an end tag, or of the `/` of an empty element
   stop : ℕ → Answer
   -- the end of a text that is in the grammar
   finish : Answer
-  -- a text that leaves the grammar: the length of its longest front that begins a text of the
+  -- a text that leaves the grammar: the length of its longest prefix that begins a text of the
   -- grammar
   form : ℕ → Answer
   -- a text of too many open elements: the place of the start tag that opens the 257th
@@ -50,7 +50,7 @@ limited open_count (finish ∷ answers) = finish ∷ limited open_count answers
 limited open_count (form place ∷ answers) = form place ∷ limited open_count answers
 limited open_count (depth place ∷ answers) = depth place ∷ limited open_count answers
 
--- the answers on a front of a text after which more bytes stand: its end is no end of the text
+-- the answers on a prefix of a text after which more bytes come: its end is no end of the text
 abbrev pub cut_short : ℕ → List Answer → List Answer
 cut_short place [] = []
 cut_short place (finish ∷ answers) = form place ∷ cut_short place answers

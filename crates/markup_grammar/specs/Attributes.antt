@@ -1,4 +1,4 @@
--- The attributes of a start tag, told by the raw text between its name and its `>` or `/>`.
+-- The attributes of a start tag, by the raw text between its name and its `>` or `/>`.
 use Rattle.std.specs.Prelude.{ℕ, ◌==◌, ◌||◌, if◌then◌else◌, Option, Some, None, List, [], ◌∷◌, ◌++◌, bytes_eq, option_map}
 use Rattle.markup_grammar.specs.Bytes.{is_space}
 use Rattle.markup_grammar.specs.Escapes.{unescaped}
@@ -15,7 +15,7 @@ pub data Spot : Type 0 where
 abbrev pub named : List ℕ → ℕ → Spot
 named name b = if is_space b || b == 61 then due name else naming (name ++ b ∷ [])
 
--- where a byte leads: white space parts attributes, and after a name stands its value in the next
+-- where a byte leads: white space parts attributes, and after a name comes its value in the next
 -- pair of quotes
 abbrev pub led : Spot → ℕ → Spot
 led between b = if is_space b then between else named [] b

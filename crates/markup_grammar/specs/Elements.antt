@@ -1,4 +1,5 @@
--- The tree of elements that a reader's answers spell, which ends in a cut where the text is refused.
+-- The tree of elements that a reader's answers spell, which ends in a cut where the text is
+-- refused.
 use Rattle.std.specs.Prelude.{ℕ, Option, Some, None, List, [], ◌∷◌, ◌++◌}
 use Rattle.std.specs.Option.{option_or}
 use Rattle.markup_grammar.specs.Answers.{Answer, start, words, stop, finish, form, depth}
@@ -54,7 +55,7 @@ left (finish ∷ more) = last [] ∷ []
 left (form place ∷ more) = cut [] (form place) ∷ []
 left (depth place ∷ more) = cut [] (depth place) ∷ []
 
--- what a text holds, told by all answers of a reader on it
+-- what a text holds, by all answers of a reader on it
 abbrev pub content_of : List Answer → Content
 content_of answers = inner (left answers)
 

@@ -28,7 +28,7 @@ by_name name =
     else (if bytes_eq name (codes "apos") then Some 39
     else None))))
 
--- the character that a reference stands for, told by what stands between its `&` and its `;`
+-- the character that a reference stands for, by what is between its `&` and its `;`
 unfoldable pub referred : List ℕ → Option ℕ
 referred [] = None
 referred (b ∷ rest) = if b == 35 then behind_hash rest else by_name (b ∷ rest)
@@ -48,6 +48,7 @@ pub data Place : Type 0 where
 abbrev pub plainly_given : ℕ → List ℕ
 plainly_given b = if b == 38 then [] else (if b == 13 then 10 ∷ [] else b ∷ [])
 
+-- where a byte of plain text leads: into a reference, after a carriage return, or on in plain text
 abbrev pub place_after_text : ℕ → Place
 place_after_text b = if b == 38 then reference [] else (if b == 13 then returned else plain)
 

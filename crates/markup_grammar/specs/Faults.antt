@@ -10,7 +10,7 @@ use Rattle.markup_grammar.specs.Tree.{Tree, IsText, start_tag, empty_tag, end_ta
 abbrev pub Begins : List ℕ → Type 0
 Begins bytes = (more : List ℕ) × (tree : Tree) × IsText (bytes ++ more) tree
 
--- the first n bytes are the longest front of the text that begins some text of the grammar
+-- the first n bytes are the longest prefix of the text that begins some text of the grammar
 pub record IsLongestFront (text : List ℕ) (n : ℕ) : Type 0 where
   pub within : n ≤ length text
   pub begins : Begins (take n text)
@@ -43,7 +43,7 @@ pub record IsStartTag (bytes : List ℕ) : Type 0 where
   pub spells : (bytes ≡ start_tag name raw) ⊎ (bytes ≡ empty_tag name raw)
   pub utf8 : IsUtf8 bytes
 
--- at n stands a whole start tag where 256 elements are open
+-- at n there is a whole start tag where 256 elements are open
 pub record IsTooDeep (text : List ℕ) (n : ℕ) : Type 0 where
   pub names : List (List ℕ)
   pub tag : List ℕ

@@ -8,7 +8,7 @@ use Rattle.markup_grammar.specs.Bytes.{is_space, is_digit, is_hex_digit, digit_v
 abbrev pub Names : Type 0
 Names = List (List ℕ)
 
--- where a reader stands outside tags
+-- where a reader is outside tags
 pub data Level : Type 0 where
   -- before the outermost element
   before : Level
@@ -57,10 +57,10 @@ pub data Spot : Type 0 where
   -- after a value's second quote
   valued : Spot
 
--- Where a reader stands. A tag or a run of text that has begun carries its place and what it has
+-- Where a reader is. A tag or a run of text that has begun carries its place and what it has
 -- come to.
 pub data State : Type 0 where
-  -- at the very front of the text
+  -- at the very start of the text
   fresh : State
   -- after the first byte of the byte order mark, and after the second
   mark_one : State

@@ -1,4 +1,4 @@
--- Where the pieces of a text stand: each is the part of the text at its place, and places rise.
+-- Where the pieces of a text are: each is the part of the text at its place, and places rise.
 use Rattle.std.specs.Prelude.{ℕ, ◌+◌, ◌≡◌, ◌≤◌, ◌⊎◌, List, [], ◌∷◌, ◌++◌, length}
 use Rattle.markup_grammar.specs.Answers.{Answer, start, words, stop, finish, form, depth}
 

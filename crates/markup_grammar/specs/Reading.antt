@@ -10,7 +10,7 @@ answers_within text n =
     if n == length text then answers_from fresh 0 text else cut_short n
     (answers_from fresh 0 (take n text))
 
--- the answers on a text: those on the front that begins UTF-8, of which at most 256 elements are
+-- the answers on a text: those on the prefix that begins UTF-8, of which at most 256 elements are
 -- open at once
 unfoldable pub answers : List ℕ → List Answer
 answers text = limited 0 (answers_within text (utf8_front text))

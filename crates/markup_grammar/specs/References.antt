@@ -15,7 +15,7 @@ pub data Reference : Type 0 where
   -- the digits of a number in base sixteen
   hexadecimal : List ℕ → Reference
 
--- what stands between the `&` and the `;`
+-- what is between the `&` and the `;`
 abbrev pub reference_body : Reference → List ℕ
 reference_body amp = 97 ∷ 109 ∷ 112 ∷ []
 reference_body lt = 108 ∷ 116 ∷ []

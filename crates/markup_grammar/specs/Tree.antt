@@ -7,20 +7,21 @@ use Rattle.markup_grammar.specs.Bytes.{is_space, is_text, AllAre, IsName}
 use Rattle.markup_grammar.specs.Runs.{IsRun}
 use Rattle.markup_grammar.specs.Tags.{IsTagText}
 
--- what gives no piece, by what stands between its two marks
+-- what gives no piece, by what is between its two marks
 pub data Aside : Type 0 where
   comment : List ℕ → Aside
   instruction : List ℕ → Aside
 
--- what may stand before and after the outermost element
+-- what may come before and after the outermost element
 pub data Around : Type 0 where
   -- a byte of white space
   blank : ℕ → Around
   aside : Aside → Around
 
 mutual
+  -- an element: a start tag, its content and an end tag, or an empty element
   pub data Element : Type 0 where
-    -- a name, the raw text of its attributes, what stands between its two tags, and the white space
+    -- a name, the raw text of its attributes, what is between its two tags, and the white space
     -- in its end tag
     element : List ℕ → List ℕ → Content → List ℕ → Element
     -- an empty element's name, and the raw text of its attributes
@@ -79,7 +80,7 @@ abbrev mutual
       ++ (spelled_all inner ++ end_tag name space)
   spelled (empty name raw) = empty_tag name raw
 
-  -- the bytes of what stands between two tags
+  -- the bytes of what is between two tags
   pub spelled_all : Content → List ℕ
   spelled_all (text_only text) = text
   spelled_all (element_after text e more) = text ++ (spelled e ++ spelled_all more)
@@ -98,7 +99,7 @@ spelled_front tree = mark_of tree.marked ++ spelled_around tree.front
 abbrev pub spelled_tree : Tree → List ℕ
 spelled_tree tree = spelled_front tree ++ (spelled tree.root ++ spelled_around tree.back)
 
--- the mark that stands after the body is at no earlier place: whatever it is found after, nothing
+-- the mark that comes after the body is at no earlier place: whatever it is found after, nothing
 -- follows it
 abbrev pub EndsFirst : List ℕ → List ℕ → Type 0
 EndsFirst mark body = (before behind : List ℕ) → body ++ mark ≡ before ++ (mark ++ behind)
@@ -110,7 +111,7 @@ abbrev pub IsAside : Aside → Type 0
 IsAside (comment body) = EndsFirst comment_end body
 IsAside (instruction body) = EndsFirst instruction_end body
 
--- so it is of all that stand round the outermost element, and the rest is white space
+-- so it is of all that is around the outermost element, and the rest is white space
 abbrev pub AreAround : List Around → Type 0
 AreAround [] = Unit {0}
 AreAround (blank b ∷ around) = (is_space b ≡ true) × AreAround around
@@ -143,7 +144,7 @@ abbrev mutual
   height (element name raw inner space) = 1 + height_all inner
   height (empty name raw) = 1
 
-  -- the same of what stands between two tags
+  -- the same of what is between two tags
   pub height_all : Content → ℕ
   height_all (text_only text) = 0
   height_all (element_after text e more) = max (height e) (height_all more)

@@ -1,4 +1,4 @@
--- The elements of a text, told by its tree: what a reader of the answers finds in a text of the
+-- The elements of a text, by its tree: what a reader of the answers finds in a text of the
 -- grammar.
 use Rattle.std.specs.Prelude.{ℕ, ◌+◌, [], length}
 use Rattle.markup_grammar.specs.Elements as told
@@ -13,7 +13,7 @@ abbrev mutual
       told.element place name raw (content_at (place + length (start_tag name raw)) inner)
   element_at place (empty name raw) = told.element place name raw (told.last [])
 
-  -- what stands between two tags, of which the first ends at this place: texts are unescaped, and
+  -- what is between two tags, of which the first ends at this place: texts are unescaped, and
   -- joined across what gives no piece
   pub content_at : ℕ → Content → told.Content
   content_at place (text_only text) = told.last (unescaped text)

@@ -67,7 +67,7 @@ utf8_front_from state [] = 0
 utf8_front_from state (b ∷ rest) = past_step (utf8_step state b) 0
     (λ next. utf8_front_from next rest + 1)
 
--- the length of the longest front that begins a text in UTF-8
+-- the length of the longest prefix that begins a text in UTF-8
 abbrev pub utf8_front : List ℕ → ℕ
 utf8_front text = utf8_front_from none_left text
 
@@ -75,7 +75,7 @@ utf8_front text = utf8_front_from none_left text
 abbrev pub BeginsUtf8 : List ℕ → Type 0
 BeginsUtf8 bytes = (more : List ℕ) × IsUtf8 (bytes ++ more)
 
--- the first n bytes are the longest front of the text that begins a text in UTF-8
+-- the first n bytes are the longest prefix of the text that begins a text in UTF-8
 pub record IsUtf8Front (text : List ℕ) (n : ℕ) : Type 0 where
   pub within : n ≤ length text
   pub begins : BeginsUtf8 (take n text)

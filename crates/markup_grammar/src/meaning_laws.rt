@@ -22,12 +22,13 @@ pub fn elements_of_texts()
         → content_of (answers text) ≡ tree_content tree }
 {}
 
-/// In the elements that are told of a text, the cut that is come to first is the refusal of the text; a whole text has none.
+/// In the elements that are reported of a text, the first cut is the refusal of the text; a whole
+/// text has none.
 pub fn cuts_of_texts()
     ensures { (text : List ℕ) → first_cut (content_of (answers text)) ≡ refusal_of (answers text) }
 {}
 
-/// The attributes that are told of a tag are those that it spells, in their order.
+/// The attributes that are reported of a tag are those that it spells, in their order.
 pub fn attributes_of_tags()
     ensures { (list : List Attribute) (space : List ℕ) → AreAttributes list → AllAre is_space space
         → attributes (spelled_attributes list space) ≡ named_values list }
@@ -40,7 +41,7 @@ pub fn characters_of_references()
         ++ unescaped rest }
 {}
 
-/// What is written for a text, whatever its bytes, may stand between two tags, and between the
+/// What is written for a text, whatever its bytes, may be between two tags, and between the
 /// double quotes of a value.
 pub fn escaped_texts()
     ensures text { (text : List ℕ) → IsRun is_text (escaped text) }

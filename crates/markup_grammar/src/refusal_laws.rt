@@ -5,7 +5,7 @@ ghost use Rattle.markup_grammar.specs.Answers.{Answer, refusal_of};
 ghost use Rattle.markup_grammar.specs.Faults.{IsFault};
 ghost use Rattle.markup_grammar.specs.Reading.{answers};
 
-/// A refusal for its form is at the length of the longest front that begins some text of the
+/// A refusal for its form is at the length of the longest prefix that begins some text of the
 /// grammar in UTF-8; one for its depth at the first whole start tag where 256 elements are open.
 /// The earlier of the two answers, and at one place the form.
 pub fn refusals()

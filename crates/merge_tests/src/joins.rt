@@ -12,7 +12,7 @@ use slow_merge::joins::{is_rooted, join};
 use std::alloc::Global;
 use std::test::Fail;
 
-/// Whether the entry BANK has just these versions, told by their times and notes, in this order.
+/// Whether the entry BANK has just these versions, by their times and notes, in this order.
 fn has_versions(copy: &Database, expected: &[(u8, &[u8])]) -> bool {
     let Some(table) = copy.entries.get(&id(BANK)) else {
         return false;
@@ -120,7 +120,7 @@ fn ends_at_home(alloc: Global, lender: &Lender, moves: &[Move]) -> Result<bool, 
     Ok(stands(&joined, BANK, HOME, 6))
 }
 
-/// One copy moved an entry at 5, another at 6, a third not at all: in all six orders it stands
+/// One copy moved an entry at 5, another at 6, a third not at all: in all six orders it is
 /// where it was moved last.
 #[test]
 fn three_places(rt: HostRuntime) -> Result<(), Fail> {
@@ -250,7 +250,7 @@ fn crossed_moves(rt: HostRuntime) -> Result<(), Fail> {
 }
 
 /// Where one of two groups that were each moved into the other was moved back under the root later,
-/// both stand again.
+/// both are there again.
 #[test]
 fn crossed_moves_settled(rt: HostRuntime) -> Result<(), Fail> {
     let alloc = rt.alloc();

@@ -142,7 +142,7 @@ impl Secret {
         &self.kept.buffer[from..to]
     }
 
-    /// Lends all bytes to be changed in place, as when a text is deciphered where it stands.
+    /// Lends all bytes to be changed in place, as when a text is deciphered where it is.
     pub fn lend_mut(&mut self) -> &mut [u8]
         ensures* writes_back { sem 𝓛 (LendsSecret self.entry result) }
         ensures bytes { result.now ≡ self.old.bytes }

@@ -244,7 +244,7 @@ impl<'a> ItemTable<'a> {
         self.rows.as_slice()
     }
 
-    /// Puts an item at a key, in the place of any that stood there. A refusal is want of memory and
+    /// Puts an item at a key, in the place of any that was there. A refusal is want of memory and
     /// changes nothing.
     pub fn put(&mut self, key: LentKey<'a>, item: LentItem<'a>) -> Result<(), NoMemory>
         ensures ok { OnOk result (self.new ≡ map.insert self.old key.entry item.entry) }

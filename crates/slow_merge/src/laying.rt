@@ -45,7 +45,7 @@ fn push_if(order: &mut Vec<Uuid>, id: Uuid, is_wanted: bool) -> Result<(), NoMem
     Ok(())
 }
 
-/// Appends those that stood before and still do, as they stood. A refusal is want of memory.
+/// Appends those that were there before and still are, as they were. A refusal is want of memory.
 fn push_kept(order: &mut Vec<Uuid>, before: &[Uuid], present: &[Uuid]) -> Result<(), NoMemory>
     ensures { OnOk result (order.new.items ≡ order.old.items
         ++ filter (λ u. list_any (is_id u) present.now) before.now) }
@@ -57,7 +57,7 @@ fn push_kept(order: &mut Vec<Uuid>, before: &[Uuid], present: &[Uuid]) -> Result
     Ok(())
 }
 
-/// Appends those that did not stand before, in their order. A refusal is want of memory.
+/// Appends those that were not there before, in their order. A refusal is want of memory.
 fn push_newcomers(order: &mut Vec<Uuid>, before: &[Uuid], present: &[Uuid]) -> Result<(), NoMemory>
     ensures { OnOk result (order.new.items ≡ order.old.items
         ++ filter (λ u. not (list_any (is_id u) before.now)) present.now) }
@@ -69,7 +69,7 @@ fn push_newcomers(order: &mut Vec<Uuid>, before: &[Uuid], present: &[Uuid]) -> R
     Ok(())
 }
 
-/// Those that stood before and still do, as they stood, and then the newcomers in their order.
+/// Those that were there before and still are, as they were, and then the newcomers in their order.
 fn in_order(alloc: Global, before: &[Uuid], present: &[Uuid]) -> Result<Vec<Uuid>, NoMemory>
     ensures { IfOk result (λ us. us.items ≡ in_order before.now present.now) }
 {
@@ -217,7 +217,7 @@ fn placed_in(laid: &Database, id: &Uuid) -> Stamp
     }
 }
 
-/// Since when a node stands where it is in a document.
+/// Since when a node is where it is in a document.
 fn placed_of(older: &Sheet, id: &Uuid) -> Stamp
     ensures { result ≡ placed_of (shape older.now) id.now }
 {
@@ -305,8 +305,8 @@ fn new_view() -> GroupView
     }
 }
 
-/// A group as it is in the database, looked at as in the older document; since when the root stands
-/// is the older document's to say.
+/// A group as it is in the database, looked at as in the older document, which also says since when
+/// the root is where it is.
 fn laid_group<'a>(
     laid: &Database<'a>,
     older: &Sheet<'a>,
@@ -428,7 +428,7 @@ fn laid_meta<'a>(
 }
 
 /// The document of a database over an older document: the order of siblings and how all was looked
-/// at are the older document's, newcomers stand after by rising id, and of an entry's versions the
+/// at are the older document's, newcomers come after by rising id, and of an entry's versions the
 /// greatest is current. The only refusal is want of memory.
 pub fn lay<'a>(alloc: Global, laid: &Database<'a>, older: &Sheet<'a>) -> Result<Sheet<'a>, NoMemory>
     ensures { IfOk result (λ s. shape s ≡ lay (database laid.now) (shape older.now)) }

@@ -89,7 +89,7 @@ impl<'a> LentEntry<'a> {
         }
     }
 
-    /// Since when the entry stands where it stands.
+    /// Since when the entry is where it is.
     pub fn placed(&self) -> Stamp
         ensures { result ≡ self.now.placed }
     {
@@ -139,7 +139,7 @@ impl<'a> LentGroup<'a> {
         }
     }
 
-    /// Since when the group stands where it stands.
+    /// Since when the group is where it is.
     pub fn placed(&self) -> Stamp
         ensures { result ≡ self.now.placed }
     {

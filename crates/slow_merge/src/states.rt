@@ -83,7 +83,7 @@ impl<'a> LentState<'a> {
     }
 }
 
-/// Where a node stands: since when, and in which group.
+/// Where a node is: since when, and in which group.
 #[derive(Clone, Copy)]
 pub struct Spot {
     pub placed: Stamp,

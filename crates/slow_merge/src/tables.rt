@@ -56,7 +56,7 @@ impl<X> Table<X> {
 }
 
 impl<X: Drop> Table<X> {
-    /// Puts a value at an id, in the place of any that stood there. A refusal is want of memory and
+    /// Puts a value at an id, in the place of any that was there. A refusal is want of memory and
     /// changes nothing.
     pub fn put(&mut self, id: Uuid, value: X) -> Result<(), NoMemory>
         ensures ok { OnOk result (self.new ≡ map.insert self.old id value) }

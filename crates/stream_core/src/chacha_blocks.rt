@@ -10,7 +10,7 @@ use std::simd::{u8x16, u32x4};
 // Four words of each of four blocks.
 type Words = (u32x4, u32x4, u32x4, u32x4);
 
-// Halves of two quarter rounds, which rotate by `k` and then by `m`. Their steps stand side by
+// Halves of two quarter rounds, which rotate by `k` and then by `m`. Their steps are side by
 // side, since neither waits for the other.
 #[inline(always)]
 fn half_rounds(k: u32, m: u32, turn: u8x16, p: Words, q: Words) -> (Words, Words)
@@ -50,7 +50,7 @@ fn half_rounds(k: u32, m: u32, turn: u8x16, p: Words, q: Words) -> (Words, Words
     ((a1, b1, c1, d1), (e1, f1, g1, h1))
 }
 
-// The four quarter rounds of a round stand half beside half.
+// The four quarter rounds of a round are half beside half.
 #[inline(always)]
 #[tactic(auto, unfolding(crate::specs::Lanes::AreTurns))]
 fn column_round(by_16: u8x16, by_8: u8x16, s: [u32x4; 16]) -> [u32x4; 16]

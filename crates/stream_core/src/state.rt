@@ -32,7 +32,7 @@ pub(crate) trait BlockFunction<const N: usize> {
 // The secrets of a stream cipher: its key, its nonce, and a window of 256 bytes of its stream. It
 // can't be dropped: it is spent by `release`, which asks that every byte is 0.
 //
-// The window stands first, so that its rows of 16 bytes lie within lines of memory.
+// The window comes first, so that its rows of 16 bytes lie within lines of memory.
 pub(crate) struct State<const N: usize> {
     pub(crate) window: [u8; 256],
     pub(crate) key: [u8; 32],

@@ -12,7 +12,7 @@ pub record HasDigits (m : Moment) : Type 0 where
   pub minute : m.minute < 100
   pub second : m.second < 100
 
--- the bytes `-`, `-`, `T`, `:`, `:` and `Z` stand between and after the parts
+-- the bytes `-`, `-`, `T`, `:`, `:` and `Z` are between and after the parts
 pub record HasSeparators (text : List ℕ) : Type 0 where
   pub year_end : slice_index text 4 ≡ 45
   pub month_end : slice_index text 7 ≡ 45

@@ -34,12 +34,12 @@ entry_named text w = cond (bytes_eq text w.path || bytes_eq text (codes "/" ++ w
 unfoldable pub entry_found : BareDoc → List ℕ → Option NodeId
 entry_found doc text = first (entry_named text) (walk doc)
 
--- a text without one slash in front
+-- a text without one slash at its start
 abbrev pub without_front : List ℕ → List ℕ
 without_front [] = []
 without_front (b ∷ bs) = if b == 47 then bs else b ∷ bs
 
--- a text without one slash in front and one at its end
+-- a text without one slash at its start and one at its end
 abbrev pub without_slashes : List ℕ → List ℕ
 without_slashes text = strip_last 47 (without_front text)
 

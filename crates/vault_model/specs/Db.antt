@@ -1,4 +1,4 @@
--- A database as a value: what it holds of each node, and nothing of the order in which nodes stand.
+-- A database as a value: what it holds of each node, and nothing of the order of nodes.
 use Rattle.std.specs.Prelude.{◌≡◌, ◌≢◌, ℕ, suc, zero, Bool, true, false, ◌||◌, List, [], ◌∷◌, Option, None, Some, max, map, replicate}
 use Rattle.std.specs.Ordering.{nat_cmp, on}
 use Rattle.std.specs.declared.cmp.Ordering.{Ordering}
@@ -54,7 +54,7 @@ group_mark_cmp = on (λ m. (m.modified, m.content)) (pair_cmp nat_cmp group_cont
 abbrev pub mark_of : GroupState → GroupMark
 mark_of s = record { modified = s.modified; content = s.content }
 
--- Where a node stands: since when, and in which group.
+-- Where a node is: since when, and in which group.
 pub record Place : Type 0 where
   pub placed : ℕ
   pub parent : NodeId
@@ -124,7 +124,7 @@ steps up (suc n) u = steps up n (up u)
 abbrev pub Reaches : (NodeId → NodeId) → NodeId → NodeId → Type 0
 Reaches up u root = (n : ℕ) × (steps up n u ≡ root)
 
--- Icons stand under their own ids, and items under their own keys; all texts are in UTF-8.
+-- Icons are under their own ids, and items under their own keys; all texts are in UTF-8.
 pub record IsProperMeta (s : SharedMeta) : Type 0 where
   pub name : is_utf8 s.name.value ≡ true
   pub description : is_utf8 s.description.value ≡ true

@@ -1,4 +1,4 @@
--- Many copies of one database made one: which nodes stay, where each stands, and what it holds. All
+-- Many copies of one database made one: which nodes stay, where each is, and what it holds. All
 -- members are looked at together, so no order among them counts.
 use Rattle.std.specs.Prelude.{◌≡◌, ◌≤◌, ℕ, suc, zero, Bool, true, false, not, ◌&&◌, ◌||◌, ◌⊎◌, List, [], ◌∷◌, ◌++◌, Option, None, Some, max, map, length, nat_le, pos}
 use Rattle.std.specs.declared.cmp.Ordering.{Ordering}

@@ -1,4 +1,4 @@
--- What the parts of a vault keep: keys and names that rise, and so stand once, and texts in UTF-8.
+-- What the parts of a vault keep: keys and names that rise, and so occur once, and texts in UTF-8.
 use Rattle.std.specs.Prelude.{ℕ, Bool, true, ◌&&◌, List, [], ◌∷◌}
 use Rattle.std.specs.List.{list_all}
 use Rattle.std.specs.Ordering.{is_lt}

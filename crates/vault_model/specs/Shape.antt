@@ -56,7 +56,7 @@ versions_of e = unite_all stats_join (map (λ (v : BareVersion). insert empty v.
 abbrev pub no_children : Children
 no_children = record { entries = []; groups = [] }
 
--- since when a node stands where it stands
+-- since when a node is where it is
 abbrev pub placed_or : Option EntryRecord → Option GroupRecord → ℕ
 placed_or (Some e) g = e.placed
 placed_or None (Some g) = g.placed
@@ -99,7 +99,7 @@ db_of s = record {
 
 -- ---- a database laid over an older document
 
--- those that stood before and still do, as they stood, and then the newcomers in their order
+-- those that were there before and still are, as they were, and then the newcomers in their order
 abbrev pub in_order : List NodeId → List NodeId → List NodeId
 in_order old now = filter (λ u. list_any (is_id u) now) old
     ++ filter (λ u. not (list_any (is_id u) old)) now

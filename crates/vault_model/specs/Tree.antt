@@ -203,7 +203,7 @@ abbrev mutual
   node_ids_all none = []
   node_ids_all (beside t ts) = node_ids t ++ node_ids_all ts
 
--- no id stands twice
+-- no id occurs twice
 abbrev pub are_distinct : List NodeId → Bool
 are_distinct [] = true
 are_distinct (u ∷ us) = not (list_any (is_id u) us) && are_distinct us

@@ -18,7 +18,7 @@ greater R x y = by_order (R x y) y x x
 abbrev pub by_key : {A K : Type 0} → (K → K → Ordering) → (A → K) → (A → A → A) → A → A → A
 by_key R key join x y = by_order (R (key x) (key y)) y (join x y) x
 
--- two optional values, joined where both stand
+-- two optional values, joined where both are there
 abbrev pub merged : {A : Type 0} → (A → A → A) → Option A → Option A → Option A
 merged join None p = p
 merged join (Some x) None = Some x

@@ -36,7 +36,7 @@ pub struct Version {
     pub stats: Stats,
 }
 
-/// An entry: since when it stands where it stands, its current version, and those before it.
+/// An entry: since when it is where it is, its current version, and those before it.
 #[derive(Drop)]
 pub struct Entry {
     pub id: Uuid,
