@@ -12,19 +12,23 @@ use Rattle.vault_model.specs.Tree.{Tree, node, Trees, none, beside, BareDoc, db_
 abbrev pub id : ℕ → NodeId
 id b = b ∷ b ∷ b ∷ b ∷ b ∷ b ∷ b ∷ b ∷ b ∷ b ∷ b ∷ b ∷ b ∷ b ∷ b ∷ b ∷ []
 
--- the root, two entries, and two groups
+-- the root
 abbrev pub root : NodeId
 root = id 1
 
+-- an entry
 abbrev pub bank : NodeId
 bank = id 2
 
+-- another entry
 abbrev pub mail : NodeId
 mail = id 3
 
+-- a group
 abbrev pub work : NodeId
 work = id 4
 
+-- another group
 abbrev pub home : NodeId
 home = id 5
 

@@ -6,7 +6,8 @@ abbrev pub Increased : ℕ → ℕ → Type 0
 Increased before now = (before < now) ⊎ (2 ^ 64 ≤ now + 1)
 
 -- The count never falls, and this refusal comes only where it increased.
-pub record HasCause {T E : Type 0} (refusal : E) (before now : ℕ) (result : Result T E) : Type 0 where
+pub record HasCause {T E : Type 0} (refusal : E) (before now : ℕ)
+    (result : Result T E) : Type 0 where
   pub later : before ≤ now
   pub rose : IsErrOf result refusal → Increased before now
 

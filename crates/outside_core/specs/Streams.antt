@@ -7,4 +7,5 @@ LosesPrefix before now = (gone : ℕ) × (now ≡ option_map (drop gone) before)
 
 -- A prefix of the text was written, and nothing else.
 abbrev pub GainsPrefix : Option (List ℕ) → Option (List ℕ) → List ℕ → Type 0
-GainsPrefix before now text = (n : ℕ) × (n ≤ length text) × (now ≡ option_map (λ w. w ++ take n text) before)
+GainsPrefix before now text = (n : ℕ) × (n ≤ length text)
+    × (now ≡ option_map (λ w. w ++ take n text) before)

@@ -138,7 +138,8 @@ impl<T: Eq> Eq for List<T> {
 impl<T: Ord> PartialOrd for List<T> {
     ghost partial_cmp = { as_partial_cmp (slice_cmp T.cmp) };
 
-    ghost laws = { partial_order_from_own_ties (Prim.search (comparing, rules)) (lists_ties T.cmp T.matches_eq) };
+    ghost laws = { partial_order_from_own_ties (Prim.search (comparing, rules))
+        (lists_ties T.cmp T.matches_eq) };
 
     fn partial_cmp(&self, other: &List<T>) -> Option<Ordering> {
         Some(self.cmp(other))
@@ -236,7 +237,8 @@ impl Eq for Bytes {
 impl PartialOrd for Bytes {
     ghost partial_cmp = { as_partial_cmp (slice_cmp nat_cmp) };
 
-    ghost laws = { partial_order_from_own_ties (Prim.search (comparing, rules)) (Prim.search (comparing, rules)) };
+    ghost laws = { partial_order_from_own_ties (Prim.search (comparing, rules))
+        (Prim.search (comparing, rules)) };
 
     fn partial_cmp(&self, other: &Bytes) -> Option<Ordering> {
         Some(self.cmp(other))

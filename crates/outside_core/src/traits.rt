@@ -24,24 +24,31 @@ pub trait FileStore {
 
     /// The length of a file in bytes.
     fn size(&mut self, name: &str) -> Result<u64, FileFail>
-        ensures told { IfOk result (λ n. IfSome (files self.old) (λ m. option_map length (map.get m name.now) ≡ Some n)) }
-        ensures missing { IsErrOf result FileFail.NoSuchFile → IfSome (files self.old) (λ m. map.get m name.now ≡ None) }
+        ensures told { IfOk result
+            (λ n. IfSome (files self.old) (λ m. option_map length (map.get m name.now) ≡ Some n)) }
+        ensures missing { IsErrOf result FileFail.NoSuchFile
+            → IfSome (files self.old) (λ m. map.get m name.now ≡ None) }
         ensures files { files self.new ≡ files self.old }
         ensures draft_name { draft_name self.new ≡ draft_name self.old }
         ensures draft_bytes { draft_bytes self.new ≡ draft_bytes self.old }
         ensures faults { HasCause FileFail.Failed (faults self.old) (faults self.new) result }
-        ensures absences { HasCause FileFail.NoSuchFile (absences self.old) (absences self.new) result };
+        ensures absences { HasCause FileFail.NoSuchFile (absences self.old)
+            (absences self.new) result };
 
     /// Reads a file from the offset `from` on into `out`, as far as both reach. Gives the number of bytes read.
     fn read_at(&mut self, name: &str, from: u64, out: &mut [u8]) -> Result<usize, FileFail>
         ensures bound { IfOk result (λ n. n ≤ length out.new) }
-        ensures told { IfOk result (λ n. IfSome (files self.old) (λ m. window_of m name.now from (length out.new) ≡ Some (take n out.new))) }
-        ensures missing { IsErrOf result FileFail.NoSuchFile → IfSome (files self.old) (λ m. map.get m name.now ≡ None) }
+        ensures told { IfOk result
+            (λ n. IfSome (files self.old)
+            (λ m. window_of m name.now from (length out.new) ≡ Some (take n out.new))) }
+        ensures missing { IsErrOf result FileFail.NoSuchFile
+            → IfSome (files self.old) (λ m. map.get m name.now ≡ None) }
         ensures files { files self.new ≡ files self.old }
         ensures draft_name { draft_name self.new ≡ draft_name self.old }
         ensures draft_bytes { draft_bytes self.new ≡ draft_bytes self.old }
         ensures faults { HasCause FileFail.Failed (faults self.old) (faults self.new) result }
-        ensures absences { HasCause FileFail.NoSuchFile (absences self.old) (absences self.new) result };
+        ensures absences { HasCause FileFail.NoSuchFile (absences self.old)
+            (absences self.new) result };
 
     /// Gives up the draft, if there is one, and starts an empty one for `name`. After a refusal there is none.
     fn begin(&mut self, name: &str) -> Result<(), FileFail>
@@ -56,7 +63,9 @@ pub trait FileStore {
     /// Appends the whole piece to the draft. After a refusal the draft is still there, and its bytes are not known.
     fn append(&mut self, piece: &[u8]) -> Result<(), FileFail>
         requires { IsSome (draft_name self.old) }
-        ensures bytes { OnOk result (IfSome (files self.old) (λ _. draft_bytes self.new ≡ draft_bytes self.old ++ piece.now)) }
+        ensures bytes { OnOk result
+            (IfSome (files self.old)
+            (λ _. draft_bytes self.new ≡ draft_bytes self.old ++ piece.now)) }
         ensures name { draft_name self.new ≡ draft_name self.old }
         ensures not_missing { ¬ IsErrOf result FileFail.NoSuchFile }
         ensures files { files self.new ≡ files self.old }
@@ -67,7 +76,10 @@ pub trait FileStore {
     /// were. There is no draft afterwards, whatever the answer.
     fn publish(&mut self) -> Result<(), FileFail>
         requires { IsSome (draft_name self.old) }
-        ensures ok { OnOk result (IfSome (draft_name self.old) (λ name. files self.new ≡ option_map (λ m. map.insert m name (draft_bytes self.old)) (files self.old))) }
+        ensures ok { OnOk result
+            (IfSome (draft_name self.old)
+            (λ name. files self.new
+            ≡ option_map (λ m. map.insert m name (draft_bytes self.old)) (files self.old))) }
         ensures err { OnErr result (files self.new ≡ files self.old) }
         ensures no_draft { draft_name self.new ≡ None }
         ensures not_missing { ¬ IsErrOf result FileFail.NoSuchFile }
@@ -93,8 +105,10 @@ pub trait Source {
     /// at the end. What a refusal leaves to be read is open.
     fn read(&mut self, out: &mut [u8]) -> Result<usize, SourceFail>
         ensures bound { IfOk result (λ n. n ≤ length out.new) }
-        ensures told { IfOk result (λ n. left self.old ≡ option_map (λ rest. take n out.new ++ rest) (left self.new)) }
-        ensures end { IfOk result (λ n. n ≡ 0 → 0 < length out.new → IfSome (left self.old) (λ rest. rest ≡ [])) }
+        ensures told { IfOk result
+            (λ n. left self.old ≡ option_map (λ rest. take n out.new ++ rest) (left self.new)) }
+        ensures end { IfOk result
+            (λ n. n ≡ 0 → 0 < length out.new → IfSome (left self.old) (λ rest. rest ≡ [])) }
         ensures faults { HasCause SourceFail.Failed (faults self.old) (faults self.new) result };
 }
 
@@ -110,7 +124,8 @@ pub trait Sink {
     fn write(&mut self, piece: &[u8]) -> Result<usize, SinkFail>
         ensures bound { IfOk result (λ n. n ≤ length piece.now) }
         ensures some { IfOk result (λ n. 0 < length piece.now → 0 < n) }
-        ensures told { IfOk result (λ n. written self.new ≡ option_map (λ w. w ++ take n piece.now) (written self.old)) }
+        ensures told { IfOk result
+            (λ n. written self.new ≡ option_map (λ w. w ++ take n piece.now) (written self.old)) }
         ensures err { OnErr result (written self.new ≡ written self.old) }
         ensures faults { HasCause SinkFail.Failed (faults self.old) (faults self.new) result };
 }
@@ -125,7 +140,8 @@ pub trait Dice {
     /// Fills `out` with the front of the stream. After a refusal `out` is not known, and some bytes may be gone
     /// from the front of the stream.
     fn fill(&mut self, out: &mut [u8]) -> Result<(), DiceFail>
-        ensures ok { OnOk result (stream self.old ≡ option_map (λ rest. out.new ++ rest) (stream self.new)) }
+        ensures ok { OnOk result
+            (stream self.old ≡ option_map (λ rest. out.new ++ rest) (stream self.new)) }
         ensures err { OnErr result (LosesPrefix (stream self.old) (stream self.new)) }
         ensures faults { HasCause DiceFail.Failed (faults self.old) (faults self.new) result };
 }

@@ -9,7 +9,8 @@ use crate::traits::{FileStore, Sink};
 
 /// Writes a whole text. After a refusal a prefix of it was written.
 pub fn write_all<O: Sink>(out: &mut O, text: &[u8]) -> Result<(), SinkFail>
-    ensures ok { OnOk result (O.written out.new ≡ option_map (λ w. w ++ text.now) (O.written out.old)) }
+    ensures ok { OnOk result
+        (O.written out.new ≡ option_map (λ w. w ++ text.now) (O.written out.old)) }
     ensures err { OnErr result (GainsPrefix (O.written out.old) (O.written out.new) text.now) }
     ensures faults { HasCause SinkFail.Failed (O.faults out.old) (O.faults out.new) result }
 {
@@ -23,7 +24,9 @@ pub fn write_all<O: Sink>(out: &mut O, text: &[u8]) -> Result<(), SinkFail>
 /// Makes a whole file and puts it under its name. After a refusal the files are as they were. There is no draft
 /// afterwards, whatever the answer.
 pub fn write_file<F: FileStore>(files: &mut F, name: &str, bytes: &[u8]) -> Result<(), FileFail>
-    ensures ok { OnOk result (F.files files.new ≡ option_map (λ m. map.insert m name.now bytes.now) (F.files files.old)) }
+    ensures ok { OnOk result
+        (F.files files.new
+        ≡ option_map (λ m. map.insert m name.now bytes.now) (F.files files.old)) }
     ensures err { OnErr result (F.files files.new ≡ F.files files.old) }
     ensures no_draft { F.draft_name files.new ≡ None }
     ensures not_missing { IsErrOf result FileFail.NoSuchFile → ⊥ }

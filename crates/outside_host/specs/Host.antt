@@ -1,4 +1,4 @@
--- The host's disk as contracts see it: what is on it is not told.
+-- The host's disk as contracts see it: what is on it is not reported.
 use Rattle.std.specs.Prelude.{ℕ, List, Option}
 
 -- The name that the draft on the disk is for, and the two counts.

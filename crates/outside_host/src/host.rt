@@ -102,7 +102,12 @@ impl<'a, R: Files> Model for HostFiles<'a, R> {
 
     ghost Value = { HostStore };
 
-    ghost view = { λ s. record { draft_name = option_map (λ d. d.name) s.draft; faults = s.faults; absences = s.absences } };
+    ghost view = { λ s. record {
+      draft_name = option_map
+          (λ d. d.name) s.draft;
+      faults = s.faults;
+      absences = s.absences;
+    } };
 }
 
 impl<'a, R: Files> HostFiles<'a, R> {

@@ -34,7 +34,7 @@ pub record FailingStore : Type 0 where
   pub store : Store
   pub failures : Failures
 
--- Bytes left or written, behind calls some of which fail.
+-- Bytes left or written, with calls some of which fail.
 pub record FailingBytes : Type 0 where
   pub bytes : List ℕ
   pub failures : Failures

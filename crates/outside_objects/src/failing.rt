@@ -47,7 +47,8 @@ impl FailurePlan {
 
     /// Lets the call of this number fail.
     fn fail_at(&mut self, call: u64) -> Result<(), SinkFail>
-        ensures ok { OnOk result (self.new ≡ record self.old { failing = self.old.failing ++ call ∷ [] }) }
+        ensures ok { OnOk result
+            (self.new ≡ record self.old { failing = self.old.failing ++ call ∷ [] }) }
         ensures err { OnErr result (self.new ≡ self.old) }
         ensures memory { IfErr result (λ e. e ≡ SinkFail.NoMemory) }
     {
@@ -67,7 +68,12 @@ impl FailurePlan {
     /// Counts a call, and a fault where it is one that is to fail. Returns whether it is.
     fn fails(&mut self) -> bool
         ensures planned { result ≡ list_any (λ n. n == self.old.calls) self.old.failing }
-        ensures calls { self.new ≡ record self.old { calls = increment self.old.calls; faults = (if result then increment self.old.faults else self.old.faults) } }
+        ensures calls { self.new
+            ≡ record self.old {
+              calls = increment self.old.calls;
+              faults =
+                  (if result then increment self.old.faults else self.old.faults);
+            } }
         ensures later { self.old.faults ≤ self.new.faults }
         ensures rose { IsTrue result → Increased self.old.faults self.new.faults }
     {
@@ -117,7 +123,9 @@ impl MemoryFiles {
     /// Puts a file under a name, in the place of any of that name. It is no call that can be made to fail; a
     /// refusal is want of memory and changes nothing.
     pub fn put(&mut self, name: &str, bytes: &[u8]) -> Result<(), FileFail>
-        ensures ok { OnOk result (self.new ≡ record self.old { store = record self.old.store { files = map.insert self.old.store.files name.now bytes.now } }) }
+        ensures ok { OnOk result
+            (self.new
+            ≡ record self.old { store = record self.old.store { files = map.insert self.old.store.files name.now bytes.now } }) }
         ensures err { OnErr result (self.new ≡ self.old) }
         ensures memory { IfErr result (λ e. e ≡ FileFail.NoMemory) }
     {
@@ -133,7 +141,9 @@ impl MemoryFiles {
 
     /// Lets the call of this number fail. A refusal is want of memory and changes nothing.
     pub fn fail_at(&mut self, call: u64) -> Result<(), SinkFail>
-        ensures ok { OnOk result (self.new ≡ record self.old { failures = record self.old.failures { failing = self.old.failures.failing ++ call ∷ [] } }) }
+        ensures ok { OnOk result
+            (self.new
+            ≡ record self.old { failures = record self.old.failures { failing = self.old.failures.failing ++ call ∷ [] } }) }
         ensures err { OnErr result (self.new ≡ self.old) }
         ensures memory { IfErr result (λ e. e ≡ SinkFail.NoMemory) }
     {
@@ -227,7 +237,8 @@ impl MemorySource {
 
     /// Appends bytes to those that are left. A refusal is want of memory and changes nothing.
     pub fn fill_with(&mut self, bytes: &[u8]) -> Result<(), SinkFail>
-        ensures ok { OnOk result (self.new ≡ record self.old { bytes = self.old.bytes ++ bytes.now }) }
+        ensures ok { OnOk result
+            (self.new ≡ record self.old { bytes = self.old.bytes ++ bytes.now }) }
         ensures err { OnErr result (self.new ≡ self.old) }
         ensures memory { IfErr result (λ e. e ≡ SinkFail.NoMemory) }
     {
@@ -236,7 +247,9 @@ impl MemorySource {
 
     /// Lets the call of this number fail. A refusal is want of memory and changes nothing.
     pub fn fail_at(&mut self, call: u64) -> Result<(), SinkFail>
-        ensures ok { OnOk result (self.new ≡ record self.old { failures = record self.old.failures { failing = self.old.failures.failing ++ call ∷ [] } }) }
+        ensures ok { OnOk result
+            (self.new
+            ≡ record self.old { failures = record self.old.failures { failing = self.old.failures.failing ++ call ∷ [] } }) }
         ensures err { OnErr result (self.new ≡ self.old) }
         ensures memory { IfErr result (λ e. e ≡ SinkFail.NoMemory) }
     {
@@ -297,7 +310,9 @@ impl MemorySink {
 
     /// Lets the call of this number fail. A refusal is want of memory and changes nothing.
     pub fn fail_at(&mut self, call: u64) -> Result<(), SinkFail>
-        ensures ok { OnOk result (self.new ≡ record self.old { failures = record self.old.failures { failing = self.old.failures.failing ++ call ∷ [] } }) }
+        ensures ok { OnOk result
+            (self.new
+            ≡ record self.old { failures = record self.old.failures { failing = self.old.failures.failing ++ call ∷ [] } }) }
         ensures err { OnErr result (self.new ≡ self.old) }
         ensures memory { IfErr result (λ e. e ≡ SinkFail.NoMemory) }
     {
@@ -352,7 +367,8 @@ impl MemoryDice {
 
     /// Appends bytes to those that are left. A refusal is want of memory and changes nothing.
     pub fn fill_with(&mut self, bytes: &[u8]) -> Result<(), SinkFail>
-        ensures ok { OnOk result (self.new ≡ record self.old { bytes = self.old.bytes ++ bytes.now }) }
+        ensures ok { OnOk result
+            (self.new ≡ record self.old { bytes = self.old.bytes ++ bytes.now }) }
         ensures err { OnErr result (self.new ≡ self.old) }
         ensures memory { IfErr result (λ e. e ≡ SinkFail.NoMemory) }
     {
@@ -361,7 +377,9 @@ impl MemoryDice {
 
     /// Lets the call of this number fail. A refusal is want of memory and changes nothing.
     pub fn fail_at(&mut self, call: u64) -> Result<(), SinkFail>
-        ensures ok { OnOk result (self.new ≡ record self.old { failures = record self.old.failures { failing = self.old.failures.failing ++ call ∷ [] } }) }
+        ensures ok { OnOk result
+            (self.new
+            ≡ record self.old { failures = record self.old.failures { failing = self.old.failures.failing ++ call ∷ [] } }) }
         ensures err { OnErr result (self.new ≡ self.old) }
         ensures memory { IfErr result (λ e. e ≡ SinkFail.NoMemory) }
     {

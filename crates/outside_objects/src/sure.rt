@@ -57,7 +57,14 @@ impl Model for SureFiles {
 
     ghost coded = { store_code };
 
-    ghost view = { λ s. record { files = files_of s.files.items; draft_name = option_map (λ d. d.name) s.draft; draft_bytes = option_map_or (λ d. d.bytes) s.draft []; absences = s.absences } };
+    ghost view = { λ s. record {
+      files = files_of s.files.items;
+      draft_name = option_map
+          (λ d. d.name) s.draft;
+      draft_bytes = option_map_or
+          (λ d. d.bytes) s.draft [];
+      absences = s.absences;
+    } };
 }
 
 impl SureFiles {
@@ -78,7 +85,8 @@ impl SureFiles {
     /// Puts a file under a name, in the place of any of that name. A refusal is want of memory and changes
     /// nothing.
     pub fn put(&mut self, name: &str, bytes: &[u8]) -> Result<(), FileFail>
-        ensures ok { OnOk result (self.new ≡ record self.old { files = map.insert self.old.files name.now bytes.now }) }
+        ensures ok { OnOk result
+            (self.new ≡ record self.old { files = map.insert self.old.files name.now bytes.now }) }
         ensures err { OnErr result (self.new ≡ self.old) }
         ensures memory { IfErr result (λ e. e ≡ FileFail.NoMemory) }
     {

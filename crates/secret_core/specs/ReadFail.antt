@@ -29,7 +29,8 @@ IsOfSomeFile limit result = (file : Option (List ℕ)) × IsRead file limit resu
 
 -- What each answer shows of the store's counts, which never fall, and of the limit, whether or not the
 -- store reports its files.
-pub record HasReadCause (faults_before faults_now absences_before absences_now limit : ℕ) (result : Result SecretBuffer ReadFail) : Type 0 where
+pub record HasReadCause (faults_before faults_now absences_before absences_now limit : ℕ)
+    (result : Result SecretBuffer ReadFail) : Type 0 where
   pub faults_later : faults_before ≤ faults_now
   pub absences_later : absences_before ≤ absences_now
   pub fault : IsErrOf result FileFault → Increased faults_before faults_now

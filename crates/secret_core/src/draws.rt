@@ -28,7 +28,9 @@ impl<const N: usize> Fresh<N> {
     /// The refusal is that of the dice, of which some bytes may be gone then.
     pub fn draw<D: Dice>(dice: &mut D, n: usize) -> Result<Fresh<N>, DiceFail>
         requires { n ≤ N }
-        ensures front { IfOk result (λ fresh. D.stream dice.old ≡ option_map (λ rest. take n fresh ++ rest) (D.stream dice.new)) }
+        ensures front { IfOk result
+            (λ fresh. D.stream dice.old
+            ≡ option_map (λ rest. take n fresh ++ rest) (D.stream dice.new)) }
         ensures rest { IfOk result (λ fresh. drop n fresh ≡ replicate (N - n) 0) }
         ensures none { n ≡ 0 → IsOk result × (dice.new ≡ dice.old) }
         ensures err { OnErr result (LosesPrefix (D.stream dice.old) (D.stream dice.new)) }

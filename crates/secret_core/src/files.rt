@@ -49,14 +49,17 @@ impl From<NoMemory> for ReadFail {
 // Reads a file from its start into `out`, until `out` is full or the file ends. Gives the number of bytes read.
 fn fill<F: FileStore>(files: &mut F, name: &str, out: &mut [u8]) -> Result<usize, FileFail>
     ensures bound { IfOk result (λ n. n ≤ length out.new) }
-    ensures told { (m : FileMap) (bytes : List ℕ) → F.files files.old ≡ Some m → map.get m name.now ≡ Some bytes
+    ensures told { (m : FileMap) (bytes : List ℕ) → F.files files.old ≡ Some m → map.get m name.now
+        ≡ Some bytes
         → IfOk result (λ n. take (length out.new) bytes ≡ take n out.new) }
-    ensures missing { IsErrOf result FileFail.NoSuchFile → IfSome (F.files files.old) (λ m. map.get m name.now ≡ None) }
+    ensures missing { IsErrOf result FileFail.NoSuchFile
+        → IfSome (F.files files.old) (λ m. map.get m name.now ≡ None) }
     ensures files { F.files files.new ≡ F.files files.old }
     ensures draft_name { F.draft_name files.new ≡ F.draft_name files.old }
     ensures draft_bytes { F.draft_bytes files.new ≡ F.draft_bytes files.old }
     ensures faults { HasCause FileFail.Failed (F.faults files.old) (F.faults files.new) result }
-    ensures absences { HasCause FileFail.NoSuchFile (F.absences files.old) (F.absences files.new) result }
+    ensures absences { HasCause FileFail.NoSuchFile (F.absences files.old)
+        (F.absences files.new) result }
 {
     let mut at = 0;
     while at < out.len() {
@@ -72,15 +75,19 @@ fn fill<F: FileStore>(files: &mut F, name: &str, out: &mut [u8]) -> Result<usize
 
 // Reads a prefix of a file, as much as there is room for, into a Secret in the place of its bytes.
 fn fill_secret<F: FileStore>(files: &mut F, name: &str, secret: &mut Secret) -> Result<(), FileFail>
-    ensures bound { OnOk result (length secret.new.bytes ≤ length secret.old.bytes + secret.old.spare) }
-    ensures told { (m : FileMap) (bytes : List ℕ) → F.files files.old ≡ Some m → map.get m name.now ≡ Some bytes
+    ensures bound { OnOk result
+        (length secret.new.bytes ≤ length secret.old.bytes + secret.old.spare) }
+    ensures told { (m : FileMap) (bytes : List ℕ) → F.files files.old ≡ Some m → map.get m name.now
+        ≡ Some bytes
         → OnOk result (secret.new.bytes ≡ take (length secret.old.bytes + secret.old.spare) bytes) }
-    ensures missing { IsErrOf result FileFail.NoSuchFile → IfSome (F.files files.old) (λ m. map.get m name.now ≡ None) }
+    ensures missing { IsErrOf result FileFail.NoSuchFile
+        → IfSome (F.files files.old) (λ m. map.get m name.now ≡ None) }
     ensures files { F.files files.new ≡ F.files files.old }
     ensures draft_name { F.draft_name files.new ≡ F.draft_name files.old }
     ensures draft_bytes { F.draft_bytes files.new ≡ F.draft_bytes files.old }
     ensures faults { HasCause FileFail.Failed (F.faults files.old) (F.faults files.new) result }
-    ensures absences { HasCause FileFail.NoSuchFile (F.absences files.old) (F.absences files.new) result }
+    ensures absences { HasCause FileFail.NoSuchFile (F.absences files.old)
+        (F.absences files.new) result }
 {
     let read = fill(files, name, &mut secret.kept.buffer)?;
     secret.kept.cut(read);
@@ -99,7 +106,8 @@ pub fn read_file<F: FileStore>(
 ) -> Result<Secret, ReadFail>
     ensures told { IfSome (F.files files.old) (λ m. IsRead (map.get m name.now) limit result) }
     ensures some_file { IsOfSomeFile limit result }
-    ensures cause { HasReadCause (F.faults files.old) (F.faults files.new) (F.absences files.old) (F.absences files.new) limit result }
+    ensures cause { HasReadCause (F.faults files.old) (F.faults files.new) (F.absences files.old)
+        (F.absences files.new) limit result }
     ensures files { F.files files.new ≡ F.files files.old }
     ensures draft_name { F.draft_name files.new ≡ F.draft_name files.old }
     ensures draft_bytes { F.draft_bytes files.new ≡ F.draft_bytes files.old }

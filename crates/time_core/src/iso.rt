@@ -104,7 +104,8 @@ fn days_to(year: u16, month: u8, day: u8) -> Option<u64>
     requires year { year < 10000 }
     requires month { month < 100 }
     requires day { day < 100 }
-    ensures { MatchOption result (¬ (IsDay year month day)) (λ days. IsDay year month day × (days ≡ days_before year month day)) }
+    ensures { MatchOption result (¬ (IsDay year month day))
+        (λ days. IsDay year month day × (days ≡ days_before year month day)) }
 {
     if year == 0 {
         return None;
@@ -124,7 +125,8 @@ fn first_day() -> Date
 
 /// The parts that a text spells, whether or not the calendar and the clock have them.
 fn spelled(text: &[u8]) -> Option<Moment>
-    ensures { MatchOption result ((m : Moment) → HasDigits m → text.now ≢ iso_text m) (λ m. HasDigits m × (text.now ≡ iso_text m)) }
+    ensures { MatchOption result ((m : Moment) → HasDigits m → text.now ≢ iso_text m)
+        (λ m. HasDigits m × (text.now ≡ iso_text m)) }
 {
     if text.len() != 20 || !has_separators(text) {
         return None;
@@ -161,14 +163,16 @@ fn has_separators(text: &[u8]) -> bool
 
 /// The number below 100 that two decimal digits spell.
 fn number(high: u8, low: u8) -> Option<u8>
-    ensures { MatchOption result ((n : ℕ) → n < 100 → two_digits n ≢ high ∷ low ∷ []) (λ n. (n < 100) × (two_digits n ≡ high ∷ low ∷ [])) }
+    ensures { MatchOption result ((n : ℕ) → n < 100 → two_digits n ≢ high ∷ low ∷ [])
+        (λ n. (n < 100) × (two_digits n ≡ high ∷ low ∷ [])) }
 {
     Some(digit(high)? * 10 + digit(low)?)
 }
 
 /// The number below 10 that a decimal digit spells.
 fn digit(byte: u8) -> Option<u8>
-    ensures { MatchOption result ((n : ℕ) → n < 10 → 48 + n ≢ byte) (λ n. (n < 10) × (48 + n ≡ byte)) }
+    ensures { MatchOption result ((n : ℕ) → n < 10 → 48 + n ≢ byte)
+        (λ n. (n < 10) × (48 + n ≡ byte)) }
 {
     match byte {
         b'0'..=b'9' => Some(byte - b'0'),

@@ -28,7 +28,8 @@ impl Stamp {
 
     /// The moment that many seconds after 0001-01-01T00:00:00Z, or `None` after the year 9999.
     pub fn of(seconds: u64) -> Option<Stamp>
-        ensures { MatchOption result (last_stamp < seconds) (λ stamp. (seconds ≤ last_stamp) × (stamp ≡ seconds)) }
+        ensures { MatchOption result (last_stamp < seconds)
+            (λ stamp. (seconds ≤ last_stamp) × (stamp ≡ seconds)) }
     {
         if seconds > 315_537_897_599 {
             return None;
