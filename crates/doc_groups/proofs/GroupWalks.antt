@@ -1,4 +1,4 @@
--- Groups: what stands in one, as a walk over its children.
+-- Groups: the content of one, as a walk over its children.
 use Rattle.std.proofs.Common.{◌≡◌, ℕ, Bool, false, List, [], ◌∷◌, ◌++◌, map, refl, ap, sym, ◌∙◌, arith, Result, Ok}
 use Rattle.markup_grammar.specs.Elements.{Content, last, also, cut, element, joined, inner, left}
 use Rattle.doc_forms.specs.declared.cursor.Cursor.{Cursor}
@@ -33,7 +33,7 @@ pub any_end : (s : Setting) (fits : Bool) (place : ℕ) (raw : List ℕ) → is_
     → (a b : List ℕ) (p : GroupParts) (at : Cursor) → group_end s fits place raw a p at ≡ group_end s fits place raw b p at
 any_end s fits place raw e a b p at = rw e refl
 
--- one more group behind the others
+-- one group more, after the others
 one_more : (trees : List ReadTree) (tree : ReadTree) → side_by_side (trees ++ tree ∷ []) ≡ append_tree (side_by_side trees) tree
 one_more [] tree = refl
 one_more (t ∷ ts) tree = ap (beside t) (one_more ts tree)
@@ -49,10 +49,6 @@ one_more_draft drafts draft = ap side_by_side (mapped drafts draft) ∙ one_more
 -- what is known of a group, with these groups in it
 abbrev pub with_trees : GroupParts → ReadTrees → Result GroupParts DocFail
 with_trees p trees = Ok (record p { groups = trees })
-
--- what is seen of a group and of how far one is
-abbrev pub draft_pair : GroupDraft × Cursor → ReadTree × Cursor
-draft_pair x = (draft_seen x.0, x.1)
 
 -- how the group of a start tag ends
 abbrev pub end_of : Bool → Tag → Setting → End GroupParts (ReadTree × Cursor)

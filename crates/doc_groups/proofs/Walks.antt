@@ -1,4 +1,4 @@
--- What stands in an element, piece by piece, where each child is read and the end has its own rule.
+-- The content of an element, piece by piece, where each child is read and the end has a rule of its own.
 use Rattle.std.proofs.Common.{◌≡◌, ℕ, List, [], ◌∷◌, ◌++◌, refl, ap, sym, append_assoc, append-nil, Result, Ok, Err}
 use Rattle.markup_grammar.specs.Answers.{Answer, start, words, stop, finish, form, depth}
 use Rattle.markup_grammar.specs.Elements.{Content, last, also, cut, element, inner, outer, left, joined, prepended}
@@ -10,7 +10,7 @@ use Rattle.doc_forms.specs.Children.{Child, all_children}
 use Rattle.doc_forms.specs.Refusals.{◌>>=◌, Fails}
 use Rattle.doc_walk.proofs.Pieces.{carried}
 
--- how an element ends that has this text, told by what is known of it and how far one is
+-- how an element ends that has this text, by what is known of it and the cursor
 abbrev pub End : Type 0 → Type 0 → Type 0
 End P Q = List ℕ → P → Cursor → Result Q DocFail
 
@@ -29,21 +29,21 @@ with_words child end text u (also rest e more) parts cursor =
 with_words child end text u (cut rest answer) parts cursor =
     ap (λ t. all_children child (cut rest answer) parts cursor >>= λ x. end t x.0 x.1) (sym (append_assoc text u rest))
 
--- past a run of text
-pub past_words : {P Q : Type 0} (child : Child P) (end : End P Q) (text : List ℕ) (old new : List Answer) (parts : P) (at : Cursor) (p : ℕ) (run : List ℕ)
+-- after a run of text
+pub after_words : {P Q : Type 0} (child : Child P) (end : End P Q) (text : List ℕ) (old new : List Answer) (parts : P) (at : Cursor) (p : ℕ) (run : List ℕ)
     → old ≡ words p run ∷ new
     → (walk child end text (inner (left old)) parts at ≡ walk child end (text ++ unescaped run) (inner (left new)) parts at) × (outer (left old) ≡ outer (left new))
 unfolding left
-past_words child end text old new parts at p run e = rw e (with_words child end text (unescaped run) (inner (left new)) parts at, refl)
+after_words child end text old new parts at p run e = rw e (with_words child end text (unescaped run) (inner (left new)) parts at, refl)
 
--- past a child that was read
-pub past_child : {P Q : Type 0} (child : Child P) (end : End P Q) (text : List ℕ) (old new later : List Answer) (parts next : P) (at behind : Cursor) (p : ℕ) (name attrs : List ℕ)
+-- after a child that was read
+pub after_child : {P Q : Type 0} (child : Child P) (end : End P Q) (text : List ℕ) (old new later : List Answer) (parts next : P) (at after : Cursor) (p : ℕ) (name attrs : List ℕ)
     → old ≡ start p name attrs ∷ new
-    → child parts (element p name attrs (inner (left new))) at ≡ Ok (next, behind)
+    → child parts (element p name attrs (inner (left new))) at ≡ Ok (next, after)
     → left later ≡ outer (left new)
-    → (walk child end text (inner (left old)) parts at ≡ walk child end text (inner (left later)) next behind) × (outer (left old) ≡ outer (left later))
+    → (walk child end text (inner (left old)) parts at ≡ walk child end text (inner (left later)) next after) × (outer (left old) ≡ outer (left later))
 unfolding left
-past_child child end text old new later parts next at behind p name attrs e gives rest =
+after_child child end text old new later parts next at after p name attrs e gives rest =
     rw (e, rest) (ap (λ r. (r >>= λ y. all_children child (inner (outer (left new))) y.0 y.1) >>= λ b. end (text ++ joined (inner (outer (left new)))) b.0 b.1) gives, refl)
 
 -- one that is refused

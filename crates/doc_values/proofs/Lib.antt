@@ -1,5 +1,4 @@
-mod LastPlaces
 mod Numbers
 mod Puts
-mod Rising
+mod RisingLists
 mod TimeTexts

@@ -13,36 +13,36 @@ one_more : (n : ℕ) → 1 + n ≡ suc n
 one_more n = omega arith
 
 -- what the first of some things makes of it, by how the keys compare
-put_step : {A : Type 0} (o : Ordering) (key : A → List ℕ) (k : List ℕ) (x y : A) (ys behind : List A) (n : ℕ)
-    → behind ≡ take n ys ++ x ∷ without_key key k (drop n ys)
+put_step : {A : Type 0} (o : Ordering) (key : A → List ℕ) (k : List ℕ) (x y : A) (ys after : List A) (n : ℕ)
+    → after ≡ take n ys ++ x ∷ without_key key k (drop n ys)
     → is_eq (bytes_cmp k (key y)) ≡ is_eq o
-    → put_beside o x y ys behind ≡ take (cond (is_gt o) (1 + n) 0) (y ∷ ys) ++ x ∷ without_key key k (drop (cond (is_gt o) (1 + n) 0) (y ∷ ys))
-put_step Less key k x y ys behind n e same = ap (λ b. x ∷ cond b ys (y ∷ ys)) (sym same)
-put_step Equal key k x y ys behind n e same = ap (λ b. x ∷ cond b ys (y ∷ ys)) (sym same)
-put_step Greater key k x y ys behind n e same = rw (one_more n) (ap (λ l. y ∷ l) e)
+    → put_beside o x y ys after ≡ take (cond (is_gt o) (1 + n) 0) (y ∷ ys) ++ x ∷ without_key key k (drop (cond (is_gt o) (1 + n) 0) (y ∷ ys))
+put_step Less key k x y ys after n e same = ap (λ b. x ∷ cond b ys (y ∷ ys)) (sym same)
+put_step Equal key k x y ys after n e same = ap (λ b. x ∷ cond b ys (y ∷ ys)) (sym same)
+put_step Greater key k x y ys after n e same = rw (one_more n) (ap (λ l. y ∷ l) e)
 
--- it is put at the place of its key, and takes that of what has its key
-pub put_at_place : {A : Type 0} (key : A → List ℕ) (x : A) (list : List A)
+-- it is put at the position of its key, in the place of what has its key
+pub put_at_position : {A : Type 0} (key : A → List ℕ) (x : A) (list : List A)
     → put key x list ≡ take (position_of key (key x) list) list ++ x ∷ without_key key (key x) (drop (position_of key (key x) list) list)
-put_at_place key x [] = refl
-put_at_place key x (y ∷ ys) =
-    put_step (bytes_cmp (key x) (key y)) key (key x) x y ys (put key x ys) (position_of key (key x) ys) (put_at_place key x ys) refl
+put_at_position key x [] = refl
+put_at_position key x (y ∷ ys) =
+    put_step (bytes_cmp (key x) (key y)) key (key x) x y ys (put key x ys) (position_of key (key x) ys) (put_at_position key x ys) refl
 
 inserted : {A : Type 0} (list w : List A) (n : ℕ) (x : A) → n ≤ length list → insert (take n list ++ w) n x ≡ take n list ++ x ∷ w
 inserted list w zero x h = refl
 inserted [] w (suc n) x h = absurd (omega arith)
 inserted (y ∷ list) w (suc n) x h = ap (λ l. y ∷ l) (inserted list w n x (omega arith))
 
--- what is inserted at the place, where what had the key is gone, has been put there
+-- what is inserted at the position, where what had the key is gone, has been put there
 pub put_done : {A : Type 0} (key : A → List ℕ) (x : A) (list rest new : List A) (at : ℕ)
     → at ≡ position_of key (key x) list → at ≤ length list
     → rest ≡ take at list ++ without_key key (key x) (drop at list) → new ≡ insert rest at x → put key x list ≡ new
 put_done key x list rest new at is within r n =
-    put_at_place key x list
+    put_at_position key x list
     ∙ (ap (λ m. take m list ++ x ∷ without_key key (key x) (drop m list)) (sym is)
     ∙ (sym (inserted list (without_key key (key x) (drop at list)) at x within) ∙ (ap (λ l. insert l at x) (sym r) ∙ sym n)))
 
--- ---- what stands at a place
+-- ---- the item at a position
 
 pub drop_at : {A : Type 0} (list : List A) (i : ℕ) (x : A) → slice_get list i ≡ Some x → drop i list ≡ x ∷ drop (suc i) list
 drop_at [] i x e = cc

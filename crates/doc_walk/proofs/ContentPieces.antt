@@ -14,7 +14,7 @@ use Rattle.doc_walk.proofs.Pieces.{carried}
 regroup : (a b c d : List ℕ) → a ++ ((b ++ c) ++ d) ≡ (a ++ b) ++ (c ++ d)
 regroup a b c d = simp append_assoc
 
--- a run of text in front
+-- a run of text before the rest
 pub with_words : {P : Type 0} (s : Setting) (child : Child P) (place : ℕ) (raw text u : List ℕ) (content : Content) (parts : P) (cursor : Cursor)
     → children_and_end s child place raw text (prepended u content) parts cursor ≡ children_and_end s child place raw (text ++ u) content parts cursor
 with_words s child place raw text u (last rest) parts cursor =
@@ -24,7 +24,7 @@ with_words s child place raw text u (also rest e more) parts cursor =
 with_words s child place raw text u (cut rest answer) parts cursor =
     ap (λ t. all_children child (cut rest answer) parts cursor >>= λ x. text_at_end s place raw t x.1 >>= λ y. Ok (x.0, y.1)) (sym (append_assoc text u rest))
 
--- the text of an element that does not hide it tells nothing
+-- the text of an element that does not hide it does not count
 pub any_text : {P : Type 0} (s : Setting) (child : Child P) (place : ℕ) (raw text other : List ℕ) (content : Content) (parts : P) (cursor : Cursor)
     → is_protected raw ≡ false
     → children_and_end s child place raw text content parts cursor ≡ children_and_end s child place raw other content parts cursor
@@ -68,13 +68,13 @@ unfolding left
 depth_within s child place raw text old parts at p e = rw e refl
 
 -- an element in it that was read
-pub child_past : {P : Type 0} (s : Setting) (child : Child P) (place : ℕ) (raw text : List ℕ) (old new later : List Answer) (parts more : P) (at behind : Cursor) (p : ℕ) (name attrs : List ℕ)
+pub after_child : {P : Type 0} (s : Setting) (child : Child P) (place : ℕ) (raw text : List ℕ) (old new later : List Answer) (parts more : P) (at after : Cursor) (p : ℕ) (name attrs : List ℕ)
     → old ≡ start p name attrs ∷ new
-    → child parts (element p name attrs (inner (left new))) at ≡ Ok (more, behind)
+    → child parts (element p name attrs (inner (left new))) at ≡ Ok (more, after)
     → left later ≡ outer (left new)
-    → (children_and_end s child place raw text (inner (left old)) parts at ≡ children_and_end s child place raw text (inner (left later)) more behind) × (outer (left old) ≡ outer (left later))
+    → (children_and_end s child place raw text (inner (left old)) parts at ≡ children_and_end s child place raw text (inner (left later)) more after) × (outer (left old) ≡ outer (left later))
 unfolding left
-child_past s child place raw text old new later parts more at behind p name attrs e read rest =
+after_child s child place raw text old new later parts more at after p name attrs e read rest =
     rw (e, rest) (ap (λ r. (r >>= λ x. all_children child (inner (outer (left new))) x.0 x.1) >>= λ x. text_at_end s place raw (text ++ joined (inner (outer (left new)))) x.1 >>= λ y. Ok (x.0, y.1)) read, refl)
 
 -- one that is refused

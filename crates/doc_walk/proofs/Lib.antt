@@ -3,4 +3,3 @@ pub mod Goes
 pub mod Pieces
 pub mod Rests
 pub mod Rows
-pub mod Walks

@@ -38,18 +38,18 @@ regroup a b c d = simp append_assoc
 with_words : (s : Setting) (place : ℕ) (raw text u : List ℕ) (content : Content) (cursor : Cursor) → read_rest s place raw text (prepended u content) cursor ≡ read_rest s place raw (text ++ u) content cursor
 with_words s place raw text u (last rest) cursor = ap (λ t. text_at_end s place raw t cursor) (sym (append_assoc text u rest))
 with_words s place raw text u (also rest e more) cursor =
-    ap (λ t. (read_element s e cursor >>= λ x. pass_over s more x.1) >>= λ behind. text_at_end s place raw t behind) (regroup text u rest (joined more))
+    ap (λ t. (read_element s e cursor >>= λ x. pass_over s more x.1) >>= λ after. text_at_end s place raw t after) (regroup text u rest (joined more))
 with_words s place raw text u (cut rest answer) cursor =
-    ap (λ t. pass_over s (cut rest answer) cursor >>= λ behind. text_at_end s place raw t behind) (sym (append_assoc text u rest))
+    ap (λ t. pass_over s (cut rest answer) cursor >>= λ after. text_at_end s place raw t after) (sym (append_assoc text u rest))
 
--- what is read_element and what is left past a piece
-pub record Past (s : Setting) (place : ℕ) (raw text : List ℕ) (old new : List Answer) (at : Cursor) (next : List ℕ) : Type 0 where
+-- what is read and what is left after a piece
+pub record NextAnswer (s : Setting) (place : ℕ) (raw text : List ℕ) (old new : List Answer) (at : Cursor) (next : List ℕ) : Type 0 where
   pub gives : read_rest s place raw text (inner (left old)) at ≡ read_rest s place raw next (inner (left new)) at
   pub outer_same : outer (left old) ≡ outer (left new)
   pub shorter : length new < length old
 
-pub past_words : (s : Setting) (place : ℕ) (raw text : List ℕ) (old new : List Answer) (at : Cursor) (p : ℕ) (run : List ℕ) → old ≡ words p run ∷ new → Past s place raw text old new at (text ++ unescaped run)
-past_words s place raw text old new at p run e = rw e (record {
+pub after_words : (s : Setting) (place : ℕ) (raw text : List ℕ) (old new : List Answer) (at : Cursor) (p : ℕ) (run : List ℕ) → old ≡ words p run ∷ new → NextAnswer s place raw text old new at (text ++ unescaped run)
+after_words s place raw text old new at p run e = rw e (record {
   gives = ap (λ c. read_rest s place raw text c at) (words_left p run new) ∙ with_words s place raw text (unescaped run) (inner (left new)) at;
   outer_same = words_outer p run new;
   shorter = omega arith;
@@ -74,13 +74,13 @@ unfolding left
 at_depth s place raw text old at p e = rw e refl
 
 -- an element in it that says something
-pub past_child : (s : Setting) (place : ℕ) (raw text : List ℕ) (old new later : List Answer) (at behind : Cursor) (p : ℕ) (name attrs : List ℕ) (x : ElementText)
+pub after_child : (s : Setting) (place : ℕ) (raw text : List ℕ) (old new later : List Answer) (at after : Cursor) (p : ℕ) (name attrs : List ℕ) (x : ElementText)
     → old ≡ start p name attrs ∷ new
-    → read_rest s p attrs [] (inner (left new)) at ≡ Ok (x, behind)
+    → read_rest s p attrs [] (inner (left new)) at ≡ Ok (x, after)
     → left later ≡ outer (left new)
-    → (read_rest s place raw text (inner (left old)) at ≡ read_rest s place raw text (inner (left later)) behind) × (outer (left old) ≡ outer (left later))
+    → (read_rest s place raw text (inner (left old)) at ≡ read_rest s place raw text (inner (left later)) after) × (outer (left old) ≡ outer (left later))
 unfolding left
-past_child s place raw text old new later at behind p name attrs x e child rest =
+after_child s place raw text old new later at after p name attrs x e child rest =
     rw (e, rest) (ap (λ r. (r >>= λ y. pass_over s (inner (outer (left new))) y.1) >>= λ b. text_at_end s place raw (text ++ joined (inner (outer (left new)))) b) child, refl)
 
 -- one that is refused

@@ -1,4 +1,4 @@
--- The same step, told by another definition of the rest.
+-- The same step, by another definition of the rest.
 use Rattle.std.proofs.Common.{◌≡◌, ℕ, List, ◌++◌, take, drop, ◌∙◌, ap, Result, Ok, Err}
 use Rattle.doc_forms.specs.Refusals.{◌>>=◌}
 use Rattle.markup_grammar.specs.Elements.{Content, element, inner, left}
@@ -10,7 +10,7 @@ use Rattle.doc_walk.proofs.Pieces.{given_same, carried}
 use Rattle.doc_walk.specs.declared.walk.Tag.{Tag}
 use Rattle.doc_walk.specs.Steps.{Course, Rest, Steps, map_rest}
 use Rattle.doc_walk.specs.Tags.{child_step}
-use Rattle.doc_walk.proofs.Rows.{Differs, past_rows}
+use Rattle.doc_walk.proofs.Rows.{Differs, later_rows}
 
 pub same_rest : {X Y : Type 0} (view : X → Y) (old new : Course) (r : Result X DocFail) (rest other : Rest Y)
     → ((s : Setting) (content : Content) (cursor : Cursor) → rest s content cursor ≡ other s content cursor)
@@ -22,16 +22,16 @@ same_rest view old new r rest other same steps = record {
   setting = steps.setting;
 }
 
--- an element without the name of the first rows is read by the others
-pub past_front : {X P : Type 0} (view : X → P) (old new : Course) (r : Result X DocFail) (n : ℕ) (rows : Setting → List (List ℕ × Child P)) (parts : P) (tag : Tag)
+-- an element that has none of the names of the first rows is read by the later ones
+pub by_later_rows : {X P : Type 0} (view : X → P) (old new : Course) (r : Result X DocFail) (n : ℕ) (rows : Setting → List (List ℕ × Child P)) (parts : P) (tag : Tag)
     → ((s : Setting) → take n (rows s) ++ drop n (rows s) ≡ rows s)
     → ((s : Setting) → Differs tag.name.now (take n (rows s)))
     → Steps view old new r (child_step (λ s. by_name s (drop n (rows s))) parts tag)
     → Steps view old new r (child_step (λ s. by_name s (rows s)) parts tag)
-past_front view old new r n rows parts tag whole differs steps =
+by_later_rows view old new r n rows parts tag whole differs steps =
     same_rest view old new r (child_step (λ s. by_name s (drop n (rows s))) parts tag) (child_step (λ s. by_name s (rows s)) parts tag)
     (λ s content cursor.
-    past_rows s (take n (rows s)) (drop n (rows s)) parts (element tag.offset tag.name.now tag.attrs.raw.now content) cursor (differs s)
+    later_rows s (take n (rows s)) (drop n (rows s)) parts (element tag.offset tag.name.now tag.attrs.raw.now content) cursor (differs s)
     ∙ ap (λ l. by_name s l parts (element tag.offset tag.name.now tag.attrs.raw.now content) cursor) (whole s))
     steps
 
@@ -51,7 +51,7 @@ kept_step keep v old new (Err e) rest steps = record {
   setting = steps.setting;
 }
 
--- the same, of which the step tells the rest
+-- the same, with the rest known from the step
 pub kept_in : {X A P : Type 0} {v : A} {old new : Course} {r : Result X DocFail} {rest : Rest A} (keep : A → P)
     → Steps (λ _. v) old new r rest → Steps (λ _. keep v) old new r (map_rest keep rest)
 kept_in {v = v} {old = old} {new = new} {r = r} {rest = rest} keep steps = kept_step keep v old new r rest steps

@@ -16,10 +16,10 @@ Differs name (row ∷ rows) = (name ≡ row.0 → ⊥) × Differs name rows
 other_name : (a b : List ℕ) → (a ≡ b → ⊥) → bytes_eq a b ≡ false
 other_name a b h = false_from_ne_true (bytes_eq a b) (λ t. h ((bytes_eq-Decides a b).0 t))
 
--- an element is read by the rows behind those that do not have its name
-pub past_rows : {P : Type 0} (s : Setting) (front back : List (List ℕ × Child P)) (parts : P) (e : Element) (cursor : Cursor)
-    → Differs (name_of e) front → by_name s back parts e cursor ≡ by_name s (front ++ back) parts e cursor
-past_rows s [] back parts e cursor h = refl
-past_rows s (row ∷ front) back parts e cursor h =
-    past_rows s front back parts e cursor h.1
-    ∙ ap (λ b. cond b (row.1 parts e cursor) (by_name s (front ++ back) parts e cursor)) (sym (other_name (name_of e) row.0 h.0))
+-- an element is read by the rows after those that do not have its name
+pub later_rows : {P : Type 0} (s : Setting) (first rest : List (List ℕ × Child P)) (parts : P) (e : Element) (cursor : Cursor)
+    → Differs (name_of e) first → by_name s rest parts e cursor ≡ by_name s (first ++ rest) parts e cursor
+later_rows s [] rest parts e cursor h = refl
+later_rows s (row ∷ first) rest parts e cursor h =
+    later_rows s first rest parts e cursor h.1
+    ∙ ap (λ b. cond b (row.1 parts e cursor) (by_name s (first ++ rest) parts e cursor)) (sym (other_name (name_of e) row.0 h.0))

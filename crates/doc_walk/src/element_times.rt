@@ -42,7 +42,7 @@ pub fn never() -> Stamp
     Stamp::of(0).unwrap()
 }
 
-/// The times of an element without any.
+/// The times where no element says any.
 pub fn no_times() -> Times
     ensures { result ≡ spec.no_times }
 {

@@ -106,7 +106,7 @@ impl<'t> Walk<'t> {
         self.form
     }
 
-    /// Where memory is taken from.
+    /// The allocator from which memory comes.
     pub fn alloc(&self) -> Global {
         self.alloc
     }
@@ -181,11 +181,12 @@ impl<'t> Walk<'t> {
                         place: offset,
                     },
                 ) => {
-                    let _ = self.element_text(&Tag {
+                    let child = Tag {
                         name,
                         attrs,
                         offset,
-                    })?;
+                    };
+                    let _ = self.element_text(&child)?;
                 }
                 Ok(Piece::Words { raw, place: _ }) => text = appended(self.alloc(), text, raw)?,
                 Ok(Piece::Stop { place: _ }) => return self.own_text(tag, text),

@@ -2,8 +2,8 @@
 -- code relates to its definition, and like steps repeated.
 use Rattle.std.specs.Prelude.{◌≡◌, ℕ, zero, suc, Bool, Option, None, Some, Result, Ok, Err, if◌then◌else◌}
 
--- One computation, and then the next with its value. The first error is the error of both.
 infixl 10 ◌>>=◌
+-- One computation, and then the next with its value. The first error is the error of both.
 abbrev pub ◌>>=◌ : {A B E : Type 0} → Result A E → (A → Result B E) → Result B E
 Ok a >>= next = next a
 Err e >>= next = Err e

@@ -9,7 +9,7 @@ use Rattle.doc_forms.specs.ElementTexts.{Setting}
 use Rattle.doc_forms.specs.Refusals.{Fails}
 use Rattle.doc_forms.specs.SeenDrafts.{file_parts}
 use Rattle.doc_forms.specs.SeenTexts.{setting_of}
-use Rattle.doc_groups.proofs.Walks.{no_end, past_words, past_child, child_refused, at_finish, at_form, at_depth, any_text}
+use Rattle.doc_groups.proofs.Walks.{no_end, after_words, after_child, child_refused, at_finish, at_form, at_depth, any_text}
 use Rattle.doc_groups.proofs.document.read_document.Goals as goal
 
 pub pieces-preserved-in-Continue-1 : goal.pieces-preserved-in-Continue-1
@@ -17,10 +17,10 @@ pieces-preserved-in-Continue-1 c =
     let e = rw c.in-Ok-Start.field-0-is at c.in-Ok-Start.ensures.answers in
     let s = setting_of c.args.form c.args.stream in
     let one = rw (c.next_piece.ensures.setting, c.pieces.invariant.setting, c.next_piece.ensures.cursor) at c.in_ok-document_child-in-Ok-Start.ensures.gives in
-    let past = past_child (by_name s (document_rows s)) no_end [] c.pieces.walk.answers c.next_piece.new.self.answers c.document_child.new.walk.answers (option_map file_parts c.pieces.known) (option_map file_parts c.document_child.new.known) c.pieces.walk.cursor c.document_child.new.walk.cursor
+    let next_answer = after_child (by_name s (document_rows s)) no_end [] c.pieces.walk.answers c.next_piece.new.self.answers c.document_child.new.walk.answers (option_map file_parts c.pieces.known) (option_map file_parts c.document_child.new.known) c.pieces.walk.cursor c.document_child.new.walk.cursor
     c.in-Ok-Start.offset c.in-Ok-Start.name.now c.in-Ok-Start.attrs.raw.now e one c.in_ok-document_child-in-Ok-Start.ensures.left in
     record {
-      gives = sym past.0 ∙ c.pieces.invariant.gives;
+      gives = sym next_answer.0 ∙ c.pieces.invariant.gives;
       setting = c.in_ok-document_child-in-Ok-Start.ensures.setting ∙ (c.next_piece.ensures.setting ∙ c.pieces.invariant.setting);
     }
 
@@ -39,10 +39,10 @@ pub pieces-preserved : goal.pieces-preserved
 pieces-preserved c =
     let e = rw c.in-Ok-Words.field-0-is at c.in-Ok-Words.ensures.answers in
     let s = setting_of c.args.form c.args.stream in
-    let past = past_words (by_name s (document_rows s)) no_end [] c.pieces.walk.answers c.next_piece.new.self.answers (option_map file_parts c.pieces.known) c.pieces.walk.cursor c.in-Ok-Words.field-0-1 c.in-Ok-Words.field-0-0.now e in
+    let next_answer = after_words (by_name s (document_rows s)) no_end [] c.pieces.walk.answers c.next_piece.new.self.answers (option_map file_parts c.pieces.known) c.pieces.walk.cursor c.in-Ok-Words.field-0-1 c.in-Ok-Words.field-0-0.now e in
     let any = any_text (by_name s (document_rows s)) no_end (inner (left c.next_piece.new.self.answers)) (option_map file_parts c.pieces.known) c.pieces.walk.cursor (unescaped c.in-Ok-Words.field-0-0.now) [] (λ a b p at. refl) in
     record {
-      gives = rw c.next_piece.ensures.cursor (sym (past.0 ∙ any) ∙ c.pieces.invariant.gives);
+      gives = rw c.next_piece.ensures.cursor (sym (next_answer.0 ∙ any) ∙ c.pieces.invariant.gives);
       setting = c.next_piece.ensures.setting ∙ c.pieces.invariant.setting;
     }
 

@@ -1,9 +1,9 @@
 use Rattle.std.proofs.Common.{◌≡◌, true, Ok, ap, sym, subst, ◌∙◌}
 use Rattle.std.specs.List.{insert}
 use Rattle.doc_forms.specs.Tables.{put}
-use Rattle.doc_values.proofs.LastPlaces.{rises_without}
+use Rattle.doc_values.proofs.RisingLists.{rises_without}
 use Rattle.doc_values.proofs.Puts.{put_done}
-use Rattle.doc_values.proofs.Rising.{rises_put}
+use Rattle.doc_values.proofs.RisingLists.{rises_put}
 use Rattle.vault_model.specs.Proper.{rises}
 use Rattle.doc_values.proofs.keyed.put_at.Goals.{in-Ok, in-Err}
 use Rattle.doc_values.proofs.keyed.put_at.Goals as goal

@@ -3,7 +3,7 @@ use Rattle.std.specs.Option.{option_copied}
 use Rattle.std.specs.Ordering.{is_gt}
 use Rattle.vault_model.specs.Orders.{bytes_cmp}
 use Rattle.doc_forms.specs.Tables.{position_of}
-use Rattle.doc_values.proofs.LastPlaces.{after_all}
+use Rattle.doc_values.proofs.RisingLists.{after_all}
 use Rattle.doc_values.proofs.keyed.KeyedList.position.Goals as goal
 
 pub returns-in-Some-clause-position : goal.returns-in-Some-clause-position

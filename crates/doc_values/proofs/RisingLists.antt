@@ -1,4 +1,4 @@
--- A key that comes after the last one of a rising list comes after all of them.
+-- Lists that rise by their keys: with one item more, without one, and a key that comes after all of them.
 use Rattle.std.proofs.Common.{◌≡◌, ℕ, zero, suc, ◌+◌, ◌-◌, Bool, true, false, cond, Some, List, [], ◌∷◌, ◌++◌, length, take, drop, refl, ap, sym, subst, ◌∙◌, arith}
 use Rattle.std.specs.declared.cmp.Ordering.{Ordering}
 use Rattle.std.specs.declared.cmp.Ordering.TheVariants.{Less, Equal, Greater}
@@ -8,12 +8,68 @@ use Rattle.vault_model.specs.Orders.{bytes_cmp}
 use Rattle.vault_model.specs.Proper.{rises}
 use Rattle.vault_model.proofs.Orders.{bytes_order}
 use Rattle.vault_model.proofs.Tests.{and_true, and_both}
-use Rattle.doc_forms.specs.Tables.{position_of, without_key}
+use Rattle.doc_forms.specs.Tables.{put_beside, put, position_of, without_key}
+
+-- ---- all of a list
+
+pub all_but_more : {A : Type 0} (few more : A → Bool) (xs : List A) → ((x : A) → few x ≡ true → more x ≡ true) → list_all few xs ≡ true → list_all more xs ≡ true
+all_but_more few more [] f e = refl
+all_but_more few more (x ∷ xs) f e =
+    let both = and_true (few x) (list_all few xs) e in
+    and_both (more x) (list_all more xs) (f x both.0) (all_but_more few more xs f both.1)
+
+-- ---- keys
 
 less_from : (r : Ordering) → is_lt r ≡ true → r ≡ Less
 less_from Less e = refl
 less_from Equal e = cc e
 less_from Greater e = cc e
+
+before_all : (a b c : List ℕ) → bytes_cmp a b ≡ Less → is_lt (bytes_cmp b c) ≡ true → is_lt (bytes_cmp a c) ≡ true
+before_all a b c ab bc = ap is_lt (bytes_order.total.trans a b c ab (less_from (bytes_cmp b c) bc))
+
+turned : (a b : List ℕ) → bytes_cmp a b ≡ Greater → bytes_cmp b a ≡ Less
+turned a b e = bytes_order.total.antisymm b a ∙ ap ordering_reverse e
+
+-- ---- lists with keys
+
+module _ {A : Type 0} (key : A → List ℕ) where
+  -- what holds of all and of one more holds of all with that one among them
+  all_placed : (test : A → Bool) (x y : A) (ys after : List A) (r : Ordering) → test x ≡ true → test y ≡ true → list_all test ys ≡ true → list_all test after ≡ true
+      → list_all test (put_beside r x y ys after) ≡ true
+  all_placed test x y ys after Less tx ty tys tb = and_both (test x) (list_all test (y ∷ ys)) tx (and_both (test y) (list_all test ys) ty tys)
+  all_placed test x y ys after Equal tx ty tys tb = and_both (test x) (list_all test ys) tx tys
+  all_placed test x y ys after Greater tx ty tys tb = and_both (test y) (list_all test after) ty tb
+
+  pub all_put : (test : A → Bool) (x : A) (xs : List A) → test x ≡ true → list_all test xs ≡ true → list_all test (put key x xs) ≡ true
+  all_put test x [] tx txs = and_both (test x) true tx refl
+  all_put test x (y ∷ ys) tx txs =
+      let both = and_true (test y) (list_all test ys) txs in
+      all_placed test x y ys (put key x ys) (bytes_cmp (key x) (key y)) tx both.0 both.1 (all_put test x ys tx both.1)
+
+  rises_placed : (x y : A) (ys : List A) (r : Ordering) → bytes_cmp (key x) (key y) ≡ r
+      → list_all (λ z. is_lt (bytes_cmp (key y) (key z))) ys ≡ true → rises key ys ≡ true → rises key (put key x ys) ≡ true
+      → rises key (put_beside r x y ys (put key x ys)) ≡ true
+  rises_placed x y ys Less e first rest after =
+      let later = all_but_more (λ z. is_lt (bytes_cmp (key y) (key z))) (λ z. is_lt (bytes_cmp (key x) (key z))) ys
+      (λ z. before_all (key x) (key y) (key z) e) first in
+      and_both (list_all (λ z. is_lt (bytes_cmp (key x) (key z))) (y ∷ ys)) (rises key (y ∷ ys))
+      (and_both (is_lt (bytes_cmp (key x) (key y))) (list_all (λ z. is_lt (bytes_cmp (key x) (key z))) ys) (ap is_lt e) later)
+      (and_both (list_all (λ z. is_lt (bytes_cmp (key y) (key z))) ys) (rises key ys) first rest)
+  rises_placed x y ys Equal e first rest after =
+      and_both (list_all (λ z. is_lt (bytes_cmp (key x) (key z))) ys) (rises key ys)
+      (subst (λ (k : List ℕ). list_all (λ z. is_lt (bytes_cmp k (key z))) ys ≡ true) (sym (bytes_order.same (key x) (key y) e)) first) rest
+  rises_placed x y ys Greater e first rest after =
+      and_both (list_all (λ z. is_lt (bytes_cmp (key y) (key z))) (put key x ys)) (rises key (put key x ys))
+      (all_put (λ z. is_lt (bytes_cmp (key y) (key z))) x ys (ap is_lt (turned (key x) (key y) e)) first) after
+
+  pub rises_put : (x : A) (xs : List A) → rises key xs ≡ true → rises key (put key x xs) ≡ true
+  rises_put x [] up = refl
+  rises_put x (y ∷ ys) up =
+      let both = and_true (list_all (λ z. is_lt (bytes_cmp (key y) (key z))) ys) (rises key ys) up in
+      rises_placed x y ys (bytes_cmp (key x) (key y)) refl both.0 both.1 (rises_put x ys both.1)
+
+-- ---- a key after the last one
 
 greater_from : (r : Ordering) → is_gt r ≡ true → r ≡ Greater
 greater_from Less e = cc e
