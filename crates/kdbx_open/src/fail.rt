@@ -1,4 +1,4 @@
-// Why a file is not opened.
+//! Why a file is not opened.
 
 ghost use Rattle.std.specs.Prelude.{◌≡◌};
 ghost use Rattle.kdbx_open.specs.Causes.{of_document, of_frame, of_read};

@@ -1,4 +1,4 @@
-// Icons and custom items of a database, which documents lend.
+//! Icons and custom items of a database, which documents lend.
 ghost use Rattle.std.specs.Prelude.{◌≡◌, OnOk, OnErr};
 ghost use Rattle.std.specs.Option.{option_copied};
 ghost use Rattle.std.specs.Ordering.{as_partial_cmp, eq_by_cmp};

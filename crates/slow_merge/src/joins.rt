@@ -1,4 +1,4 @@
-// Which nodes stay, where each is and what it holds, all members looked at together.
+//! Which nodes stay, where each is and what it holds, all members looked at together.
 ghost use Rattle.std.specs.Prelude.{◌≡◌, ◌<◌, length, IfOk, OnOk, ◌++◌, max, map};
 ghost use Rattle.std.specs.Option.{option_copied};
 ghost use Rattle.std.specs.FinMap as table;

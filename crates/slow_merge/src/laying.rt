@@ -1,4 +1,4 @@
-// A database laid over an older document, whose order of siblings and views it keeps.
+//! A database laid over an older document, whose order of siblings and views it keeps.
 ghost use Rattle.std.specs.Prelude.{◌≡◌, ◌++◌, [], ◌∷◌, Some, cond, not, IfOk, OnOk, map};
 ghost use Rattle.std.specs.Option.{option_map, unwrap_or};
 ghost use Rattle.std.specs.FinMap as table;

@@ -1,5 +1,5 @@
-// A document with its nodes laid side by side: each node's record, and each group's two lists of
-// children.
+//! A document with its nodes laid side by side: each node's record, and each group's two lists of
+//! children.
 ghost use Rattle.std.specs.Prelude.{◌≡◌};
 
 use crate::icons::{LentIcon, LentItem};

@@ -1,4 +1,4 @@
-// What databases have of groups and of places.
+//! What databases have of groups and of places.
 ghost use Rattle.std.specs.Prelude.{◌≡◌};
 ghost use Rattle.vault_model.specs.Db.{group_mark_cmp, mark_of, place_cmp};
 ghost use Rattle.vault_model.specs.Join.{state_join, stats_join};

@@ -1,4 +1,4 @@
-// Finite maps from ids.
+//! Finite maps from ids.
 ghost use Rattle.std.specs.Prelude.{◌≡◌, OnOk, OnErr};
 ghost use Rattle.std.specs.Option.{option_copied};
 ghost use Rattle.std.specs.FinMap as map;

@@ -1,3 +1,5 @@
+//! What a version of an entry and a group hold, and their orders.
+
 ghost use Rattle.std.specs.Prelude.{◌≡◌};
 ghost use Rattle.vault_model.specs.Orders.{attachment_cmp, content_cmp, field_cmp, group_content_cmp};
 ghost use Rattle.vault_model.specs.Seen.{bare_attachment, bare_content, bare_field};

@@ -1,3 +1,5 @@
+//! Copies of versions, which share the bytes of attachments.
+
 ghost use Rattle.std.specs.Prelude.{◌≡◌, [], ◌∷◌, ◌++◌, IfOk, OnOk, map};
 ghost use Rattle.vault_model.specs.Seen.{bare_attachment, bare_content, bare_field};
 ghost use Rattle.vault_model.specs.SeenNodes.{bare_version};

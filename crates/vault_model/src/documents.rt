@@ -1,3 +1,5 @@
+//! A document, whose parts are in order.
+
 ghost use Rattle.std.specs.Prelude.{◌≡◌, ◌≤◌, true};
 ghost use Rattle.vault_model.specs.Db.{nil_id};
 ghost use Rattle.vault_model.specs.Proper.{is_text_meta};

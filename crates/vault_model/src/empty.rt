@@ -1,3 +1,5 @@
+//! A new database.
+
 ghost use Rattle.std.specs.Prelude.{◌≡◌, ◌≢◌, [], IfOk};
 ghost use Rattle.vault_model.specs.Db.{nil_id};
 ghost use Rattle.vault_model.specs.Empty.{empty_bare, empty_tree, new_meta, new_settings, unchanged};

@@ -1,3 +1,5 @@
+//! The forms of documents, and the binaries that a file keeps apart from its document.
+
 use secret_core::Secret;
 use std::rc::Rc;
 

@@ -1,3 +1,5 @@
+//! What a document says of its database.
+
 use crate::contents::Item;
 use outside_core::{Bytes, List, Text};
 use time_core::Stamp;

@@ -1,3 +1,5 @@
+//! Entries with their versions, groups, and tombstones.
+
 ghost use Rattle.std.specs.Prelude.{◌≡◌};
 ghost use Rattle.vault_model.specs.SeenNodes.{entry_record, entry_time};
 
