@@ -14,6 +14,7 @@ use std::time::{Clock, SystemTime};
 const SECONDS_TO_1970: u64 = 62_135_596_800;
 
 // Why the call is not made.
+#[derive(Clone, Copy)]
 enum NoWords {
     NotUtf8,
     OutOfMemory,
