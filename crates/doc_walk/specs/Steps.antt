@@ -17,9 +17,12 @@ pub record Course : Type 0 where
 abbrev pub Rest : Type 0 → Type 0
 Rest Y = Setting → Content → Cursor → Result (Y × Cursor) DocFail
 
--- A step to the end of the element in which the walk is: what is given is what the rest of the element says.
-pub record Steps {X Y : Type 0} (view : X → Y) (old new : Course) (result : Result X DocFail) (rest : Rest Y) : Type 0 where
-  pub gives : Returns (λ x. (view x, new.cursor)) result (rest old.setting (inner (left old.answers)) old.cursor)
+-- A step to the end of the element in which the walk is: what is given is what the rest of the
+-- element says.
+pub record Steps {X Y : Type 0} (view : X → Y) (old new : Course) (result : Result X DocFail)
+    (rest : Rest Y) : Type 0 where
+  pub gives : Returns (λ x. (view x, new.cursor)) result
+      (rest old.setting (inner (left old.answers)) old.cursor)
   pub left : OnOk result (left new.answers ≡ outer (left old.answers))
   pub shorter : OnOk result (length new.answers < length old.answers)
   pub setting : new.setting ≡ old.setting

@@ -14,7 +14,8 @@ text_step tag s content cursor = read_rest s tag.offset tag.attrs.raw.now [] con
 
 -- that it is passed over
 abbrev pub pass_step : Tag → Rest (Unit {0})
-pass_step tag s content cursor = read_rest s tag.offset tag.attrs.raw.now [] content cursor >>= λ x. Ok (tt {0}, x.1)
+pass_step tag s content cursor = read_rest s tag.offset tag.attrs.raw.now [] content cursor
+    >>= λ x. Ok (tt {0}, x.1)
 
 -- its value
 abbrev pub value_step : {A : Type 0} → (ElementText → Option A) → Tag → Rest A
@@ -22,12 +23,15 @@ value_step rule tag s content cursor = value_by s rule tag.offset tag.attrs.raw.
 
 -- all children of it, and its end
 abbrev pub contents_step : {P : Type 0} → (Setting → Child P) → P → Tag → Rest P
-contents_step child parts tag s content cursor = children_and_end s (child s) tag.offset tag.attrs.raw.now [] content parts cursor
+contents_step child parts tag s content cursor = children_and_end s (child s) tag.offset
+    tag.attrs.raw.now [] content parts cursor
 
 -- the element as a child of another
 abbrev pub child_step : {P : Type 0} → (Setting → Child P) → P → Tag → Rest P
-child_step child parts tag s content cursor = child s parts (element tag.offset tag.name.now tag.attrs.raw.now content) cursor
+child_step child parts tag s content cursor = child s parts
+    (element tag.offset tag.name.now tag.attrs.raw.now content) cursor
 
 -- that it has a value
 abbrev pub check_step : {A : Type 0} → (ElementText → Option A) → Tag → Rest (Unit {0})
-check_step rule tag s content cursor = value_by s rule tag.offset tag.attrs.raw.now content cursor >>= λ x. Ok (tt {0}, x.1)
+check_step rule tag s content cursor = value_by s rule tag.offset tag.attrs.raw.now content cursor
+    >>= λ x. Ok (tt {0}, x.1)

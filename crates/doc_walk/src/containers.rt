@@ -22,12 +22,14 @@ pub trait Parts: Drop {
 
     /// Reads the element whose start tag was given.
     fn read_child(&mut self, walk: &mut Walk<'_>, tag: &Tag<'_>) -> Result<(), DocFail>
-        ensures { Steps (λ _. seen self.new) walk.old walk.new result (child_step child (seen self.old) tag.now) };
+        ensures { Steps (λ _. seen self.new) walk.old walk.new result
+            (child_step child (seen self.old) tag.now) };
 }
 
 /// Reads all children of the element whose start tag was given, and its end.
 pub fn contents<P: Parts>(walk: &mut Walk<'_>, tag: &Tag<'_>, parts: &mut P) -> Result<(), DocFail>
-    ensures { Steps (λ _. P.seen parts.new) walk.old walk.new result (contents_step P.child (P.seen parts.old) tag.now) }
+    ensures { Steps (λ _. P.seen parts.new) walk.old walk.new result
+        (contents_step P.child (P.seen parts.old) tag.now) }
 {
     let hides = is_marked(walk.alloc(), &tag.attrs, "Protected")?;
     let mut text = no_text(walk.alloc())?;
@@ -63,15 +65,16 @@ pub fn contents<P: Parts>(walk: &mut Walk<'_>, tag: &Tag<'_>, parts: &mut P) -> 
     }
 }
 
-/// Reads all children of the element whose start tag was given, of which this is known at first, and its end, and puts
-/// what is known then in its place.
+/// Reads all children of the element whose start tag was given, of which this is known at first,
+/// and its end, and puts what is known then in its place.
 pub fn hold<P: Parts>(
     walk: &mut Walk<'_>,
     tag: &Tag<'_>,
     first: P,
     into: &mut P,
 ) -> Result<(), DocFail>
-    ensures { Steps (λ _. P.seen into.new) walk.old walk.new result (contents_step P.child (P.seen first) tag.now) }
+    ensures { Steps (λ _. P.seen into.new) walk.old walk.new result
+        (contents_step P.child (P.seen first) tag.now) }
 {
     let mut parts = first;
     contents(walk, tag, &mut parts)?;
