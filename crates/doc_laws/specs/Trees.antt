@@ -8,7 +8,9 @@ use Rattle.doc_forms.specs.Documents.{DocumentAndHash, document_rows, settled_do
 use Rattle.doc_forms.specs.ElementTexts.{Setting, start}
 use Rattle.doc_forms.specs.Refusals.{◌>>=◌}
 
--- what the elements of a tree say, read with binaries that the file keeps apart, or the first refusal
+-- what the elements of a tree say, read with binaries that the file keeps apart, or the first
+-- refusal
 abbrev pub document_of_tree : Setting → List (List ℕ × Bool) → Tree → Result DocumentAndHash DocFail
 document_of_tree s given tree =
-    all_children (by_name s (document_rows s)) (tree_content tree) None start >>= λ x. settled_document s.form given x.0
+    all_children (by_name s (document_rows s)) (tree_content tree) None start >>= λ x.
+    settled_document s.form given x.0

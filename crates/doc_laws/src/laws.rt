@@ -15,14 +15,18 @@ pub fn parts_are_kept()
         → are_kept parts ≡ true }
 {}
 
-/// The definition of a document never answers with want of memory: each refusal of a text is another one.
+/// The definition of a document never answers with want of memory: each refusal of a text is
+/// another one.
 pub fn documents_never_lack_memory()
-    ensures { (s : Setting) (given : List (List ℕ × Bool)) (text : List ℕ) → document s given text ≢ Err NoMemory }
+    ensures { (s : Setting) (given : List (List ℕ × Bool)) (text : List ℕ)
+        → document s given text ≢ Err NoMemory }
 {}
 
-/// Only a text of the grammar, of which at most 256 elements are open at once, is one of a document, and the document is
-/// what the elements of its tree say.
+/// Only a text of the grammar, of which at most 256 elements are open at once, is one of a
+/// document, and the document is what the elements of its tree say.
 pub fn documents_are_texts()
-    ensures { (s : Setting) (given : List (List ℕ × Bool)) (text : List ℕ) (r : DocumentAndHash) → document s given text ≡ Ok r
-        → (tree : Tree) × IsText text tree × (height tree.root ≤ 256) × (document_of_tree s given tree ≡ Ok r) }
+    ensures { (s : Setting) (given : List (List ℕ × Bool)) (text : List ℕ) (r : DocumentAndHash)
+        → document s given text ≡ Ok r
+        → (tree : Tree) × IsText text tree × (height tree.root ≤ 256)
+        × (document_of_tree s given tree ≡ Ok r) }
 {}

@@ -14,8 +14,8 @@ text_step tag s content cursor = read_rest s tag.offset tag.attrs.raw.now [] con
 
 -- that it is passed over
 abbrev pub pass_step : Tag → Rest (Unit {0})
-pass_step tag s content cursor = read_rest s tag.offset tag.attrs.raw.now [] content cursor
-    >>= λ x. Ok (tt {0}, x.1)
+pass_step tag s content cursor = read_rest s tag.offset tag.attrs.raw.now [] content cursor >>= λ x.
+    Ok (tt {0}, x.1)
 
 -- its value
 abbrev pub value_step : {A : Type 0} → (ElementText → Option A) → Tag → Rest A

@@ -123,8 +123,8 @@ fn prefix(text: &[u8]) -> &[u8]
 /// here. The HMAC is not: its 32 bytes follow the hash, and who has the key checks them. The layout
 /// is that of KeePass's documentation of KDBX 4.
 ///
-/// A text of fewer bytes is the whole file, and the answer is that of every file of this length that
-/// the text is a prefix of.
+/// A text of fewer bytes is the whole file, and the answer is that of every file of this length
+/// that the text is a prefix of.
 pub fn read_header(alloc: Global, text: &[u8], file_len: u64) -> Result<Header, FrameFail>
     requires enough { length text.now < 65536 → length text.now ≡ file_len }
     ensures gives { Returns known (λ x. x) result (header_at file_len (take 65536 text.now)) }

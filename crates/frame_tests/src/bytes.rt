@@ -1,0 +1,95 @@
+//! Bytes that a row of words stands for.
+use sha2::{Digest, Sha256};
+use std::alloc::Global;
+use std::test::Fail;
+
+// The pieces that rows are composed of, in hexadecimal: signature, version, fields, the dictionary's version, its items
+// and its end, and 32 bytes in the place of an HMAC. A field is its id, four bytes of length and its content.
+const PIECES: &str = "sig 03d9a29a67fb4bb5
+v40 00000400
+aes 021000000031c1f2e6bf714350be5805216afc5aff
+twofish 0210000000ad68f29f576f4bb9a36ad47af965346c
+chacha 0210000000d6038a2b8b6f4cb5a524339a31dbb59a
+enigma 021000000001010101010101010101010101010101
+plain 030400000000000000
+zip 030400000001000000
+seed 04200000000202020202020202020202020202020202020202020202020202020202020202
+iv16 071000000003030303030303030303030303030303
+iv12 070c000000040404040404040404040404
+end 00040000000d0a0d0a
+mac 7777777777777777777777777777777777777777777777777777777777777777
+v1 0001
+u-aes 4205000000245555494410000000c9d9f39a628a4460bf740d08c18a4fea
+u-aes4 42050000002455554944100000007c02bb8279a74ac0927d114a00648238
+u-d 4205000000245555494410000000ef636ddf8c29444b91f7a9a403e30a0c
+u-id 42050000002455554944100000009e298b1956db4773b23dfc3ec6f0a1e6
+u-odd 420500000024555549441000000009090909090909090909090909090909
+r 050100000052080000006400000000000000
+s 420100000053200000000505050505050505050505050505050505050505050505050505050505050505
+p 0401000000500400000002000000
+m 05010000004d080000000000100000000000
+i 050100000049080000000300000000000000
+v 0401000000560400000013000000
+0 00";
+
+// The bytes of hexadecimal digits.
+fn put_digits(out: &mut Vec<u8>, digits: &[u8]) -> Result<(), Fail> {
+    for pair in digits.chunks(2) {
+        let text = std::str::from_utf8(pair).map_err(|_| "not a text")?;
+        out.push(u8::from_str_radix(text, 16).map_err(|_| "not hexadecimal")?)?;
+    }
+    Ok(())
+}
+
+// The digits of the piece of this name, or the word itself.
+fn digits_of(word: &str) -> &str {
+    for line in PIECES.lines() {
+        if let Some((name, digits)) = line.split_once(" ") {
+            if name == word {
+                return digits;
+            }
+        }
+    }
+    word
+}
+
+// One word of a row.
+fn put_word(out: &mut Vec<u8>, word: &str) -> Result<(), Fail> {
+    if word == "#" {
+        let hash = Sha256::digest(out.as_slice());
+        out.extend_from_slice(&hash)?;
+    } else if let Some(count) = word.strip_prefix("*") {
+        let count = count.parse::<u32>().map_err(|_| "not a number")?;
+        for _ in 0..count {
+            out.push(0)?;
+        }
+    } else {
+        put_digits(out, digits_of(word).as_bytes())?;
+    }
+    Ok(())
+}
+
+/// The bytes of a row. It is written in the pieces' names and in hexadecimal; `[` and `]` enclose the content of the
+/// field of the dictionary, `*N` is N bytes 0, `#` is the SHA-256 of all bytes so far.
+pub fn bytes_of(alloc: Global, row: &str) -> Result<Vec<u8>, Fail> {
+    let mut out = Vec::new(alloc);
+    let mut dictionary = Vec::new(alloc);
+    let mut inside = false;
+    for word in row.split(" ") {
+        if word == "[" {
+            inside = true;
+        } else if word == "]" {
+            inside = false;
+            out.push(11)?;
+            let len = u32::try_from(dictionary.len()).map_err(|_| "too long")?;
+            out.extend_from_slice(&len.to_le_bytes())?;
+            out.extend_from_slice(dictionary.as_slice())?;
+            dictionary.clear();
+        } else if inside {
+            put_word(&mut dictionary, word)?;
+        } else {
+            put_word(&mut out, word)?;
+        }
+    }
+    Ok(out)
+}

@@ -1,0 +1,97 @@
+//! Headers that other programs wrote. What they hold was read by KeePassXC and by a reader in Python.
+use crate::bytes::bytes_of;
+use crate::headers::answer;
+use kdbx_frame::{Cipher, FileVersion, read_header};
+use key_core::{ArgonKind, Kdf};
+use std::test::Fail;
+
+// Written by keepassxc-cli 2.7.4 (Debian), `mkdir` in a database: KDBX 4.0 with AES and Argon2d. It compresses.
+const KEEPASSXC: &str =
+    "03d9a29a67fb4bb500000400021000000031c1f2e6bf714350be5805216afc5aff0304000000010000000420000000ed45c6d5f09a293021ed8e49853923fc2deded79cb50f015b471d3cb8e940cb8071000000094761050baa2313a68433d2e03cb1e940b8b00000000014205000000245555494410000000ef636ddf8c29444b91f7a9a403e30a0c050100000049080000000e0000000000000005010000004d0800000000000004000000000401000000500400000002000000420100000053200000002d19603dd381166ef6458ac260fdad517b535407737a032a8338987e2273d16804010000005604000000130000000000040000000d0a0d0a9a30a1c729fbe771d4fff949c033d7bcbe992a8786f347d6a944d81553a7ed554742b8e08eac584d17d3b449614af1e32af02578e252102acac3a65baa5a4e83";
+
+// Written by pykeepass 4.0.3 (Debian), `create_database` with compression off and the cipher ChaCha20.
+const PYKEEPASS: &str =
+    "03d9a29a67fb4bb5000004000210000000d6038a2b8b6f4cb5a524339a31dbb59a0304000000000000000420000000b52178a734d0b577423679d02ab37dd17cb6781861d216c7d32d52c354ab2123070c000000a0a1a2a3a4a5a6a7a8a9aaab0b8b00000000014205000000245555494410000000ef636ddf8c29444b91f7a9a403e30a0c050100000049080000000e0000000000000005010000004d0800000000000004000000000401000000500400000002000000420100000053200000007839e86543e0449b3d6cc46b95b4bbab7d519c7eb01d9cf59d64d82f6ab1a15f04010000005604000000130000000000040000000d0a0d0a84ac618fd23f6ee5a328f4759dc6b3f6392ba6a624cb45e3844fdd039de1151774881f1950cef5b4a823d1c75148350b92ed217122c8bf8e05d612101ed1f266";
+
+// Written by File::KDBX 0.906 (Debian), with Twofish, Argon2id, no compression, and public data.
+const FILE_KDBX: &str =
+    "03d9a29a67fb4bb5000004000210000000ad68f29f576f4bb9a36ad47af965346c03040000000000000004200000006f4d056cf7cd370c85d99088dac6389bb2baf3232dc7e3eb6d6b918da9a5687507100000008f089a0cbe8bc2d447cf8bbb4b0bf1fd0b8b000000000142050000002455554944100000009e298b1956db4773b23dfc3ec6f0a1e605010000004908000000030000000000000005010000004d080000000000800000000000040100000050040000000400000042010000005320000000c765e206b8dada5ccba1a2386af3e68c67f186e1046856a8d9f9a978bdd42bd90401000000560400000013000000000c1a000000000142080000006e69636b6e616d650600000066616d696c79000000000000571bae6829fb1ce4792506c50d721a19d02de166ff3f3a27d86698bd61a92611dd4095317e768eee8fc567609b7a80488f88a716e4a89a6d950da62c1d379d60";
+
+// The numbers of an Argon2 in the order type, passes, memory in bytes, lanes, and the salt; none of AES.
+fn costs(kdf: &Kdf) -> Option<(ArgonKind, u64, u64, u32, &[u8])> {
+    match kdf {
+        Kdf::Aes { .. } => None,
+        Kdf::Argon {
+            kind,
+            passes,
+            bytes,
+            lanes,
+            salt,
+        } => Some((*kind, *passes, *bytes, *lanes, salt.as_slice())),
+    }
+}
+
+#[test]
+fn a_header_of_keepassxc_is_read(rt: HostRuntime) -> Result<(), Fail> {
+    let bytes = bytes_of(rt.alloc(), KEEPASSXC)?;
+    let found = answer(rt.alloc(), bytes.as_slice())?;
+    assert_eq!(rt; found.as_str(), "Compressed(1)");
+    Ok(())
+}
+
+#[test]
+fn a_header_of_pykeepass_is_read(rt: HostRuntime) -> Result<(), Fail> {
+    let alloc = rt.alloc();
+    let bytes = bytes_of(alloc, PYKEEPASS)?;
+    let header = read_header(alloc, bytes.as_slice(), bytes.len() as u64)?;
+    let seed = bytes_of(
+        alloc,
+        "b52178a734d0b577423679d02ab37dd17cb6781861d216c7d32d52c354ab2123",
+    )?;
+    let salt = bytes_of(
+        alloc,
+        "7839e86543e0449b3d6cc46b95b4bbab7d519c7eb01d9cf59d64d82f6ab1a15f",
+    )?;
+    let iv = bytes_of(alloc, "a0a1a2a3a4a5a6a7a8a9aaab *4")?;
+    assert_eq!(rt; header.size, 249);
+    assert_eq!(rt; header.settings.version, FileVersion::V40);
+    assert_eq!(rt; header.settings.cipher, Cipher::ChaCha);
+    assert_eq!(rt;
+        costs(&header.settings.kdf),
+        Some((ArgonKind::D, 14, 67_108_864, 2, salt.as_slice()))
+    );
+    assert_eq!(rt; header.seed.as_slice(), seed.as_slice());
+    assert_eq!(rt; header.iv.as_slice(), iv.as_slice());
+    assert!(rt; header.settings.public.is_none());
+    Ok(())
+}
+
+#[test]
+fn a_header_of_file_kdbx_is_read(rt: HostRuntime) -> Result<(), Fail> {
+    let alloc = rt.alloc();
+    let bytes = bytes_of(alloc, FILE_KDBX)?;
+    let header = read_header(alloc, bytes.as_slice(), bytes.len() as u64)?;
+    let salt = bytes_of(
+        alloc,
+        "c765e206b8dada5ccba1a2386af3e68c67f186e1046856a8d9f9a978bdd42bd9",
+    )?;
+    let public = bytes_of(
+        alloc,
+        "000142080000006e69636b6e616d650600000066616d696c7900",
+    )?;
+    assert_eq!(rt; header.size, 280);
+    assert_eq!(rt; header.settings.cipher, Cipher::Twofish);
+    assert_eq!(rt;
+        costs(&header.settings.kdf),
+        Some((ArgonKind::Id, 3, 8_388_608, 4, salt.as_slice()))
+    );
+    assert_eq!(rt;
+        header
+            .settings
+            .public
+            .as_ref()
+            .map(|bytes| bytes.as_slice()),
+        Some(public.as_slice())
+    );
+    Ok(())
+}
