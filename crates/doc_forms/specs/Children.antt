@@ -5,7 +5,8 @@ use Rattle.doc_forms.specs.declared.cursor.Cursor.{Cursor}
 use Rattle.doc_forms.specs.declared.fails.DocFail.{DocFail}
 use Rattle.doc_forms.specs.declared.fails.DocFail.TheVariants.{TooMany}
 use Rattle.doc_forms.specs.ElementTexts.{ElementText, Setting, is_hidden, read_element, read_rest, text_at_end}
-use Rattle.doc_forms.specs.Refusals.{◌>>=◌, checked_value, markup_refusal}
+use Rattle.outside_core.specs.Results.{◌>>=◌}
+use Rattle.doc_forms.specs.Refusals.{checked_value, markup_refusal}
 
 -- How a child is read of an element of which this much is known: what is known then, and how much
 -- has been read.

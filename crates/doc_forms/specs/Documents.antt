@@ -18,7 +18,7 @@ use Rattle.doc_forms.specs.ElementTexts.{Setting, start}
 use Rattle.doc_forms.specs.Groups.{ReadTree, group}
 use Rattle.doc_forms.specs.Ids.{least_duplicate, refuse_duplicate, tombs_of}
 use Rattle.doc_forms.specs.Metas.{ReadBinary, MetaParts, no_meta, metas}
-use Rattle.doc_forms.specs.Refusals.{◌>>=◌}
+use Rattle.outside_core.specs.Results.{◌>>=◌}
 use Rattle.doc_forms.specs.Values.{value_or, id, time}
 
 -- ---- the tree of a document

@@ -12,7 +12,8 @@ use Rattle.vault_model.specs.declared.forms.DocForm.TheVariants.{Plain, V3, V4}
 use Rattle.doc_forms.specs.declared.cursor.Cursor.{Cursor}
 use Rattle.doc_forms.specs.declared.fails.DocFail.{DocFail}
 use Rattle.doc_forms.specs.declared.fails.DocFail.TheVariants.{BadValue}
-use Rattle.doc_forms.specs.Refusals.{◌>>=◌, checked_value, markup_refusal}
+use Rattle.outside_core.specs.Results.{◌>>=◌}
+use Rattle.doc_forms.specs.Refusals.{checked_value, markup_refusal}
 
 -- What an element says: its text as it is, or the bytes that its text hides.
 pub data ElementText : Type 0 where

@@ -15,7 +15,8 @@ use Rattle.doc_forms.specs.declared.fails.RequiredElement.TheVariants.{Uuid}
 use Rattle.doc_forms.specs.declared.times.Times.{Times}
 use Rattle.doc_forms.specs.Children.{Child, by_name, value, hidden_value, children_and_end, container, count_node}
 use Rattle.doc_forms.specs.ElementTexts.{ElementText, Setting, text_bytes, is_marked, is_hidden, read_element}
-use Rattle.doc_forms.specs.Refusals.{◌>>=◌, checked_value}
+use Rattle.outside_core.specs.Results.{◌>>=◌}
+use Rattle.doc_forms.specs.Refusals.{checked_value}
 use Rattle.doc_forms.specs.Tables.{put, no_times, times, custom_data}
 use Rattle.doc_forms.specs.Values.{text_in, bytes_in, value_or, id, boolean, number32, number64}
 

@@ -13,7 +13,8 @@ use Rattle.doc_forms.specs.declared.times.Times.{Times}
 use Rattle.doc_forms.specs.Children.{Child, name_of, offset_of, by_name, value, count_node}
 use Rattle.doc_forms.specs.ElementTexts.{Setting, text_at_end}
 use Rattle.doc_forms.specs.Entries.{ReadEntry, id_or_none, node_id, own_id, entry}
-use Rattle.doc_forms.specs.Refusals.{◌>>=◌, markup_refusal}
+use Rattle.outside_core.specs.Results.{◌>>=◌}
+use Rattle.doc_forms.specs.Refusals.{markup_refusal}
 use Rattle.doc_forms.specs.Tables.{no_times, times, custom_data}
 use Rattle.doc_forms.specs.Values.{text_in, value_or, id, boolean, choice, number32}
 

@@ -16,7 +16,8 @@ use Rattle.vault_model.specs.declared.metas.Protection.{Protection}
 use Rattle.doc_forms.specs.declared.fails.DocFail.TheVariants.{Compressed}
 use Rattle.doc_forms.specs.Children.{Child, value, container}
 use Rattle.doc_forms.specs.ElementTexts.{Setting, is_marked, is_hidden, read_element}
-use Rattle.doc_forms.specs.Refusals.{◌>>=◌, checked_value}
+use Rattle.outside_core.specs.Results.{◌>>=◌}
+use Rattle.doc_forms.specs.Refusals.{checked_value}
 use Rattle.doc_forms.specs.Tables.{put, custom_data}
 use Rattle.doc_forms.specs.Values.{text_in, bytes_in, value_or, id, boolean, number32, number64, signed32, signed64, time}
 

@@ -4,12 +4,6 @@ use Rattle.markup_grammar.specs.Answers.{Answer, form, depth}
 use Rattle.doc_forms.specs.declared.fails.DocFail.{DocFail}
 use Rattle.doc_forms.specs.declared.fails.DocFail.TheVariants.{Form, Depth, BadValue, NoMemory}
 
-infixl 10 ◌>>=◌
--- one step, and then the next with its result
-abbrev pub ◌>>=◌ : {A B : Type 0} → Result A DocFail → (A → Result B DocFail) → Result B DocFail
-Ok x >>= next = next x
-Err e >>= next = Err e
-
 -- a value that the element at this offset must have
 abbrev pub checked_value : {A : Type 0} → ℕ → Option A → Result A DocFail
 checked_value offset (Some x) = Ok x

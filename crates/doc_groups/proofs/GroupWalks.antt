@@ -7,7 +7,7 @@ use Rattle.doc_forms.specs.declared.fails.DocFail.{DocFail}
 use Rattle.doc_forms.specs.Groups.{ReadTree, ReadTrees, GroupParts, no_group, group, group_parts, group_child, group_end, append_tree, beside}
 use Rattle.doc_forms.specs.ElementTexts.{Setting, is_protected}
 use Rattle.doc_forms.specs.Children.{all_children}
-use Rattle.doc_forms.specs.Refusals.{◌>>=◌}
+use Rattle.outside_core.specs.Results.{◌>>=◌}
 use Rattle.doc_forms.specs.SeenDrafts.{side_by_side, draft_seen}
 use Rattle.doc_walk.proofs.Goes.{Goes}
 use Rattle.doc_walk.specs.declared.walk.Tag.{Tag}

@@ -7,7 +7,8 @@ use Rattle.doc_forms.specs.declared.cursor.Cursor.{Cursor}
 use Rattle.doc_forms.specs.declared.fails.DocFail.{DocFail}
 use Rattle.doc_forms.specs.declared.fails.DocFail.TheVariants.{Form, Depth}
 use Rattle.doc_forms.specs.Children.{Child, all_children}
-use Rattle.doc_forms.specs.Refusals.{◌>>=◌, Fails}
+use Rattle.outside_core.specs.Results.{◌>>=◌}
+use Rattle.doc_forms.specs.Refusals.{Fails}
 use Rattle.doc_walk.proofs.Pieces.{carried}
 
 -- how an element ends that has this text, by what is known of it and the cursor

@@ -7,7 +7,8 @@ use Rattle.markup_grammar.specs.Elements.{Element, Content, element, last, also,
 use Rattle.text_core.specs.Texts.{base64_bytes, trim}
 use Rattle.doc_forms.specs.Children.{Child, all_children, by_name, children_and_end, container, count_node, hidden_value, name_of, value, value_by}
 use Rattle.doc_forms.specs.ElementTexts.{ElementText, Setting, element_text, is_hidden, is_protected, may_hide, pass_over, plain_text, read_element, read_rest, revealed_text, text_at_end}
-use Rattle.doc_forms.specs.Refusals.{◌>>=◌, checked_value, markup_refusal}
+use Rattle.outside_core.specs.Results.{◌>>=◌}
+use Rattle.doc_forms.specs.Refusals.{checked_value, markup_refusal}
 use Rattle.doc_forms.specs.declared.cursor.Cursor.{Cursor}
 use Rattle.doc_forms.specs.declared.fails.DocFail.{DocFail}
 use Rattle.doc_forms.specs.declared.fails.DocFail.TheVariants.{BadValue, NoMemory, TooMany}

@@ -12,7 +12,7 @@ use Rattle.doc_forms.specs.declared.fails.RequiredElement.TheVariants.{Uuid}
 use Rattle.text_core.specs.Texts.{base64_bytes, trim}
 use Rattle.doc_forms.specs.Values.{iso_time, time}
 use Rattle.doc_forms.specs.declared.fails.DocFail.{DocFail}
-use Rattle.doc_forms.specs.Refusals.{◌>>=◌}
+use Rattle.outside_core.specs.Results.{◌>>=◌}
 use Rattle.vault_model.specs.Tree.{Tree, node, id_of}
 use Rattle.std.specs.Result.{result_ok}
 use Rattle.std.specs.Str.{is_utf8, chars}

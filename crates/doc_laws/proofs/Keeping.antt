@@ -8,7 +8,7 @@ use Rattle.doc_forms.specs.declared.fails.DocFail.{DocFail}
 use Rattle.doc_forms.specs.Children.{Child, all_children, by_name, children_and_end, container, hidden_value, name_of, value, value_by}
 use Rattle.doc_forms.specs.ElementTexts.{Setting, is_hidden, read_element, read_rest, text_at_end}
 use Rattle.doc_forms.specs.Refusals.{checked_value, markup_refusal}
-use Rattle.doc_forms.specs.Refusals.{◌>>=◌}
+use Rattle.outside_core.specs.Results.{◌>>=◌}
 use Rattle.doc_forms.specs.ElementTexts.{ElementText, text_bytes}
 use Rattle.doc_forms.specs.Values.{text_in}
 

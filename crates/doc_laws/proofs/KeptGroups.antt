@@ -17,7 +17,7 @@ use Rattle.doc_forms.specs.Groups.{GroupParts, ReadTree, ReadTrees, append_tree,
 use Rattle.doc_forms.specs.KeptParts.{are_kept_trees, is_kept_entry, is_kept_tree}
 use Rattle.doc_forms.specs.Children.{by_name, count_node, name_of, offset_of}
 use Rattle.doc_forms.specs.ElementTexts.{Setting, text_at_end}
-use Rattle.doc_forms.specs.Refusals.{◌>>=◌}
+use Rattle.outside_core.specs.Results.{◌>>=◌}
 use Rattle.doc_laws.proofs.Keeping.{◌&◌, step_and_next, any_and_next, either_step, refusal_keeps, Rows, by_name_keeps, text_row, any_row}
 use Rattle.doc_laws.proofs.KeptEntries.{KeptItems, times_row, custom_data_row, id_row, node_kept, entry_row}
 use Rattle.doc_laws.proofs.Rising.{all_later}

@@ -17,7 +17,8 @@ use Rattle.doc_forms.specs.ElementTexts.{Setting, is_hidden, is_marked, read_ele
 use Rattle.doc_forms.specs.Entries.{ReadEntry, association_rows, attachment_rows, attachment_value, auto_type_rows, entry, entry_at, entry_rows, field_rows, held_rows, history, history_item, history_item_at, history_item_rows, history_rows, is_compressed, no_association, no_attachment, no_auto_type, no_entry, no_field, node_id, part_rows, source_in, text_rows, version_of, version_rows, with_association, with_attachment, with_field}
 use Rattle.doc_forms.specs.Groups.{GroupParts, append_tree, group, group_child, group_end, group_parts, group_rows, no_group}
 use Rattle.doc_forms.specs.Metas.{MetaParts, binaries_rows, binary, icon_rows, icons_rows, meta_rows, metas, no_icon, no_meta, protection_rows}
-use Rattle.doc_forms.specs.Refusals.{◌>>=◌, checked_value}
+use Rattle.outside_core.specs.Results.{◌>>=◌}
+use Rattle.doc_forms.specs.Refusals.{checked_value}
 use Rattle.doc_forms.specs.Tables.{custom_data, item_rows, items_rows, no_item, no_times, times, times_rows}
 use Rattle.doc_forms.specs.Values.{bytes_in, number64, text_in}
 use Rattle.doc_laws.proofs.Cuts.{AreSound, IsSound, Respects, container_sound, count_respects, cut_respects, element_respects, end_respects, hidden_sound, names_sound, one_of, refusal_respects, step_then, steps, value_respects, value_sound, within_respects}

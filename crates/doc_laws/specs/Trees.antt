@@ -6,7 +6,7 @@ use Rattle.doc_forms.specs.declared.fails.DocFail.{DocFail}
 use Rattle.doc_forms.specs.Children.{all_children, by_name}
 use Rattle.doc_forms.specs.Documents.{DocumentAndHash, document_rows, settled_document}
 use Rattle.doc_forms.specs.ElementTexts.{Setting, start}
-use Rattle.doc_forms.specs.Refusals.{◌>>=◌}
+use Rattle.outside_core.specs.Results.{◌>>=◌}
 
 -- what the elements of a tree say, read with binaries that the file keeps apart, or the first
 -- refusal

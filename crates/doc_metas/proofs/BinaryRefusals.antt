@@ -8,7 +8,8 @@ use Rattle.doc_forms.specs.declared.fails.DocFail.{DocFail}
 use Rattle.doc_forms.specs.declared.fails.DocFail.TheVariants.{Compressed}
 use Rattle.doc_forms.specs.ElementTexts.{ElementText, is_marked, is_hidden}
 use Rattle.doc_forms.specs.Metas.{ReadBinary, binary}
-use Rattle.doc_forms.specs.Refusals.{◌>>=◌, checked_value, Fails}
+use Rattle.outside_core.specs.Results.{◌>>=◌}
+use Rattle.doc_forms.specs.Refusals.{checked_value, Fails}
 use Rattle.doc_forms.specs.Values.{bytes_in, number64}
 use Rattle.doc_metas.specs.BinaryTexts.{binary_by_text}
 use Rattle.doc_walk.proofs.Pieces.{carried}

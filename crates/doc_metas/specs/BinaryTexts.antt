@@ -5,7 +5,8 @@ use Rattle.doc_forms.specs.declared.fails.DocFail.{DocFail}
 use Rattle.doc_forms.specs.declared.fails.DocFail.TheVariants.{Compressed}
 use Rattle.doc_forms.specs.ElementTexts.{ElementText, is_marked, is_hidden}
 use Rattle.doc_forms.specs.Metas.{ReadBinary}
-use Rattle.doc_forms.specs.Refusals.{◌>>=◌, checked_value}
+use Rattle.outside_core.specs.Results.{◌>>=◌}
+use Rattle.doc_forms.specs.Refusals.{checked_value}
 use Rattle.doc_forms.specs.Values.{bytes_in, number64}
 
 -- the binary of an element with these attributes and this text

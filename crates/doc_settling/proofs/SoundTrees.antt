@@ -12,7 +12,8 @@ use Rattle.doc_forms.specs.Documents.{DocumentAndHash, hash_of, settled_with}
 use Rattle.doc_forms.specs.Groups.{ReadTree}
 use Rattle.doc_forms.specs.Ids.{least_duplicate, refuse_duplicate, tombs_of}
 use Rattle.doc_forms.specs.Metas.{MetaParts, ReadBinary}
-use Rattle.doc_forms.specs.Refusals.{◌>>=◌, Fails}
+use Rattle.outside_core.specs.Results.{◌>>=◌}
+use Rattle.doc_forms.specs.Refusals.{Fails}
 use Rattle.doc_settling.specs.Trees.{ArePartsOf, refusal_of, sound_tree}
 use Rattle.doc_settling.specs.declared.settling.TreeParts.{TreeParts}
 

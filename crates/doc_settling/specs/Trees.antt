@@ -9,7 +9,7 @@ use Rattle.doc_forms.specs.Attachments.{Missing, first_missing, missing_in, refu
 use Rattle.doc_forms.specs.Groups.{ReadTree}
 use Rattle.doc_forms.specs.Ids.{least_duplicate, refuse_duplicate, tombs_of}
 use Rattle.doc_forms.specs.Metas.{ReadBinary}
-use Rattle.doc_forms.specs.Refusals.{◌>>=◌}
+use Rattle.outside_core.specs.Results.{◌>>=◌}
 use Rattle.doc_forms.specs.declared.fails.DocFail.{DocFail}
 use Rattle.doc_settling.specs.declared.settling.TreeParts.{TreeParts}
 

@@ -8,7 +8,8 @@ use Rattle.doc_forms.specs.declared.fails.DocFail.{DocFail}
 use Rattle.doc_forms.specs.declared.fails.DocFail.TheVariants.{Form, Depth}
 use Rattle.doc_forms.specs.ElementTexts.{Setting, is_protected, text_at_end}
 use Rattle.doc_forms.specs.Children.{Child, all_children, children_and_end}
-use Rattle.doc_forms.specs.Refusals.{◌>>=◌, Fails}
+use Rattle.outside_core.specs.Results.{◌>>=◌}
+use Rattle.doc_forms.specs.Refusals.{Fails}
 use Rattle.doc_walk.proofs.Pieces.{carried}
 
 regroup : (a b c d : List ℕ) → a ++ ((b ++ c) ++ d) ≡ (a ++ b) ++ (c ++ d)

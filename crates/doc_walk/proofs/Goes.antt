@@ -8,7 +8,8 @@ use Rattle.doc_forms.specs.declared.fails.DocFail.{DocFail}
 use Rattle.doc_forms.specs.declared.fails.DocFail.TheVariants.{Form, Depth}
 use Rattle.doc_forms.specs.ElementTexts.{Setting, is_protected, text_at_end, read_rest}
 use Rattle.doc_forms.specs.Children.{Child, children_and_end}
-use Rattle.doc_forms.specs.Refusals.{◌>>=◌, Fails, Returns}
+use Rattle.outside_core.specs.Results.{◌>>=◌}
+use Rattle.doc_forms.specs.Refusals.{Fails, Returns}
 use Rattle.doc_forms.specs.ElementTexts.{ElementText}
 use Rattle.doc_walk.proofs.Pieces as pieces
 use Rattle.doc_walk.proofs.ContentPieces as containers

@@ -10,7 +10,8 @@ use Rattle.doc_forms.specs.declared.cursor.Cursor.{Cursor}
 use Rattle.doc_forms.specs.declared.fails.DocFail.{DocFail}
 use Rattle.doc_forms.specs.declared.fails.DocFail.TheVariants.{Form, Depth, NoMemory}
 use Rattle.doc_forms.specs.ElementTexts.{Setting, text_at_end, pass_over, read_element, read_rest}
-use Rattle.doc_forms.specs.Refusals.{◌>>=◌, Fails, Returns}
+use Rattle.outside_core.specs.Results.{◌>>=◌}
+use Rattle.doc_forms.specs.Refusals.{Fails, Returns}
 use Rattle.doc_forms.specs.SeenTexts.{setting_of}
 use Rattle.doc_forms.specs.ElementTexts.{ElementText}
 

@@ -5,7 +5,8 @@ use Rattle.markup_grammar.specs.Elements.{Content, inner, outer, left}
 use Rattle.doc_forms.specs.declared.cursor.Cursor.{Cursor}
 use Rattle.doc_forms.specs.declared.fails.DocFail.{DocFail}
 use Rattle.doc_forms.specs.ElementTexts.{Setting}
-use Rattle.doc_forms.specs.Refusals.{◌>>=◌, Returns}
+use Rattle.outside_core.specs.Results.{◌>>=◌}
+use Rattle.doc_forms.specs.Refusals.{Returns}
 
 -- Where a walk is: what it reads with, the answers that are left, and how far it is.
 pub record Course : Type 0 where

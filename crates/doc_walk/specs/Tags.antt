@@ -3,7 +3,7 @@ use Rattle.std.specs.Prelude.{[], List, ℕ, Ok, Option}
 use Rattle.markup_grammar.specs.Elements.{element}
 use Rattle.doc_forms.specs.ElementTexts.{Setting, read_rest}
 use Rattle.doc_forms.specs.Children.{Child, value_by, children_and_end}
-use Rattle.doc_forms.specs.Refusals.{◌>>=◌}
+use Rattle.outside_core.specs.Results.{◌>>=◌}
 use Rattle.doc_forms.specs.ElementTexts.{ElementText}
 use Rattle.doc_walk.specs.declared.walk.Tag.{Tag}
 use Rattle.doc_walk.specs.Steps.{Rest}
