@@ -1,4 +1,4 @@
-// Key files that are markup.
+//! Key files that are markup.
 
 ghost use Rattle.std.specs.Prelude.{◌≡◌, IfOk, option_map, option_copied};
 ghost use Rattle.markup_grammar.specs.Elements.{inner, left};

@@ -1,4 +1,4 @@
-// Keys written as text.
+//! Keys written as text.
 
 ghost use Rattle.std.specs.Prelude.{◌≡◌, ◌+◌, ◌*◌, ◌++◌, ◌≤◌, [], IfOk, length};
 ghost use Rattle.markup_grammar.specs.Bytes as bytes_of;

@@ -1,4 +1,4 @@
-// Reading the elements of a text, one item of the innermost open element at a time.
+//! Reading the elements of a text, one item of the innermost open element at a time.
 
 ghost use Rattle.std.specs.Prelude.{◌≡◌, ◌↔◌, true};
 ghost use Rattle.markup_grammar.specs.Elements.{inner, left, joined};

@@ -1,3 +1,5 @@
+//! How the reading of blocks fails.
+
 /// Why a stream of blocks is refused.
 #[derive(Clone, Copy, Debug, PartialEq, Eq)]
 pub enum BlockFail {

@@ -1,4 +1,4 @@
-// Where a reader of blocks is in the file, and how a piece brings it on.
+//! Where a reader of blocks is in the file, and how a piece brings it on.
 
 ghost use Rattle.std.specs.Prelude.{◌≡◌, ℕ, ◌+◌, ◌-◌, ◌*◌, ◌<◌, ◌≤◌, ◌^◌, ◌↔◌, List, [], ◌++◌, length, take, drop, IsTrue};
 ghost use Rattle.std.specs.Int.{w32, to_le_bytes};

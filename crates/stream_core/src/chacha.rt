@@ -1,4 +1,4 @@
-// ChaCha20 (RFC 8439).
+//! ChaCha20 (RFC 8439).
 
 ghost use Rattle.std.specs.Prelude.{◌≡◌, ℕ, ◌+◌, ◌^◌, ◌≤◌, length};
 ghost use Rattle.stream_core.specs.ChaCha20.{chacha_byte, chacha_word};

@@ -1,4 +1,4 @@
-// The block function of ChaCha20 (RFC 8439, 2.3), on four blocks at a time.
+//! The block function of ChaCha20 (RFC 8439, 2.3), on four blocks at a time.
 
 ghost use Rattle.std.specs.Prelude.{◌≡◌, ℕ, ◌+◌, ◌*◌, ◌/◌, ◌%◌, ◌^◌, ◌<◌, ◌≤◌, slice_index};
 ghost use Rattle.stream_core.specs.ChaCha20.{half_round, column_round, diagonal_round, double_rounds, chacha_state, chacha_word};

@@ -1,4 +1,4 @@
-// Four blocks side by side: word `i` of block `j` is lane `j` of vector `i`.
+//! Four blocks side by side: word `i` of block `j` is lane `j` of vector `i`.
 
 ghost use Rattle.std.specs.Prelude.{◌≡◌, ℕ, ◌+◌, ◌*◌, ◌/◌, ◌%◌, ◌^◌, ◌<◌, ◌≤◌, [], length, slice_index, slice_index_or, bit_xor};
 ghost use Rattle.std.specs.Int.{w32, rotate_left};

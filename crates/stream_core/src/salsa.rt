@@ -1,4 +1,4 @@
-// Salsa20 (Bernstein, "Salsa20 specification").
+//! Salsa20 (Bernstein, "Salsa20 specification").
 
 ghost use Rattle.std.specs.Prelude.{◌≡◌, ℕ, ◌+◌, ◌^◌, ◌≤◌, length};
 ghost use Rattle.stream_core.specs.Salsa20.{salsa_byte, salsa_word};

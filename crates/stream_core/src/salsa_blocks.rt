@@ -1,4 +1,4 @@
-// The block function of Salsa20/20 (Bernstein, "Salsa20 specification"), on four blocks at a time.
+//! The block function of Salsa20/20 (Bernstein, "Salsa20 specification"), on four blocks at a time.
 
 ghost use Rattle.std.specs.Prelude.{◌≡◌, ℕ, ◌+◌, ◌*◌, ◌/◌, ◌%◌, ◌^◌, ◌<◌, ◌≤◌, slice_index};
 ghost use Rattle.stream_core.specs.Salsa20.{quarter_round, column_round, row_round, double_rounds, salsa_state, salsa_word};

@@ -1,5 +1,5 @@
-// The state of a stream cipher, and the part of its work in which ChaCha20 and Salsa20 are one: a
-// window of four blocks that is filled as the place in the stream goes on.
+//! The state of a stream cipher, and the part of its work in which ChaCha20 and Salsa20 are one: a
+//! window of four blocks that is filled as the place in the stream goes on.
 
 ghost use Rattle.std.specs.Prelude.{◌≡◌, ℕ, ◌+◌, ◌*◌, ◌/◌, ◌%◌, ◌^◌, ◌<◌, ◌≤◌, List, length, slice_index, replicate};
 ghost use Rattle.stream_core.specs.Words.{byte_in};

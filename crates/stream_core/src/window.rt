@@ -1,4 +1,4 @@
-// The bytes of four blocks, in the order of the stream.
+//! The bytes of four blocks, in the order of the stream.
 
 ghost use Rattle.std.specs.Prelude.{◌≡◌, ◌≢◌, ℕ, ◌+◌, ◌*◌, ◌/◌, ◌%◌, ◌<◌, ◌≤◌, [], ◌∷◌, slice_index, slice_index_or};
 ghost use Rattle.std.specs.Int.{w32, to_le_bytes};
