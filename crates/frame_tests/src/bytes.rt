@@ -3,8 +3,9 @@ use sha2::{Digest, Sha256};
 use std::alloc::Global;
 use std::test::Fail;
 
-// The pieces that rows are composed of, in hexadecimal: signature, version, fields, the dictionary's version, its items
-// and its end, and 32 bytes in the place of an HMAC. A field is its id, four bytes of length and its content.
+// The pieces that rows are composed of, in hexadecimal: signature, version, fields, the
+// dictionary's version, its items and its end, and 32 bytes in the place of an HMAC. A field is its
+// id, four bytes of length and its content.
 const PIECES: &str = "sig 03d9a29a67fb4bb5
 v40 00000400
 aes 021000000031c1f2e6bf714350be5805216afc5aff
@@ -69,8 +70,9 @@ fn put_word(out: &mut Vec<u8>, word: &str) -> Result<(), Fail> {
     Ok(())
 }
 
-/// The bytes of a row. It is written in the pieces' names and in hexadecimal; `[` and `]` enclose the content of the
-/// field of the dictionary, `*N` is N bytes 0, `#` is the SHA-256 of all bytes so far.
+/// The bytes of a row. It is written in the pieces' names and in hexadecimal; `[` and `]` enclose
+/// the content of the field of the dictionary, `*N` is N bytes 0, `#` is the SHA-256 of all bytes
+/// so far.
 pub fn bytes_of(alloc: Global, row: &str) -> Result<Vec<u8>, Fail> {
     let mut out = Vec::new(alloc);
     let mut dictionary = Vec::new(alloc);

@@ -4,8 +4,8 @@ use kdbx_frame::{FrameFail, read_header};
 use std::alloc::Global;
 use std::test::Fail;
 
-// What is wrong, the header in words, and the answer.
-// The answers are those of a reader written in Python from the format's rules and not from the code.
+// What is wrong, the header in words, and the answer. The answers are those of a reader written in
+// Python from the format's rules and not from the code.
 const ROWS: &str =
     "every part in its order | sig v40 aes plain seed iv16 [ v1 u-aes r s 0 ] end # mac | Ok(207, Aes)
 Twofish and Argon2d | sig v40 twofish plain seed iv16 [ v1 u-d s p m i v 0 ] end # mac | Ok(253, Twofish)
@@ -105,7 +105,8 @@ too many lanes | sig v40 aes plain seed iv16 [ v1 u-d s 040100000050040000000104
 a salt of 7 bytes | sig v40 aes plain seed iv16 [ v1 u-d 4201000000530700000078787878787878 p m i v 0 ] end # mac | KdfLimit(Salt, 7)
 a salt of 1,025 bytes | sig v40 aes plain seed iv16 [ v1 u-d 42010000005301040000 *1025 p m i v 0 ] end # mac | KdfLimit(Salt, 1025)";
 
-/// The answer in a row's words: the header's length and cipher, or the refusal, of a wrong hash by its name alone.
+/// The answer in a row's words: the header's length and cipher, or the refusal, of a wrong hash by
+/// its name alone.
 pub fn answer(alloc: Global, bytes: &[u8]) -> Result<String, Fail> {
     let text = match read_header(alloc, bytes, bytes.len() as u64) {
         Ok(header) => format!(in alloc; "Ok({}, {:?})", header.size, header.settings.cipher)?,

@@ -4,8 +4,8 @@ use kdbx_frame::read_inner;
 use std::alloc::Global;
 use std::test::Fail;
 
-// The inner fields that pykeepass 4.0.3 writes for a database with two attachments: `first file`, protected, and an
-// empty one.
+// The inner fields that pykeepass 4.0.3 writes for a database with two attachments: `first file`,
+// protected, and an empty one.
 const INNER: &str =
     "030b0000000166697273742066696c6503010000000001040000000300000002400000007f142a44fb4f4408c29747a15ad310726536b701f05c71c0026f2f9968a40e595064265ea21560b4ea82bb9a1d20b0c265533a50dcd3e8872137f7f58dacdbd40000000000";
 
