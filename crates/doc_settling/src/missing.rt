@@ -42,7 +42,8 @@ fn missing_of(pool: &Pool<'_>, attachment: &AttachmentDraft) -> Missing
 
 /// What is missing first in a version.
 fn missing_in_version(pool: &Pool<'_>, version: &VersionDraft) -> Missing
-    ensures { result ≡ spec.first_missing (spec.missing_version pool.now (version_seen version.now)) }
+    ensures { result ≡ spec.first_missing (spec.missing_version pool.now
+        (version_seen version.now)) }
 {
     let mut missing = None;
     for attachment in version.attachments.as_slice() {

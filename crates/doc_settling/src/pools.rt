@@ -26,7 +26,8 @@ pub(crate) fn push<T: Drop>(list: &mut List<T>, item: T) -> Result<(), NoMemory>
 
 /// The binaries that a file keeps apart, by their order from 0 on. Their bytes are shared.
 pub(crate) fn numbered(alloc: Global, given: &[PoolItem]) -> Result<List<Binary>, NoMemory>
-    ensures { IfOk result (λ l. map binary_seen l ≡ spec.binaries_from 0 (map pool_item given.now)) }
+    ensures { IfOk result (λ l. map binary_seen l ≡ spec.binaries_from 0
+        (map pool_item given.now)) }
 {
     let mut binaries = List::new(alloc);
     let mut number = 0;

@@ -69,7 +69,8 @@ fn parts_of(
     tombs: &List<Tombstone>,
 ) -> Result<TreeParts, NoMemory>
     ensures { IfOk result (λ parts.
-        ArePartsOf (pool_from form (map pool_item given.now) (map binary_seen own.now)) (draft_seen draft) tombs.now parts) }
+        ArePartsOf (pool_from form (map pool_item given.now) (map binary_seen own.now))
+        (draft_seen draft) tombs.now parts) }
 {
     match form {
         DocForm::V4 => {
