@@ -1,2 +1,5 @@
+pub mod FlagWords
+pub mod Flags
 pub mod PrefixCases
+pub mod Saying
 pub mod Stripping

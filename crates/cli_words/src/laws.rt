@@ -1,0 +1,21 @@
+//! What holds of the words of every call. The functions do nothing, and take no memory.
+ghost use Rattle.std.specs.Prelude.{◌≡◌, ◌++◌, ◌∷◌, ◌≢◌, ℕ, List, Ok, Some, [], codes, false, true};
+ghost use Rattle.cli_words.specs.Laws.{IsFlagWord, are_flag_letters, lack_end};
+ghost use Rattle.cli_words.specs.Words.{command_of};
+
+/// The order of flags does not matter: two flags beside each other, wherever they are before
+/// `--`, may be exchanged.
+pub fn flags_have_no_order()
+    ensures { (before after : List (List ℕ)) (a b : List ℕ) → lack_end before ≡ true → IsFlagWord a
+        → IsFlagWord b
+        → command_of (codes "ls" ∷ before ++ a ∷ b ∷ after)
+        ≡ command_of (codes "ls" ∷ before ++ b ∷ a ∷ after) }
+{}
+
+/// Flags joined in one word are the same flags in two words.
+pub fn joined_flags_are_separate_flags()
+    ensures { (before after : List (List ℕ)) (a b : List ℕ) → lack_end before ≡ true
+        → are_flag_letters a ≡ true → are_flag_letters b ≡ true
+        → command_of (codes "ls" ∷ before ++ (codes "-" ++ a ++ b) ∷ after)
+        ≡ command_of (codes "ls" ∷ before ++ (codes "-" ++ a) ∷ (codes "-" ++ b) ∷ after) }
+{}
