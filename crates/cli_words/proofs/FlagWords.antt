@@ -18,7 +18,7 @@ pub record Says (flags : List Flag) (word : List ℕ) : Type 0 where
   pub said : (said : Said) → said.ended ≡ false → said.is_due ≡ false → with_word said word ≡ with_flags flags said
 
 -- A word that is read as an option.
-read_option : (said : Said) (word : List ℕ) → is_option word ≡ true → said.ended ≡ false → said.is_due ≡ false
+pub read_option : (said : Said) (word : List ℕ) → is_option word ≡ true → said.ended ≡ false → said.is_due ≡ false
     → with_word said word ≡ with_option said (strip_prefix (codes "--") word) (strip_prefix (codes "-") word)
 read_option said word o e d =
     ap (λ (b : Bool). cond b (with_value said word) (cond (is_option word && not said.ended) (with_option said (strip_prefix (codes "--") word) (strip_prefix (codes "-") word)) (with_position said word said.file))) d
@@ -37,10 +37,13 @@ one_flag flag said = same (with_flag said flag)
 named : (flag : Flag) (word : List ℕ) → is_option word ≡ true
     → ((said : Said) → with_option said (strip_prefix (codes "--") word) (strip_prefix (codes "-") word) ≡ with_flag said flag)
     → (flags : List Flag) × Says flags word
-named flag word o h = (flag ∷ [], record {
-  option = o;
-  said = λ said e d. read_option said word o e d ∙ h said ∙ one_flag flag said;
-})
+named flag word o h = (
+  flag ∷ [],
+  record {
+    option = o;
+    said = λ said e d. read_option said word o e d ∙ h said ∙ one_flag flag said;
+  },
+)
 
 -- The word of a name.
 name_says : (name : List ℕ) → is_some (flag_of_name name) ≡ true → (flags : List Flag) × Says flags (codes "--" ++ name)
@@ -171,8 +174,8 @@ flag_words_first : (fs gs : List Flag) (a b : List ℕ) (words : List (List ℕ)
 flag_words_first fs gs a b words said one two e d =
     flag_word_first fs a (b ∷ words) said one e d
     ∙ same_from (IsState false false) (with_words (b ∷ words)) (λ s. option_and_then (with_words words) (with_flags gs s))
-        (λ s is. flag_word_first gs b words s two is.0 is.1) (with_flags fs said)
-        (flags_keep false false fs said (e, d))
+    (λ s is. flag_word_first gs b words s two is.0 is.1) (with_flags fs said)
+    (flags_keep false false fs said (e, d))
     ∙ sym (regroup (with_flags fs said))
   where
     regroup : (o : Option Said) → option_and_then (with_words words) (option_and_then (with_flags gs) o)
@@ -236,7 +239,7 @@ same_after : (before one other : List (List ℕ)) → lack_end before ≡ true
 same_after before one other h same =
     words_appended before one nothing_said
     ∙ same_from IsOpen (with_words one) (with_words other) same (with_words before nothing_said)
-        (words_open before nothing_said h refl)
+    (words_open before nothing_said h refl)
     ∙ sym (words_appended before other nothing_said)
 
 -- Two words of flags in either order after others.

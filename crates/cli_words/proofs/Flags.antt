@@ -93,8 +93,8 @@ flag_past_flags f (g ∷ gs) said =
     ∙ ap (option_and_then (with_flags gs)) (flag_past_flag said f g)
     ∙ joined (λ s. with_flag s f) (with_flags gs) (with_flag said g)
     ∙ same_step (λ s. option_and_then (with_flags gs) (with_flag s f))
-        (λ s. option_and_then (λ t. with_flag t f) (with_flags gs s))
-        (flag_past_flags f gs) (with_flag said g)
+    (λ s. option_and_then (λ t. with_flag t f) (with_flags gs s))
+    (flag_past_flags f gs) (with_flag said g)
     ∙ sym (joined (with_flags gs) (λ s. with_flag s f) (with_flag said g))
 
 -- Flags in either order.
@@ -104,8 +104,8 @@ flags_exchanged [] gs said = sym (no_flags (with_flags gs said))
 flags_exchanged (f ∷ fs) gs said =
     joined (with_flags fs) (with_flags gs) (with_flag said f)
     ∙ same_step (λ s. option_and_then (with_flags gs) (with_flags fs s))
-        (λ s. option_and_then (with_flags fs) (with_flags gs s))
-        (flags_exchanged fs gs) (with_flag said f)
+    (λ s. option_and_then (with_flags fs) (with_flags gs s))
+    (flags_exchanged fs gs) (with_flag said f)
     ∙ sym (joined (with_flags gs) (with_flags fs) (with_flag said f))
     ∙ ap (option_and_then (with_flags fs)) (flag_past_flags f gs said)
     ∙ joined (λ s. with_flag s f) (with_flags fs) (with_flags gs said)
@@ -116,5 +116,5 @@ pub flags_appended : (fs gs : List Flag) (said : Said)
 flags_appended [] gs said = refl
 flags_appended (f ∷ fs) gs said =
     same_step (with_flags (fs ++ gs)) (λ s. option_and_then (with_flags gs) (with_flags fs s))
-        (flags_appended fs gs) (with_flag said f)
+    (flags_appended fs gs) (with_flag said f)
     ∙ sym (joined (with_flags fs) (with_flags gs) (with_flag said f))

@@ -21,13 +21,13 @@ pub same_from : (P : Said → Type 0) (F G : Said → Option Said) → ((s : Sai
 same_from P F G h None p = refl
 same_from P F G h (Some s) p = h s p
 
--- One of two.
+-- Either of two, by a test.
 by_test : (P : Said → Type 0) (b : Bool) (x y : Option Said) → IfSaid P x → IfSaid P y → IfSaid P (cond b x y)
 by_test P true x y p q = p
 by_test P false x y p q = q
 
 -- What is said unless it was before.
-by_unless : (P : Said → Type 0) (b : Bool) (s : Said) → P s → IfSaid P (unless_given b s)
+pub by_unless : (P : Said → Type 0) (b : Bool) (s : Said) → P s → IfSaid P (unless_given b s)
 by_unless P true s p = refl
 by_unless P false s p = p
 
@@ -114,7 +114,7 @@ position_opens said word (Some file) p = by_unless IsOpen (is_some said.group) (
 value_opens : (said : Said) (word : List ℕ) → IsOpen said → IfSaid IsOpen (with_value said word)
 value_opens said word p = by_test IsOpen (is_option word) None (Some (record said { key_file = Some word; is_due = false })) refl p
 
--- Nothing after `--` makes the word `--`.
+-- Only the word `--` is `--` with nothing after it.
 only_end : (word : List ℕ) → bytes_eq word (codes "--") ≡ false → strip_prefix (codes "--") word ≢ Some []
 only_end word h is =
     let both : word ≡ codes "--" = bare word is in
@@ -174,5 +174,5 @@ pub words_appended : (words more : List (List ℕ)) (said : Said)
 words_appended [] more said = refl
 words_appended (word ∷ words) more said =
     same_step (with_words (words ++ more)) (λ s. option_and_then (with_words more) (with_words words s))
-        (words_appended words more) (with_word said word)
+    (words_appended words more) (with_word said word)
     ∙ sym (joined (with_words words) (with_words more) (with_word said word))
