@@ -1,6 +1,7 @@
 //! The text of a listing.
 #![tactic(auto)]
 
+pub mod laws;
 mod listing;
 
 pub use listing::{Manner, add_group, group_listed};

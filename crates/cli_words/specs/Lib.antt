@@ -1,3 +1,4 @@
+pub mod Laws
 pub mod Prefixes
 pub mod SaidWords
 pub mod Words
