@@ -2,7 +2,7 @@
 use Rattle.std.proofs.Common.{◌≡◌, ◌<◌, ℕ, suc, Bool, false, cond, List, ◌∷◌, length, drop, get_or, map, Option, Some, sym, ap, ◌∙◌}
 use Rattle.std.specs.Prelude.{bytes_eq}
 use Rattle.std.proofs.Math.Seq.{drop-cons}
-use Rattle.tree_core.proofs.SeenGroups.{seen_group}
+use Rattle.vault_model.proofs.SeenGroups.{seen_group}
 use Rattle.tree_core.specs.Finding.{or_else}
 use Rattle.vault_model.specs.Db.{NodeId}
 use Rattle.vault_model.specs.SeenNodes.{tree_seen}

@@ -9,9 +9,10 @@ use std::cmp::Ordering;
 use std::rc::Rc;
 use std::test::Fail;
 use uuid::Uuid;
+use vault_making::{copy_version, empty_doc};
 use vault_model::{
     Association, Attachment, AutoType, Content, Entry, Field, Group, GroupContent, Item, Meta,
-    Stamp, Stats, Tri, Version, compare_content, compare_group, copy_version, empty_doc,
+    Stamp, Stats, Tri, Version, compare_content, compare_group,
     entry_stamp,
 };
 

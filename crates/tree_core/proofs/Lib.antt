@@ -1,4 +1,3 @@
 pub mod Examples
 pub mod Leading
-pub mod SeenGroups
 pub mod Walks

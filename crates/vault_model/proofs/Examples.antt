@@ -13,6 +13,7 @@ entry_titled title = (
   nil_id,
   record {
     placed = 0;
+    previous = nil_id;
     current = record {
       mark = record {
         modified = 0;
@@ -32,6 +33,7 @@ entry_titled title = (
           url_override = [];
           auto_type = record { enabled = true; obfuscation = 0; sequence = []; pairs = [] };
           items = [];
+          quality = true;
         };
       };
       stats = record { accessed = 0; usage = 0 };

@@ -1,6 +1,6 @@
 pub mod DocumentLaws
-pub mod EmptyLaws
 pub mod Examples
 pub mod Ids
 pub mod Orders
+pub mod SeenGroups
 pub mod Tests

@@ -125,12 +125,14 @@ content_order =
       back = p.1.1.1.1.1.1.1.1.1.0;
       url_override = p.1.1.1.1.1.1.1.1.1.1.0;
       auto_type = p.1.1.1.1.1.1.1.1.1.1.1.0;
-      items = p.1.1.1.1.1.1.1.1.1.1.1.1;
+      items = p.1.1.1.1.1.1.1.1.1.1.1.1.0;
+      quality = p.1.1.1.1.1.1.1.1.1.1.1.1.1;
     }) (λ _. refl)
     (pairs_order nat_order (pairs_order nat_order (pairs_order bool_order (pairs_order nat_order
     (pairs_order (options_order bytes_order) (pairs_order (lists_order field_order)
     (pairs_order (lists_order attachment_order) (pairs_order bytes_order (pairs_order bytes_order
-    (pairs_order bytes_order (pairs_order bytes_order (pairs_order auto_type_order (lists_order item_order)))))))))))))
+    (pairs_order bytes_order (pairs_order bytes_order (pairs_order auto_type_order
+    (pairs_order (lists_order item_order) bool_order)))))))))))))
 
 pub group_content_order : IsOrder group_content_cmp
 unfolding group_content_cmp
@@ -146,11 +148,13 @@ group_content_order =
       sequence = p.1.1.1.1.1.1.1.0;
       auto_type = p.1.1.1.1.1.1.1.1.0;
       searching = p.1.1.1.1.1.1.1.1.1.0;
-      items = p.1.1.1.1.1.1.1.1.1.1;
+      items = p.1.1.1.1.1.1.1.1.1.1.0;
+      tags = p.1.1.1.1.1.1.1.1.1.1.1;
     }) (λ _. refl)
     (pairs_order nat_order (pairs_order nat_order (pairs_order bool_order (pairs_order bytes_order
     (pairs_order bytes_order (pairs_order nat_order (pairs_order (options_order bytes_order)
-    (pairs_order bytes_order (pairs_order tri_order (pairs_order tri_order (lists_order item_order)))))))))))
+    (pairs_order bytes_order (pairs_order tri_order (pairs_order tri_order
+    (pairs_order (lists_order item_order) bytes_order)))))))))))
 
 pub bin_order : IsOrder bin_cmp
 unfolding bin_cmp
@@ -205,4 +209,6 @@ group_mark_order = by_parts _ (λ p. record { modified = p.0; content = p.1 }) (
 
 pub place_order : IsOrder place_cmp
 unfolding place_cmp
-place_order = by_parts _ (λ p. record { placed = p.0; parent = p.1 }) (λ _. refl) (pairs_order nat_order id_order)
+place_order =
+    by_parts _ (λ p. record { placed = p.0; parent = p.1.0; previous = p.1.1 }) (λ _. refl)
+    (pairs_order nat_order (pairs_order id_order id_order))

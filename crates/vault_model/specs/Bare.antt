@@ -31,3 +31,4 @@ pub record BareContent : Type 0 where
   pub url_override : List ℕ
   pub auto_type : AutoType
   pub items : List Item
+  pub quality : Bool

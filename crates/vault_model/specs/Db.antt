@@ -54,14 +54,17 @@ group_mark_cmp = on (λ m. (m.modified, m.content)) (pair_cmp nat_cmp group_cont
 abbrev pub mark_of : GroupState → GroupMark
 mark_of s = record { modified = s.modified; content = s.content }
 
--- Where a node is: since when, and in which group.
+-- Where a node is: since when, in which group, and in which it was before, the nil id where in none.
 pub record Place : Type 0 where
   pub placed : ℕ
   pub parent : NodeId
+  pub previous : NodeId
 
--- the later place is the greater, and of one time the one with the greater parent
+-- the later place is the greater, of one time the one with the greater parent, and of one time and
+-- parent the one with the greater previous parent
 unfoldable pub place_cmp : Place → Place → Ordering
-place_cmp = on (λ p. (p.placed, p.parent)) (pair_cmp nat_cmp id_cmp)
+place_cmp = on (λ p. (p.placed, (p.parent, p.previous)))
+    (pair_cmp nat_cmp (pair_cmp id_cmp id_cmp))
 
 -- What a database says of itself in every copy: how a copy was last looked at is left out.
 pub record SharedMeta : Type 0 where

@@ -50,11 +50,12 @@ new_meta = record {
   view = new_meta_view;
 }
 
--- a group of this name that is made now: all its times are now, and all else is as in every new
--- group
+-- a group of this name that is made now: all its times are now, it was in no other group, and all
+-- else is as in every new group
 abbrev pub new_group : List ℕ → ℕ → GroupRecord
 new_group name now = record {
   placed = now;
+  previous = nil_id;
   state = record {
     modified = now;
     content = record {
@@ -69,6 +70,7 @@ new_group name now = record {
       auto_type = Inherit;
       searching = Inherit;
       items = [];
+      tags = [];
     };
     stats = record { accessed = now; usage = 0 };
   };

@@ -76,7 +76,10 @@ content_cmp =
                 c.fields,
                 (
                   c.attachments,
-                  (c.tags, (c.fore, (c.back, (c.url_override, (c.auto_type, c.items))))),
+                  (
+                    c.tags,
+                    (c.fore, (c.back, (c.url_override, (c.auto_type, (c.items, c.quality))))),
+                  ),
                 ),
               ),
             ),
@@ -88,7 +91,7 @@ content_cmp =
     (pair_cmp nat_cmp (pair_cmp (option_cmp bytes_cmp)
     (pair_cmp (slice_cmp field_cmp) (pair_cmp (slice_cmp attachment_cmp)
     (pair_cmp bytes_cmp (pair_cmp bytes_cmp (pair_cmp bytes_cmp (pair_cmp bytes_cmp
-    (pair_cmp auto_type_cmp (slice_cmp item_cmp)))))))))))))
+    (pair_cmp auto_type_cmp (pair_cmp (slice_cmp item_cmp) bool_cmp)))))))))))))
 
 -- the contents of two groups
 unfoldable pub group_content_cmp : GroupContent → GroupContent → Ordering
@@ -109,7 +112,7 @@ group_content_cmp =
                   c.custom_icon,
                   (
                     c.sequence,
-                    (c.auto_type, (c.searching, c.items)),
+                    (c.auto_type, (c.searching, (c.items, c.tags))),
                   ),
                 ),
               ),
@@ -121,7 +124,7 @@ group_content_cmp =
     (pair_cmp nat_cmp (pair_cmp nat_cmp (pair_cmp bool_cmp
     (pair_cmp bytes_cmp (pair_cmp bytes_cmp (pair_cmp nat_cmp
     (pair_cmp (option_cmp bytes_cmp) (pair_cmp bytes_cmp
-    (pair_cmp tri_cmp (pair_cmp tri_cmp (slice_cmp item_cmp)))))))))))
+    (pair_cmp tri_cmp (pair_cmp tri_cmp (pair_cmp (slice_cmp item_cmp) bytes_cmp)))))))))))
 
 -- bins, one that is off below one that is on
 unfoldable pub bin_cmp : Bin → Bin → Ordering

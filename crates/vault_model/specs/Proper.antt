@@ -46,7 +46,7 @@ is_text_content c =
 
 -- what a group says is made of texts
 abbrev pub is_text_group : GroupContent → Bool
-is_text_group c = is_utf8 c.name && is_utf8 c.notes && is_utf8 c.sequence
+is_text_group c = is_utf8 c.name && is_utf8 c.notes && is_utf8 c.sequence && is_utf8 c.tags
     && list_all is_text_item c.items
 
 -- what a database says of itself is made of texts

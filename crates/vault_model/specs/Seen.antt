@@ -29,4 +29,5 @@ bare_content c = record {
   url_override = c.url_override;
   auto_type = c.auto_type;
   items = c.items;
+  quality = c.quality;
 }

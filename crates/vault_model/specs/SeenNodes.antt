@@ -27,9 +27,9 @@ bare_version v = record {
 abbrev pub entry_record : Entry → EntryRecord
 entry_record e = record {
   placed = e.placed;
+  previous = e.previous;
   current = bare_version e.current;
-  history = map
-      bare_version e.history;
+  history = map bare_version e.history;
 }
 
 -- the greatest modification time of an entry's versions, the current one and those before it
@@ -42,7 +42,8 @@ entry_row e = (e.id, entry_record e)
 
 -- one group, with the tree of each group in it in that group's place
 abbrev pub tree_step : Group-F Tree → Tree
-tree_step g = node g.id (record { placed = g.placed; state = g.state; view = g.view })
+tree_step g = node g.id
+    (record { placed = g.placed; previous = g.previous; state = g.state; view = g.view })
     (map entry_row g.entries) (all_trees g.groups)
 
 -- a group with all below it

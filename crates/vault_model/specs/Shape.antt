@@ -22,12 +22,14 @@ pub record BareVersion : Type 0 where
 -- An entry without its place in a group: the current version, and those before it.
 pub record EntryRecord : Type 0 where
   pub placed : ℕ
+  pub previous : NodeId
   pub current : BareVersion
   pub history : List BareVersion
 
 -- A group without its children.
 pub record GroupRecord : Type 0 where
   pub placed : ℕ
+  pub previous : NodeId
   pub state : GroupState
   pub view : GroupView
 
@@ -56,20 +58,33 @@ versions_of e = unite_all stats_join (map (λ (v : BareVersion). insert empty v.
 abbrev pub no_children : Children
 no_children = record { entries = []; groups = [] }
 
--- since when a node is where it is
-abbrev pub placed_or : Option EntryRecord → Option GroupRecord → ℕ
-placed_or (Some e) g = e.placed
-placed_or None (Some g) = g.placed
-placed_or None None = 0
+-- Since when a node is in its group, and in which group it was before.
+pub record Stay : Type 0 where
+  pub placed : ℕ
+  pub previous : NodeId
+
+-- the stay of what is in no group
+abbrev pub no_stay : Stay
+no_stay = record { placed = 0; previous = nil_id }
+
+-- the stay of an entry or else of a group
+abbrev pub stay_or : Option EntryRecord → Option GroupRecord → Stay
+stay_or (Some e) g = record { placed = e.placed; previous = e.previous }
+stay_or None (Some g) = record { placed = g.placed; previous = g.previous }
+stay_or None None = no_stay
 
 -- the same of a node of a shape
-abbrev pub placed_of : Shape → NodeId → ℕ
-placed_of s u = placed_or (get s.entries u) (get s.groups u)
+abbrev pub stay_of : Shape → NodeId → Stay
+stay_of s u = stay_or (get s.entries u) (get s.groups u)
+
+-- the place of a stay in a group
+abbrev pub place_at : Stay → NodeId → Place
+place_at s parent = record { placed = s.placed; parent = parent; previous = s.previous }
 
 -- each child is in the group whose lists have it
 abbrev pub place_rows : Shape → List (NodeId × Place)
 place_rows s = flat_map (λ (row : NodeId × Children).
-    map (λ u. (u, record { placed = placed_of s u; parent = row.0 }))
+    map (λ u. (u, place_at (stay_of s u) row.0))
     (row.1.entries ++ row.1.groups)) (entries s.children)
 
 -- what every copy of a document shares of what it says of itself
@@ -119,17 +134,23 @@ abbrev pub version_of : Mark × Stats → BareVersion
 version_of v = record { mark = v.0; stats = v.1 }
 
 -- of the versions in rising order the greatest is current, and the others are the history
-abbrev pub record_of : ℕ → List (Mark × Stats) → Option EntryRecord
-record_of placed [] = None
-record_of placed (v ∷ vs) = Some (record {
-  placed = placed;
+abbrev pub record_of : Stay → List (Mark × Stats) → Option EntryRecord
+record_of stay [] = None
+record_of stay (v ∷ vs) = Some (record {
+  placed = stay.placed;
+  previous = stay.previous;
   current = version_of (last_of v vs);
   history = map version_of (but_last v vs);
 })
 
--- since when a node has its place in a database
-abbrev pub placed_in : Db → NodeId → ℕ
-placed_in m u = unwrap_or (option_map (λ (p : Place). p.placed) (get m.places u)) 0
+-- the stay of a place; without one, that of what is in no group
+abbrev pub stay_at : Option Place → Stay
+stay_at None = no_stay
+stay_at (Some p) = record { placed = p.placed; previous = p.previous }
+
+-- a node's stay in a database
+abbrev pub stay_in : Db → NodeId → Stay
+stay_in m u = stay_at (get m.places u)
 
 -- a place is in this group
 abbrev pub stands_in : NodeId → Option Place → Bool
@@ -156,11 +177,15 @@ laid_children m t g = record {
 abbrev pub new_view : GroupView
 new_view = record { expanded = true; top_entry = nil_id }
 
--- a group as it is in the database, looked at as in the older document; the root's placed time is
--- the older document's
+-- a laid group's stay: that of its place, and of the root that of the older document
+abbrev pub laid_stay : Db → Shape → NodeId → Stay
+laid_stay m t u = cond (is_id u m.root) (stay_of t u) (stay_in m u)
+
+-- a group as it is in the database, looked at as in the older document
 abbrev pub laid_group : Db → Shape → NodeId → GroupState → GroupRecord
 laid_group m t u state = record {
-  placed = cond (is_id u m.root) (placed_of t u) (placed_in m u);
+  placed = (laid_stay m t u).placed;
+  previous = (laid_stay m t u).previous;
   state = state;
   view = unwrap_or (option_map (λ (g : GroupRecord). g.view) (get t.groups u)) new_view;
 }
@@ -187,7 +212,7 @@ versions_in (Some versions) = entries versions
 unfoldable pub lay : Db → Shape → Shape
 lay m t = record {
   root = m.root;
-  entries = tabulate (keys m.entries) (λ u. record_of (placed_in m u)
+  entries = tabulate (keys m.entries) (λ u. record_of (stay_in m u)
       (versions_in (get m.entries u)));
   groups = tabulate (keys m.groups) (λ u. option_map (laid_group m t u) (get m.groups u));
   children = tabulate (keys m.groups) (λ g. Some (laid_children m t g));

@@ -1,5 +1,5 @@
 -- Documents as trees, without memory, and both ways between a tree and its shape.
-use Rattle.std.specs.Prelude.{Bool, ◌&&◌, ◌≡◌, ◌≤◌, ◌<◌, ℕ, suc, zero, true, false, not, List, [], ◌∷◌, ◌++◌, Option, None, Some, map, max}
+use Rattle.std.specs.Prelude.{Bool, if◌then◌else◌, ◌&&◌, ◌≡◌, ◌≤◌, ◌<◌, ℕ, suc, zero, true, false, not, List, [], ◌∷◌, ◌++◌, Option, None, Some, map, max}
 use Rattle.std.specs.FinMap.{FinMap, get, contains_key, entries, from_entries}
 use Rattle.std.specs.List.{list_all, list_any, filter}
 use Rattle.std.specs.Option.{unwrap_or}
@@ -112,6 +112,7 @@ tree_of s (suc n) g r = node g r (with_records s.entries (kids s g).entries)
 abbrev pub no_group : GroupRecord
 no_group = record {
   placed = 0;
+  previous = nil_id;
   state = record {
     modified = 0;
     content = record {
@@ -126,6 +127,7 @@ no_group = record {
       auto_type = Inherit;
       searching = Inherit;
       items = [];
+      tags = [];
     };
     stats = record { accessed = 0; usage = 0 };
   };
@@ -158,10 +160,32 @@ db_in d = db_of (shape_of d)
 abbrev pub with_id : NodeId → Tree → Tree
 with_id r (node u g es ts) = node r g es ts
 
--- the document with its root's id replaced, and without a tombstone of that id
+-- a previous parent, which is the new root where it was the old one
+abbrev pub new_previous : NodeId → NodeId → NodeId → NodeId
+new_previous old r u = if is_id old u then r else u
+
+-- an entry with its previous parent so
+abbrev pub with_entry_previous : NodeId → NodeId → NodeId × EntryRecord → NodeId × EntryRecord
+with_entry_previous old r e = (e.0, record e.1 { previous = new_previous old r e.1.previous })
+
+-- a tree with all previous parents so
+abbrev mutual
+  pub with_previous : NodeId → NodeId → Tree → Tree
+  with_previous old r (node u g es ts) =
+      node u (record g { previous = new_previous old r g.previous })
+      (map (with_entry_previous old r) es) (with_previous_all old r ts)
+
+  -- the same of groups side by side
+  pub with_previous_all : NodeId → NodeId → Trees → Trees
+  with_previous_all old r none = none
+  with_previous_all old r (beside t ts) =
+      beside (with_previous old r t) (with_previous_all old r ts)
+
+-- the document with its root's id replaced, as a previous parent too, and without a tombstone of
+-- the new one
 abbrev pub rooted : BareDoc → NodeId → BareDoc
 rooted d r = record {
-  tree = with_id r d.tree;
+  tree = with_id r (with_previous (id_of d.tree) r d.tree);
   tombs = filter (λ (t : Tombstone). not (is_id r t.id)) d.tombs;
   meta = d.meta;
 }
@@ -191,7 +215,7 @@ FitsLevels n m = (d : ℕ) (u : NodeId) → contains_key m.groups u ≡ true →
 
 -- the most levels of groups
 abbrev pub LEVELS : ℕ
-LEVELS = 64
+LEVELS = 128
 
 -- all ids of a tree in document order
 abbrev mutual

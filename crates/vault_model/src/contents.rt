@@ -70,6 +70,7 @@ pub struct GroupContent {
     pub auto_type: Tri,
     pub searching: Tri,
     pub items: List<Item>,
+    pub tags: Text,
 }
 
 /// A field of an entry: its key, its value in UTF-8, and whether the value is hidden when it is
@@ -178,7 +179,7 @@ impl Ord for Attachment {
     }
 }
 
-/// What a version of an entry says.
+/// What a version of an entry says; `quality` is whether its password counts in reports.
 #[derive(PartialEq, Eq, PartialOrd, Ord, Drop)]
 pub struct Content {
     pub created: Stamp,
@@ -194,6 +195,7 @@ pub struct Content {
     pub url_override: Text,
     pub auto_type: AutoType,
     pub items: List<Item>,
+    pub quality: bool,
 }
 
 /// Orders what two versions say, field by field as the fields are listed: texts and bytes by their

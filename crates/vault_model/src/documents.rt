@@ -14,7 +14,7 @@ use outside_core::List;
 
 /// A document: what the database says of itself, its tree, and the tombstones of what was deleted.
 ///
-/// Ids of nodes are distinct and not nil, and the tree has at most 64 levels, the root's being the
+/// Ids of nodes are distinct and not nil, and the tree has at most 128 levels, the root's being the
 /// first. Fields, attachments, items, icons and tombstones rise by key, name or id, so that none
 /// occurs twice, and no tombstone names a node. All texts are in UTF-8, the values of fields too.
 #[derive(Drop)]

@@ -2,9 +2,7 @@
 #![tactic(auto)]
 
 pub mod contents;
-pub mod copies;
 pub mod documents;
-pub mod empty;
 pub mod forms;
 pub mod metas;
 pub mod nodes;
@@ -13,10 +11,8 @@ pub use contents::{
     Association, Attachment, AutoType, Content, Field, GroupContent, Item, Stats, Tri,
     compare_content, compare_group,
 };
-pub use copies::copy_version;
 pub use documents::Doc;
-pub use empty::empty_doc;
-pub use forms::{DocForm, PoolItem};
+pub use forms::{DocForm, FileVersion, PoolItem};
 pub use metas::{Bin, Icon, Meta, MetaSettings, MetaView, Protection, Timed};
 pub use nodes::{Entry, Group, GroupState, GroupView, Tombstone, Version, entry_stamp};
 pub use time_core::{Stamp, iso_of, stamp_of_iso};

@@ -38,20 +38,24 @@ pub struct Version {
     pub stats: Stats,
 }
 
-/// An entry: since when it is where it is, its current version, and those before it.
+/// An entry: since when it is in its group, the group that it was in before, its current version,
+/// and those before it. Where it was in no other group, `previous` is nil.
 #[derive(Drop)]
 pub struct Entry {
     pub id: Uuid,
     pub placed: Stamp,
+    pub previous: Uuid,
     pub current: Version,
     pub history: List<Version>,
 }
 
-/// A group with its entries and its groups, in their order.
+/// A group with its entries and its groups, in their order; `placed` and `previous` are as those of
+/// an entry.
 #[derive(Drop)]
 pub struct Group {
     pub id: Uuid,
     pub placed: Stamp,
+    pub previous: Uuid,
     pub state: GroupState,
     pub view: GroupView,
     pub entries: List<Entry>,

@@ -2,7 +2,7 @@ use Rattle.std.proofs.Common.{Some, sym, ◌∙◌, ap}
 use Rattle.vault_model.specs.SeenDoc.{doc_seen}
 use Rattle.vault_model.specs.Tree.{id_of}
 use Rattle.tree_core.specs.Finding.{without_slashes}
-use Rattle.tree_core.proofs.SeenGroups.{seen_group}
+use Rattle.vault_model.proofs.SeenGroups.{seen_group}
 use Rattle.tree_core.proofs.Walks.{below_found, is_empty, is_not_empty, root_found}
 use Rattle.tree_core.proofs.finding.find_group.Goals as goal
 

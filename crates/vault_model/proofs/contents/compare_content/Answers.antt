@@ -28,4 +28,5 @@ returns c =
     (ordering_then (fields i) (ordering_then (attachments i)
     (ordering_then (bytes_cmp a.tags b.tags) (ordering_then (bytes_cmp a.fore b.fore)
     (ordering_then (bytes_cmp a.back b.back) (ordering_then (bytes_cmp a.url_override b.url_override)
-    (ordering_then (auto_type_cmp a.auto_type b.auto_type) (slice_cmp item_cmp a.items b.items)))))))))))))
+    (ordering_then (auto_type_cmp a.auto_type b.auto_type)
+    (ordering_then (slice_cmp item_cmp a.items b.items) (bool_cmp a.quality b.quality))))))))))))))

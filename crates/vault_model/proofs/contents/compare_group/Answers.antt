@@ -31,4 +31,4 @@ returns c =
     (ordering_then (bytes_cmp a.notes b.notes) (ordering_then (nat_cmp a.icon b.icon)
     (ordering_then (option_cmp bytes_cmp a.custom_icon b.custom_icon) (ordering_then (bytes_cmp a.sequence b.sequence)
     (ordering_then (by_rank a.auto_type b.auto_type i) (ordering_then (by_rank a.searching b.searching i)
-    (slice_cmp item_cmp a.items b.items)))))))))))
+    (ordering_then (slice_cmp item_cmp a.items b.items) (bytes_cmp a.tags b.tags))))))))))))

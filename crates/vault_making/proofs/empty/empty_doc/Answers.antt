@@ -3,8 +3,8 @@ use Rattle.std.proofs.Common.{◌≡◌, sym, subst}
 use Rattle.vault_model.specs.Empty.{empty_bare}
 use Rattle.vault_model.specs.SeenNodes.{document_of}
 use Rattle.vault_model.specs.Tree.{IsDoc}
-use Rattle.vault_model.proofs.EmptyLaws.{empty_is_doc}
-use Rattle.vault_model.proofs.empty.empty_doc.Goals as goal
+use Rattle.vault_making.proofs.EmptyLaws.{empty_is_doc}
+use Rattle.vault_making.proofs.empty.empty_doc.Goals as goal
 
 pub invariant_of-result : goal.invariant_of-result
 invariant_of-result c =

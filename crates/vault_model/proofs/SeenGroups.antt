@@ -7,6 +7,7 @@ use Rattle.vault_model.specs.declared.nodes.Group.TheFolds.{fold_out-Group}
 
 pub seen_group : (g : Group)
     → tree_seen g
-    ≡ node (out-Group g).id (record { placed = (out-Group g).placed; state = (out-Group g).state; view = (out-Group g).view }) (map entry_row (out-Group g).entries)
+    ≡ node (out-Group g).id (record { placed = (out-Group g).placed; previous = (out-Group g).previous; state = (out-Group g).state; view = (out-Group g).view })
+    (map entry_row (out-Group g).entries)
     (all_trees (map tree_seen (out-Group g).groups))
 seen_group g = fold_out-Group Tree tree_step g

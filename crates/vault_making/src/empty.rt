@@ -6,14 +6,13 @@ ghost use Rattle.vault_model.specs.Empty.{empty_bare, empty_tree, new_meta, new_
 ghost use Rattle.vault_model.specs.SeenDoc.{doc_seen};
 ghost use Rattle.vault_model.specs.SeenNodes.{tree_seen};
 
-use crate::contents::{GroupContent, Stats, Tri};
-use crate::documents::Doc;
-use crate::metas::{Bin, Meta, MetaSettings, MetaView, Protection, Timed};
-use crate::nodes::{Group, GroupState, GroupView};
 use outside_core::{List, NoMemory, Text};
 use std::alloc::Global;
-use time_core::Stamp;
 use uuid::Uuid;
+use vault_model::{
+    Bin, Doc, Group, GroupContent, GroupState, GroupView, Meta, MetaSettings, MetaView, Protection,
+    Stamp, Stats, Timed, Tri,
+};
 
 // The first second of the year 1, the time of what was never done.
 fn never() -> Stamp
@@ -90,6 +89,7 @@ fn empty_root(alloc: Global, root: Uuid, now: Stamp) -> Result<Group, NoMemory>
     Ok(Group {
         id: root,
         placed: now,
+        previous: Uuid::nil(),
         state: GroupState {
             modified: now,
             content: GroupContent {
@@ -104,6 +104,7 @@ fn empty_root(alloc: Global, root: Uuid, now: Stamp) -> Result<Group, NoMemory>
                 auto_type: Tri::Inherit,
                 searching: Tri::Inherit,
                 items: List::new(alloc),
+                tags: Text::new(alloc),
             },
             stats: Stats {
                 accessed: now,

@@ -4,10 +4,9 @@ ghost use Rattle.std.specs.Prelude.{◌≡◌, [], ◌∷◌, ◌++◌, IfOk, On
 ghost use Rattle.vault_model.specs.Seen.{bare_attachment, bare_content, bare_field};
 ghost use Rattle.vault_model.specs.SeenNodes.{bare_version};
 
-use crate::contents::{Association, Attachment, AutoType, Content, Field, Item};
-use crate::nodes::Version;
 use outside_core::{List, NoMemory, Text};
 use std::alloc::Global;
+use vault_model::{Association, Attachment, AutoType, Content, Field, Item, Version};
 
 // Puts an item at the end of a list.
 fn put_last<T: Drop>(list: &mut List<T>, item: T) -> Result<(), NoMemory>
@@ -133,6 +132,7 @@ fn copy_content(alloc: Global, content: &Content) -> Result<Content, NoMemory>
         url_override: copy_text(alloc, &content.url_override)?,
         auto_type: copy_auto_type(alloc, &content.auto_type)?,
         items: copy_items(alloc, content.items.as_slice())?,
+        quality: content.quality,
     })
 }
 
