@@ -71,6 +71,7 @@ resolved_entry pool e = (
   e.id,
   record {
     placed = e.placed;
+    previous = e.previous;
     current = resolved_version pool e.current;
     history = map (resolved_version pool) e.history;
   },

@@ -49,10 +49,10 @@ pub record RootParts : Type 0 where
 abbrev pub no_root : RootParts
 no_root = record { tree = None; tombs = [] }
 
--- the root group, with 63 levels below it; a second one is refused at its end
+-- the root group, with 127 levels below it; a second one is refused at its end
 abbrev pub root_group : Setting → Child RootParts
 root_group s p e cursor =
-    group s 63 (not (is_some p.tree)) e cursor >>= λ x. Ok (record p { tree = Some x.0 }, x.1)
+    group s 127 (not (is_some p.tree)) e cursor >>= λ x. Ok (record p { tree = Some x.0 }, x.1)
 
 -- the children of `Root`
 abbrev pub root_rows : Setting → List (List ℕ × Child RootParts)

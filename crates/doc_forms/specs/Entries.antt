@@ -120,6 +120,7 @@ pub record ReadVersion : Type 0 where
 -- What is known of an entry, or of a history item, before its end.
 pub record EntryParts : Type 0 where
   pub id : Option NodeId
+  pub previous : NodeId
   pub times : Times
   pub content : BareContent
   pub attachments : List ReadAttachment
@@ -141,17 +142,18 @@ no_content = record {
   url_override = [];
   auto_type = no_auto_type;
   items = [];
+  quality = true;
 }
 
 -- an entry of which nothing is known
 abbrev pub no_entry : EntryParts
 no_entry = record {
   id = None;
+  previous = nil_id;
   times = no_times;
   content = no_content;
   attachments = [];
-  history =
-      [];
+  history = [];
 }
 
 -- what is known with its content changed
@@ -190,10 +192,14 @@ part_rows s =
     ∷ (codes "Binary", container s (attachment_rows s) no_attachment with_attachment)
     ∷ held_rows s
 
--- its texts, and these
+-- whether it counts in reports, its texts, and these
 abbrev pub text_rows : Setting → List (List ℕ × Child EntryParts)
 text_rows s =
-    (codes "ForegroundColor", value s text_in (λ p v. with_content (λ c. record c { fore = v }) p))
+    (
+      codes "QualityCheck",
+      value s (value_or true boolean) (λ p v. with_content (λ c. record c { quality = v }) p),
+    )
+    ∷ (codes "ForegroundColor", value s text_in (λ p v. with_content (λ c. record c { fore = v }) p))
     ∷ (
       codes "BackgroundColor",
       value s text_in
@@ -236,9 +242,16 @@ version_of p = record {
 
 -- ---- history
 
--- the children of a history item: its id and the time of its place are read, and not kept
+-- the previous parent of an entry or a history item
+abbrev pub previous_row : Setting → (EntryParts → NodeId → EntryParts)
+    → List ℕ × Child EntryParts
+previous_row s keep = (codes "PreviousParentGroup", value s (value_or nil_id id) keep)
+
+-- the children of a history item: its id, the time of its place and its previous parent are read,
+-- and not kept
 abbrev pub history_item_rows : Setting → List (List ℕ × Child EntryParts)
-history_item_rows s = (codes "UUID", value s id_or_none (λ p v. p)) ∷ version_rows s
+history_item_rows s =
+    (codes "UUID", value s id_or_none (λ p v. p)) ∷ previous_row s (λ p v. p) ∷ version_rows s
 
 -- a history item that begins at an offset
 abbrev pub history_item_at : Setting → ℕ → List ℕ → Content → Cursor
@@ -267,6 +280,7 @@ history s = container s (history_rows s) [] (λ p v. record p { history = v })
 pub record ReadEntry : Type 0 where
   pub id : NodeId
   pub placed : ℕ
+  pub previous : NodeId
   pub current : ReadVersion
   pub history : List ReadVersion
 
@@ -284,7 +298,18 @@ abbrev pub entry_rows : Setting → List (List ℕ × Child EntryParts)
 entry_rows s =
     (codes "UUID", own_id s (λ p u. record p { id = Some u }))
     ∷ (codes "History", history s)
+    ∷ previous_row s (λ p v. record p { previous = v })
     ∷ version_rows s
+
+-- the entry of an id that the parts make
+abbrev pub entry_of : NodeId → EntryParts → ReadEntry
+entry_of u p = record {
+  id = u;
+  placed = p.times.placed;
+  previous = p.previous;
+  current = version_of p;
+  history = p.history;
+}
 
 -- an entry that begins at an offset
 abbrev pub entry_at : Setting → ℕ → List ℕ → Content → Cursor → Result (ReadEntry × Cursor) DocFail
@@ -292,10 +317,7 @@ entry_at s offset raw content cursor = do
   x ← children_and_end s (by_name s (entry_rows s)) offset raw [] content no_entry cursor
   after ← count_node x.1
   u ← node_id offset x.0.id
-  Ok (
-    record { id = u; placed = x.0.times.placed; current = version_of x.0; history = x.0.history },
-    after,
-  )
+  Ok (entry_of u x.0, after)
 
 -- the same, kept with what is known of its parent
 abbrev pub entry : {P : Type 0} → Setting → (P → ReadEntry → P) → Child P

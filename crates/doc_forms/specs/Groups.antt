@@ -36,6 +36,7 @@ append_tree (beside t ts) tree = beside t (append_tree ts tree)
 -- What is known of a group before its end.
 pub record GroupParts : Type 0 where
   pub id : Option NodeId
+  pub previous : NodeId
   pub times : Times
   pub content : GroupContent
   pub view : GroupView
@@ -46,6 +47,7 @@ pub record GroupParts : Type 0 where
 abbrev pub no_group : GroupParts
 no_group = record {
   id = None;
+  previous = nil_id;
   times = no_times;
   content = record {
     created = 0;
@@ -59,6 +61,7 @@ no_group = record {
     auto_type = Inherit;
     searching = Inherit;
     items = [];
+    tags = [];
   };
   view = record { expanded = true; top_entry = nil_id };
   entries = [];
@@ -75,6 +78,7 @@ group_rows s =
     (codes "UUID", own_id s (λ p u. record p { id = Some u }))
     ∷ (codes "Name", value s text_in (λ p v. with_group_content (λ c. record c { name = v }) p))
     ∷ (codes "Notes", value s text_in (λ p v. with_group_content (λ c. record c { notes = v }) p))
+    ∷ (codes "Tags", value s text_in (λ p v. with_group_content (λ c. record c { tags = v }) p))
     ∷ (
       codes "IconID",
       value s (value_or 48 number32) (λ p v. with_group_content (λ c. record c { icon = v }) p),
@@ -107,6 +111,10 @@ group_rows s =
       value s (value_or nil_id id) (λ p v. record p { view = record p.view { top_entry = v } }),
     )
     ∷ (
+      codes "PreviousParentGroup",
+      value s (value_or nil_id id) (λ p v. record p { previous = v }),
+    )
+    ∷ (
       codes "CustomData",
       custom_data s (λ p v. with_group_content (λ c. record c { items = v })
           p),
@@ -118,6 +126,7 @@ group_rows s =
 abbrev pub record_of : GroupParts → GroupRecord
 record_of p = record {
   placed = p.times.placed;
+  previous = p.previous;
   state = record {
     modified = p.times.modified;
     content = record p.content {

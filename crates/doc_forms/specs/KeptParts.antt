@@ -40,10 +40,10 @@ abbrev mutual
 abbrev pub is_kept_meta : Meta → Bool
 is_kept_meta m = icons_rise m.icons && items_rise m.items && is_text_meta m
 
--- a root group, below which there are at most 63 levels
+-- a root group, below which there are at most 127 levels
 abbrev pub is_kept_root : Option ReadTree → Bool
 is_kept_root None = true
-is_kept_root (Some t) = is_kept_tree 63 t
+is_kept_root (Some t) = is_kept_tree 127 t
 
 -- what is known of `Root`
 abbrev pub is_kept_half : Option RootParts → Bool

@@ -83,6 +83,8 @@ abbrev pub icon_rows : Setting → List (List ℕ × Child Icon)
 icon_rows s =
     (codes "UUID", value s (value_or nil_id id) (λ p v. record p { id = v }))
     ∷ (codes "Data", value s bytes_in (λ p v. record p { bytes = v }))
+    ∷ (codes "Name", value s text_in (λ p v. record p { name = v }))
+    ∷ (codes "LastModificationTime", value s (value_or 0 time) (λ p v. record p { changed = v }))
     ∷ []
 
 -- the children of `CustomIcons`: of two icons of one id the last counts

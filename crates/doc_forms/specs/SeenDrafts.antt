@@ -43,6 +43,7 @@ abbrev pub entry_seen : EntryDraft → ReadEntry
 entry_seen e = record {
   id = e.id;
   placed = e.placed;
+  previous = e.previous;
   current = version_seen e.current;
   history = map version_seen e.history.items;
 }
@@ -55,7 +56,8 @@ side_by_side (t ∷ ts) = beside t (side_by_side ts)
 -- one group, with the tree of each group in it in that group's place
 abbrev pub draft_step : GroupDraft-F ReadTree → ReadTree
 draft_step g =
-    node g.id (record { placed = g.placed; state = g.state; view = g.view })
+    node g.id
+    (record { placed = g.placed; previous = g.previous; state = g.state; view = g.view })
     (map entry_seen g.entries.items) (side_by_side g.groups.items)
 
 -- a group with all below it
@@ -70,6 +72,7 @@ binary_seen b = record { number = b.number; bytes = b.bytes.value.bytes; hidden 
 abbrev pub entry_parts : EntryBuilder → EntryParts
 entry_parts e = record {
   id = e.id;
+  previous = e.previous;
   times = e.times;
   content = bare_content e.content;
   attachments = map attachment_seen e.attachments;
@@ -80,6 +83,7 @@ entry_parts e = record {
 abbrev pub group_parts_seen : GroupBuilder → GroupParts
 group_parts_seen g = record {
   id = g.id;
+  previous = g.previous;
   times = g.times;
   content = g.content;
   view = g.view;

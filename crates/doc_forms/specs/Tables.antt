@@ -77,6 +77,7 @@ abbrev pub item_rows : Setting → List (List ℕ × Child Item)
 item_rows s =
     (codes "Key", value s text_in (λ p v. record p { key = v }))
     ∷ (codes "Value", value s text_in (λ p v. record p { value = v }))
+    ∷ (codes "LastModificationTime", value s (value_or 0 time) (λ p v. record p { changed = v }))
     ∷ []
 
 -- the children of `CustomData`: of two items of one key the last counts

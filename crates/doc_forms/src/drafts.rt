@@ -43,6 +43,7 @@ pub struct VersionDraft {
 pub struct EntryDraft {
     pub id: Uuid,
     pub placed: Stamp,
+    pub previous: Uuid,
     pub current: VersionDraft,
     pub history: Vec<VersionDraft>,
 }
@@ -52,6 +53,7 @@ pub struct EntryDraft {
 pub struct GroupDraft {
     pub id: Uuid,
     pub placed: Stamp,
+    pub previous: Uuid,
     pub state: GroupState,
     pub view: GroupView,
     pub entries: Vec<EntryDraft>,
@@ -70,6 +72,7 @@ pub struct Binary {
 #[derive(Drop)]
 pub struct EntryBuilder {
     pub id: Option<Uuid>,
+    pub previous: Uuid,
     pub times: Times,
     pub content: Content,
     pub attachments: List<AttachmentDraft>,
@@ -80,6 +83,7 @@ pub struct EntryBuilder {
 #[derive(Drop)]
 pub struct GroupBuilder {
     pub id: Option<Uuid>,
+    pub previous: Uuid,
     pub times: Times,
     pub content: GroupContent,
     pub view: GroupView,

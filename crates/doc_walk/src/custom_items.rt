@@ -10,7 +10,7 @@ use crate::containers::{Parts, contents};
 use crate::element_times::never;
 use crate::walk::{Tag, Walk};
 use doc_forms::DocFail;
-use doc_values::{KeyedList, TextValue};
+use doc_values::{KeyedList, TextValue, TimeValue};
 use outside_core::{List, Text};
 use std::alloc::Global;
 use vault_model::Item;
@@ -28,6 +28,7 @@ impl Parts for Item {
         match tag.name {
             "Key" => walk.keep::<TextValue>(tag, &mut self.key),
             "Value" => walk.keep::<TextValue>(tag, &mut self.value),
+            "LastModificationTime" => walk.keep::<TimeValue>(tag, &mut self.changed),
             _ => walk.pass(tag),
         }
     }

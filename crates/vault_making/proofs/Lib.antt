@@ -1,1 +1,2 @@
 pub mod EmptyLaws
+pub mod Later

@@ -75,6 +75,7 @@ fn version_needs(version: &Version) -> FileVersion
 }
 
 /// What the versions of an entry need that are before its current one.
+#[tactic(auto, using(crate::proofs::Later::later_of_three, crate::proofs::Later::later_than_oldest))]
 fn history_needs(history: &[Version]) -> FileVersion
     ensures { result ≡ spec.latest_needed spec.version_needs (map bare_version history.now) }
 {
@@ -89,7 +90,7 @@ fn history_needs(history: &[Version]) -> FileVersion
 fn previous_needs(previous: &Uuid) -> FileVersion
     ensures { result ≡ spec.previous_needs previous.now }
 {
-    new_part(*previous != Uuid::nil())
+    new_part(!previous.cmp(&Uuid::nil()).is_eq())
 }
 
 /// What an entry needs.
@@ -104,6 +105,7 @@ fn entry_needs(entry: &Entry) -> FileVersion
 }
 
 /// What some entries need.
+#[tactic(auto, using(crate::proofs::Later::later_of_three, crate::proofs::Later::later_than_oldest))]
 fn entries_need(entries: &[Entry]) -> FileVersion
     ensures { result ≡ spec.latest_needed spec.entry_needs (map entry_row entries.now) }
 {
@@ -128,6 +130,7 @@ fn group_needs(previous: &Uuid, content: &GroupContent) -> FileVersion
 }
 
 /// What a group needs, with all below it.
+#[tactic(auto, using(crate::proofs::Later::later_of_three, crate::proofs::Later::later_than_oldest))]
 fn tree_needs(group: &Group) -> FileVersion
     ensures { result ≡ spec.tree_needs (tree_seen group.now) }
 {
@@ -140,6 +143,7 @@ fn tree_needs(group: &Group) -> FileVersion
 }
 
 /// What some icons need.
+#[tactic(auto, using(crate::proofs::Later::later_of_three, crate::proofs::Later::later_than_oldest))]
 fn icons_need(icons: &[Icon]) -> FileVersion
     ensures { result ≡ spec.latest_needed spec.icon_needs icons.now }
 {
