@@ -161,6 +161,7 @@ fn icons_need(icons: &[Icon]) -> FileVersion
 /// tags, a node a previous parent, a version of an entry does not count in reports, an icon has a
 /// name or a time, or an item has a time; otherwise 4.0 where a group or a version of an entry has
 /// custom items; otherwise 3.1. Takes no memory.
+#[tactic(auto, unfolding(crate::specs::NeededVersion::needed_version))]
 pub fn needed(doc: &Doc) -> FileVersion
     ensures { result ≡ spec.needed_version (doc_seen doc.now) }
 {
