@@ -289,7 +289,7 @@ def boolean(text):
 
 
 def choice(text):
-    return "inherit" if text == "null" else boolean(text)
+    return "inherit" if text.isascii() and text.lower() == "null" else boolean(text)
 
 
 def time(text):
