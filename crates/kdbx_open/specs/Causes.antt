@@ -4,12 +4,13 @@ use Rattle.std.specs.Prelude.{ℕ, ◌≤◌, ◌<◌, Result, IsErrOf}
 use Rattle.outside_core.specs.Counts.{Increased}
 use Rattle.secret_core.specs.declared.files.ReadFail.{ReadFail}
 use Rattle.secret_core.specs.declared.files.ReadFail.TheVariants as read
-use Rattle.kdbx_frame.specs.declared.fail.FrameFail.{FrameFail}
-use Rattle.kdbx_frame.specs.declared.fail.FrameFail.TheVariants as frame
+use Rattle.kdbx_parts.specs.declared.fail.FrameFail.TheVariants as frame
+use Rattle.kdbx_payload.specs.declared.fail.PayloadFail.{PayloadFail}
+use Rattle.kdbx_payload.specs.declared.fail.PayloadFail.TheVariants as payload
 use Rattle.doc_forms.specs.declared.fails.DocFail.{DocFail}
 use Rattle.doc_forms.specs.declared.fails.DocFail.TheVariants as document
 use Rattle.kdbx_open.specs.declared.fail.OpenFail.{OpenFail}
-use Rattle.kdbx_open.specs.declared.fail.OpenFail.TheVariants.{File, Frame, Doc, NoMemory}
+use Rattle.kdbx_open.specs.declared.fail.OpenFail.TheVariants.{File, Frame, KeyOrHeader, Block, BadPadding, StreamUnknown, Doc, NoMemory}
 
 -- How many bytes a file may have.
 abbrev pub limit : ℕ
@@ -20,10 +21,14 @@ abbrev pub of_read : ReadFail → OpenFail
 of_read read.NoMemory = NoMemory
 of_read fail = File fail
 
--- A refusal of the header or of the inner fields.
-abbrev pub of_frame : FrameFail → OpenFail
-of_frame frame.NoMemory = NoMemory
-of_frame fail = Frame fail
+-- A refusal of the payload.
+abbrev pub of_payload : PayloadFail → OpenFail
+of_payload (payload.Frame fail) = Frame fail
+of_payload (payload.KeyOrHeader kept found) = KeyOrHeader kept found
+of_payload (payload.Block fail) = Block fail
+of_payload payload.BadPadding = BadPadding
+of_payload (payload.StreamUnknown id) = StreamUnknown id
+of_payload payload.NoMemory = NoMemory
 
 -- A refusal of the document.
 abbrev pub of_document : DocFail → OpenFail
