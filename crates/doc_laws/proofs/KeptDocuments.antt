@@ -19,8 +19,8 @@ KeptRoot p = is_kept_root p.tree ≡ true
 
 root_group_kept : (s : Setting) → Keeps KeptRoot (root_group s)
 root_group_kept s p e cursor g =
-    step_and_next (λ x. is_kept_tree 63 x.0 ≡ true) (λ x. KeptRoot x.0) (group s 63 (not (is_some p.tree)) e cursor) (λ x. Ok (record p { tree = Some x.0 }, x.1))
-    (group_kept s 63 (not (is_some p.tree)) e cursor) (λ x k. k)
+    step_and_next (λ x. is_kept_tree 127 x.0 ≡ true) (λ x. KeptRoot x.0) (group s 127 (not (is_some p.tree)) e cursor) (λ x. Ok (record p { tree = Some x.0 }, x.1))
+    (group_kept s 127 (not (is_some p.tree)) e cursor) (λ x k. k)
 
 root_rows_kept : (s : Setting) → Rows KeptRoot (root_rows s)
 root_rows_kept s = root_group_kept s & any_container KeptRoot s (tombs_rows s) [] _ (λ p v g. g) & tt
