@@ -135,7 +135,7 @@ fn read_plain(alloc: Global, text: Secret) -> Result<ReadDoc, DocFail>
     let mut stream = InnerStream::Clear;
     let parts = read_parts(alloc, text.lend(0, text.len()), DocForm::Plain, &mut stream)?;
     drop(text);
-    settle(alloc, DocForm::Plain, &List::new(alloc), parts)
+    settle(alloc, &List::new(alloc), parts)
 }
 
 // The plain document in these bytes of a file.
