@@ -14,7 +14,7 @@ ghost use Rattle.doc_walk.specs.Tags.{contents_step};
 use crate::builders::{EntryBuilder, no_entry, version_of};
 use crate::versions::version_child;
 use doc_forms::{DocFail, VersionDraft};
-use doc_values::IdOrNone;
+use doc_values::{IdOrNone, IdValue};
 use doc_walk::{Parts, Tag, Walk, contents};
 
 /// What is known of a history item before its end.
@@ -36,6 +36,10 @@ impl Parts for ItemDraft {
                 let _ = walk.value::<IdOrNone>(tag)?;
                 Ok(())
             }
+            "PreviousParentGroup" => {
+                let _ = walk.value::<IdValue>(tag)?;
+                Ok(())
+            }
             _ => version_child(&mut self.known, walk, tag),
         }
     }
@@ -52,6 +56,7 @@ fn history_item(walk: &mut Walk<'_>, tag: &Tag<'_>) -> Result<VersionDraft, DocF
     walk.count()?;
     let EntryBuilder {
         id: _,
+        previous: _,
         times,
         content,
         fields,
