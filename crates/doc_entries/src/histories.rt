@@ -32,14 +32,8 @@ impl Parts for ItemDraft {
 
     fn read_child(&mut self, walk: &mut Walk<'_>, tag: &Tag<'_>) -> Result<(), DocFail> {
         match tag.name {
-            "UUID" => {
-                let _ = walk.value::<IdOrNone>(tag)?;
-                Ok(())
-            }
-            "PreviousParentGroup" => {
-                let _ = walk.value::<IdValue>(tag)?;
-                Ok(())
-            }
+            "UUID" => walk.check::<IdOrNone>(tag),
+            "PreviousParentGroup" => walk.check::<IdValue>(tag),
             _ => version_child(&mut self.known, walk, tag),
         }
     }
