@@ -1,10 +1,19 @@
 use Rattle.std.proofs.Common.{List, Some, refl}
+use Rattle.std.proofs.lemmas.Result.{err_from_is_err_and}
 use Rattle.vault_model.specs.Db.{NodeId}
 use Rattle.doc_forms.specs.Entries.{EntryParts, ReadVersion, entry_rows}
 use Rattle.doc_entries.specs.SeenBuilders.{entry_known}
 use Rattle.doc_walk.proofs.Branches.{put_in, refused_in}
 use Rattle.doc_walk.proofs.Rests.{by_later_rows, kept_in}
-use Rattle.doc_entries.proofs.entries.EntryKnown.read_child.Goals as goal
+use Rattle.doc_entries.proofs.entries.EntryKnownParts.read_child.Goals as goal
+
+pub returns-in_ok-value-in-UUID : goal.returns-in_ok-value-in-UUID
+returns-in_ok-value-in-UUID c = rw c.in-UUID.is (put_in (λ (v : NodeId). let p : EntryParts = record (entry_known c.args.self.now.known) { id = Some v } in p) c.in_ok-value-in-UUID.ensures refl)
+
+pub returns-in_err-value-in-UUID : goal.returns-in_err-value-in-UUID
+returns-in_err-value-in-UUID c =
+    let p = err_from_is_err_and c.from_residual-in_err-value-in-UUID.result c.from_residual-in_err-value-in-UUID.ensures.1 in
+    rw (p.1, p.2, c.in-UUID.is) (refused_in (λ (v : NodeId). let p : EntryParts = record (entry_known c.args.self.now.known) { id = Some v } in p) c.in_err-value-in-UUID.ensures)
 
 pub returns-in-History : goal.returns-in-History
 returns-in-History c = rw c.in-History.is (kept_in (λ (v : List ReadVersion). let p : EntryParts = record (entry_known c.args.self.now.known) { history = v } in p) c.history.ensures)

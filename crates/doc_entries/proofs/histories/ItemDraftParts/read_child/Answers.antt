@@ -3,7 +3,7 @@ use Rattle.doc_forms.specs.Entries.{history_item_rows}
 use Rattle.doc_entries.specs.SeenBuilders.{entry_known}
 use Rattle.doc_walk.proofs.Branches.{checked_in}
 use Rattle.doc_walk.proofs.Rests.{by_later_rows}
-use Rattle.doc_entries.proofs.histories.ItemDraft.read_child.Goals as goal
+use Rattle.doc_entries.proofs.histories.ItemDraftParts.read_child.Goals as goal
 
 pub returns-in-UUID : goal.returns-in-UUID
 returns-in-UUID c = rw c.in-UUID.is (checked_in _ c.args.tag.now (entry_known c.args.self.now.known) c.check.ensures)
