@@ -17,7 +17,7 @@ returns-in_ok-field-in-String c = rw c.in-String.is (put_in (with_field (entry_k
 
 pub returns-in_err-field-in-String : goal.returns-in_err-field-in-String
 returns-in_err-field-in-String c =
-    let p = err_from_is_err_and c.from_residual-in_err-field-in-String.result c.from_residual-in_err-field-in-String.ensures.1 in
+    let p = err_from_is_err_and c.from_residual.result c.from_residual.ensures.1 in
     rw (p.1, p.2, c.in-String.is) (refused_in (with_field (entry_known c.args.known.now)) c.in_err-field-in-String.ensures)
 
 pub returns-in_ok-attachment-in-Binary : goal.returns-in_ok-attachment-in-Binary

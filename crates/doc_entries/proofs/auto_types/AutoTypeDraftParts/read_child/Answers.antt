@@ -2,7 +2,7 @@ use Rattle.std.proofs.Common.{Bool, ℕ, List}
 use Rattle.std.proofs.lemmas.Result.{err_from_is_err_and}
 use Rattle.vault_model.specs.declared.contents.AutoType.{AutoType}
 use Rattle.doc_forms.specs.Entries.{auto_type_rows, with_association}
-use Rattle.doc_walk.proofs.Branches.{passed_over, put_in}
+use Rattle.doc_walk.proofs.Branches.{passed_over, put_in, refused_in}
 use Rattle.doc_walk.proofs.Rests.{kept_in}
 use Rattle.doc_entries.proofs.auto_types.AutoTypeDraftParts.read_child.Goals as goal
 
@@ -20,7 +20,7 @@ returns-in_ok-pair-in-Association c = rw c.in-Association.is (put_in (with_assoc
 
 pub returns-in_err-pair-in-Association : goal.returns-in_err-pair-in-Association
 returns-in_err-pair-in-Association c =
-    let p = err_from_is_err_and c.from_residual-in_err-pair-in-Association.result c.from_residual-in_err-pair-in-Association.ensures.1 in
+    let p = err_from_is_err_and c.from_residual.result c.from_residual.ensures.1 in
     rw (p.1, p.2, c.in-Association.is) (refused_in (with_association c.args.self.now.auto_type) c.in_err-pair-in-Association.ensures)
 
 pub returns-in_default : goal.returns-in_default

@@ -12,7 +12,7 @@ returns-in_ok-value-in-UUID c = rw c.in-UUID.is (put_in (λ (v : NodeId). let p 
 
 pub returns-in_err-value-in-UUID : goal.returns-in_err-value-in-UUID
 returns-in_err-value-in-UUID c =
-    let p = err_from_is_err_and c.from_residual-in_err-value-in-UUID.result c.from_residual-in_err-value-in-UUID.ensures.1 in
+    let p = err_from_is_err_and c.from_residual.result c.from_residual.ensures.1 in
     rw (p.1, p.2, c.in-UUID.is) (refused_in (λ (v : NodeId). let p : EntryParts = record (entry_known c.args.self.now.known) { id = Some v } in p) c.in_err-value-in-UUID.ensures)
 
 pub returns-in-History : goal.returns-in-History
