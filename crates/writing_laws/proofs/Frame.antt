@@ -46,10 +46,10 @@ cursor_twice c h n k m = cursor_same _ _ _ _ (omega arith) (omega arith)
 -- ---- the statement
 
 abbrev mutual
-  -- all texts in it are UTF-8
+  -- all texts in it are UTF-8, and what is hidden is bytes
   pub HasTexts : Piece → Type 0
   HasTexts (leaf name attrs text) = Each (λ a. IsUtf8 a.1) attrs × IsUtf8 text
-  HasTexts (secret name attrs bytes) = Each (λ a. IsUtf8 a.1) attrs
+  HasTexts (secret name attrs bytes) = Each (λ a. IsUtf8 a.1) attrs × IsBytes bytes
   HasTexts (box name pieces) = HaveTexts pieces
 
   pub HaveTexts : Pieces → Type 0
@@ -320,7 +320,7 @@ module _ {P V A : Type 0} (s : Setting) (view : P → V) (rule : ElementText →
       → may_hide s.form ≡ true → IsBytes bytes
       → rule (hidden_bytes bytes) ≡ Some v → ((p : P) → view (keep p v true) ≡ g (view p)) → Reads s view (hidden_value s rule keep) (secret name [] bytes) g 0
   secret_hidden keep name bytes v g may are_bytes says kept = record {
-    texts = tt;
+    texts = (tt, are_bytes);
     read = λ place p c room.
         let raw = attributes_text ([] ++ protected ∷ []) in (
           keep p v true,

@@ -1,7 +1,15 @@
 pub mod Attrs
+pub mod EscapedUtf8
+pub mod FittingPieces
+pub mod FoundAgain
 pub mod Frame
+pub mod GoodDocs
 pub mod Goods
+pub mod NewDocs
+pub mod PoolPairs
+pub mod RangeTests
 pub mod ReadAttachments
+pub mod ReadDocuments
 pub mod ReadEntries
 pub mod ReadFields
 pub mod ReadGroups
@@ -9,5 +17,8 @@ pub mod ReadLists
 pub mod ReadMetas
 pub mod ReadOptions
 pub mod ReadTimes
+pub mod ReadsBack
+pub mod SettledAgain
+pub mod SoundPieces
 pub mod TimeTexts
 pub mod ValueTexts

@@ -20,7 +20,7 @@ use Rattle.doc_forms.specs.ElementTexts.{Setting}
 use Rattle.doc_forms.specs.Children.{Child, unknown_child, by_name, count_node}
 use Rattle.outside_core.specs.Results.{◌>>=◌}
 use Rattle.doc_forms.specs.Tables.{put}
-use Rattle.doc_spelling.specs.Pieces.{Piece, box, Pieces, none, ◌▹◌, ◌▹▹◌, pieces_of, piece_if, filled, not_nil, if_false, text, hidden_len_all}
+use Rattle.doc_spelling.specs.Pieces.{Piece, none, ◌▹◌, ◌▹▹◌, pieces_of, piece_if, filled, not_nil, if_false, hidden_len_all}
 use Rattle.writing_laws.specs.ResolvedParts.{version_with, entry_with, entry_parts_with, own_attachment, own_version, own_entry}
 use Rattle.writing_laws.proofs.Frame.{cursor_after, ◌▸▸◌, Reads, ReadsAll, reads_none, ◌▸◌, all_alike, by_row, row_of, piece_name, children_read, container_reads, text_value}
 use Rattle.writing_laws.proofs.ReadFields.{text_says, GoodItem, items_read, GoodField, field_read, GoodTyping, typing_read}
@@ -28,14 +28,14 @@ use Rattle.writing_laws.proofs.ReadAttachments.{HasBinary, attachment_read}
 use Rattle.writing_laws.proofs.ReadLists.{fold_over, each_piece, each_leaf, maybe_piece, step_if, fold_along, append_all, put_all}
 use Rattle.writing_laws.proofs.ReadTimes.{times_read}
 use Rattle.writing_laws.proofs.ValueTexts.{bool_says, id_says, number_says, id_or_none_says, own_id_says}
-use Rattle.doc_spelling.specs.Pool.{PoolPair, number_in}
+use Rattle.doc_spelling.specs.Pool.{PoolPair}
 use Rattle.doc_spelling.specs.Ranges.{count_all}
-use Rattle.doc_spelling.specs.Values.{id_piece, bool_piece, number_piece, times_piece, items_piece, items_pieces}
-use Rattle.doc_spelling.specs.Entries.{field_piece, attachment_piece, auto_type_piece, version_times, icon_pieces, previous_pieces, text_pieces, held_pieces, version_pieces, history_item_piece, history_piece, entry_piece}
+use Rattle.doc_spelling.specs.Values.{id_piece, bool_piece, items_pieces}
+use Rattle.doc_spelling.specs.Entries.{field_piece, attachment_piece, version_times, icon_pieces, previous_pieces, text_pieces, held_pieces, version_pieces, history_item_piece, history_piece, entry_piece}
 use Rattle.doc_forms.specs.Entries.{entry_of}
 use Rattle.vault_model.specs.declared.forms.DocForm.{DocForm}
 use Rattle.writing_laws.proofs.Goods.{Each, If, IsId, GoodTimes}
-use Rattle.writing_laws.proofs.ReadOptions.{or_old, maybe_part, filled_back, if_false_back, not_nil_back, if_filled, if_falsehood, if_other, or_else, or_none}
+use Rattle.writing_laws.proofs.ReadOptions.{or_old, maybe_part, filled_back, if_false_back, not_nil_back, if_falsehood, if_other, or_else, or_none}
 
 -- ---- rows that entries and history items share
 

@@ -1,5 +1,5 @@
 -- Custom items, fields, attachments and how an entry is typed are read back.
-use Rattle.std.proofs.Common.{◌≡◌, ℕ, ◌+◌, ◌≤◌, Bool, true, false, cond, Some, None, List, [], ◌∷◌, ◌++◌, codes, ap, sym, refl, ◌∙◌, arith}
+use Rattle.std.proofs.Common.{◌≡◌, ℕ, ◌≤◌, Bool, true, false, cond, Some, None, List, [], ◌∷◌, ◌++◌, codes, ap, sym, refl, ◌∙◌, arith}
 use Rattle.std.specs.Str.{is_utf8}
 use Rattle.std.proofs.lemmas.Str.{IsUtf8-from_is_utf8}
 use Rattle.base64.specs.GeneralPurpose.{IsBytes}
@@ -16,10 +16,10 @@ use Rattle.doc_forms.specs.Tables.{put, no_item, item_rows, items_rows, custom_d
 use Rattle.doc_forms.specs.Entries.{no_field, field_rows, no_association, association_rows, with_association, no_auto_type, auto_type_rows}
 use Rattle.doc_forms.specs.ElementTexts.{hidden_bytes}
 use Rattle.doc_forms.specs.Values.{text_in}
-use Rattle.doc_spelling.specs.Pieces.{none, box, pieces_of, nonzero, protect_in_memory}
+use Rattle.doc_spelling.specs.Pieces.{nonzero, protect_in_memory}
 use Rattle.doc_spelling.specs.Values.{value_piece, time_piece, item_piece, items_piece}
 use Rattle.doc_spelling.specs.Entries.{field_piece, association_piece, auto_type_piece}
-use Rattle.writing_laws.proofs.Frame.{identity, Reads, reads_none, ◌▸◌, all_alike, by_row, container_reads, text_value, text_hidden, secret_hidden, no_protection, no_hiding, in_memory_marks}
+use Rattle.writing_laws.proofs.Frame.{identity, Reads, reads_none, ◌▸◌, by_row, container_reads, text_value, text_hidden, secret_hidden, no_protection, no_hiding, in_memory_marks}
 use Rattle.writing_laws.proofs.ReadLists.{fold_over, each_leaf, fold_along, append_all, put_all}
 use Rattle.writing_laws.proofs.ReadOptions.{maybe_part, nonzero_back, if_nonzero}
 use Rattle.time_core.specs.Times.{last_stamp}

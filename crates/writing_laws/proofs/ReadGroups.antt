@@ -23,7 +23,7 @@ use Rattle.doc_forms.specs.ElementTexts.{Setting}
 use Rattle.doc_forms.specs.Children.{unknown_child, by_name, all_children, count_node}
 use Rattle.outside_core.specs.Results.{◌>>=◌}
 use Rattle.doc_forms.specs.ElementTexts.{ElementText}
-use Rattle.doc_spelling.specs.Pieces.{Piece, Pieces, ◌▹▹◌, piece_if, pieces_of, filled, not_nil, text, hidden_len, hidden_len_all, element_of, content_of}
+use Rattle.doc_spelling.specs.Pieces.{Piece, ◌▹▹◌, piece_if, pieces_of, filled, not_nil, text, hidden_len, hidden_len_all, element_of, content_of}
 use Rattle.doc_spelling.specs.Pool.{PoolPair}
 use Rattle.doc_spelling.specs.Values.{id_piece, items_pieces}
 use Rattle.vault_model.specs.declared.forms.DocForm.{DocForm}

@@ -1,5 +1,5 @@
 -- Things side by side are read one after another, and rising ones keep their order.
-use Rattle.std.proofs.Common.{◌≡◌, ℕ, ◌+◌, true, Option, Some, None, List, [], ◌∷◌, ◌++◌, ap, sym, refl, ◌∙◌, arith, append_assoc, append-nil}
+use Rattle.std.proofs.Common.{◌≡◌, ℕ, true, Option, Some, None, List, [], ◌∷◌, ◌++◌, ap, sym, refl, ◌∙◌, append_assoc, append-nil}
 use Rattle.std.specs.List.{list_all}
 use Rattle.std.specs.Ordering.{is_lt, ordering_reverse}
 use Rattle.std.specs.declared.cmp.Ordering.{Ordering}
@@ -14,7 +14,7 @@ use Rattle.doc_forms.specs.Children.{Child}
 use Rattle.doc_forms.specs.Tables.{put}
 use Rattle.writing_laws.proofs.Goods.{Each, If}
 use Rattle.doc_spelling.specs.Ranges.{count_all}
-use Rattle.doc_spelling.specs.Pieces.{Piece, Pieces, pieces_of, piece_if}
+use Rattle.doc_spelling.specs.Pieces.{Piece, pieces_of, piece_if}
 use Rattle.writing_laws.proofs.Frame.{Reads, ReadsAll, reads_none, ◌▸◌}
 
 -- one thing after another

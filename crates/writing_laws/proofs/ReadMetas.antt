@@ -21,8 +21,6 @@ use Rattle.markup_grammar.specs.Attributes.{attribute_text}
 use Rattle.markup_grammar.specs.Bytes.{is_digit, begins_name, is_name_byte}
 use Rattle.markup_grammar.specs.Elements as told
 use Rattle.markup_grammar.specs.Escapes.{escaped, unescaped}
-use Rattle.stream_core.specs.InnerStream.{keystream_byte}
-use Rattle.stream_core.specs.Stream.{xored}
 use Rattle.doc_forms.specs.declared.cursor.Cursor.{Cursor}
 use Rattle.doc_forms.specs.declared.fails.DocFail.{DocFail}
 use Rattle.doc_forms.specs.declared.fails.DocFail.TheVariants.{Compressed}
@@ -34,7 +32,7 @@ use Rattle.doc_forms.specs.Refusals.{checked_value}
 use Rattle.doc_forms.specs.Tables.{put}
 use Rattle.doc_forms.specs.ElementTexts.{ElementText, plain_text, hidden_bytes}
 use Rattle.doc_forms.specs.Values.{number64, bytes_in}
-use Rattle.doc_spelling.specs.Pieces.{secret, box, Pieces, none, beside, ◌▹◌, ◌▹▹◌, text, pieces_of, piece_if, filled, nonzero, protected, protect_in_memory, attributes_text, hidden_text}
+use Rattle.doc_spelling.specs.Pieces.{secret, box, none, ◌▹◌, text, pieces_of, filled, nonzero, protected, protect_in_memory, attributes_text, hidden_text}
 use Rattle.doc_spelling.specs.Pool.{PoolPair}
 use Rattle.doc_forms.specs.Attachments.{binaries_from}
 use Rattle.doc_spelling.specs.Entries.{number_attribute}
@@ -46,7 +44,7 @@ use Rattle.writing_laws.proofs.ReadOptions.{or_else, maybe_part, filled_back, no
 use Rattle.writing_laws.proofs.TimeTexts.{stamp_says}
 use Rattle.writing_laws.proofs.Goods.{Each, If, IsId, IsHash, IsSigned}
 use Rattle.writing_laws.proofs.ReadFields.{text_says, GoodItem, items_read}
-use Rattle.writing_laws.proofs.ReadLists.{fold_over, each_leaf, append_all, put_all}
+use Rattle.writing_laws.proofs.ReadLists.{each_leaf, append_all, put_all}
 use Rattle.writing_laws.proofs.ValueTexts.{literal, base64_utf8, bool_says, number_is, number_says, id_says, bytes_say, hash_says, signed_says}
 
 -- ---- protection
@@ -134,7 +132,7 @@ binary_name V4 n bytes true = refl
 secret_read : {s : Setting} → may_hide s.form ≡ true → (n : ℕ) (bytes : List ℕ) → (let b : ReadBinary = record { number = n; bytes = bytes; hidden = true } in GoodBinary b)
     → Reads s identity (binary s) (secret (codes "Binary") (number_attribute (codes "ID") n ∷ []) bytes) (λ l. l ++ record { number = n; bytes = bytes; hidden = true } ∷ []) 0
 secret_read {s} may n bytes good = record {
-  texts = (number_utf8 n good.number, tt);
+  texts = ((number_utf8 n good.number, tt), good.bytes);
   read = λ place l c room.
       let attrs = number_attribute (codes "ID") n ∷ protected ∷ [] in
       let b : ReadBinary = record { number = n; bytes = bytes; hidden = true } in

@@ -1,5 +1,5 @@
 -- The times of a node are read back.
-use Rattle.std.proofs.Common.{◌≡◌, ℕ, ◌≤◌, false, List, codes, ap, refl, ◌∙◌, arith}
+use Rattle.std.proofs.Common.{◌≡◌, false, codes, ap, refl, ◌∙◌, arith}
 use Rattle.vault_model.specs.declared.forms.DocForm.{DocForm}
 use Rattle.doc_forms.specs.declared.times.Times.{Times}
 use Rattle.doc_forms.specs.ElementTexts.{Setting}

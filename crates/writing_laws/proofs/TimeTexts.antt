@@ -1,20 +1,18 @@
 -- A time as ISO says that time.
-use Rattle.std.proofs.Common.{◌≡◌, ℕ, zero, suc, ◌+◌, ◌-◌, ◌*◌, ◌/◌, ◌%◌, ◌<◌, ◌≤◌, Bool, true, false, ◌&&◌, ◌||◌, ◌==◌, cond, leb, ltb, Option, Some, None, List, [], ◌∷◌, refl, ap, ◌∙◌, arith, ℤ, pos, Decides, ltb-true, ltb-false}
+use Rattle.std.proofs.Common.{◌≡◌, ℕ, ◌+◌, ◌-◌, ◌*◌, ◌/◌, ◌%◌, ◌<◌, ◌≤◌, Bool, true, false, ◌&&◌, ◌||◌, ◌==◌, cond, leb, ltb, Option, Some, None, List, [], ◌∷◌, refl, ap, ◌∙◌, arith, ℤ, pos, Decides}
 use Rattle.std.proofs.lemmas.Int.{ints}
 use Rattle.std.proofs.lemmas.Bool.Decides.{nat_tests, Decides-and, Decides-ltb}
 use Rattle.std.proofs.lemmas.Slice.Eq.{bytes_eq-Decides}
 use Rattle.std.proofs.lemmas.Str.{IsUtf8-from_ascii}
 use Rattle.std.proofs.lemmas.Str.Ascii.{IsAscii-cons, IsAscii-nil}
 use Rattle.std.specs.Str.{bytes_eq, IsUtf8, IsAscii}
-use Rattle.jiff_core.proofs.CalendarLemmas.{day_count-next_year, day_count-next_month, day_count-last_of_year, day_count-end, day_count-day}
-use Rattle.jiff_core.specs.Calendar.{IsYear, days_in_month, days_in_year, is_leap_year, day_count}
-use Rattle.time_core.proofs.Moments.{day_count-first}
+use Rattle.jiff_core.specs.Calendar.{IsYear, days_in_month, is_leap_year}
 use Rattle.time_core.specs.Times.{last_stamp, IsMoment, seconds_of, iso_text}
 use Rattle.vault_model.specs.declared.forms.DocForm.{DocForm}
 use Rattle.vault_model.specs.declared.forms.DocForm.TheVariants.{Plain, V3, V4}
 use Rattle.time_core.specs.declared.iso.Moment.{Moment}
 use Rattle.doc_forms.specs.Values.{moment_in, is_moment, iso_time, value_or, time, either, counted_time}
-use Rattle.doc_spelling.specs.Moments.{year_from, month_from, moment_at, time_text}
+use Rattle.doc_spelling.specs.Moments.{moment_at, time_text}
 use Rattle.doc_spelling.proofs.IsoTexts.{moment_is}
 use Rattle.writing_laws.proofs.Goods.{Each}
 use Rattle.writing_laws.proofs.ValueTexts.{Says, IsVisible, says, time_says}
