@@ -1,0 +1,13 @@
+pub mod Attrs
+pub mod Frame
+pub mod Goods
+pub mod ReadAttachments
+pub mod ReadEntries
+pub mod ReadFields
+pub mod ReadGroups
+pub mod ReadLists
+pub mod ReadMetas
+pub mod ReadOptions
+pub mod ReadTimes
+pub mod TimeTexts
+pub mod ValueTexts
