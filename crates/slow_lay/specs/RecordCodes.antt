@@ -1,5 +1,4 @@
--- How entries of a document, laid side by side, are reported apart: each record is stored as its
--- parts.
+-- Codes of the entries of a document that is laid side by side: each record is coded as its parts.
 use Rattle.std.specs.Prelude.{ℕ, List, refl}
 use Rattle.std.specs.Coded.{Coded, code_by, coded×, coded_ℕ, coded_list}
 use Rattle.vault_model.specs.declared.contents.Stats.{Stats}

@@ -7,24 +7,24 @@ use Rattle.std.specs.FinMap.{put, is_sorted, empty, insert as insert_key, from_s
 use Rattle.std.specs.FinMap.Entries.{by_order as entry_by_order, is_sorted-put}
 use Rattle.std.proofs.Math.Dec.{T}
 use Rattle.vault_model.specs.Unite.{by_order}
-use Rattle.slow_tables.specs.RowPlaces.{place_of, further}
+use Rattle.slow_tables.specs.RowPositions.{position_of, further}
 
 module _ {K X : Type 0} (R : K → K → Ordering) (k : K) (v : X) (d : K × X) where
-  abbrev pub at_place : List (K × X) → Result ℕ ℕ → List (K × X)
-  at_place es (Ok n) = set es n ((get_or es n d).0, v)
-  at_place es (Err n) = insert es n (k, v)
+  abbrev pub at_position : List (K × X) → Result ℕ ℕ → List (K × X)
+  at_position es (Ok n) = set es n ((get_or es n d).0, v)
+  at_position es (Err n) = insert es n (k, v)
 
-  at_further : (e : K × X) (es : List (K × X)) (p : Result ℕ ℕ) → at_place (e ∷ es) (further 1 p) ≡ e ∷ at_place es p
-  at_further e es (Ok n) = let one : 1 + n ≡ suc n = omega arith in ap (λ m. at_place (e ∷ es) (Ok m)) one
-  at_further e es (Err n) = let one : 1 + n ≡ suc n = omega arith in ap (λ m. at_place (e ∷ es) (Err m)) one
+  at_further : (e : K × X) (es : List (K × X)) (p : Result ℕ ℕ) → at_position (e ∷ es) (further 1 p) ≡ e ∷ at_position es p
+  at_further e es (Ok n) = let one : 1 + n ≡ suc n = omega arith in ap (λ m. at_position (e ∷ es) (Ok m)) one
+  at_further e es (Err n) = let one : 1 + n ≡ suc n = omega arith in ap (λ m. at_position (e ∷ es) (Err m)) one
 
-  pub put_at : (es : List (K × X)) → at_place es (place_of R k es) ≡ put R k v es
+  pub put_at : (es : List (K × X)) → at_position es (position_of R k es) ≡ put R k v es
   put_at [] = refl
   put_at (e ∷ es) =
-      elim (R k e.0) as (λ r. at_place (e ∷ es) (by_order r (Err 0) (Ok 0) (further 1 (place_of R k es))) ≡ entry_by_order r ((k, v) ∷ e ∷ es) ((e.0, v) ∷ es) (e ∷ put R k v es)) [
+      elim (R k e.0) as (λ r. at_position (e ∷ es) (by_order r (Err 0) (Ok 0) (further 1 (position_of R k es))) ≡ entry_by_order r ((k, v) ∷ e ∷ es) ((e.0, v) ∷ es) (e ∷ put R k v es)) [
         | Less ↦ refl
         | Equal ↦ refl
-        | Greater ↦ at_further e es (place_of R k es) ∙ ap (λ (fs : List (K × X)). e ∷ fs) (put_at es)
+        | Greater ↦ at_further e es (position_of R k es) ∙ ap (λ (fs : List (K × X)). e ∷ fs) (put_at es)
       ]
 
 module _ {K X : Type 0} {R : K → K → Ordering} (o : IsTotalOrder R) where

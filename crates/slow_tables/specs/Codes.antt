@@ -1,4 +1,4 @@
--- How versions are reported apart: each mark is stored as the parts that it is made of.
+-- Codes of versions: each mark is coded as the parts that it is made of.
 use Rattle.std.specs.Prelude.{ℕ, Bool, List, Option, refl}
 use Rattle.std.specs.Coded.{Coded, code_by, coded×, coded_ℕ, coded_bool, coded_list, coded_option}
 use Rattle.std.specs.FinMap.{code}
@@ -9,7 +9,7 @@ use Rattle.vault_model.specs.declared.contents.Stats.{Stats}
 use Rattle.vault_model.specs.Bare.{BareAttachment, BareContent, BareField}
 use Rattle.vault_model.specs.Db.{Mark, Versions}
 
--- a text is stored as its bytes
+-- a text is coded as its bytes
 abbrev pub bytes_code : Coded (List ℕ)
 bytes_code = coded_list coded_ℕ
 
@@ -76,7 +76,10 @@ content_code =
                 c.fields,
                 (
                   c.attachments,
-                  (c.tags, (c.fore, (c.back, (c.url_override, (c.auto_type, (c.items, c.quality)))))),
+                  (
+                    c.tags,
+                    (c.fore, (c.back, (c.url_override, (c.auto_type, (c.items, c.quality))))),
+                  ),
                 ),
               ),
             ),

@@ -1,3 +1,3 @@
 pub mod Codes
 pub mod Databases
-pub mod RowPlaces
+pub mod RowPositions

@@ -2,14 +2,15 @@
 ghost use Rattle.std.specs.Prelude.{T, ◌≡◌, ◌<◌, ◌≤◌, length, MatchResult, OnOk, OnErr};
 ghost use Rattle.std.specs.Option.{option_copied};
 ghost use Rattle.std.specs.FinMap.{find, is_sorted, put};
-ghost use Rattle.slow_tables.specs.RowPlaces.{place_of};
+ghost use Rattle.slow_tables.specs.RowPositions.{position_of};
 
 use outside_core::NoMemory;
 use std::cmp::Ordering;
 
-/// Where a key is among rows that rise by their keys, or else where it is to be put.
+/// The position of a key among rows that rise by their keys, or else the one where it is to be
+/// put.
 fn search<K: Ord, X>(rows: &[(K, X)], key: &K) -> Result<usize, usize>
-    ensures place { result ≡ place_of K.cmp key.now rows.now }
+    ensures position { result ≡ position_of K.cmp key.now rows.now }
     ensures within { MatchResult result (λ at. at < length rows.now) (λ at. at ≤ length rows.now) }
 {
     for (at, row) in rows.iter().enumerate() {

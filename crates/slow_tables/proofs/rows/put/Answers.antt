@@ -4,8 +4,8 @@ use Rattle.std.proofs.Math.Dec.{T}
 use Rattle.std.specs.declared.cmp.Ordering.{Ordering}
 use Rattle.std.specs.FinMap.{put, is_sorted}
 use Rattle.std.specs.FinMap.Entries.{is_sorted-put}
-use Rattle.slow_tables.specs.RowPlaces.{place_of}
-use Rattle.slow_tables.proofs.PutRows.{at_place, put_at}
+use Rattle.slow_tables.specs.RowPositions.{position_of}
+use Rattle.slow_tables.proofs.PutRows.{at_position, put_at}
 use Rattle.slow_tables.proofs.rows.put.Goals as goal
 
 stays : {K X : Type 0} (R : K → K → Ordering) (es fs : List (K × X)) → fs ≡ es → T (is_sorted R es) → T (is_sorted R fs)
@@ -17,7 +17,7 @@ returns-in-Ok-clause-ok g c =
     let rows = c.args.rows.now.items in
     let w = c.index_mut.result.now in
     ap (λ (e : g.row.K.Denot × g.row.X.Denot). set rows c.in-Ok.at (e.0, c.args.value)) c.index_mut.ensures.value
-    ∙ ap (at_place R c.args.key c.args.value w rows) (c.in-Ok.ensures.place ∙ ap (place_of R c.args.key) c.as_slice.ensures.value)
+    ∙ ap (at_position R c.args.key c.args.value w rows) (c.in-Ok.ensures.position ∙ ap (position_of R c.args.key) c.as_slice.ensures.value)
     ∙ put_at R c.args.key c.args.value w rows
 
 pub returns-in-Ok-clause-sorted : goal.returns-in-Ok-clause-sorted
@@ -31,7 +31,7 @@ returns-in_ok-insert-in-Err-clause-ok g c =
     let rows = c.args.rows.now.items in
     let w : g.row.K.Denot × g.row.X.Denot = (c.args.key, c.args.value) in
     c.in_ok-insert-in-Err.ensures.items
-    ∙ ap (at_place R c.args.key c.args.value w rows) (c.in-Err.ensures.place ∙ ap (place_of R c.args.key) c.as_slice.ensures.value)
+    ∙ ap (at_position R c.args.key c.args.value w rows) (c.in-Err.ensures.position ∙ ap (position_of R c.args.key) c.as_slice.ensures.value)
     ∙ put_at R c.args.key c.args.value w rows
 
 pub returns-in_ok-insert-in-Err-clause-sorted : goal.returns-in_ok-insert-in-Err-clause-sorted
