@@ -2,7 +2,7 @@
 
 ghost use Rattle.doc_forms.specs.Attachments as spec;
 ghost use Rattle.doc_forms.specs.SeenDrafts.{attachment_seen, draft_seen, entry_seen, version_seen};
-ghost use Rattle.std.specs.Prelude.{◌≡◌, IfOk, OnOk, map};
+ghost use Rattle.std.specs.Prelude.{◌≡◌, ◌++◌, IfOk, OnOk, map};
 ghost use Rattle.vault_model.specs.Seen.{bare_attachment, bare_content, bare_field};
 ghost use Rattle.vault_model.specs.SeenNodes.{bare_version, entry_row, tree_seen};
 
@@ -107,20 +107,20 @@ fn resolved_version(
     })
 }
 
-/// Versions with the bytes of their attachments.
-fn resolved_versions(
+/// Puts versions with the bytes of their attachments after the others.
+fn push_versions(
     alloc: Global,
     pool: &Pool<'_>,
+    versions: &mut List<Version>,
     drafts: Vec<VersionDraft>,
-) -> Result<List<Version>, NoMemory>
-    ensures { IfOk result (λ l. map bare_version l
-        ≡ map (spec.resolved_version pool.now) (map version_seen drafts.items)) }
+) -> Result<(), NoMemory>
+    ensures { OnOk result (map bare_version versions.new ≡ map bare_version versions.old
+        ++ map (spec.resolved_version pool.now) (map version_seen drafts.items)) }
 {
-    let mut resolved = List::new(alloc);
     for draft in drafts {
-        push(&mut resolved, resolved_version(alloc, pool, draft)?)?;
+        push(versions, resolved_version(alloc, pool, draft)?)?;
     }
-    Ok(resolved)
+    Ok(())
 }
 
 /// An entry with the bytes of its attachments.
@@ -135,14 +135,15 @@ fn resolved_entry(alloc: Global, pool: &Pool<'_>, draft: EntryDraft) -> Result<E
         history,
     } = draft;
     let current = resolved_version(alloc, pool, current)?;
-    let history = resolved_versions(alloc, pool, history)?;
-    Ok(Entry {
+    let mut entry = Entry {
         id,
         placed,
         previous,
         current,
-        history,
-    })
+        history: List::new(alloc),
+    };
+    push_versions(alloc, pool, &mut entry.history, history)?;
+    Ok(entry)
 }
 
 /// Entries with the bytes of their attachments.
