@@ -13,19 +13,20 @@ use doc_forms::{DocFail, GroupBuilder};
 use doc_values::{ChoiceValue, IdOrNone, IdValue, Number32, OwnId, TextValue, TrueUnlessFalse};
 use doc_walk::{Tag, Walk, custom_data, times};
 
-/// Reads a child of a group after those that [`view_child`] reads: its first visible entry, its
-/// items, or an entry.
+/// Reads a child of a group after those that [`view_child`] reads: its first visible entry, the
+/// group that it was in before, its items, or an entry.
 fn content_child(
     known: &mut GroupBuilder,
     walk: &mut Walk<'_>,
     tag: &Tag<'_>,
 ) -> Result<(), DocFail>
     ensures { Steps (λ _. group_parts_seen known.new) walk.old walk.new result
-        (child_step (λ s. by_name s (drop 10 (spec.group_rows s))) (group_parts_seen known.old)
+        (child_step (λ s. by_name s (drop 11 (spec.group_rows s))) (group_parts_seen known.old)
         tag.now) }
 {
     match tag.name {
         "LastTopVisibleEntry" => walk.keep::<IdValue>(tag, &mut known.view.top_entry),
+        "PreviousParentGroup" => walk.keep::<IdValue>(tag, &mut known.previous),
         "CustomData" => custom_data(walk, tag, &mut known.content.items),
         "Entry" => {
             let entry = entry(walk, tag)?;
@@ -39,7 +40,7 @@ fn content_child(
 /// its key strokes, its choices, or one of the others.
 fn view_child(known: &mut GroupBuilder, walk: &mut Walk<'_>, tag: &Tag<'_>) -> Result<(), DocFail>
     ensures { Steps (λ _. group_parts_seen known.new) walk.old walk.new result
-        (child_step (λ s. by_name s (drop 6 (spec.group_rows s))) (group_parts_seen known.old)
+        (child_step (λ s. by_name s (drop 7 (spec.group_rows s))) (group_parts_seen known.old)
         tag.now) }
 {
     match tag.name {
@@ -67,6 +68,7 @@ pub(crate) fn read_child(
         }
         "Name" => walk.keep::<TextValue>(tag, &mut known.content.name),
         "Notes" => walk.keep::<TextValue>(tag, &mut known.content.notes),
+        "Tags" => walk.keep::<TextValue>(tag, &mut known.content.tags),
         "IconID" => walk.keep::<Number32<48>>(tag, &mut known.content.icon),
         "CustomIconUUID" => walk.keep::<IdOrNone>(tag, &mut known.content.custom_icon),
         "Times" => times(walk, tag, &mut known.times),

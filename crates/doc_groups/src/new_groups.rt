@@ -19,6 +19,7 @@ pub(crate) fn no_group(alloc: Global) -> GroupBuilder
     let times = no_times();
     GroupBuilder {
         id: None,
+        previous: Uuid::nil(),
         times,
         content: GroupContent {
             created: times.created,
@@ -32,6 +33,7 @@ pub(crate) fn no_group(alloc: Global) -> GroupBuilder
             auto_type: Tri::Inherit,
             searching: Tri::Inherit,
             items: List::new(alloc),
+            tags: Text::new(alloc),
         },
         view: GroupView {
             expanded: true,
@@ -49,6 +51,7 @@ pub(crate) fn draft_of(id: Uuid, builder: GroupBuilder) -> GroupDraft
 {
     let GroupBuilder {
         id: _,
+        previous,
         times,
         content,
         view,
@@ -62,6 +65,7 @@ pub(crate) fn draft_of(id: Uuid, builder: GroupBuilder) -> GroupDraft
     GroupDraft {
         id,
         placed: times.placed,
+        previous,
         state: GroupState {
             modified: times.modified,
             content,

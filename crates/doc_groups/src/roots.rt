@@ -26,7 +26,7 @@ fn root_group(draft: &mut RootDraft, walk: &mut Walk<'_>, tag: &Tag<'_>) -> Resu
         (child_step spec.root_group (root_parts draft.old.root) tag.now) }
 {
     let fits = draft.root.tree.is_none();
-    let tree = group(walk, tag, 63, fits)?;
+    let tree = group(walk, tag, 127, fits)?;
     draft.root.tree = Some(tree);
     Ok(())
 }
