@@ -1,6 +1,6 @@
 //! Groups before and at their end.
 
-ghost use Rattle.std.specs.Prelude.{◌≡◌, ◌++◌, ◌∷◌, [], Ok};
+ghost use Rattle.std.specs.Prelude.{◌≡◌, ◌++◌, ◌∷◌, [], map, Ok};
 ghost use Rattle.doc_forms.specs.Groups as spec;
 ghost use Rattle.doc_forms.specs.Refusals.{Returns};
 ghost use Rattle.doc_forms.specs.SeenDrafts.{draft_seen, entry_seen, group_parts_seen};
@@ -80,17 +80,15 @@ pub(crate) fn draft_of(id: Uuid, builder: GroupBuilder) -> GroupDraft
     }
 }
 
-/// Appends an entry to those of a group.
-pub(crate) fn add_entry(known: &mut GroupBuilder, entry: EntryDraft) -> Result<(), DocFail>
-    ensures { Returns (λ _. group_parts_seen known.new) result
-        (Ok (record (group_parts_seen known.old) {
-          entries = (group_parts_seen known.old).entries ++ entry_seen entry ∷ [];
-        })) }
+/// Appends an entry to others.
+pub(crate) fn add_entry(entries: &mut Vec<EntryDraft>, entry: EntryDraft) -> Result<(), DocFail>
+    ensures { Returns (λ _. map entry_seen entries.new.items) result
+        (Ok (map entry_seen entries.old.items ++ entry_seen entry ∷ [])) }
 {
-    if known.entries.push(entry).is_err() {
-        return Err(DocFail::NoMemory);
+    match entries.push(entry) {
+        Ok(()) => Ok(()),
+        Err(_) => Err(DocFail::NoMemory),
     }
-    Ok(())
 }
 
 /// Appends a group to those in a group.
