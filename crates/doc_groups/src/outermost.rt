@@ -35,7 +35,11 @@ fn root_child(draft: &mut FileDraft, walk: &mut Walk<'_>, tag: &Tag<'_>) -> Resu
     let fits = draft.file.root.is_none();
     let root = root(walk, tag)?;
     set_root(&mut draft.file, root);
-    if fits { Ok(()) } else { Err(DocFail::BadValue(tag.offset)) }
+    if fits {
+        Ok(())
+    } else {
+        Err(DocFail::BadValue(tag.offset))
+    }
 }
 
 impl Parts for FileDraft {
