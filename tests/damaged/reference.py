@@ -9,7 +9,7 @@ It goes over the text byte by byte, knows a container by the table of its childr
 rules reach it."""
 import base64, datetime, os, re, sys
 
-LIMIT_FILE, LIMIT_NODES, LIMIT_LEVELS, LIMIT_OPEN = 134217728, 262144, 64, 256
+LIMIT_FILE, LIMIT_NODES, LIMIT_LEVELS, LIMIT_OPEN = 134217728, 262144, 128, 256
 SPACE = b" \t\n\r"
 NIL = bytes(16)
 LAST_SECOND = 315537897599
@@ -289,7 +289,7 @@ def boolean(text):
 
 
 def choice(text):
-    return "inherit" if text == "null" else boolean(text)
+    return "inherit" if text.isascii() and text.lower() == "null" else boolean(text)
 
 
 def time(text):
@@ -339,7 +339,7 @@ def once(table):
 
 TIMES = {name: last(time) for name in ("LastModificationTime", "CreationTime", "LastAccessTime", "ExpiryTime", "LocationChanged")}
 TIMES |= {"Expires": last(boolean), "UsageCount": last(u64)}
-CUSTOM_DATA = {"Item": many({"Key": last(plain_text), "Value": last(plain_text)})}
+CUSTOM_DATA = {"Item": many({"Key": last(plain_text), "Value": last(plain_text), "LastModificationTime": last(time)})}
 STRING = {"Key": last(plain_text), "Value": last(plain_text)}
 ASSOCIATION = {"Window": last(plain_text), "KeystrokeSequence": last(plain_text)}
 AUTO_TYPE = {"Enabled": last(boolean), "DataTransferObfuscation": last(u32), "DefaultSequence": last(plain_text),
@@ -348,13 +348,15 @@ ATTACHMENT = {"Key": last(plain_text), "Value": last("attached")}
 VERSION = {"IconID": last(u32), "CustomIconUUID": last(uuid), "ForegroundColor": last(plain_text),
            "BackgroundColor": last(plain_text), "OverrideURL": last(plain_text), "Tags": last(plain_text),
            "Times": last(TIMES), "String": many(STRING), "Binary": many(ATTACHMENT), "AutoType": last(AUTO_TYPE),
-           "CustomData": last(CUSTOM_DATA)}
+           "CustomData": last(CUSTOM_DATA), "QualityCheck": last(boolean), "PreviousParentGroup": last(uuid)}
 HISTORY_ITEM = VERSION | {"UUID": last(uuid)}
 ENTRY = VERSION | {"UUID": last(node_uuid), "History": last({"Entry": many(HISTORY_ITEM)})}
-GROUP = {"UUID": last(node_uuid), "Name": last(plain_text), "Notes": last(plain_text), "IconID": last(u32),
+ICON = {"UUID": last(uuid), "Data": last(base64_bytes), "Name": last(plain_text), "LastModificationTime": last(time)}
+GROUP = {"UUID": last(node_uuid), "Name": last(plain_text), "Notes": last(plain_text), "Tags": last(plain_text), "IconID": last(u32),
          "CustomIconUUID": last(uuid), "Times": last(TIMES), "IsExpanded": last(boolean),
          "DefaultAutoTypeSequence": last(plain_text), "EnableAutoType": last(choice), "EnableSearching": last(choice),
-         "LastTopVisibleEntry": last(uuid), "CustomData": last(CUSTOM_DATA), "Entry": many(ENTRY)}
+         "LastTopVisibleEntry": last(uuid), "PreviousParentGroup": last(uuid), "CustomData": last(CUSTOM_DATA),
+         "Entry": many(ENTRY)}
 GROUP["Group"] = many(GROUP)
 PROTECTION = {f"Protect{name}": last(boolean) for name in ("Title", "UserName", "Password", "URL", "Notes")}
 META = {name: last(plain_text) for name in ("Generator", "DatabaseName", "DatabaseDescription", "DefaultUserName", "Color")}
@@ -364,7 +366,7 @@ META |= {name: last(time) for name in ("SettingsChanged", "DatabaseNameChanged",
 META |= {name: last(uuid) for name in ("RecycleBinUUID", "EntryTemplatesGroup", "LastSelectedGroup", "LastTopVisibleGroup")}
 META |= {"HeaderHash": last(sized(32)), "MaintenanceHistoryDays": last(u32), "MasterKeyChangeRec": last(i64),
          "MasterKeyChangeForce": last(i64), "MemoryProtection": last(PROTECTION), "RecycleBinEnabled": last(boolean),
-         "CustomIcons": last({"Icon": many({"UUID": last(uuid), "Data": last(base64_bytes)})}),
+         "CustomIcons": last({"Icon": many(ICON)}),
          "HistoryMaxItems": last(i32), "HistoryMaxSize": last(i64), "Binaries": last({"Binary": many("pooled")}),
          "CustomData": last(CUSTOM_DATA)}
 TOMBS = {"DeletedObject": many({"UUID": last(uuid), "DeletionTime": last(time)})}

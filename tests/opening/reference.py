@@ -1,5 +1,5 @@
 #!/usr/bin/python3
-"""A slow reader of KDBX 4.0 files, written from the rules alone: the second pair of eyes on tests/opening/rows.
+"""A slow reader of KDBX 4.0 and 4.1 files, written from the rules alone: the second pair of eyes on tests/opening/rows.
 
     reference.py ls [-R] [-f] [-q] [-k FILE] [--no-password] DATABASE [GROUP]
                              prints what the program should print, and gives its status
@@ -17,7 +17,7 @@ found.loader.exec_module(plain)
 Refused = plain.Refused
 
 SIGNATURE = bytes.fromhex("03d9a29a67fb4bb5")
-VERSION_4_0 = 0x00040000
+VERSION_4_0, VERSION_4_1 = 0x00040000, 0x00040001
 HEADER_LIMIT, FILE_LIMIT, LINE_LIMIT = 65536, 134217728, 4096
 CIPHERS = {"31c1f2e6-bf71-4350-be58-05216afc5aff": "aes", "ad68f29f-576f-4bb9-a36a-d47af965346c": "twofish",
            "d6038a2b-8b6f-4cb5-a524-339a31dbb59a": "chacha20"}
@@ -54,7 +54,7 @@ class Header:
             raise Refused(4, "not a KDBX file")
         self.data, self.at, self.fields = data, 8, {}
         version = little(self.part(4))
-        if version != VERSION_4_0:
+        if version not in (VERSION_4_0, VERSION_4_1):
             raise Refused(5, f"version {version}")
         while self.field() != 0:
             pass

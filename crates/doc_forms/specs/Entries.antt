@@ -198,7 +198,10 @@ text_rows s = (
   codes "QualityCheck",
   value s (value_or true boolean) (λ p v. with_content (λ c. record c { quality = v }) p),
 )
-    ∷ (codes "ForegroundColor", value s text_in (λ p v. with_content (λ c. record c { fore = v }) p))
+    ∷ (
+      codes "ForegroundColor",
+      value s text_in (λ p v. with_content (λ c. record c { fore = v }) p),
+    )
     ∷ (
       codes "BackgroundColor",
       value s text_in

@@ -11,11 +11,9 @@ ghost use Rattle.doc_settling.specs.Trees.{ArePartsOf, refusal_of, sound_tree};
 ghost use Rattle.std.specs.Prelude.{◌≡◌, IfOk, map, true};
 ghost use Rattle.vault_model.specs.SeenNodes.{tree_seen};
 
-use crate::attachments::resolved_tree;
 use crate::ids::ids_of;
-use crate::missing::{Missing, missing_in};
-use crate::pools::{Pool, numbered};
 use crate::tombs::tombs_without;
+use doc_attachments::resolve_tree;
 use doc_forms::{
     Binary, DocFail, DocParts, FileBuilder, GroupDraft, MetaBuilder, ReadDoc, RequiredElement,
     RootBuilder,
@@ -32,35 +30,13 @@ use vault_model::{Doc, DocForm, Group, PoolItem, Tombstone};
 pub struct TreeParts {
     pub root: Group,
     pub duplicate: Option<Uuid>,
-    pub missing: Missing,
+    pub missing: Option<(usize, u64)>,
     pub tombs: List<Tombstone>,
 }
 
-/// The parts of a tree that was read, with the binaries to which its attachments refer.
+/// The parts of a tree that was read, with the binaries that the file keeps apart, or the
+/// document's own.
 fn tree_parts(
-    alloc: Global,
-    binaries: &[Binary],
-    draft: GroupDraft,
-    tombs: &List<Tombstone>,
-) -> Result<TreeParts, NoMemory>
-    ensures { IfOk result (λ parts. ArePartsOf (map binary_seen binaries.now) (draft_seen draft)
-        tombs.now parts) }
-{
-    let pool = Pool::new(alloc, binaries)?;
-    let missing = missing_in(&pool, &draft);
-    let root = resolved_tree(alloc, &pool, draft)?;
-    let ids = ids_of(alloc, &root)?;
-    let tombs = tombs_without(alloc, &ids.ids, tombs.as_slice())?;
-    Ok(TreeParts {
-        root,
-        duplicate: ids.duplicate,
-        missing,
-        tombs,
-    })
-}
-
-/// The same with the binaries that the file keeps apart, or the document's own.
-fn parts_of(
     alloc: Global,
     form: DocForm,
     given: &List<PoolItem>,
@@ -72,17 +48,19 @@ fn parts_of(
         ArePartsOf (pool_from form (map pool_item given.now) (map binary_seen own.now))
         (draft_seen draft) tombs.now parts) }
 {
-    match form {
-        DocForm::V4 => {
-            let binaries = numbered(alloc, given.as_slice())?;
-            tree_parts(alloc, binaries.as_slice(), draft, tombs)
-        }
-        _ => tree_parts(alloc, own.as_slice(), draft, tombs),
-    }
+    let tree = resolve_tree(alloc, form, given, own, draft)?;
+    let ids = ids_of(alloc, &tree.root)?;
+    let tombs = tombs_without(alloc, &ids.ids, tombs.as_slice())?;
+    Ok(TreeParts {
+        root: tree.root,
+        duplicate: ids.duplicate,
+        missing: tree.missing,
+        tombs,
+    })
 }
 
 /// Refuses an id that two nodes have, and then a reference to a binary that does not exist.
-fn refuse(duplicate: Option<Uuid>, missing: Missing) -> Result<(), DocFail>
+fn refuse(duplicate: Option<Uuid>, missing: Option<(usize, u64)>) -> Result<(), DocFail>
     ensures { result ≡ refusal_of duplicate missing }
 {
     match (duplicate, missing) {
@@ -113,7 +91,7 @@ fn sound_tree(
         (sound_tree (pool_from form (map pool_item given.now) (map binary_seen own.now))
         (draft_seen draft) tombs.now) }
 {
-    let Ok(parts) = parts_of(alloc, form, given, own, draft, tombs) else {
+    let Ok(parts) = tree_parts(alloc, form, given, own, draft, tombs) else {
         return Err(DocFail::NoMemory);
     };
     match refuse(parts.duplicate, parts.missing) {
@@ -145,7 +123,7 @@ fn settled_tree(
     tombs: &List<Tombstone>,
 ) -> Result<ReadDoc, DocFail>
     requires meta { is_kept_meta meta.meta ≡ true }
-    requires tree { is_kept_tree 63 (draft_seen draft) ≡ true }
+    requires tree { is_kept_tree 127 (draft_seen draft) ≡ true }
     ensures { Returns read_seen result
         (spec.settled_tree form (map pool_item given.now) (meta_parts meta) (draft_seen draft)
         tombs.now) }
@@ -164,23 +142,19 @@ fn settled_tree(
     }
 }
 
-/// The document that the parts of a text of one form make, with the binaries that its file keeps
-/// apart (which only KDBX 4 has).
+/// The document that the parts of a text make, in the form in which it was read, with the binaries
+/// that its file keeps apart (which only KDBX 4 has).
 ///
 /// # Errors
 ///
 /// [`DocFail::MissingElement`] for a missing `KeePassFile`, `Root` or `Group`, in this order; then
 /// [`DocFail::DuplicateId`], and then [`DocFail::BinaryRef`]. [`DocFail::NoMemory`] where memory
 /// runs out.
-pub fn settle(
-    alloc: Global,
-    form: DocForm,
-    pool: &List<PoolItem>,
-    parts: DocParts,
-) -> Result<ReadDoc, DocFail>
-    ensures { Returns read_seen result (spec.settled_document form (map pool_item pool.now)
+pub fn settle(alloc: Global, pool: &List<PoolItem>, parts: DocParts) -> Result<ReadDoc, DocFail>
+    ensures { Returns read_seen result (spec.settled_document parts.form (map pool_item pool.now)
         (parts_seen parts)) }
 {
+    let form = parts.form;
     let FileBuilder { meta, root } = parts
         .file
         .ok_or(DocFail::MissingElement(RequiredElement::KeePassFile, 0))?;

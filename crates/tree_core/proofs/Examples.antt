@@ -15,6 +15,7 @@ id n = n ∷ []
 abbrev titled : List ℕ → EntryRecord
 titled title = record {
   placed = 0;
+  previous = id 0;
   current = record {
     mark = record {
       modified = 0;
@@ -32,6 +33,7 @@ titled title = record {
         url_override = [];
         auto_type = record { enabled = true; obfuscation = 0; sequence = []; pairs = [] };
         items = [];
+        quality = true;
       };
     };
     stats = record { accessed = 0; usage = 0 };

@@ -12,11 +12,21 @@ use Rattle.doc_entries.proofs.versions.part_child.Goals as goal
 pub returns-in-Times : goal.returns-in-Times
 returns-in-Times c = rw c.in-Times.is (kept_in (λ (v : Times). let p : EntryParts = record (entry_known c.args.known.now) { times = v } in p) c.times.ensures)
 
-pub returns-in-String : goal.returns-in-String
-returns-in-String c = rw c.in-String.is (put_in (with_field (entry_known c.args.known.now)) c.in_ok-field.ensures c.put_field.ensures)
+pub returns-in_ok-field-in-String : goal.returns-in_ok-field-in-String
+returns-in_ok-field-in-String c = rw c.in-String.is (put_in (with_field (entry_known c.args.known.now)) c.in_ok-field-in-String.ensures c.put_field.ensures)
 
-pub returns-in-Binary : goal.returns-in-Binary
-returns-in-Binary c = rw c.in-Binary.is (put_in (with_attachment (entry_known c.args.known.now)) c.in_ok-attachment.ensures c.put_attachment.ensures)
+pub returns-in_err-field-in-String : goal.returns-in_err-field-in-String
+returns-in_err-field-in-String c =
+    let p = err_from_is_err_and c.from_residual.result c.from_residual.ensures.1 in
+    rw (p.1, p.2, c.in-String.is) (refused_in (with_field (entry_known c.args.known.now)) c.in_err-field-in-String.ensures)
+
+pub returns-in_ok-attachment-in-Binary : goal.returns-in_ok-attachment-in-Binary
+returns-in_ok-attachment-in-Binary c = rw c.in-Binary.is (put_in (with_attachment (entry_known c.args.known.now)) c.in_ok-attachment-in-Binary.ensures c.put_attachment.ensures)
+
+pub returns-in_err-attachment-in-Binary : goal.returns-in_err-attachment-in-Binary
+returns-in_err-attachment-in-Binary c =
+    let p = err_from_is_err_and c.from_residual-in_err-attachment-in-Binary.result c.from_residual-in_err-attachment-in-Binary.ensures.1 in
+    rw (p.1, p.2, c.in-Binary.is) (refused_in (with_attachment (entry_known c.args.known.now)) c.in_err-attachment-in-Binary.ensures)
 
 pub returns-in-AutoType : goal.returns-in-AutoType
 returns-in-AutoType c = rw c.in-AutoType.is (kept_in (λ (v : AutoType). with_content (λ m. record m { auto_type = v }) (entry_known c.args.known.now)) c.auto_type.ensures)
