@@ -8,7 +8,7 @@ ghost use Rattle.doc_walk.specs.Steps.{Steps};
 ghost use Rattle.doc_walk.specs.Tags.{child_step, contents_step};
 
 use crate::roots::root;
-use crate::whole_parts::whole;
+use crate::whole_parts::read_whole;
 use doc_forms::{DocFail, FileBuilder, RootBuilder};
 use doc_metas::{meta, no_meta};
 use doc_walk::{Parts, Tag, Walk};
@@ -76,6 +76,6 @@ pub(crate) fn file(walk: &mut Walk<'_>, tag: &Tag<'_>) -> Result<FileBuilder, Do
     let first = FileDraft {
         file: no_file_parts(walk.alloc()),
     };
-    let draft = whole(walk, tag, first)?;
+    let draft = read_whole(walk, tag, first)?;
     Ok(draft.file)
 }

@@ -9,7 +9,7 @@ ghost use Rattle.doc_walk.specs.Tags.{child_step, contents_step};
 
 use crate::groups::group;
 use crate::tombs::tombs;
-use crate::whole_parts::whole;
+use crate::whole_parts::read_whole;
 use doc_forms::{DocFail, GroupDraft, RootBuilder};
 use doc_walk::{Parts, Tag, Walk};
 use outside_core::List;
@@ -73,6 +73,6 @@ pub(crate) fn root(walk: &mut Walk<'_>, tag: &Tag<'_>) -> Result<RootBuilder, Do
     let first = RootDraft {
         root: no_root(walk.alloc()),
     };
-    let draft = whole(walk, tag, first)?;
+    let draft = read_whole(walk, tag, first)?;
     Ok(draft.root)
 }

@@ -20,7 +20,11 @@ pub(crate) fn known_after<T: Drop>(read: Result<(), DocFail>, known: T) -> Resul
 
 /// Reads all children of the element whose start tag was given, of which this is known at first,
 /// and its end.
-pub(crate) fn whole<P: Parts>(walk: &mut Walk<'_>, tag: &Tag<'_>, first: P) -> Result<P, DocFail>
+pub(crate) fn read_whole<P: Parts>(
+    walk: &mut Walk<'_>,
+    tag: &Tag<'_>,
+    first: P,
+) -> Result<P, DocFail>
     ensures { Steps P.seen walk.old walk.new result
         (contents_step P.child (P.seen first) tag.now) }
 {
