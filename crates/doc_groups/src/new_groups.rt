@@ -1,6 +1,6 @@
 //! Groups before and at their end.
 
-ghost use Rattle.std.specs.Prelude.{◌≡◌, ◌++◌, ◌∷◌, [], Ok};
+ghost use Rattle.std.specs.Prelude.{◌≡◌, ◌++◌, ◌∷◌, [], map, Ok};
 ghost use Rattle.doc_forms.specs.Groups as spec;
 ghost use Rattle.doc_forms.specs.Refusals.{Returns};
 ghost use Rattle.doc_forms.specs.SeenDrafts.{draft_seen, entry_seen, group_parts_seen};
@@ -19,6 +19,7 @@ pub(crate) fn no_group(alloc: Global) -> GroupBuilder
     let times = no_times();
     GroupBuilder {
         id: None,
+        previous: Uuid::nil(),
         times,
         content: GroupContent {
             created: times.created,
@@ -32,6 +33,7 @@ pub(crate) fn no_group(alloc: Global) -> GroupBuilder
             auto_type: Tri::Inherit,
             searching: Tri::Inherit,
             items: List::new(alloc),
+            tags: Text::new(alloc),
         },
         view: GroupView {
             expanded: true,
@@ -49,6 +51,7 @@ pub(crate) fn draft_of(id: Uuid, builder: GroupBuilder) -> GroupDraft
 {
     let GroupBuilder {
         id: _,
+        previous,
         times,
         content,
         view,
@@ -62,6 +65,7 @@ pub(crate) fn draft_of(id: Uuid, builder: GroupBuilder) -> GroupDraft
     GroupDraft {
         id,
         placed: times.placed,
+        previous,
         state: GroupState {
             modified: times.modified,
             content,
@@ -76,17 +80,15 @@ pub(crate) fn draft_of(id: Uuid, builder: GroupBuilder) -> GroupDraft
     }
 }
 
-/// Appends an entry to those of a group.
-pub(crate) fn add_entry(known: &mut GroupBuilder, entry: EntryDraft) -> Result<(), DocFail>
-    ensures { Returns (λ _. group_parts_seen known.new) result
-        (Ok (record (group_parts_seen known.old) {
-          entries = (group_parts_seen known.old).entries ++ entry_seen entry ∷ [];
-        })) }
+/// Appends an entry to others.
+pub(crate) fn add_entry(entries: &mut Vec<EntryDraft>, entry: EntryDraft) -> Result<(), DocFail>
+    ensures { Returns (λ _. map entry_seen entries.new.items) result
+        (Ok (map entry_seen entries.old.items ++ entry_seen entry ∷ [])) }
 {
-    if known.entries.push(entry).is_err() {
-        return Err(DocFail::NoMemory);
+    match entries.push(entry) {
+        Ok(()) => Ok(()),
+        Err(_) => Err(DocFail::NoMemory),
     }
-    Ok(())
 }
 
 /// Appends a group to those in a group.

@@ -1,16 +1,17 @@
 //! `KeePassFile`, the outermost element.
 
-ghost use Rattle.std.specs.Prelude.{◌≡◌};
+ghost use Rattle.std.specs.Prelude.{◌≡◌, Some};
 ghost use Rattle.doc_forms.specs.Children.{by_name};
 ghost use Rattle.doc_forms.specs.Documents as spec;
-ghost use Rattle.doc_forms.specs.SeenDrafts.{file_parts};
+ghost use Rattle.doc_forms.specs.SeenDrafts.{file_parts, root_parts};
 ghost use Rattle.doc_walk.specs.Steps.{Steps};
 ghost use Rattle.doc_walk.specs.Tags.{child_step, contents_step};
 
 use crate::roots::root;
-use doc_forms::{DocFail, FileBuilder};
+use crate::whole_parts::read_whole;
+use doc_forms::{DocFail, FileBuilder, RootBuilder};
 use doc_metas::{meta, no_meta};
-use doc_walk::{Parts, Tag, Walk, contents};
+use doc_walk::{Parts, Tag, Walk};
 use std::alloc::Global;
 
 /// What is known of a `KeePassFile` before its end.
@@ -19,17 +20,26 @@ struct FileDraft {
     file: FileBuilder,
 }
 
+/// Puts what is known of a `Root` in its place.
+fn set_root(file: &mut FileBuilder, root: RootBuilder)
+    ensures { file_parts file.new ≡ record (file_parts file.old) { root = Some (root_parts root) } }
+{
+    file.root = Some(root);
+}
+
 /// The `Root` whose start tag was given. A second one is refused at its end.
 fn root_child(draft: &mut FileDraft, walk: &mut Walk<'_>, tag: &Tag<'_>) -> Result<(), DocFail>
     ensures { Steps (λ _. file_parts draft.new.file) walk.old walk.new result
         (child_step spec.root (file_parts draft.old.file) tag.now) }
 {
+    let fits = draft.file.root.is_none();
     let root = root(walk, tag)?;
-    if draft.file.root.is_some() {
-        return Err(DocFail::BadValue(tag.offset));
+    set_root(&mut draft.file, root);
+    if fits {
+        Ok(())
+    } else {
+        Err(DocFail::BadValue(tag.offset))
     }
-    draft.file.root = Some(root);
-    Ok(())
 }
 
 impl Parts for FileDraft {
@@ -63,9 +73,9 @@ pub(crate) fn file(walk: &mut Walk<'_>, tag: &Tag<'_>) -> Result<FileBuilder, Do
     ensures { Steps file_parts walk.old walk.new result
         (contents_step (λ s. by_name s (spec.file_rows s)) spec.no_file_parts tag.now) }
 {
-    let mut draft = FileDraft {
+    let first = FileDraft {
         file: no_file_parts(walk.alloc()),
     };
-    contents(walk, tag, &mut draft)?;
+    let draft = read_whole(walk, tag, first)?;
     Ok(draft.file)
 }

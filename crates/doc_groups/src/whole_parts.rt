@@ -1,0 +1,34 @@
+//! What is known of an element at its end, given back as a value.
+
+ghost use Rattle.std.specs.Prelude.{◌≡◌};
+ghost use Rattle.std.specs.Result.{result_map_both};
+ghost use Rattle.doc_walk.specs.Steps.{Steps};
+ghost use Rattle.doc_walk.specs.Tags.{contents_step};
+
+use doc_forms::DocFail;
+use doc_walk::{Parts, Tag, Walk, contents};
+
+/// What is known after a step of reading, unless it was refused.
+pub(crate) fn known_after<T: Drop>(read: Result<(), DocFail>, known: T) -> Result<T, DocFail>
+    ensures { result ≡ result_map_both (λ _. known) (λ e. e) read }
+{
+    match read {
+        Ok(()) => Ok(known),
+        Err(e) => Err(e),
+    }
+}
+
+/// Reads all children of the element whose start tag was given, of which this is known at first,
+/// and its end.
+pub(crate) fn read_whole<P: Parts>(
+    walk: &mut Walk<'_>,
+    tag: &Tag<'_>,
+    first: P,
+) -> Result<P, DocFail>
+    ensures { Steps P.seen walk.old walk.new result
+        (contents_step P.child (P.seen first) tag.now) }
+{
+    let mut parts = first;
+    contents(walk, tag, &mut parts)?;
+    Ok(parts)
+}
