@@ -26,7 +26,7 @@ use Rattle.writing_laws.proofs.ValueTexts.{Says, stream_bytes, decoded_back, xor
 use Rattle.stream_core.proofs.StreamLemmas.{length-xored, xored-xored}
 use Rattle.doc_forms.specs.ElementTexts.{ElementText, plain_text, hidden_bytes}
 use Rattle.text_core.specs.Texts.{base64_bytes, trim}
-use Rattle.doc_spelling.specs.Pieces.{Piece, leaf, secret, box, Pieces, none, beside, ◌▹▹◌, attributes_text, protected, hidden_text, protect_in_memory, hidden_len, hidden_len_all, element_of, content_of}
+use Rattle.doc_spelling.specs.Pieces.{Piece, leaf, secret, box, Pieces, none, beside, ◌▹▹◌, attributes_text, protected_attribute, hidden_text, in_memory_attribute, hidden_len, hidden_len_all, element_of, content_of}
 
 -- ---- how far one is
 
@@ -206,11 +206,11 @@ by_row {s = s} rows {x} r = record {
 
 -- ---- the end of an element
 
-pub protected_marks : (is_protected (attributes_text (protected ∷ [])) ≡ true) × (is_hidden (attributes_text (protected ∷ [])) ≡ true)
+pub protected_marks : (is_protected (attributes_text (protected_attribute ∷ [])) ≡ true) × (is_hidden (attributes_text (protected_attribute ∷ [])) ≡ true)
 unfolding attributes_from last_named escaped_byte unescaped_from is_space
 protected_marks = (refl, refl)
 
-pub in_memory_marks : (is_protected (attributes_text (protect_in_memory ∷ [])) ≡ false) × (is_hidden (attributes_text (protect_in_memory ∷ [])) ≡ true)
+pub in_memory_marks : (is_protected (attributes_text (in_memory_attribute ∷ [])) ≡ false) × (is_hidden (attributes_text (in_memory_attribute ∷ [])) ≡ true)
 unfolding attributes_from last_named escaped_byte unescaped_from is_space
 in_memory_marks = (refl, refl)
 
@@ -322,7 +322,7 @@ module _ {P V A : Type 0} (s : Setting) (view : P → V) (rule : ElementText →
   secret_hidden keep name bytes v g may are_bytes says kept = record {
     texts = (tt, are_bytes);
     read = λ place p c room.
-        let raw = attributes_text ([] ++ protected ∷ []) in (
+        let raw = attributes_text ([] ++ protected_attribute ∷ []) in (
           keep p v true,
           ap (λ (r : Result (A × Cursor) DocFail). r >>= λ x. Ok (keep p x.0 (is_hidden raw), x.1)) (by_rule s rule place raw (told.last (unescaped (hidden_text s.keystream c.offset bytes))) c (cursor_after c (length bytes) 0) (hidden_bytes bytes) v (secret_rest s place raw bytes c protected_marks.0 may are_bytes) says)
               ∙ ap (λ (b : Bool). Ok (keep p v b, cursor_after c (length bytes) 0)) protected_marks.1,

@@ -15,7 +15,7 @@ use Rattle.markup_grammar.specs.Tree.{Element, element, Content, text_only, star
 use Rattle.stream_core.specs.InnerStream.{Keystream, keystream_byte}
 use Rattle.stream_core.specs.Stream.{xored}
 use Rattle.vault_model.proofs.Tests.{and_true}
-use Rattle.doc_spelling.specs.Pieces.{Piece, leaf, secret, box, Pieces, none, beside, protected, attribute_of, attributes_text, hidden_len, element_of, content_of}
+use Rattle.doc_spelling.specs.Pieces.{Piece, leaf, secret, box, Pieces, none, beside, protected_attribute, attribute_of, attributes_text, hidden_len, element_of, content_of}
 use Rattle.writing_laws.proofs.Attrs.{AreNamed, are_attributes, is_name}
 use Rattle.writing_laws.proofs.EscapedUtf8.{escaped_utf8}
 use Rattle.writing_laws.proofs.Frame.{HasTexts, HaveTexts}
@@ -80,13 +80,13 @@ words_named (a ∷ attrs) e =
     let both = and_true (is_word a.0) (are_words attrs) e in
     (word_named a.0 both.0, words_named attrs both.1)
 
-with_protected : (attrs : List (List ℕ × List ℕ)) → are_words attrs ≡ true → are_words (attrs ++ protected ∷ []) ≡ true
+with_protected : (attrs : List (List ℕ × List ℕ)) → are_words attrs ≡ true → are_words (attrs ++ protected_attribute ∷ []) ≡ true
 with_protected [] e = refl
 with_protected (a ∷ attrs) e =
     let both = and_true (is_word a.0) (are_words attrs) e in
     ap₂ (λ a b. a && b) both.0 (with_protected attrs both.1)
 
-utf8_protected : (attrs : List (List ℕ × List ℕ)) → Each (λ a. IsUtf8 a.1) attrs → Each (λ a. IsUtf8 a.1) (attrs ++ protected ∷ [])
+utf8_protected : (attrs : List (List ℕ × List ℕ)) → Each (λ a. IsUtf8 a.1) attrs → Each (λ a. IsUtf8 a.1) (attrs ++ protected_attribute ∷ [])
 utf8_protected [] e = (literal 84 (codes "rue") refl, tt)
 utf8_protected (a ∷ attrs) e = (e.0, utf8_protected attrs e.1)
 
@@ -140,8 +140,8 @@ mutual
       let both = and_true (is_word name) (are_words attrs) e in
       let given = xored (keystream_byte stream) p bytes in
       let plain = coded_plain given (xored_bytes (keystream_byte stream) bytes p (stream_bytes stream) u.1) in
-      subst (λ (t : List ℕ). Sound (suc k) (element name (attributes_text (attrs ++ protected ∷ [])) (text_only t) [])) plain
-      (leaf_sound k name (attrs ++ protected ∷ []) (encode_of standard given) both.0 (with_protected attrs both.1) (utf8_protected attrs u.0) (base64_utf8 given))
+      subst (λ (t : List ℕ). Sound (suc k) (element name (attributes_text (attrs ++ protected_attribute ∷ [])) (text_only t) [])) plain
+      (leaf_sound k name (attrs ++ protected_attribute ∷ []) (encode_of standard given) both.0 (with_protected attrs both.1) (utf8_protected attrs u.0) (base64_utf8 given))
   sound (box name pieces) (suc k) e u stream p =
       let both = and_true (is_word name) (fit_height k pieces) e in
       let inner = all_sound pieces k both.1 u stream p in
