@@ -78,8 +78,10 @@ change_pieces form changed = piece_if (time_piece form (codes "LastModificationT
 
 -- a custom item
 abbrev pub item_piece : DocForm → Item → Piece
-item_piece form i = box (codes "Item")
-    (text_piece (codes "Key") i.key ▹ text_piece (codes "Value") i.value ▹ change_pieces form i.changed)
+item_piece form i = box (codes "Item") (
+    text_piece (codes "Key") i.key
+    ▹ text_piece (codes "Value") i.value
+    ▹ change_pieces form i.changed)
 
 -- `CustomData`
 abbrev pub items_piece : DocForm → List Item → Piece

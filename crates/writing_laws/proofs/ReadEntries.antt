@@ -87,7 +87,7 @@ pub record GoodVersion (pool : List ReadBinary) (items : List PoolPair) (e : Ent
 
 -- ---- versions
 
--- what is known after a version's elements
+-- what a version's content says over what was known before
 abbrev said_content : BareContent → BareContent → BareContent
 said_content c old = record {
   created = old.created;
@@ -121,7 +121,7 @@ said_held c p = record p {
   attachments = said_attachments c.attachments p.attachments;
 }
 
--- the same in the order of the elements
+-- what is known after a version's elements, in their order
 abbrev said_in : (put_id put_previous : EntryParts → EntryParts) → EntryRecord → BareVersion → EntryParts → EntryParts
 said_in put_id put_previous e v p =
     said_held v.mark.content (record (put_previous (said_texts v.mark.content (said_icons v.mark.content (put_id p)))) { times = version_times e v })
@@ -245,7 +245,7 @@ version_is pool items e v good id previous =
 
 -- ---- history
 
--- as many nodes as versions
+-- each version is one node
 counts : (past : List BareVersion) → count_all (λ (v : BareVersion). 1) past ≡ length past
 counts [] = refl
 counts (v ∷ vs) = omega (arith, counts vs)
@@ -308,7 +308,7 @@ node_id_is place o u e other = rw (e, other) refl
 abbrev said_entry : NodeId × EntryRecord → EntryParts → EntryParts
 said_entry e p = record (said_version e.1 e.1.current (record p { id = Some e.0; previous = or_old (unless_nil e.1.previous) p.previous })) { history = map own_version e.1.history }
 
--- an entry of its parts
+-- an entry with this previous parent and this current version
 kept_entry : NodeId × EntryRecord → NodeId → ReadVersion → ReadEntry
 kept_entry e previous current = record { id = e.0; placed = e.1.placed; previous = previous; current = current; history = map own_version e.1.history }
 

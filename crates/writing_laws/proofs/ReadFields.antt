@@ -1,4 +1,4 @@
--- Custom items, fields, attachments and how an entry is typed are read back.
+-- Custom items, fields and how an entry is typed are read back.
 use Rattle.std.proofs.Common.{◌≡◌, ℕ, ◌≤◌, Bool, true, false, cond, Some, None, List, [], ◌∷◌, ◌++◌, codes, ap, sym, refl, ◌∙◌, arith}
 use Rattle.std.specs.Str.{is_utf8}
 use Rattle.std.proofs.lemmas.Str.{IsUtf8-from_is_utf8}

@@ -141,7 +141,7 @@ tree_is u r es ts =
 
 -- ---- reading
 
--- a group is read that may have so many levels below it
+-- A group below which so many levels are allowed is read.
 pub record ReadsTree (s : Setting) (pool : List ReadBinary) (form : DocForm) (items : List PoolPair) (levels : ℕ) (t : Tree) : Type 0 where
   pub texts : HasTexts (group_piece form items t)
   pub read : (place : ℕ) (c : Cursor) → c.nodes + tree_nodes t ≤ 262144
@@ -169,7 +169,7 @@ pub group_name : (form : DocForm) (items : List PoolPair) (t : Tree) → piece_n
 group_name form items (vault.node u r es ts) = refl
 
 module _ (s : Setting) (pool : List ReadBinary) (form : DocForm) (items : List PoolPair) (same_form : form ≡ s.form) where
-  -- what is no group
+  -- an element that is no group
   other : (levels : ℕ) {x : Piece} {f : GroupParts → GroupParts} {n : ℕ} → bytes_eq (piece_name x) (codes "Group") ≡ false
       → Reads s (group_parts_with pool) (row_of (piece_name x) (group_rows s) (unknown_child s)) x f n → Reads s (group_parts_with pool) (group_child s levels) x f n
   other levels {x} {f} {n} e r = record {

@@ -91,7 +91,7 @@ icons_read {s = s} {view} form icons good up keep g kept =
 
 -- ---- binaries
 
--- their numbers have 64 bits
+-- The number of a binary has 64 bits.
 pub record GoodBinary (b : ReadBinary) : Type 0 where
   pub number : b.number ≤ 18446744073709551615
   pub bytes : IsBytes b.bytes
@@ -111,17 +111,17 @@ named_protected : (n : ℕ) → AreNamed (number_attribute (codes "ID") n ∷ pr
 unfolding is_digit begins_name is_name_byte
 named_protected n = (is_name 73 (68 ∷ []) refl refl, (is_name 80 (codes "rotected") refl refl, tt))
 
-told_binary : (s : Setting) (place : ℕ) (raw : List ℕ) (content : told.Content) (l : List ReadBinary) (c d : Cursor) (said : ElementText) (b : ReadBinary) → GoodBinary b
+binary_is : (s : Setting) (place : ℕ) (raw : List ℕ) (content : told.Content) (l : List ReadBinary) (c d : Cursor) (said : ElementText) (b : ReadBinary) → GoodBinary b
     → read_rest s place raw [] content c ≡ Ok (said, d) → attribute_text raw (codes "ID") ≡ Some (decimal b.number) → bytes_in said ≡ Some b.bytes
     → is_marked (codes "Compressed") raw ≡ false → is_hidden raw ≡ b.hidden
     → binary s l (told.element place (codes "Binary") raw content) c ≡ Ok (l ++ b ∷ [], d)
-told_binary s place raw content l c d said b good e id bytes protected_marks is =
-    let last = λ (number : ℕ) (bytes : List ℕ) (d : Cursor) (protected_marks hidden : Bool). cond {A = Result (List ReadBinary × Cursor) DocFail} protected_marks (Err (Compressed place)) (Ok (l ++ record { number = number; bytes = bytes; hidden = hidden } ∷ [], d)) in
+binary_is s place raw content l c d said b good e id bytes marked is =
+    let last = λ (number : ℕ) (bytes : List ℕ) (d : Cursor) (marked hidden : Bool). cond {A = Result (List ReadBinary × Cursor) DocFail} marked (Err (Compressed place)) (Ok (l ++ record { number = number; bytes = bytes; hidden = hidden } ∷ [], d)) in
     ap (λ (r : Result (ElementText × Cursor) DocFail). r >>= λ x. (checked_value place (option_and_then number64 (attribute_text raw (codes "ID"))) >>= λ number. (checked_value place (bytes_in x.0) >>= λ bytes. last number bytes x.1 (is_marked (codes "Compressed") raw) (is_hidden raw)))) e
     ∙ (ap (λ (o : Option (List ℕ)). checked_value place (option_and_then number64 o) >>= λ number. (checked_value place (bytes_in said) >>= λ bytes. last number bytes d (is_marked (codes "Compressed") raw) (is_hidden raw))) id
     ∙ (ap (λ (o : Option ℕ). checked_value place o >>= λ number. (checked_value place (bytes_in said) >>= λ bytes. last number bytes d (is_marked (codes "Compressed") raw) (is_hidden raw))) (number_is 18446744073709551615 b.number good.number (omega (arith, good.number)))
     ∙ (ap (λ (o : Option (List ℕ)). checked_value place o >>= λ bytes. last b.number bytes d (is_marked (codes "Compressed") raw) (is_hidden raw)) bytes
-    ∙ ap₂ (last b.number b.bytes d) protected_marks is)))
+    ∙ ap₂ (last b.number b.bytes d) marked is)))
 
 binary_name : (form : DocForm) (n : ℕ) (bytes : List ℕ) (h : Bool) → piece_name (numbered_piece form n bytes h) ≡ codes "Binary"
 binary_name form n bytes false = refl
@@ -139,7 +139,7 @@ secret_read {s} may n bytes good = record {
       let is = λ (name : List ℕ). attribute_is attrs (named_protected n) name in
       let closed : is_protected (attributes_text attrs) ≡ true = ap is_true (is (codes "Protected")) in (
         l ++ b ∷ [],
-        told_binary s place (attributes_text attrs) (told.last (unescaped (hidden_text s.keystream c.offset bytes))) l c (cursor_after c (length bytes) 0) (hidden_bytes bytes) b good
+        binary_is s place (attributes_text attrs) (told.last (unescaped (hidden_text s.keystream c.offset bytes))) l c (cursor_after c (length bytes) 0) (hidden_bytes bytes) b good
             (secret_rest s place (attributes_text attrs) bytes c closed may good.bytes) (is (codes "ID")) refl
             (ap is_true (is (codes "Compressed"))) (ap₂ (λ a b. a || b) closed (ap is_true (is (codes "ProtectInMemory")))),
         refl,
@@ -156,7 +156,7 @@ binary_read {s} form same n bytes false good = record {
       let is = λ (name : List ℕ). attribute_is attrs (named_id n) name in
       let in_open : is_protected (attributes_text attrs) ≡ false = ap is_true (is (codes "Protected")) in (
         l ++ b ∷ [],
-        told_binary s place (attributes_text attrs) (told.last (unescaped (escaped (encode_of standard bytes)))) l c (cursor_after c 0 0) (plain_text (encode_of standard bytes)) b good
+        binary_is s place (attributes_text attrs) (told.last (unescaped (escaped (encode_of standard bytes)))) l c (cursor_after c 0 0) (plain_text (encode_of standard bytes)) b good
             (text_rest s place (attributes_text attrs) (encode_of standard bytes) c in_open) (is (codes "ID")) (bytes_say bytes good.bytes).1
             (ap is_true (is (codes "Compressed"))) (ap₂ (λ a b. a || b) in_open (ap is_true (is (codes "ProtectInMemory")))),
         refl,
@@ -170,7 +170,7 @@ binary_read {s} Plain same n bytes true good = record {
       let is = λ (name : List ℕ). attribute_is attrs (named_in_memory n) name in
       let in_open : is_protected (attributes_text attrs) ≡ false = ap is_true (is (codes "Protected")) in (
         l ++ b ∷ [],
-        told_binary s place (attributes_text attrs) (told.last (unescaped (escaped (encode_of standard bytes)))) l c (cursor_after c 0 0) (plain_text (encode_of standard bytes)) b good
+        binary_is s place (attributes_text attrs) (told.last (unescaped (escaped (encode_of standard bytes)))) l c (cursor_after c 0 0) (plain_text (encode_of standard bytes)) b good
             (text_rest s place (attributes_text attrs) (encode_of standard bytes) c in_open) (is (codes "ID")) (bytes_say bytes good.bytes).1
             (ap is_true (is (codes "Compressed"))) (ap₂ (λ a b. a || b) in_open (ap is_true (is (codes "ProtectInMemory")))),
         refl,
@@ -179,7 +179,7 @@ binary_read {s} Plain same n bytes true good = record {
 binary_read {s} V3 same n bytes true good = secret_read (ap may_hide (sym same)) n bytes good
 binary_read {s} V4 same n bytes true good = secret_read (ap may_hide (sym same)) n bytes good
 
--- ---- what a document's form knows
+-- ---- what depends on the form
 
 -- the binaries in a document of this form
 abbrev pub in_form : DocForm → List ReadBinary → List ReadBinary → List ReadBinary

@@ -1,4 +1,4 @@
--- Elements that are written only where they say something else than what is known without them.
+-- Elements that are written only where they say something else than the default.
 use Rattle.std.proofs.Common.{◌≡◌, ℕ, zero, suc, Bool, true, false, cond, Option, Some, None, List, [], ◌∷◌, bytes_eq, sym, refl}
 use Rattle.std.proofs.lemmas.Slice.Eq.{bytes_eq-Decides}
 use Rattle.vault_model.specs.Db.{NodeId, nil_id}
@@ -41,7 +41,7 @@ unless_nil_back u = by_test (bytes_eq u nil_id) refl
     by_test true e = sym ((bytes_eq-Decides u nil_id).0 e)
     by_test false e = refl
 
--- ---- what is so of a thing is so of it where there is one
+-- ---- what holds of a thing holds of it where it is written
 
 pub if_not_zero : (P : ℕ → Type 0) (n : ℕ) → P n → If P (unless_zero n)
 if_not_zero P zero h = tt

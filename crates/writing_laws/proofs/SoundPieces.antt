@@ -1,4 +1,4 @@
--- The elements of pieces are in the grammar, in UTF-8, and not too high.
+-- The elements of pieces are in the grammar and in UTF-8, and not too many of them are open at once.
 use Rattle.std.proofs.Common.{◌≡◌, ℕ, zero, suc, ◌+◌, ◌≤◌, ◌&&◌, ◌||◌, Bool, true, false, ltb, leb, List, [], ◌∷◌, ◌++◌, map, codes, ap₂, subst, refl, arith}
 use Rattle.std.proofs.lemmas.Bool.Decides.{nat_tests}
 use Rattle.std.proofs.lemmas.Str.{IsUtf8-append, IsUtf8-nil}
@@ -109,11 +109,13 @@ tags_utf8 name raw inner n r i =
 
 -- ---- elements
 
+-- An element is in the grammar and in UTF-8, and at most so many are open in it at once.
 pub record Sound (k : ℕ) (e : Element) : Type 0 where
   pub is : IsElement e
   pub low : height e ≤ k
   pub utf8 : IsUtf8 (spelled e)
 
+-- The same of elements side by side.
 pub record SoundAll (k : ℕ) (c : Content) : Type 0 where
   pub is : IsContent c
   pub low : height_all c ≤ k
