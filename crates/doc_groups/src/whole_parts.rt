@@ -1,4 +1,4 @@
-//! What is known of an element at its end, given back as a value.
+//! Steps over values of any type: what is known given back, appended, or put in its place.
 
 ghost use Rattle.std.specs.Prelude.{◌≡◌, ◌∷◌, ◌++◌, [], Ok, Some};
 ghost use Rattle.std.specs.Result.{result_map_both};
