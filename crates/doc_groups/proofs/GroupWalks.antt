@@ -7,17 +7,18 @@ use Rattle.doc_forms.specs.declared.cursor.Cursor.{Cursor}
 use Rattle.doc_forms.specs.declared.drafts.GroupDraft.{GroupDraft}
 use Rattle.doc_forms.specs.declared.fails.DocFail.{DocFail}
 use Rattle.doc_forms.specs.declared.fails.DocFail.TheVariants.{BadValue}
-use Rattle.doc_forms.specs.Groups.{ReadTree, ReadTrees, node, GroupParts, no_group, group, group_parts, group_child, append_tree, beside, record_of}
+use Rattle.doc_forms.specs.Groups.{ReadTree, node, GroupParts, no_group, group, group_parts, group_child, append_tree, beside, record_of}
 use Rattle.doc_forms.specs.ElementTexts.{ElementText, Setting, text_at_end}
 use Rattle.doc_forms.specs.Children.{all_children, children_and_end, count_node}
 use Rattle.doc_forms.specs.Entries.{node_id}
-use Rattle.doc_forms.specs.Refusals.{Fails, Returns}
+use Rattle.doc_forms.specs.Refusals.{Fails}
 use Rattle.outside_core.specs.Results.{◌>>=◌}
 use Rattle.doc_forms.specs.SeenDrafts.{side_by_side, draft_seen}
 use Rattle.doc_walk.proofs.Pieces.{carried}
 use Rattle.doc_walk.specs.declared.walk.Tag.{Tag}
 use Rattle.doc_walk.specs.Steps.{Course, Rest, Steps}
 use Rattle.doc_walk.specs.Tags.{contents_step}
+use Rattle.doc_groups.proofs.Places.{one_more_seen}
 use Rattle.doc_groups.specs.GroupSteps.{group_step, id_at_end}
 
 -- ---- one step after another
@@ -125,14 +126,6 @@ one_more : (trees : List ReadTree) (tree : ReadTree) → side_by_side (trees ++ 
 one_more [] tree = refl
 one_more (t ∷ ts) tree = ap (beside t) (one_more ts tree)
 
-mapped : (drafts : List GroupDraft) (draft : GroupDraft) → map draft_seen (drafts ++ draft ∷ []) ≡ map draft_seen drafts ++ draft_seen draft ∷ []
-mapped [] draft = refl
-mapped (d ∷ ds) draft = ap (λ more. draft_seen d ∷ more) (mapped ds draft)
-
 pub one_more_draft : (drafts : List GroupDraft) (draft : GroupDraft)
     → side_by_side (map draft_seen (drafts ++ draft ∷ [])) ≡ append_tree (side_by_side (map draft_seen drafts)) (draft_seen draft)
-one_more_draft drafts draft = ap side_by_side (mapped drafts draft) ∙ one_more (map draft_seen drafts) (draft_seen draft)
-
--- what is known of a group, with these groups in it
-abbrev pub with_trees : GroupParts → ReadTrees → Result GroupParts DocFail
-with_trees p trees = Ok (record p { groups = trees })
+one_more_draft drafts draft = ap side_by_side (one_more_seen draft_seen drafts draft) ∙ one_more (map draft_seen drafts) (draft_seen draft)

@@ -1,7 +1,7 @@
 -- An element that was read and is kept in its place, or refused where there is one already.
 use Rattle.std.specs.Prelude.{is_some, not, if◌then◌else◌, option_map}
 use Rattle.std.specs.Result.{result_map_both}
-use Rattle.std.proofs.Common.{◌≡◌, ℕ, Bool, true, false, Option, None, Some, refl, ap, subst, ◌∙◌, Result, Ok, Err}
+use Rattle.std.proofs.Common.{◌≡◌, ℕ, Bool, true, false, Option, None, Some, List, [], ◌∷◌, ◌++◌, map, refl, ap, subst, ◌∙◌, Result, Ok, Err}
 use Rattle.outside_core.specs.Results.{◌>>=◌}
 use Rattle.markup_grammar.specs.Elements.{inner, left}
 use Rattle.doc_forms.specs.declared.cursor.Cursor.{Cursor}
@@ -25,6 +25,16 @@ set_in keep steps = record {
 pub put_among : {Z A P : Type 0} (keep : A → P) (v w : A) (r : Result Z DocFail) → Returns (λ _. v) r (Ok w) → Returns (λ _. keep v) r (Ok (keep w))
 put_among keep v w (Ok z) puts = ap (λ d. d >>= λ y. Ok (keep y)) puts
 put_among keep v w (Err e) puts = carried e (Ok w) _ (λ (never : Ok w ≡ Err e). cc) puts
+
+-- the same, where the part is seen in another way
+pub put_last : {Z X Y P : Type 0} (seen : List X → Y) (keep : Y → P) (xs ys : List X) (y : Y) (r : Result Z DocFail)
+    → seen xs ≡ y → Returns (λ _. ys) r (Ok xs) → Returns (λ _. keep (seen ys)) r (Ok (keep y))
+put_last {Y = Y} seen keep xs ys y r same puts = subst (λ (d : Y). Returns (λ _. keep (seen ys)) r (Ok (keep d))) same (put_among (λ zs. keep (seen zs)) ys xs r puts)
+
+-- as many are seen where one more is put among them
+pub one_more_seen : {X Y : Type 0} (seen : X → Y) (xs : List X) (x : X) → map seen (xs ++ x ∷ []) ≡ map seen xs ++ seen x ∷ []
+one_more_seen seen [] x = refl
+one_more_seen seen (z ∷ xs) x = ap (λ more. seen z ∷ more) (one_more_seen seen xs x)
 
 -- kept where there was none before
 abbrev pub once : {P Q : Type 0} → Bool → ℕ → (Q → P) → Q × Cursor → Result (P × Cursor) DocFail

@@ -1,6 +1,6 @@
 //! A whole text, up to its end.
 
-ghost use Rattle.std.specs.Prelude.{◌≡◌, Some, option_map};
+ghost use Rattle.std.specs.Prelude.{option_map};
 ghost use Rattle.markup_grammar.specs.Elements.{inner, left};
 ghost use Rattle.stream_core.specs.InnerStream.{IsAt};
 ghost use Rattle.doc_forms.specs.Children.{by_name};
@@ -13,20 +13,13 @@ ghost use Rattle.doc_walk.specs.Steps.{Steps};
 ghost use Rattle.doc_walk.specs.Tags.{child_step};
 
 use crate::outermost::file;
-use crate::whole_parts::known_after;
+use crate::whole_parts::{known_after, put};
 use doc_forms::{Cursor, DocFail, FileBuilder};
 use doc_walk::{Tag, Walk};
 use markup_core::{MarkupFail, Piece, Reader};
 use std::alloc::Global;
 use stream_core::InnerStream;
 use vault_model::DocForm;
-
-/// Puts what is known of a document in its place.
-fn set_file(known: &mut Option<FileBuilder>, file: FileBuilder)
-    ensures { option_map file_parts known.new ≡ Some (file_parts file) }
-{
-    *known = Some(file);
-}
 
 /// Reads an outermost element of a text: a document is known by its name alone.
 fn document_child(
@@ -41,7 +34,7 @@ fn document_child(
     match tag.name {
         "KeePassFile" => {
             let file = file(walk, tag)?;
-            set_file(known, file);
+            put(known, file);
             Ok(())
         }
         _ => walk.pass(tag),

@@ -8,7 +8,7 @@ ghost use Rattle.doc_groups.specs.GroupSteps.{entry_child};
 ghost use Rattle.doc_walk.specs.Steps.{Steps};
 ghost use Rattle.doc_walk.specs.Tags.{child_step};
 
-use crate::new_groups::add_entry;
+use crate::whole_parts::append;
 use doc_entries::entry;
 use doc_forms::{DocFail, GroupBuilder};
 use doc_values::{ChoiceValue, IdOrNone, IdValue, Number32, OwnId, TextValue, TrueUnlessFalse};
@@ -20,7 +20,7 @@ fn entry_child(known: &mut GroupBuilder, walk: &mut Walk<'_>, tag: &Tag<'_>) -> 
         (child_step entry_child (group_parts_seen known.old) tag.now) }
 {
     let entry = entry(walk, tag)?;
-    add_entry(&mut known.entries, entry)
+    append(&mut known.entries, entry)
 }
 
 /// Reads a child of a group after those that [`typing_child`] reads: the group that it was in

@@ -1,11 +1,12 @@
 //! Groups before and at their end.
 
-ghost use Rattle.std.specs.Prelude.{◌≡◌, ◌++◌, ◌∷◌, [], map, Ok};
+ghost use Rattle.std.specs.Prelude.{◌≡◌, Ok};
 ghost use Rattle.doc_forms.specs.Groups as spec;
 ghost use Rattle.doc_forms.specs.Refusals.{Returns};
-ghost use Rattle.doc_forms.specs.SeenDrafts.{draft_seen, entry_seen, group_parts_seen};
+ghost use Rattle.doc_forms.specs.SeenDrafts.{draft_seen, group_parts_seen};
 
-use doc_forms::{DocFail, EntryDraft, GroupBuilder, GroupDraft};
+use crate::whole_parts::append;
+use doc_forms::{DocFail, GroupBuilder, GroupDraft};
 use doc_walk::no_times;
 use outside_core::{List, Text};
 use std::alloc::Global;
@@ -80,17 +81,6 @@ pub(crate) fn draft_of(id: Uuid, builder: GroupBuilder) -> GroupDraft
     }
 }
 
-/// Appends an entry to others.
-pub(crate) fn add_entry(entries: &mut Vec<EntryDraft>, entry: EntryDraft) -> Result<(), DocFail>
-    ensures { Returns (λ _. map entry_seen entries.new.items) result
-        (Ok (map entry_seen entries.old.items ++ entry_seen entry ∷ [])) }
-{
-    match entries.push(entry) {
-        Ok(()) => Ok(()),
-        Err(_) => Err(DocFail::NoMemory),
-    }
-}
-
 /// Appends a group to those in a group.
 pub(crate) fn add_group(known: &mut GroupBuilder, draft: GroupDraft) -> Result<(), DocFail>
     ensures { Returns (λ _. group_parts_seen known.new) result
@@ -98,8 +88,5 @@ pub(crate) fn add_group(known: &mut GroupBuilder, draft: GroupDraft) -> Result<(
           groups = spec.append_tree (group_parts_seen known.old).groups (draft_seen draft);
         })) }
 {
-    if known.groups.push(draft).is_err() {
-        return Err(DocFail::NoMemory);
-    }
-    Ok(())
+    append(&mut known.groups, draft)
 }

@@ -1,15 +1,15 @@
 //! `KeePassFile`, the outermost element.
 
-ghost use Rattle.std.specs.Prelude.{◌≡◌, Some};
+ghost use Rattle.std.specs.Prelude.{◌≡◌};
 ghost use Rattle.doc_forms.specs.Children.{by_name};
 ghost use Rattle.doc_forms.specs.Documents as spec;
-ghost use Rattle.doc_forms.specs.SeenDrafts.{file_parts, root_parts};
+ghost use Rattle.doc_forms.specs.SeenDrafts.{file_parts};
 ghost use Rattle.doc_walk.specs.Steps.{Steps};
 ghost use Rattle.doc_walk.specs.Tags.{child_step, contents_step};
 
 use crate::roots::root;
-use crate::whole_parts::read_whole;
-use doc_forms::{DocFail, FileBuilder, RootBuilder};
+use crate::whole_parts::{put, read_whole};
+use doc_forms::{DocFail, FileBuilder};
 use doc_metas::{meta, no_meta};
 use doc_walk::{Parts, Tag, Walk};
 use std::alloc::Global;
@@ -20,13 +20,6 @@ struct FileDraft {
     file: FileBuilder,
 }
 
-/// Puts what is known of a `Root` in its place.
-fn set_root(file: &mut FileBuilder, root: RootBuilder)
-    ensures { file_parts file.new ≡ record (file_parts file.old) { root = Some (root_parts root) } }
-{
-    file.root = Some(root);
-}
-
 /// The `Root` whose start tag was given. A second one is refused at its end.
 fn root_child(draft: &mut FileDraft, walk: &mut Walk<'_>, tag: &Tag<'_>) -> Result<(), DocFail>
     ensures { Steps (λ _. file_parts draft.new.file) walk.old walk.new result
@@ -34,7 +27,7 @@ fn root_child(draft: &mut FileDraft, walk: &mut Walk<'_>, tag: &Tag<'_>) -> Resu
 {
     let fits = draft.file.root.is_none();
     let root = root(walk, tag)?;
-    set_root(&mut draft.file, root);
+    put(&mut draft.file.root, root);
     if fits {
         Ok(())
     } else {

@@ -1,16 +1,16 @@
 //! `Root`: the root group, and the tombstones.
 
-ghost use Rattle.std.specs.Prelude.{◌≡◌, Some};
+ghost use Rattle.std.specs.Prelude.{◌≡◌};
 ghost use Rattle.doc_forms.specs.Children.{by_name};
 ghost use Rattle.doc_forms.specs.Documents as spec;
-ghost use Rattle.doc_forms.specs.SeenDrafts.{draft_seen, root_parts};
+ghost use Rattle.doc_forms.specs.SeenDrafts.{root_parts};
 ghost use Rattle.doc_walk.specs.Steps.{Steps};
 ghost use Rattle.doc_walk.specs.Tags.{child_step, contents_step};
 
 use crate::groups::group;
 use crate::tombs::tombs;
-use crate::whole_parts::read_whole;
-use doc_forms::{DocFail, GroupDraft, RootBuilder};
+use crate::whole_parts::{put, read_whole};
+use doc_forms::{DocFail, RootBuilder};
 use doc_walk::{Parts, Tag, Walk};
 use outside_core::List;
 use std::alloc::Global;
@@ -21,13 +21,6 @@ struct RootDraft {
     root: RootBuilder,
 }
 
-/// Puts the root group in its place.
-fn set_tree(root: &mut RootBuilder, tree: GroupDraft)
-    ensures { root_parts root.new ≡ record (root_parts root.old) { tree = Some (draft_seen tree) } }
-{
-    root.tree = Some(tree);
-}
-
 /// The root group, whose start tag was given. A second one is refused at its end.
 fn root_group(draft: &mut RootDraft, walk: &mut Walk<'_>, tag: &Tag<'_>) -> Result<(), DocFail>
     ensures { Steps (λ _. root_parts draft.new.root) walk.old walk.new result
@@ -35,7 +28,7 @@ fn root_group(draft: &mut RootDraft, walk: &mut Walk<'_>, tag: &Tag<'_>) -> Resu
 {
     let fits = draft.root.tree.is_none();
     let tree = group(walk, tag, 127, fits)?;
-    set_tree(&mut draft.root, tree);
+    put(&mut draft.root.tree, tree);
     Ok(())
 }
 

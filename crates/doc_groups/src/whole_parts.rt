@@ -1,7 +1,8 @@
-//! What is known of an element at its end, given back as a value.
+//! Steps over values of any type: what is known given back, appended, or put in its place.
 
-ghost use Rattle.std.specs.Prelude.{◌≡◌};
+ghost use Rattle.std.specs.Prelude.{◌≡◌, ◌∷◌, ◌++◌, [], Ok, Some};
 ghost use Rattle.std.specs.Result.{result_map_both};
+ghost use Rattle.doc_forms.specs.Refusals.{Returns};
 ghost use Rattle.doc_walk.specs.Steps.{Steps};
 ghost use Rattle.doc_walk.specs.Tags.{contents_step};
 
@@ -16,6 +17,23 @@ pub(crate) fn known_after<T: Drop>(read: Result<(), DocFail>, known: T) -> Resul
         Ok(()) => Ok(known),
         Err(e) => Err(e),
     }
+}
+
+/// Appends an item to others.
+pub(crate) fn append<T: Drop>(list: &mut Vec<T>, item: T) -> Result<(), DocFail>
+    ensures { Returns (λ _. list.new.items) result (Ok (list.old.items ++ item ∷ [])) }
+{
+    match list.push(item) {
+        Ok(()) => Ok(()),
+        Err(_) => Err(DocFail::NoMemory),
+    }
+}
+
+/// Puts a value in its place.
+pub(crate) fn put<T: Drop>(place: &mut Option<T>, value: T)
+    ensures { place.new ≡ Some value }
+{
+    *place = Some(value);
 }
 
 /// Reads all children of the element whose start tag was given, of which this is known at first,

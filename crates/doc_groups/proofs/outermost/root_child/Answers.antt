@@ -8,7 +8,7 @@ use Rattle.doc_groups.proofs.outermost.root_child.Goals as goal
 
 pub returns-then-fits : goal.returns-then-fits
 returns-then-fits c =
-    rw c.set_root.ensures
+    rw c.put.ensures
     (first_one (is_some (file_parts c.args.draft.now.file).root) c.args.tag.now.offset (λ (r : RootParts). let p : FileParts = record (file_parts c.args.draft.now.file) { root = Some r } in p)
     (same_some root_parts c.args.draft.now.file.root ∙ c.if-fits.ensures) c.in_ok-root.ensures)
 

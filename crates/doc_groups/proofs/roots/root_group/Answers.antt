@@ -12,7 +12,7 @@ use Rattle.doc_groups.proofs.roots.root_group.Goals as goal
 pub returns : goal.returns
 returns c =
     let keep = λ (t : ReadTree). let p : RootParts = record (root_parts c.args.draft.now.root) { tree = Some t } in p in
-    rw c.set_tree.ensures
+    rw c.put.ensures
     (same_fit (λ (b : Bool). map_rest keep (group_step 127 b c.args.tag.now)) (none_seen draft_seen c.args.draft.now.root.tree c.is_none-fits.result c.is_none-fits.ensures) (set_in keep c.in_ok-tree.ensures))
 
 pub returns-in_err-tree : goal.returns-in_err-tree
