@@ -2,8 +2,8 @@
 
 ghost use Rattle.doc_forms.specs.Attachments as spec;
 ghost use Rattle.doc_forms.specs.SeenDrafts.{attachment_seen, draft_seen, entry_seen, version_seen};
-ghost use Rattle.std.specs.Prelude.{◌≡◌, IfOk, map};
-ghost use Rattle.vault_model.specs.Seen.{bare_attachment};
+ghost use Rattle.std.specs.Prelude.{◌≡◌, ◌++◌, IfOk, OnOk, map};
+ghost use Rattle.vault_model.specs.Seen.{bare_attachment, bare_content, bare_field};
 ghost use Rattle.vault_model.specs.SeenNodes.{bare_version, entry_row, tree_seen};
 
 use crate::pools::{Pool, push};
@@ -12,7 +12,7 @@ use outside_core::{List, NoMemory, Text};
 use secret_core::Secret;
 use std::alloc::Global;
 use std::rc::Rc;
-use vault_model::{Attachment, Entry, Field, Group, Version};
+use vault_model::{Attachment, Content, Entry, Field, Group, Version};
 
 /// An attachment with its bytes, which are shared. Where it refers to no binary, it has none.
 fn resolved_attachment(
@@ -65,6 +65,24 @@ fn kept_fields(alloc: Global, fields: Vec<Field>) -> Result<List<Field>, NoMemor
     Ok(kept)
 }
 
+/// Puts the fields and the attachments of a version into what it says, in the place of those there.
+fn put_lists(
+    alloc: Global,
+    pool: &Pool<'_>,
+    content: &mut Content,
+    fields: Vec<Field>,
+    attachments: &[AttachmentDraft],
+) -> Result<(), NoMemory>
+    ensures { OnOk result (bare_content content.new ≡ record (bare_content content.old) {
+      fields = map bare_field fields.items;
+      attachments = map (spec.resolved_attachment pool.now) (map attachment_seen attachments.now);
+    }) }
+{
+    content.fields = kept_fields(alloc, fields)?;
+    content.attachments = resolved_attachments(alloc, pool, attachments)?;
+    Ok(())
+}
+
 /// A version with the bytes of its attachments.
 fn resolved_version(
     alloc: Global,
@@ -81,8 +99,7 @@ fn resolved_version(
         attachments,
         stats,
     } = draft;
-    content.fields = kept_fields(alloc, fields)?;
-    content.attachments = resolved_attachments(alloc, pool, attachments.as_slice())?;
+    put_lists(alloc, pool, &mut content, fields, attachments.as_slice())?;
     Ok(Version {
         modified,
         content,
@@ -90,20 +107,20 @@ fn resolved_version(
     })
 }
 
-/// Versions with the bytes of their attachments.
-fn resolved_versions(
+/// Puts versions with the bytes of their attachments after the others.
+fn push_versions(
     alloc: Global,
     pool: &Pool<'_>,
+    versions: &mut List<Version>,
     drafts: Vec<VersionDraft>,
-) -> Result<List<Version>, NoMemory>
-    ensures { IfOk result (λ l. map bare_version l
-        ≡ map (spec.resolved_version pool.now) (map version_seen drafts.items)) }
+) -> Result<(), NoMemory>
+    ensures { OnOk result (map bare_version versions.new ≡ map bare_version versions.old
+        ++ map (spec.resolved_version pool.now) (map version_seen drafts.items)) }
 {
-    let mut resolved = List::new(alloc);
     for draft in drafts {
-        push(&mut resolved, resolved_version(alloc, pool, draft)?)?;
+        push(versions, resolved_version(alloc, pool, draft)?)?;
     }
-    Ok(resolved)
+    Ok(())
 }
 
 /// An entry with the bytes of its attachments.
@@ -117,13 +134,16 @@ fn resolved_entry(alloc: Global, pool: &Pool<'_>, draft: EntryDraft) -> Result<E
         current,
         history,
     } = draft;
-    Ok(Entry {
+    let current = resolved_version(alloc, pool, current)?;
+    let mut entry = Entry {
         id,
         placed,
         previous,
-        current: resolved_version(alloc, pool, current)?,
-        history: resolved_versions(alloc, pool, history)?,
-    })
+        current,
+        history: List::new(alloc),
+    };
+    push_versions(alloc, pool, &mut entry.history, history)?;
+    Ok(entry)
 }
 
 /// Entries with the bytes of their attachments.

@@ -10,10 +10,9 @@ use Rattle.vault_model.proofs.Tests.{and_true}
 use Rattle.doc_forms.specs.Attachments.{resolved_tree}
 use Rattle.doc_forms.specs.Ids.{least_duplicate, refuse_duplicate, tombs_of}
 use Rattle.doc_forms.specs.Groups.{ReadTree}
-use Rattle.doc_forms.specs.KeptParts.{are_kept, is_kept_half, is_kept_meta, is_kept_root, is_kept_tree}
+use Rattle.doc_forms.specs.KeptParts.{is_kept_half, is_kept_meta, is_kept_root, is_kept_tree}
 use Rattle.doc_forms.specs.Metas.{ReadBinary}
-use Rattle.doc_forms.specs.SeenDrafts.{draft_seen, file_parts, root_parts}
-use Rattle.doc_forms.specs.declared.drafts.FileBuilder.{FileBuilder}
+use Rattle.doc_forms.specs.SeenDrafts.{draft_seen, root_parts}
 use Rattle.doc_forms.specs.declared.drafts.GroupDraft.{GroupDraft}
 use Rattle.doc_forms.specs.declared.drafts.RootBuilder.{RootBuilder}
 use Rattle.doc_settling.proofs.ResolvedTrees.{KeptTree, distinct_ids, resolved_keeps}
@@ -21,21 +20,11 @@ use Rattle.doc_settling.proofs.RisingTombs.{apart_tombs, rising_tombs}
 
 -- ---- what is kept of the parts of a document
 
--- what a database says of itself, and what there is of `Root`
-pub file_is_kept : (file : Option FileBuilder) (f : FileBuilder)
-    → are_kept (option_map file_parts file) ≡ true → file ≡ Some f
-    → (is_kept_meta f.meta.meta ≡ true) × (is_kept_half (option_map root_parts f.root) ≡ true)
-file_is_kept file f kept is =
-    and_true (is_kept_meta f.meta.meta) (is_kept_half (option_map root_parts f.root))
-    (subst (λ (o : Option FileBuilder). are_kept (option_map file_parts o) ≡ true) is kept)
-
 -- the root group
-pub tree_is_kept : (root : Option RootBuilder) (r : RootBuilder) (draft : GroupDraft)
-    → is_kept_half (option_map root_parts root) ≡ true → root ≡ Some r → r.tree ≡ Some draft
+pub tree_is_kept : (root : RootBuilder) (draft : GroupDraft)
+    → is_kept_half (Some (root_parts root)) ≡ true → root.tree ≡ Some draft
     → is_kept_tree 127 (draft_seen draft) ≡ true
-tree_is_kept root r draft kept is is_tree =
-    subst (λ (o : Option GroupDraft). is_kept_root (option_map draft_seen o) ≡ true) is_tree
-    (subst (λ (o : Option RootBuilder). is_kept_half (option_map root_parts o) ≡ true) is kept)
+tree_is_kept root draft kept is = subst (λ (o : Option GroupDraft). is_kept_root (option_map draft_seen o) ≡ true) is kept
 
 -- ---- the document
 

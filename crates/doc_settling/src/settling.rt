@@ -3,13 +3,15 @@
 
 ghost use Rattle.doc_forms.specs.Attachments.{pool_from};
 ghost use Rattle.doc_forms.specs.Documents as spec;
-ghost use Rattle.doc_forms.specs.KeptParts.{is_kept_meta, is_kept_tree};
+ghost use Rattle.doc_forms.specs.Ids.{least_duplicate, tombs_of};
+ghost use Rattle.doc_forms.specs.KeptParts.{are_kept, is_kept_half, is_kept_meta, is_kept_tree};
 ghost use Rattle.doc_forms.specs.Refusals.{Returns};
 ghost use Rattle.doc_forms.specs.SeenDocuments.{parts_seen, pool_item, read_seen};
-ghost use Rattle.doc_forms.specs.SeenDrafts.{binary_seen, draft_seen, meta_parts};
+ghost use Rattle.doc_forms.specs.SeenDrafts.{binary_seen, draft_seen, file_parts, meta_parts, root_parts};
 ghost use Rattle.doc_settling.specs.Trees.{ArePartsOf, refusal_of, sound_tree};
-ghost use Rattle.std.specs.Prelude.{◌≡◌, IfOk, map, true};
+ghost use Rattle.std.specs.Prelude.{◌≡◌, IfOk, Some, map, true};
 ghost use Rattle.vault_model.specs.SeenNodes.{tree_seen};
+ghost use Rattle.vault_model.specs.Tree.{node_ids};
 
 use crate::ids::ids_of;
 use crate::tombs::tombs_without;
@@ -34,6 +36,28 @@ pub struct TreeParts {
     pub tombs: List<Tombstone>,
 }
 
+/// What is known of the ids of a tree's nodes: the least that two of them have, and the tombstones
+/// that name none.
+#[derive(Drop)]
+struct NodeParts {
+    duplicate: Option<Uuid>,
+    tombs: List<Tombstone>,
+}
+
+/// What is known of the ids of a tree's nodes, with these tombstones.
+fn node_parts(alloc: Global, root: &Group, tombs: &[Tombstone]) -> Result<NodeParts, NoMemory>
+    ensures duplicate { IfOk result (λ parts. parts.duplicate
+        ≡ least_duplicate (node_ids (tree_seen root.now))) }
+    ensures tombs { IfOk result (λ parts. parts.tombs ≡ tombs_of (tree_seen root.now) tombs.now) }
+{
+    let ids = ids_of(alloc, root)?;
+    let tombs = tombs_without(alloc, &ids.ids, tombs)?;
+    Ok(NodeParts {
+        duplicate: ids.duplicate,
+        tombs,
+    })
+}
+
 /// The parts of a tree that was read, with the binaries that the file keeps apart, or the
 /// document's own.
 fn tree_parts(
@@ -49,13 +73,12 @@ fn tree_parts(
         (draft_seen draft) tombs.now parts) }
 {
     let tree = resolve_tree(alloc, form, given, own, draft)?;
-    let ids = ids_of(alloc, &tree.root)?;
-    let tombs = tombs_without(alloc, &ids.ids, tombs.as_slice())?;
+    let nodes = node_parts(alloc, &tree.root, tombs.as_slice())?;
     Ok(TreeParts {
         root: tree.root,
-        duplicate: ids.duplicate,
+        duplicate: nodes.duplicate,
         missing: tree.missing,
-        tombs,
+        tombs: nodes.tombs,
     })
 }
 
@@ -142,6 +165,45 @@ fn settled_tree(
     }
 }
 
+/// The document of what a database says of itself and of its root, or the first refusal after the
+/// end.
+fn settled_root(
+    alloc: Global,
+    form: DocForm,
+    given: &List<PoolItem>,
+    meta: MetaBuilder,
+    root: RootBuilder,
+) -> Result<ReadDoc, DocFail>
+    requires meta { is_kept_meta meta.meta ≡ true }
+    requires root { is_kept_half (Some (root_parts root)) ≡ true }
+    ensures { Returns read_seen result (spec.settled_document form (map pool_item given.now)
+        (Some (record { meta = meta_parts meta; root = Some (root_parts root) }))) }
+{
+    let RootBuilder { tree, tombs } = root;
+    match tree {
+        Some(draft) => settled_tree(alloc, form, given, meta, draft, &tombs),
+        None => Err(DocFail::MissingElement(RequiredElement::Group, 0)),
+    }
+}
+
+/// The document of a whole file, or the first refusal after the end.
+fn settled_file(
+    alloc: Global,
+    form: DocForm,
+    given: &List<PoolItem>,
+    file: FileBuilder,
+) -> Result<ReadDoc, DocFail>
+    requires { are_kept (Some (file_parts file)) ≡ true }
+    ensures { Returns read_seen result (spec.settled_document form (map pool_item given.now)
+        (Some (file_parts file))) }
+{
+    let FileBuilder { meta, root } = file;
+    match root {
+        Some(root) => settled_root(alloc, form, given, meta, root),
+        None => Err(DocFail::MissingElement(RequiredElement::Root, 0)),
+    }
+}
+
 /// The document that the parts of a text make, in the form in which it was read, with the binaries
 /// that its file keeps apart (which only KDBX 4 has).
 ///
@@ -154,14 +216,9 @@ pub fn settle(alloc: Global, pool: &List<PoolItem>, parts: DocParts) -> Result<R
     ensures { Returns read_seen result (spec.settled_document parts.form (map pool_item pool.now)
         (parts_seen parts)) }
 {
-    let form = parts.form;
-    let FileBuilder { meta, root } = parts
-        .file
-        .ok_or(DocFail::MissingElement(RequiredElement::KeePassFile, 0))?;
-    let RootBuilder { tree, tombs } = root.ok_or(DocFail::MissingElement(
-        RequiredElement::Root,
-        0,
-    ))?;
-    let draft = tree.ok_or(DocFail::MissingElement(RequiredElement::Group, 0))?;
-    settled_tree(alloc, form, pool, meta, draft, &tombs)
+    let DocParts { form, file } = parts;
+    match file {
+        Some(file) => settled_file(alloc, form, pool, file),
+        None => Err(DocFail::MissingElement(RequiredElement::KeePassFile, 0)),
+    }
 }

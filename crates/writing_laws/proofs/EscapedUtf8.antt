@@ -45,7 +45,7 @@ same_byte b h =
     let high : ltb b 32 ≡ false = grind (arith, nat_tests) in
     rw (ne_eqb b 38 (omega arith), ne_eqb b 60 (omega arith), ne_eqb b 62 (omega arith), ne_eqb b 34 (omega arith), ne_eqb b 9 (omega arith), ne_eqb b 10 (omega arith), high) refl
 
--- an ASCII byte stands between two characters alone
+-- an ASCII byte comes between two characters, and never within one
 ascii_step : (b : ℕ) → b < 128 → utf8_step none_left b ≡ Some none_left
 unfolding utf8_step
 ascii_step b h =
@@ -63,7 +63,7 @@ ascii_between three b h = let low : leb 128 b ≡ false = grind (arith, nat_test
 ascii_between three_low b h = let low : leb 128 b ≡ false = grind (arith, nat_tests) in inr (rw low refl)
 ascii_between three_high b h = let low : leb 144 b ≡ false = grind (arith, nat_tests) in inr (rw low refl)
 
--- one step, where a text is passed over from any state on
+-- one byte of a text, from any state on
 step_if : (b : ℕ) (text plain_text : List ℕ) (state : Partial) (o : Option Partial) → utf8_step state b ≡ o
     → ((next : Partial) → utf8_run text next ≡ Some none_left → utf8_run plain_text next ≡ Some none_left)
     → utf8_run (b ∷ text) state ≡ Some none_left → utf8_run (b ∷ plain_text) state ≡ Some none_left

@@ -13,7 +13,7 @@ use Rattle.vault_model.specs.declared.metas.Meta.{Meta}
 use Rattle.vault_model.specs.Bare.{BareContent}
 use Rattle.vault_model.specs.declared.metas.Icon.{Icon}
 use Rattle.doc_forms.specs.Attachments.{binaries_from}
-use Rattle.doc_spelling.specs.Pieces.{Piece, Pieces, none, beside, ◌▹◌, ◌▹▹◌, pieces_of, piece_if, filled, nonzero, not_nil, if_false, text, coded}
+use Rattle.doc_spelling.specs.Pieces.{Piece, Pieces, none, beside, ◌▹◌, ◌▹▹◌, pieces_of, piece_if, unless_empty, unless_zero, unless_nil, unless_true, text_piece, base64_piece}
 use Rattle.doc_spelling.specs.Pool.{PoolPair}
 use Rattle.doc_spelling.specs.Values.{bool_piece, id_piece, time_piece, value_piece, change_pieces, item_piece, items_piece, items_pieces}
 use Rattle.doc_spelling.specs.Entries.{field_piece, attachment_piece, association_piece, auto_type_piece, icon_pieces, previous_pieces, text_pieces, held_pieces, version_pieces, history_item_piece, history_piece, entry_piece}
@@ -51,13 +51,13 @@ field_fits : (k : ℕ) (form : DocForm) (f : BareField) → fits_height (suc (su
 field_fits k form f = yes (fits_height (suc k) (value_piece form (codes "Value") f.value f.hidden)) true (value_fits k form f.value f.hidden) refl
 
 changes_fit : (k : ℕ) (form : DocForm) (n : ℕ) → fit_height (suc k) (change_pieces form n) ≡ true
-changes_fit k form n = some_fits (suc k) (time_piece form (codes "LastModificationTime")) (nonzero n) (λ n. refl)
+changes_fit k form n = some_fits (suc k) (time_piece form (codes "LastModificationTime")) (unless_zero n) (λ n. refl)
 
 items_fit : (k : ℕ) (form : DocForm) (items : List Item) → fits_height (suc (suc (suc k))) (items_piece form items) ≡ true
 items_fit k form items = all_fit (suc (suc k)) (item_piece form) items (λ i. changes_fit k form i.changed)
 
 some_items_fit : (k : ℕ) (form : DocForm) (items : List Item) → fit_height (suc (suc (suc k))) (items_pieces form items) ≡ true
-some_items_fit k form items = some_fits (suc (suc (suc k))) (items_piece form) (filled items) (items_fit k form)
+some_items_fit k form items = some_fits (suc (suc (suc k))) (items_piece form) (unless_empty items) (items_fit k form)
 
 typing_fits : (k : ℕ) (a : AutoType) → fits_height (suc (suc (suc k))) (auto_type_piece a) ≡ true
 typing_fits k a = all_fit (suc (suc k)) association_piece a.pairs (λ a. refl)
@@ -66,10 +66,10 @@ icons_fit : (k icon : ℕ) (o : Option NodeId) → fit_height (suc k) (icon_piec
 icons_fit k icon o = some_fits (suc k) (id_piece (codes "CustomIconUUID")) o (λ u. refl)
 
 texts_fit : (k : ℕ) (c : BareContent) → fit_height (suc k) (text_pieces c) ≡ true
-texts_fit k c = some_fits (suc k) (bool_piece (codes "QualityCheck")) (if_false c.quality) (λ b. refl)
+texts_fit k c = some_fits (suc k) (bool_piece (codes "QualityCheck")) (unless_true c.quality) (λ b. refl)
 
 previous_fit : (k : ℕ) (u : NodeId) → fit_height (suc k) (previous_pieces u) ≡ true
-previous_fit k u = some_fits (suc k) (id_piece (codes "PreviousParentGroup")) (not_nil u) (λ u. refl)
+previous_fit k u = some_fits (suc k) (id_piece (codes "PreviousParentGroup")) (unless_nil u) (λ u. refl)
 
 held_fit : (k : ℕ) (form : DocForm) (items : List PoolPair) (c : BareContent) → fit_height (suc (suc (suc k))) (held_pieces form items c) ≡ true
 held_fit k form items c =
@@ -96,7 +96,7 @@ entry_fits k form items e =
 record_fits : (k : ℕ) (form : DocForm) (u : NodeId) (r : GroupRecord) → fit_height (suc (suc (suc k))) (record_pieces form u r) ≡ true
 record_fits k form u r =
     let c = r.state.content in
-    joined_fit (suc (suc (suc k))) (name_pieces c) _ (joined_fit (suc (suc (suc k))) (piece_if (text (codes "Tags")) (filled c.tags)) (icon_pieces c.icon c.custom_icon) (some_fits (suc (suc (suc k))) (text (codes "Tags")) (filled c.tags) (λ t. refl)) (icons_fit (suc (suc k)) c.icon c.custom_icon))
+    joined_fit (suc (suc (suc k))) (name_pieces c) _ (joined_fit (suc (suc (suc k))) (piece_if (text_piece (codes "Tags")) (unless_empty c.tags)) (icon_pieces c.icon c.custom_icon) (some_fits (suc (suc (suc k))) (text_piece (codes "Tags")) (unless_empty c.tags) (λ t. refl)) (icons_fit (suc (suc k)) c.icon c.custom_icon))
     (joined_fit (suc (suc (suc k))) (previous_pieces r.previous) _ (previous_fit (suc (suc k)) r.previous) (some_items_fit k form c.items))
 
 mutual
@@ -113,7 +113,7 @@ mutual
 
 icon_fits : (k : ℕ) (form : DocForm) (i : Icon) → fits_height (suc (suc k)) (icon_piece form i) ≡ true
 icon_fits k form i =
-    joined_fit (suc k) (piece_if (text (codes "Name")) (filled i.name)) (change_pieces form i.changed) (some_fits (suc k) (text (codes "Name")) (filled i.name) (λ t. refl)) (changes_fit k form i.changed)
+    joined_fit (suc k) (piece_if (text_piece (codes "Name")) (unless_empty i.name)) (change_pieces form i.changed) (some_fits (suc k) (text_piece (codes "Name")) (unless_empty i.name) (λ t. refl)) (changes_fit k form i.changed)
 
 binary_fits : (k : ℕ) (form : DocForm) (n : ℕ) (bytes : List ℕ) (h : Bool) → fits_height (suc k) (numbered_piece form n bytes h) ≡ true
 binary_fits k form n bytes false = refl
@@ -128,7 +128,7 @@ pool_fits k V3 items = yes (fit_height (suc (suc k)) (pieces_of (binary_piece V3
 
 hash_fits : (k : ℕ) (form : DocForm) (hash : Option (List ℕ)) → fit_height (suc k) (hash_pieces form hash) ≡ true
 hash_fits k Plain hash = refl
-hash_fits k V3 hash = some_fits (suc k) (coded (codes "HeaderHash") []) hash (λ h. refl)
+hash_fits k V3 hash = some_fits (suc k) (base64_piece (codes "HeaderHash") []) hash (λ h. refl)
 hash_fits k V4 hash = refl
 
 meta_fits : (k : ℕ) (form : DocForm) (hash : Option (List ℕ)) (items : List PoolPair) (m : Meta) → fits_height (suc (suc (suc (suc k)))) (meta_piece form hash items m) ≡ true

@@ -1,4 +1,5 @@
--- That what is written is read: for an element, for elements side by side, and by the kinds of rows.
+-- What it means that a written element is read, and how this follows for elements side by side, for
+-- containers, and for values.
 use Rattle.std.proofs.Common.{◌≡◌, ℕ, ◌+◌, ◌≤◌, Bool, true, false, cond, Option, Some, List, [], ◌∷◌, ◌++◌, Result, Ok, Err, length, ap, sym, refl, ◌∙◌, ap₂, arith, bytes_eq}
 use Rattle.std.specs.Str.{IsUtf8}
 use Rattle.markup_grammar.proofs.RoundTrip.{round_trip_lem}
@@ -26,9 +27,9 @@ use Rattle.writing_laws.proofs.ValueTexts.{Says, stream_bytes, decoded_back, xor
 use Rattle.stream_core.proofs.StreamLemmas.{length-xored, xored-xored}
 use Rattle.doc_forms.specs.ElementTexts.{ElementText, plain_text, hidden_bytes}
 use Rattle.text_core.specs.Texts.{base64_bytes, trim}
-use Rattle.doc_spelling.specs.Pieces.{Piece, leaf, secret, box, Pieces, none, beside, ◌▹▹◌, attributes_text, protected, hidden_text, protect_in_memory, hidden_len, hidden_len_all, element_of, content_of}
+use Rattle.doc_spelling.specs.Pieces.{Piece, leaf, secret, box, Pieces, none, beside, ◌▹▹◌, attributes_text, protected_attribute, hidden_text, in_memory_attribute, hidden_len, hidden_len_all, element_of, content_of}
 
--- ---- how far one is
+-- ---- how much has been read
 
 -- after so many more bytes of the stream, and so many more nodes
 abbrev pub cursor_after : Cursor → ℕ → ℕ → Cursor
@@ -43,7 +44,7 @@ cursor_same_place c = cursor_same (c.offset + 0) c.offset (c.nodes + 0) c.nodes 
 pub cursor_twice : (c : Cursor) (h n k m : ℕ) → cursor_after (cursor_after c h n) k m ≡ cursor_after c (h + k) (n + m)
 cursor_twice c h n k m = cursor_same _ _ _ _ (omega arith) (omega arith)
 
--- ---- the statement
+-- ---- what it means
 
 abbrev mutual
   -- all texts in it are UTF-8, and what is hidden is bytes
@@ -56,17 +57,17 @@ abbrev mutual
   HaveTexts none = Unit {0}
   HaveTexts (beside x xs) = HasTexts x × HaveTexts xs
 
--- of most things all is seen
+-- a view that hides nothing
 abbrev pub identity : {A : Type 0} → A → A
 identity x = x
 
--- an element: whatever is known, and wherever one is, it is read, and changes what is seen by f; it holds n nodes
+-- An element is read wherever it begins and whatever is known before: it changes what is seen of that by f, and holds n nodes.
 pub record Reads {P V : Type 0} (s : Setting) (view : P → V) (child : Child P) (piece : Piece) (f : V → V) (n : ℕ) : Type 0 where
   pub texts : HasTexts piece
   pub read : (place : ℕ) (p : P) (c : Cursor) → c.nodes + n ≤ 262144
       → (new : P) × (child p (element_at place (element_of s.keystream c.offset piece)) c ≡ Ok (new, cursor_after c (hidden_len piece) n)) × (view new ≡ f (view p))
 
--- elements side by side
+-- The same of elements side by side.
 pub record ReadsAll {P V : Type 0} (s : Setting) (view : P → V) (child : Child P) (pieces : Pieces) (f : V → V) (n : ℕ) : Type 0 where
   pub texts : HaveTexts pieces
   pub read : (place : ℕ) (p : P) (c : Cursor) → c.nodes + n ≤ 262144
@@ -119,7 +120,7 @@ joined_len : (xs ys : Pieces) → hidden_len_all xs + hidden_len_all ys ≡ hidd
 joined_len none ys = omega arith
 joined_len (beside x xs) ys = omega (arith, joined_len xs ys)
 
--- where the text after some elements begins
+-- the offset of what comes after some elements
 end_place : Keystream → ℕ → ℕ → Pieces → ℕ
 end_place k o place none = place
 end_place k o place (beside x xs) = end_place k (o + hidden_len x) (place + length {A = ℕ} [] + length (spelled (element_of k o x))) xs
@@ -193,7 +194,7 @@ name_is place k p (leaf name attrs text) = refl
 name_is place k p (secret name attrs bytes) = refl
 name_is place k p (box name pieces) = refl
 
--- the row of its name reads it
+-- an element is read where the row of its name reads it
 pub by_row : {P V : Type 0} {s : Setting} {view : P → V} (rows : List (List ℕ × Child P)) {x : Piece} {f : V → V} {n : ℕ}
     → Reads s view (row_of (piece_name x) rows (unknown_child s)) x f n → Reads s view (by_name s rows) x f n
 by_row {s = s} rows {x} r = record {
@@ -206,11 +207,11 @@ by_row {s = s} rows {x} r = record {
 
 -- ---- the end of an element
 
-pub protected_marks : (is_protected (attributes_text (protected ∷ [])) ≡ true) × (is_hidden (attributes_text (protected ∷ [])) ≡ true)
+pub protected_marks : (is_protected (attributes_text (protected_attribute ∷ [])) ≡ true) × (is_hidden (attributes_text (protected_attribute ∷ [])) ≡ true)
 unfolding attributes_from last_named escaped_byte unescaped_from is_space
 protected_marks = (refl, refl)
 
-pub in_memory_marks : (is_protected (attributes_text (protect_in_memory ∷ [])) ≡ false) × (is_hidden (attributes_text (protect_in_memory ∷ [])) ≡ true)
+pub in_memory_marks : (is_protected (attributes_text (in_memory_attribute ∷ [])) ≡ false) × (is_hidden (attributes_text (in_memory_attribute ∷ [])) ≡ true)
 unfolding attributes_from last_named escaped_byte unescaped_from is_space
 in_memory_marks = (refl, refl)
 
@@ -231,7 +232,7 @@ unfolding unescaped_from
 no_text none place k p = refl
 no_text (beside x xs) place k p = no_text xs (place + 0 + length (spelled (element_of k p x))) k (p + hidden_len x)
 
--- all that stands in one element, and its end
+-- all that is in one element, and its end
 abbrev pub ReadsChildren : {P V : Type 0} → Setting → (P → V) → Child P → List ℕ → Pieces → (V → V) → ℕ → Type 0
 ReadsChildren {P} s view child name pieces f n = (place begins : ℕ) (p : P) (c : Cursor) → c.nodes + n ≤ 262144
     → (new : P) × (children_and_end s child begins [] [] (content_at place (content_of s.keystream c.offset pieces)) p c ≡ Ok (new, cursor_after c (hidden_len_all pieces) n)) × (view new ≡ f (view p))
@@ -247,7 +248,7 @@ children_read {P} s view child name pieces f n r place begins p c room =
       a.2,
     )
 
--- a container
+-- a container is read where its children are
 pub container_reads : {P V Q W : Type 0} {s : Setting} {view : P → V} {seen : Q → W} (rows : List (List ℕ × Child Q)) {pieces : Pieces} {f : W → W} {n : ℕ}
     (first : Q) (keep : P → Q → P) (name : List ℕ) (g : V → V)
     → ((p : P) (q : Q) → seen q ≡ f (seen first) → view (keep p q) ≡ g (view p))
@@ -262,21 +263,21 @@ container_reads {Q = Q} {s = s} {view} {seen} rows {pieces} {f} {n} first keep n
 
 -- ---- values
 
--- what is said, by a rule
+-- a value is what the rule makes of the text
 pub by_rule : {A : Type 0} (s : Setting) (rule : ElementText → Option A) (place : ℕ) (raw : List ℕ) (content : told.Content) (c d : Cursor) (said : ElementText) (v : A)
     → read_rest s place raw [] content c ≡ Ok (said, d) → rule said ≡ Some v → value_by s rule place raw content c ≡ Ok (v, d)
 by_rule {A} s rule place raw content c d said v e f =
     ap (λ (r : Result (ElementText × Cursor) DocFail). r >>= λ x. (checked_value place (rule x.0) >>= λ v. Ok (v, x.1))) e
     ∙ ap (λ (o : Option A). checked_value place o >>= λ v. Ok (v, d)) f
 
--- a text as it stands
+-- a text is read as it was before it was escaped
 pub text_rest : (s : Setting) (place : ℕ) (raw text : List ℕ) (c : Cursor) → is_protected raw ≡ false
     → read_rest s place raw [] (told.last (unescaped (escaped text))) c ≡ Ok (plain_text text, cursor_after c 0 0)
 text_rest s place raw text c no_protection =
     plain_end s place raw (unescaped (escaped text)) c no_protection
     ∙ (ap (λ (t : List ℕ). Ok (plain_text t, c)) (round_trip_lem text) ∙ ap (λ (d : Cursor). Ok (plain_text text, d)) (sym (cursor_same_place c)))
 
--- hidden bytes
+-- hidden bytes are read as they were before they were hidden
 pub secret_rest : (s : Setting) (place : ℕ) (raw bytes : List ℕ) (c : Cursor) → is_protected raw ≡ true → may_hide s.form ≡ true
     → IsBytes bytes
     → read_rest s place raw [] (told.last (unescaped (hidden_text s.keystream c.offset bytes))) c ≡ Ok (hidden_bytes bytes, cursor_after c (length bytes) 0)
@@ -322,7 +323,7 @@ module _ {P V A : Type 0} (s : Setting) (view : P → V) (rule : ElementText →
   secret_hidden keep name bytes v g may are_bytes says kept = record {
     texts = (tt, are_bytes);
     read = λ place p c room.
-        let raw = attributes_text ([] ++ protected ∷ []) in (
+        let raw = attributes_text ([] ++ protected_attribute ∷ []) in (
           keep p v true,
           ap (λ (r : Result (A × Cursor) DocFail). r >>= λ x. Ok (keep p x.0 (is_hidden raw), x.1)) (by_rule s rule place raw (told.last (unescaped (hidden_text s.keystream c.offset bytes))) c (cursor_after c (length bytes) 0) (hidden_bytes bytes) v (secret_rest s place raw bytes c protected_marks.0 may are_bytes) says)
               ∙ ap (λ (b : Bool). Ok (keep p v b, cursor_after c (length bytes) 0)) protected_marks.1,

@@ -15,20 +15,22 @@ abbrev pub If : {A : Type 0} → (A → Type 0) → Option A → Type 0
 If P None = Unit {0}
 If P (Some x) = P x
 
--- an id's bytes
+-- The bytes of an id.
 pub record IsId (u : List ℕ) : Type 0 where
   pub bytes : IsBytes u
   pub sixteen : length u ≡ 16
 
+-- The bytes of a SHA-256.
 pub record IsHash (h : List ℕ) : Type 0 where
   pub bytes : IsBytes h
   pub length : length h ≡ 32
 
--- a whole number with a sign, between these two
+-- A whole number with a sign, between these two.
 pub record IsSigned (least most z : ℤ) : Type 0 where
   pub low : int_le least z ≡ true
   pub high : int_le z most ≡ true
 
+-- Times of the years 1 to 9999, and a count of 64 bits.
 pub record GoodTimes (t : Times) : Type 0 where
   pub modified : t.modified ≤ last_stamp
   pub created : t.created ≤ last_stamp

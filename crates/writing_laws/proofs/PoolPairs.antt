@@ -48,7 +48,7 @@ itself_pair p = ap₂ (λ a b. a && b) ((bytes_eq-Decides p.0 p.0).1 refl) (flag
     flag true = refl
     flag false = refl
 
--- a pair stands in a pool
+-- a pair is in a pool
 abbrev pub IsIn : List PoolPair → PoolPair → Type 0
 IsIn pool p = list_any (is_pair p) pool ≡ true
 
@@ -90,7 +90,7 @@ each_new P (p ∷ ps) pool h k =
 
 -- ---- numbers
 
--- a pair of the pool stands at its number
+-- The pair of a number in a pool.
 pub record Stands (items : List PoolPair) (p : PoolPair) (n : ℕ) : Type 0 where
   pub pair : PoolPair
   pub at : slice_get items n ≡ Some pair
@@ -116,7 +116,7 @@ stands (q ∷ items) bytes hidden h =
 unlike : (m n : ℕ) (b : ReadBinary) (found : Option ReadBinary) (rest : List ReadBinary) → (m == n) ≡ false → last_of_number n (cond (m == n) (Some b) found) rest ≡ last_of_number n found rest
 unlike m n b found rest e = ap (λ c. last_of_number n (cond c (Some b) found) rest) e
 
--- later numbers are others
+-- no later binary has the number
 none_later : (items : List PoolPair) (m n : ℕ) (found : Option ReadBinary) → n < m → last_of_number n found (binaries_from m items) ≡ found
 none_later [] m n found h = refl
 none_later (p ∷ items) m n found h =

@@ -39,25 +39,25 @@ use Rattle.writing_laws.proofs.ValueTexts.{number_is}
 abbrev ref_text : ℕ → List ℕ
 ref_text n = attributes_text ((codes "Ref", decimal n) ∷ [])
 
-told : (n : ℕ) → attributes (ref_text n) ≡ (codes "Ref", escaped (decimal n)) ∷ []
+ref_attribute : (n : ℕ) → attributes (ref_text n) ≡ (codes "Ref", escaped (decimal n)) ∷ []
 unfolding is_space is_digit begins_name is_name_byte
-told n = attributes_told (attribute_of (codes "Ref", decimal n) ∷ []) []
+ref_attribute n = attributes_told (attribute_of (codes "Ref", decimal n) ∷ []) []
     (record { has_space = λ e. cc e; space = (refl, tt); name = (refl, (refl, (refl, tt))); space_before = tt; space_behind = tt; quote = inl refl; value = escaped_value (decimal n) }, tt) tt
 
 ref_is : (n : ℕ) → attribute_text (ref_text n) (codes "Ref") ≡ Some (decimal n)
 unfolding last_named
-ref_is n = ap (λ l. option_map unescaped (last_named (codes "Ref") None l)) (told n) ∙ ap (λ t. Some t) (round_trip_lem (decimal n))
+ref_is n = ap (λ l. option_map unescaped (last_named (codes "Ref") None l)) (ref_attribute n) ∙ ap (λ t. Some t) (round_trip_lem (decimal n))
 
 open_text : (n : ℕ) → is_protected (ref_text n) ≡ false
 unfolding last_named
-open_text n = rw (told n) refl
+open_text n = rw (ref_attribute n) refl
 
 not_compressed : (n : ℕ) → is_compressed (ref_text n) ≡ false
 not_compressed n = rw (ref_is n) refl
 
 -- ---- attachments
 
--- an attachment is named by a text, and the pool has its bytes under its number
+-- An attachment has a name in UTF-8, and the pool has its bytes under its number.
 pub record HasBinary (pool : List ReadBinary) (items : List PoolPair) (a : BareAttachment) : Type 0 where
   pub name : is_utf8 a.name ≡ true
   pub small : number_in items (a.bytes, a.hidden) ≤ 18446744073709551615

@@ -57,12 +57,12 @@ tombs_read {s} pool form tombs good =
 
 -- ---- the outermost elements, which are read where nothing was known
 
--- one element, where this much is known
+-- An element is read where this much is known.
 pub record ReadsAt {P V : Type 0} (s : Setting) (view : P → V) (child : Child P) (piece : Piece) (p : P) (v : V) (n : ℕ) : Type 0 where
   pub read : (place : ℕ) (c : Cursor) → c.nodes + n ≤ 262144
       → (new : P) × (child p (element_at place (element_of s.keystream c.offset piece)) c ≡ Ok (new, cursor_after c (hidden_len piece) n)) × (view new ≡ v)
 
--- two of them
+-- two elements, one after the other
 pair_at : {P V : Type 0} {s : Setting} {view : P → V} {child : Child P} {x y : Piece} {p : P} {v u : V} {n m : ℕ}
     → ReadsAt s view child x p v n → ((q : P) → view q ≡ v → ReadsAt s view child y q u m)
     → (place : ℕ) (c : Cursor) → c.nodes + (n + m) ≤ 262144
@@ -85,7 +85,7 @@ pair_at {P} {s = s} {view} {child} {x} {y} {p} {v} {u} {n} {m} rx ry place c roo
     more : (h k : ℕ) → h + k ≡ h + (k + 0)
     more h k = omega arith
 
--- the row of its name
+-- an element is read where the row of its name reads it
 row_at : {P V : Type 0} {s : Setting} {view : P → V} (rows : List (List ℕ × Child P)) {x : Piece} {p : P} {v : V} {n : ℕ}
     → ReadsAt s view (row_of (piece_name x) rows (unknown_child s)) x p v n → ReadsAt s view (by_name s rows) x p v n
 row_at {s = s} rows {x} {p} r = record {
@@ -141,7 +141,7 @@ module _ (s : Setting) (pool : List ReadBinary) (form : DocForm) (items : List P
         );
   }
 
-  -- the whole of it
+  -- `KeePassFile` is read
   pub document_read : GoodTree pool items d.tree → height d.tree ≤ 128 → Each GoodTomb d.tombs
       → (hash : Option (List ℕ)) → If IsHash hash → Each GoodBinary (binaries_from 0 items) → GoodMeta d.meta
       → (place : ℕ) (c : Cursor) → c.nodes + tree_nodes d.tree ≤ 262144

@@ -20,7 +20,7 @@ use Rattle.doc_forms.specs.ElementTexts.{Setting}
 use Rattle.doc_forms.specs.Children.{Child, unknown_child, by_name, count_node}
 use Rattle.outside_core.specs.Results.{◌>>=◌}
 use Rattle.doc_forms.specs.Tables.{put}
-use Rattle.doc_spelling.specs.Pieces.{Piece, none, ◌▹◌, ◌▹▹◌, pieces_of, piece_if, filled, not_nil, if_false, hidden_len_all}
+use Rattle.doc_spelling.specs.Pieces.{Piece, none, ◌▹◌, ◌▹▹◌, pieces_of, piece_if, unless_empty, unless_nil, unless_true, hidden_len_all}
 use Rattle.writing_laws.specs.ResolvedParts.{version_with, entry_with, entry_parts_with, own_attachment, own_version, own_entry}
 use Rattle.writing_laws.proofs.Frame.{cursor_after, ◌▸▸◌, Reads, ReadsAll, reads_none, ◌▸◌, all_alike, by_row, row_of, piece_name, children_read, container_reads, text_value}
 use Rattle.writing_laws.proofs.ReadFields.{text_says, GoodItem, items_read, GoodField, field_read, GoodTyping, typing_read}
@@ -35,7 +35,7 @@ use Rattle.doc_spelling.specs.Entries.{field_piece, attachment_piece, version_ti
 use Rattle.doc_forms.specs.Entries.{entry_of}
 use Rattle.vault_model.specs.declared.forms.DocForm.{DocForm}
 use Rattle.writing_laws.proofs.Goods.{Each, If, IsId, GoodTimes}
-use Rattle.writing_laws.proofs.ReadOptions.{or_old, maybe_part, filled_back, if_false_back, not_nil_back, if_falsehood, if_other, or_else, or_none}
+use Rattle.writing_laws.proofs.ReadOptions.{or_old, maybe_part, unless_empty_back, unless_true_back, unless_nil_back, if_not_true, if_not_nil, or_else, or_none}
 
 -- ---- rows that entries and history items share
 
@@ -87,7 +87,7 @@ pub record GoodVersion (pool : List ReadBinary) (items : List PoolPair) (e : Ent
 
 -- ---- versions
 
--- what is known after a version's elements
+-- what a version's content says over what was known before
 abbrev said_content : BareContent → BareContent → BareContent
 said_content c old = record {
   created = old.created;
@@ -102,8 +102,8 @@ said_content c old = record {
   back = c.back;
   url_override = c.url_override;
   auto_type = c.auto_type;
-  items = or_old (filled c.items) old.items;
-  quality = or_old (if_false c.quality) old.quality;
+  items = or_old (unless_empty c.items) old.items;
+  quality = or_old (unless_true c.quality) old.quality;
 }
 
 abbrev said_attachments : List BareAttachment → List ReadAttachment → List ReadAttachment
@@ -113,15 +113,15 @@ abbrev said_icons : BareContent → EntryParts → EntryParts
 said_icons c p = with_content (λ k. record k { icon = c.icon; custom_icon = or_else c.custom_icon k.custom_icon }) p
 
 abbrev said_texts : BareContent → EntryParts → EntryParts
-said_texts c p = with_content (λ k. record k { fore = c.fore; back = c.back; url_override = c.url_override; tags = c.tags; quality = or_old (if_false c.quality) k.quality }) p
+said_texts c p = with_content (λ k. record k { fore = c.fore; back = c.back; url_override = c.url_override; tags = c.tags; quality = or_old (unless_true c.quality) k.quality }) p
 
 abbrev said_held : BareContent → EntryParts → EntryParts
 said_held c p = record p {
-  content = record p.content { fields = fold_over (put (λ (f : BareField). f.key)) p.content.fields c.fields; auto_type = c.auto_type; items = or_old (filled c.items) p.content.items };
+  content = record p.content { fields = fold_over (put (λ (f : BareField). f.key)) p.content.fields c.fields; auto_type = c.auto_type; items = or_old (unless_empty c.items) p.content.items };
   attachments = said_attachments c.attachments p.attachments;
 }
 
--- the same in the order of the elements
+-- what is known after a version's elements, in their order
 abbrev said_in : (put_id put_previous : EntryParts → EntryParts) → EntryRecord → BareVersion → EntryParts → EntryParts
 said_in put_id put_previous e v p =
     said_held v.mark.content (record (put_previous (said_texts v.mark.content (said_icons v.mark.content (put_id p)))) { times = version_times e v })
@@ -163,7 +163,7 @@ module _ {s : Setting} (pool : List ReadBinary) (form : DocForm) (items : List P
       (each_leaf (attachment_piece items) (λ a p. with_attachment p (own_attachment a)) (HasBinary pool items) (λ a h. row refl (attachment_read {items = items} a h)) attachments good)
 
   items_at_end : (items : List Item) → Each GoodItem items → rises (λ (i : Item). i.key) items ≡ true
-      → ReadsAll s (entry_parts_with pool) (by_name s rows) (items_pieces form items) (λ p. with_content (λ c. record c { items = or_old (filled items) c.items }) p) 0
+      → ReadsAll s (entry_parts_with pool) (by_name s rows) (items_pieces form items) (λ p. with_content (λ c. record c { items = or_old (unless_empty items) c.items }) p) 0
   items_at_end [] good up = reads_none
   items_at_end (i ∷ is) good up =
       row refl (items_read form (i ∷ is) good up (λ p v. with_content (λ c. record c { items = v }) p) (λ p. with_content (λ c. record c { items = i ∷ is }) p) (λ p. refl)) ▸ reads_none
@@ -183,7 +183,7 @@ module _ {s : Setting} (pool : List ReadBinary) (form : DocForm) (items : List P
       ▸ row refl (text_value s (entry_parts_with pool) _ _ _ _ c.tags (λ p. with_content (λ k. record k { tags = c.tags }) p) (text_says c.tags h.tags) (λ p. refl))
       ▸ maybe_part (bool_piece (codes "QualityCheck")) (λ (p : EntryParts). p.content.quality) (λ p b. with_content (λ k. record k { quality = b }) p) (λ b. Unit {0}) (λ p. refl)
       (λ b good. row refl (text_value s (entry_parts_with pool) _ _ _ _ b (λ p. with_content (λ k. record k { quality = b }) p) (bool_says true b) (λ p. refl)))
-      (if_false c.quality) (if_falsehood (λ b. Unit {0}) c.quality tt)
+      (unless_true c.quality) (if_not_true (λ b. Unit {0}) c.quality tt)
 
   held_row : (c : BareContent) → GoodContent pool items c
       → ReadsAll s (entry_parts_with pool) (by_name s rows) (held_pieces form items c) (said_held c) 0
@@ -239,13 +239,13 @@ version_is pool items e v good id previous =
     let c = v.mark.content in
     let h = good.content in
     let attachments_are = folded_map own_attachment (put (λ (f : ReadAttachment). f.name)) [] c.attachments ∙ put_all (λ (f : ReadAttachment). f.name) [] (map own_attachment c.attachments) (attachments_rise c.attachments h.attachments_rise) in
-    ap₂ (λ fields icon. made fields icon (or_old (filled c.items) []) (or_old (if_false c.quality) true) (said_attachments c.attachments []) v) (put_all (λ (f : BareField). f.key) [] c.fields h.fields_rise) (or_none c.custom_icon)
-    ∙ (ap₂ (λ items quality. made c.fields c.custom_icon items quality (said_attachments c.attachments []) v) (filled_back c.items) (if_false_back c.quality)
+    ap₂ (λ fields icon. made fields icon (or_old (unless_empty c.items) []) (or_old (unless_true c.quality) true) (said_attachments c.attachments []) v) (put_all (λ (f : BareField). f.key) [] c.fields h.fields_rise) (or_none c.custom_icon)
+    ∙ (ap₂ (λ items quality. made c.fields c.custom_icon items quality (said_attachments c.attachments []) v) (unless_empty_back c.items) (unless_true_back c.quality)
     ∙ ap (λ attachments. made c.fields c.custom_icon c.items c.quality attachments v) attachments_are)
 
 -- ---- history
 
--- as many nodes as versions
+-- each version is one node
 counts : (past : List BareVersion) → count_all (λ (v : BareVersion). 1) past ≡ length past
 counts [] = refl
 counts (v ∷ vs) = omega (arith, counts vs)
@@ -262,10 +262,10 @@ module _ {s : Setting} (pool : List ReadBinary) (form : DocForm) (items : List P
   item_id u id = by_row (history_item_rows s) (text_value s (entry_parts_with pool) _ _ _ _ (Some u) (λ p. p) (id_or_none_says u id.bytes id.sixteen) (λ p. refl))
 
   item_previous : (u : NodeId) → IsId u → ReadsAll s (entry_parts_with pool) (by_name s (history_item_rows s)) (previous_pieces u) (λ p. p) 0
-  item_previous u id = all_alike (λ p. p) 0 (λ p. unchanged_by (not_nil u) p) refl
+  item_previous u id = all_alike (λ p. p) 0 (λ p. unchanged_by (unless_nil u) p) refl
       (maybe_piece (id_piece (codes "PreviousParentGroup")) (λ u p. p) IsId
       (λ u id. by_row (history_item_rows s) (text_value s (entry_parts_with pool) _ _ _ _ u (λ p. p) (id_says nil_id u id.bytes id.sixteen) (λ p. refl)))
-      (not_nil u) (if_other IsId u id))
+      (unless_nil u) (if_not_nil IsId u id))
 
   history_item_read : (e : NodeId × EntryRecord) → IsId e.0 → IsId e.1.previous → (v : BareVersion) → GoodVersion pool items e.1 v
       → Reads s (map (version_with pool)) (by_name s (history_rows s)) (history_item_piece form items e v) (λ l. l ++ own_version v ∷ []) 1
@@ -306,16 +306,16 @@ pub node_id_is : (place : ℕ) (o : Option NodeId) (u : NodeId) → o ≡ Some u
 node_id_is place o u e other = rw (e, other) refl
 
 abbrev said_entry : NodeId × EntryRecord → EntryParts → EntryParts
-said_entry e p = record (said_version e.1 e.1.current (record p { id = Some e.0; previous = or_old (not_nil e.1.previous) p.previous })) { history = map own_version e.1.history }
+said_entry e p = record (said_version e.1 e.1.current (record p { id = Some e.0; previous = or_old (unless_nil e.1.previous) p.previous })) { history = map own_version e.1.history }
 
--- an entry of its parts
+-- an entry with this previous parent and this current version
 kept_entry : NodeId × EntryRecord → NodeId → ReadVersion → ReadEntry
 kept_entry e previous current = record { id = e.0; placed = e.1.placed; previous = previous; current = current; history = map own_version e.1.history }
 
 entry_is : (pool : List ReadBinary) (items : List PoolPair) (e : NodeId × EntryRecord) → GoodEntry pool items e → entry_of e.0 (said_entry e no_entry) ≡ own_entry e
 unfolding kept_entry
 entry_is pool items e good =
-    ap₂ (kept_entry e) (not_nil_back e.1.previous) (version_is pool items e.1 e.1.current good.current (Some e.0) (or_old (not_nil e.1.previous) nil_id))
+    ap₂ (kept_entry e) (unless_nil_back e.1.previous) (version_is pool items e.1 e.1.current good.current (Some e.0) (or_old (unless_nil e.1.previous) nil_id))
 
 -- an entry, whatever it is kept in
 pub entry_read : {P V : Type 0} {s : Setting} {view : P → V} (pool : List ReadBinary) (form : DocForm) (items : List PoolPair) → form ≡ s.form → (e : NodeId × EntryRecord) → GoodEntry pool items e
@@ -327,7 +327,7 @@ entry_read {P} {s = s} {view} pool form items same_form e good keep g kept =
     let id_row = by_row rows (text_value s (entry_parts_with pool) _ _ _ _ e.0 (λ p. record p { id = Some e.0 }) (own_id_says e.0 good.id.bytes good.id.sixteen) (λ p. refl)) in
     let previous_row = maybe_part (id_piece (codes "PreviousParentGroup")) (λ (p : EntryParts). p.previous) (λ p u. record p { previous = u }) IsId (λ p. refl)
     (λ u id. by_row rows (text_value s (entry_parts_with pool) _ _ _ _ u (λ p. record p { previous = u }) (id_says nil_id u id.bytes id.sixteen) (λ p. refl)))
-    (not_nil e.1.previous) (if_other IsId e.1.previous good.previous) in
+    (unless_nil e.1.previous) (if_not_nil IsId e.1.previous good.previous) in
     let all = version_read pool form items same_form rows (entry_shares s) e e.1.current good.current id_row previous_row
     ▸▸ (by_row rows (history_read pool form items same_form e good.id good.previous good.history) ▸ reads_none) in
     let said = λ (p : EntryParts). said_entry e p in

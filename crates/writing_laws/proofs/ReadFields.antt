@@ -1,4 +1,4 @@
--- Custom items, fields, attachments and how an entry is typed are read back.
+-- Custom items, fields and how an entry is typed are read back.
 use Rattle.std.proofs.Common.{◌≡◌, ℕ, ◌≤◌, Bool, true, false, cond, Some, None, List, [], ◌∷◌, ◌++◌, codes, ap, sym, refl, ◌∙◌, arith}
 use Rattle.std.specs.Str.{is_utf8}
 use Rattle.std.proofs.lemmas.Str.{IsUtf8-from_is_utf8}
@@ -16,12 +16,12 @@ use Rattle.doc_forms.specs.Tables.{put, no_item, item_rows, items_rows, custom_d
 use Rattle.doc_forms.specs.Entries.{no_field, field_rows, no_association, association_rows, with_association, no_auto_type, auto_type_rows}
 use Rattle.doc_forms.specs.ElementTexts.{hidden_bytes}
 use Rattle.doc_forms.specs.Values.{text_in}
-use Rattle.doc_spelling.specs.Pieces.{nonzero, protect_in_memory}
+use Rattle.doc_spelling.specs.Pieces.{unless_zero, in_memory_attribute}
 use Rattle.doc_spelling.specs.Values.{value_piece, time_piece, item_piece, items_piece}
 use Rattle.doc_spelling.specs.Entries.{field_piece, association_piece, auto_type_piece}
 use Rattle.writing_laws.proofs.Frame.{identity, Reads, reads_none, ◌▸◌, by_row, container_reads, text_value, text_hidden, secret_hidden, no_protection, no_hiding, in_memory_marks}
 use Rattle.writing_laws.proofs.ReadLists.{fold_over, each_leaf, fold_along, append_all, put_all}
-use Rattle.writing_laws.proofs.ReadOptions.{maybe_part, nonzero_back, if_nonzero}
+use Rattle.writing_laws.proofs.ReadOptions.{maybe_part, unless_zero_back, if_not_zero}
 use Rattle.time_core.specs.Times.{last_stamp}
 use Rattle.writing_laws.proofs.Goods.{Each}
 use Rattle.writing_laws.proofs.TimeTexts.{stamp_says}
@@ -47,12 +47,12 @@ pub record GoodItem (i : Item) : Type 0 where
 item_read : {s : Setting} (form : DocForm) (i : Item) → GoodItem i → Reads s identity (by_name s (items_rows s)) (item_piece form i) (put (λ (i : Item). i.key) i) 0
 item_read {s} form i h =
     by_row (items_rows s) (container_reads (item_rows s) no_item (λ items item. put (λ (i : Item). i.key) item items) (codes "Item") (put (λ (i : Item). i.key) i)
-    (λ p q e. ap (λ (q : Item). put (λ (i : Item). i.key) q p) (e ∙ ap (λ (n : ℕ). record i { changed = n }) (nonzero_back i.changed)))
+    (λ p q e. ap (λ (q : Item). put (λ (i : Item). i.key) q p) (e ∙ ap (λ (n : ℕ). record i { changed = n }) (unless_zero_back i.changed)))
     (by_row (item_rows s) (text_value s identity _ _ _ _ i.key (λ p. record p { key = i.key }) (text_says i.key h.key) (λ p. refl))
     ▸ by_row (item_rows s) (text_value s identity _ _ _ _ i.value (λ p. record p { value = i.value }) (text_says i.value h.value) (λ p. refl))
     ▸ maybe_part (time_piece form (codes "LastModificationTime")) (λ (p : Item). p.changed) (λ p n. record p { changed = n }) (λ n. n ≤ last_stamp) (λ p. refl)
     (λ n low. by_row (item_rows s) (text_value s identity _ _ _ _ n (λ p. record p { changed = n }) (stamp_says form n low) (λ p. refl)))
-    (nonzero i.changed) (if_nonzero (λ n. n ≤ last_stamp) i.changed h.changed)))
+    (unless_zero i.changed) (if_not_zero (λ n. n ≤ last_stamp) i.changed h.changed)))
 
 pub items_read : {P V : Type 0} {s : Setting} {view : P → V} (form : DocForm) (items : List Item) → Each GoodItem items → rises (λ (i : Item). i.key) items ≡ true
     → (keep : P → List Item → P) (g : V → V) → ((p : P) → view (keep p items) ≡ g (view p))
@@ -73,7 +73,7 @@ value_read : {s : Setting} (form : DocForm) (bytes : List ℕ) (h : Bool) → fo
 value_read {s} form bytes false e utf8 is =
     by_row (field_rows s) (text_hidden s identity text_in (λ (p : BareField) v h. record p { value = v; hidden = h }) _ [] _ bytes false (λ p. record p { value = bytes; hidden = false }) tt no_protection no_hiding (text_says bytes utf8) (λ p. refl))
 value_read {s} Plain bytes true e utf8 is =
-    by_row (field_rows s) (text_hidden s identity text_in (λ (p : BareField) v h. record p { value = v; hidden = h }) _ (protect_in_memory ∷ []) _ bytes true (λ p. record p { value = bytes; hidden = true }) (literal 84 (codes "rue") refl, tt) in_memory_marks.0 in_memory_marks.1 (text_says bytes utf8) (λ p. refl))
+    by_row (field_rows s) (text_hidden s identity text_in (λ (p : BareField) v h. record p { value = v; hidden = h }) _ (in_memory_attribute ∷ []) _ bytes true (λ p. record p { value = bytes; hidden = true }) (literal 84 (codes "rue") refl, tt) in_memory_marks.0 in_memory_marks.1 (text_says bytes utf8) (λ p. refl))
 value_read {s} V3 bytes true e utf8 is =
     by_row (field_rows s) (secret_hidden s identity text_in (λ (p : BareField) v h. record p { value = v; hidden = h }) _ bytes bytes (λ p. record p { value = bytes; hidden = true }) (ap may_hide (sym e)) is (hidden_says bytes utf8) (λ p. refl))
 value_read {s} V4 bytes true e utf8 is =

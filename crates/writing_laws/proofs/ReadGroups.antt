@@ -23,7 +23,7 @@ use Rattle.doc_forms.specs.ElementTexts.{Setting}
 use Rattle.doc_forms.specs.Children.{unknown_child, by_name, all_children, count_node}
 use Rattle.outside_core.specs.Results.{◌>>=◌}
 use Rattle.doc_forms.specs.ElementTexts.{ElementText}
-use Rattle.doc_spelling.specs.Pieces.{Piece, ◌▹▹◌, piece_if, pieces_of, filled, not_nil, text, hidden_len, hidden_len_all, element_of, content_of}
+use Rattle.doc_spelling.specs.Pieces.{Piece, ◌▹▹◌, piece_if, pieces_of, unless_empty, unless_nil, text_piece, hidden_len, hidden_len_all, element_of, content_of}
 use Rattle.doc_spelling.specs.Pool.{PoolPair}
 use Rattle.doc_spelling.specs.Values.{id_piece, items_pieces}
 use Rattle.vault_model.specs.declared.forms.DocForm.{DocForm}
@@ -33,7 +33,7 @@ use Rattle.doc_spelling.specs.Groups.{group_times, name_pieces, choice_pieces, r
 use Rattle.doc_spelling.specs.Entries.{previous_pieces, entry_piece}
 use Rattle.writing_laws.proofs.Frame.{HasTexts, ◌▸▸◌, cursor_after, Reads, ReadsAll, reads_none, ◌▸◌, all_alike, by_row, row_of, piece_name, name_is, text_value, plain_end, no_protection}
 use Rattle.writing_laws.proofs.Goods.{Each, If, IsId, GoodTimes}
-use Rattle.writing_laws.proofs.ReadOptions.{or_old, maybe_part, filled_back, not_nil_back, if_filled, if_other, or_else, or_none}
+use Rattle.writing_laws.proofs.ReadOptions.{or_old, maybe_part, unless_empty_back, unless_nil_back, if_not_empty, if_not_nil, or_else, or_none}
 use Rattle.writing_laws.proofs.ReadEntries.{counted_next, node_id_is, folded_map, GoodEntry, entry_read}
 use Rattle.writing_laws.proofs.ReadFields.{text_says, GoodItem, items_read}
 use Rattle.writing_laws.proofs.ReadLists.{fold_over, each_piece, fold_along, append_all}
@@ -108,15 +108,15 @@ append_with pool (beside u g) t = ap (beside (tree_with pool u)) (append_with po
 abbrev said_group : NodeId → GroupRecord → List (NodeId × EntryRecord) → Trees → GroupParts → GroupParts
 said_group u r es ts p = record {
   id = Some u;
-  previous = or_old (not_nil r.previous) p.previous;
+  previous = or_old (unless_nil r.previous) p.previous;
   times = group_times r;
   content = record r.state.content {
     created = p.content.created;
     expiry = p.content.expiry;
     expires = p.content.expires;
     custom_icon = or_else r.state.content.custom_icon p.content.custom_icon;
-    items = or_old (filled r.state.content.items) p.content.items;
-    tags = or_old (filled r.state.content.tags) p.content.tags;
+    items = or_old (unless_empty r.state.content.items) p.content.items;
+    tags = or_old (unless_empty r.state.content.tags) p.content.tags;
   };
   view = r.view;
   entries = fold_over (λ e l. l ++ own_entry e ∷ []) p.entries es;
@@ -135,13 +135,13 @@ tree_is u r es ts =
     let entries = fold_over (λ e l. l ++ own_entry e ∷ []) [] es in
     let groups = append_trees none (own_trees ts) in
     let c = r.state.content in
-    ap₂ (λ icon items. node u (made r icon items (or_old (filled c.tags) []) (or_old (not_nil r.previous) nil_id)) entries groups) (or_none c.custom_icon) (filled_back c.items)
-    ∙ (ap₂ (λ tags previous. node u (made r c.custom_icon c.items tags previous) entries groups) (filled_back c.tags) (not_nil_back r.previous)
+    ap₂ (λ icon items. node u (made r icon items (or_old (unless_empty c.tags) []) (or_old (unless_nil r.previous) nil_id)) entries groups) (or_none c.custom_icon) (unless_empty_back c.items)
+    ∙ (ap₂ (λ tags previous. node u (made r c.custom_icon c.items tags previous) entries groups) (unless_empty_back c.tags) (unless_nil_back r.previous)
     ∙ ap₂ (λ entries groups. node u r entries groups) (folded_map own_entry (λ x l. l ++ x ∷ []) [] es ∙ append_all [] (map own_entry es)) (appended_trees (own_trees ts) none))
 
 -- ---- reading
 
--- a group is read that may have so many levels below it
+-- A group below which so many levels are allowed is read.
 pub record ReadsTree (s : Setting) (pool : List ReadBinary) (form : DocForm) (items : List PoolPair) (levels : ℕ) (t : Tree) : Type 0 where
   pub texts : HasTexts (group_piece form items t)
   pub read : (place : ℕ) (c : Cursor) → c.nodes + tree_nodes t ≤ 262144
@@ -157,10 +157,10 @@ second false x y e = refl
 
 end_is : (s : Setting) (place : ℕ) (text : List ℕ) (p : GroupParts) (u : NodeId) (c : Cursor) (h n : ℕ) → p.id ≡ Some u → bytes_eq u nil_id ≡ false → c.nodes + (1 + n) ≤ 262144
     → group_end s true place [] text p (cursor_after c h n) ≡ Ok (tree_of p u, cursor_after c h (1 + n))
-end_is s place text p u c h n e not_nil room =
+end_is s place text p u c h n e unless_nil room =
     ap (λ (r : Result (ElementText × Cursor) DocFail). r >>= λ y. (count_node y.1 >>= λ after. (node_id place p.id >>= λ u. Ok (tree_of p u, after)))) (plain_end s place [] text (cursor_after c h n) no_protection)
     ∙ (ap (λ (r : Result Cursor DocFail). r >>= λ after. (node_id place p.id >>= λ u. Ok (tree_of p u, after))) (counted_next c h n room)
-    ∙ ap (λ (r : Result NodeId DocFail). r >>= λ u. Ok (tree_of p u, cursor_after c h (1 + n))) (node_id_is place p.id u e not_nil))
+    ∙ ap (λ (r : Result NodeId DocFail). r >>= λ u. Ok (tree_of p u, cursor_after c h (1 + n))) (node_id_is place p.id u e unless_nil))
 
 pub has_level : (t : Tree) → 1 ≤ height t
 has_level (vault.node u r es ts) = omega arith
@@ -169,7 +169,7 @@ pub group_name : (form : DocForm) (items : List PoolPair) (t : Tree) → piece_n
 group_name form items (vault.node u r es ts) = refl
 
 module _ (s : Setting) (pool : List ReadBinary) (form : DocForm) (items : List PoolPair) (same_form : form ≡ s.form) where
-  -- what is no group
+  -- an element that is no group
   other : (levels : ℕ) {x : Piece} {f : GroupParts → GroupParts} {n : ℕ} → bytes_eq (piece_name x) (codes "Group") ≡ false
       → Reads s (group_parts_with pool) (row_of (piece_name x) (group_rows s) (unknown_child s)) x f n → Reads s (group_parts_with pool) (group_child s levels) x f n
   other levels {x} {f} {n} e r = record {
@@ -202,7 +202,7 @@ module _ (s : Setting) (pool : List ReadBinary) (form : DocForm) (items : List P
       other levels refl (text_value s (group_parts_with pool) _ _ _ _ (Some u) (λ p. with_group_content (λ c. record c { custom_icon = Some u }) p) (id_or_none_says u good.bytes good.sixteen) (λ p. refl)) ▸ reads_none
 
   items_at_end : (levels : ℕ) (items : List Item) → Each GoodItem items → rises (λ (i : Item). i.key) items ≡ true
-      → ReadsAll s (group_parts_with pool) (group_child s levels) (items_pieces form items) (λ p. with_group_content (λ c. record c { items = or_old (filled items) c.items }) p) 0
+      → ReadsAll s (group_parts_with pool) (group_child s levels) (items_pieces form items) (λ p. with_group_content (λ c. record c { items = or_old (unless_empty items) c.items }) p) 0
   items_at_end levels [] good up = reads_none
   items_at_end levels (i ∷ is) good up =
       other levels refl (items_read form (i ∷ is) good up (λ p v. with_group_content (λ c. record c { items = v }) p) (λ p. with_group_content (λ c. record c { items = i ∷ is }) p) (λ p. refl)) ▸ reads_none
@@ -221,7 +221,7 @@ module _ (s : Setting) (pool : List ReadBinary) (form : DocForm) (items : List P
       (λ p. with_group_content (λ k. record k {
         name = r.state.content.name;
         notes = r.state.content.notes;
-        tags = or_old (filled r.state.content.tags) k.tags;
+        tags = or_old (unless_empty r.state.content.tags) k.tags;
         icon = r.state.content.icon;
         custom_icon = or_else r.state.content.custom_icon k.custom_icon;
       }) p) 0
@@ -229,9 +229,9 @@ module _ (s : Setting) (pool : List ReadBinary) (form : DocForm) (items : List P
       let c = r.state.content in
       other levels refl (text_value s (group_parts_with pool) _ _ _ _ c.name (λ p. with_group_content (λ k. record k { name = c.name }) p) (text_says c.name h.name) (λ p. refl))
       ▸ (other levels refl (text_value s (group_parts_with pool) _ _ _ _ c.notes (λ p. with_group_content (λ k. record k { notes = c.notes }) p) (text_says c.notes h.notes) (λ p. refl))
-      ▸ (maybe_part (text (codes "Tags")) (λ (p : GroupParts). p.content.tags) (λ p t. with_group_content (λ k. record k { tags = t }) p) (λ t. is_utf8 t ≡ true) (λ p. refl)
+      ▸ (maybe_part (text_piece (codes "Tags")) (λ (p : GroupParts). p.content.tags) (λ p t. with_group_content (λ k. record k { tags = t }) p) (λ t. is_utf8 t ≡ true) (λ p. refl)
       (λ t utf8. other levels refl (text_value s (group_parts_with pool) _ _ _ _ t (λ p. with_group_content (λ k. record k { tags = t }) p) (text_says t utf8) (λ p. refl)))
-      (filled c.tags) (if_filled (λ t. is_utf8 t ≡ true) c.tags h.tags)
+      (unless_empty c.tags) (if_not_empty (λ t. is_utf8 t ≡ true) c.tags h.tags)
       ▸▸ (other levels refl (text_value s (group_parts_with pool) _ _ _ _ c.icon (λ p. with_group_content (λ k. record k { icon = c.icon }) p) (number_says 48 4294967295 c.icon h.icon (omega (arith, h.icon))) (λ p. refl))
       ▸ custom_icon_read levels c.custom_icon h.custom_icon)))
 
@@ -248,11 +248,11 @@ module _ (s : Setting) (pool : List ReadBinary) (form : DocForm) (items : List P
       ▸ reads_none
 
   previous_read : (levels : ℕ) (u : NodeId) → IsId u
-      → ReadsAll s (group_parts_with pool) (group_child s levels) (previous_pieces u) (λ p. record p { previous = or_old (not_nil u) p.previous }) 0
+      → ReadsAll s (group_parts_with pool) (group_child s levels) (previous_pieces u) (λ p. record p { previous = or_old (unless_nil u) p.previous }) 0
   previous_read levels u id =
       maybe_part (id_piece (codes "PreviousParentGroup")) (λ (p : GroupParts). p.previous) (λ p u. record p { previous = u }) IsId (λ p. refl)
       (λ u id. other levels refl (text_value s (group_parts_with pool) _ _ _ _ u (λ p. record p { previous = u }) (id_says nil_id u id.bytes id.sixteen) (λ p. refl)))
-      (not_nil u) (if_other IsId u id)
+      (unless_nil u) (if_not_nil IsId u id)
 
   record_read : (levels : ℕ) (u : NodeId) (r : GroupRecord) → GoodGroup u r
       → ReadsAll s (group_parts_with pool) (group_child s levels) (record_pieces form u r) (λ p. record (said_group u r [] vault.none p) { entries = p.entries; groups = p.groups }) 0

@@ -17,7 +17,7 @@ use Rattle.doc_spelling.specs.Ranges.{count_all}
 use Rattle.doc_spelling.specs.Pieces.{Piece, pieces_of, piece_if}
 use Rattle.writing_laws.proofs.Frame.{Reads, ReadsAll, reads_none, ◌▸◌}
 
--- one thing after another
+-- a step for each of some things, one after another
 abbrev pub fold_over : {A V : Type 0} → (A → V → V) → V → List A → V
 fold_over step v [] = v
 fold_over step v (x ∷ xs) = fold_over step (step x v) xs
@@ -34,7 +34,7 @@ module _ {A P V : Type 0} {s : Setting} {view : P → V} {child : Child P} (piec
   each_leaf reads [] good = reads_none
   each_leaf reads (x ∷ xs) good = reads x good.0 ▸ each_leaf reads xs good.1
 
--- a thing that there may be
+-- a step for a thing, where there is one
 abbrev pub step_if : {A V : Type 0} → (A → V → V) → Option A → V → V
 step_if step None v = v
 step_if step (Some x) v = step x v
@@ -45,7 +45,7 @@ pub maybe_piece : {A P V : Type 0} {s : Setting} {view : P → V} {child : Child
 maybe_piece piece step Good reads None good = reads_none
 maybe_piece piece step Good reads (Some x) good = reads x good ▸ reads_none
 
--- a thing in a part of what is known
+-- steps that change a part of what is known
 pub fold_along : {A V L : Type 0} (part : V → L) (put_in : V → L → V) (step : A → L → L)
     → ((v : V) → put_in v (part v) ≡ v) → ((v : V) (l : L) → part (put_in v l) ≡ l) → ((v : V) (l m : L) → put_in (put_in v l) m ≡ put_in v m)
     → (v : V) (xs : List A) → fold_over (λ x v. put_in v (step x (part v))) v xs ≡ put_in v (fold_over step (part v) xs)
@@ -55,7 +55,7 @@ fold_along part put_in step same back twice v (x ∷ xs) =
     ∙ (ap (λ l. put_in (put_in v (step x (part v))) (fold_over step l xs)) (back v (step x (part v)))
     ∙ twice v (step x (part v)) (fold_over step (step x (part v)) xs))
 
--- one more after the others
+-- steps that append a thing each
 pub append_all : {A : Type 0} (front xs : List A) → fold_over (λ x l. l ++ x ∷ []) front xs ≡ front ++ xs
 append_all front [] = sym (append-nil front)
 append_all front (x ∷ xs) = append_all (front ++ x ∷ []) xs ∙ append_assoc front (x ∷ []) xs

@@ -32,7 +32,7 @@ use Rattle.doc_forms.specs.Refusals.{checked_value}
 use Rattle.doc_forms.specs.Tables.{put}
 use Rattle.doc_forms.specs.ElementTexts.{ElementText, plain_text, hidden_bytes}
 use Rattle.doc_forms.specs.Values.{number64, bytes_in}
-use Rattle.doc_spelling.specs.Pieces.{secret, box, none, ◌▹◌, text, pieces_of, filled, nonzero, protected, protect_in_memory, attributes_text, hidden_text}
+use Rattle.doc_spelling.specs.Pieces.{secret, box, none, ◌▹◌, text_piece, pieces_of, unless_empty, unless_zero, protected_attribute, in_memory_attribute, attributes_text, hidden_text}
 use Rattle.doc_spelling.specs.Pool.{PoolPair}
 use Rattle.doc_forms.specs.Attachments.{binaries_from}
 use Rattle.doc_spelling.specs.Entries.{number_attribute}
@@ -40,7 +40,7 @@ use Rattle.doc_spelling.specs.Values.{items_piece, time_piece}
 use Rattle.doc_spelling.specs.Metas.{generator, protection_piece, icon_piece, numbered_piece, binary_piece, pool_pieces, hash_pieces, title_pieces, setting_pieces, place_pieces, limit_pieces, meta_piece}
 use Rattle.writing_laws.proofs.Attrs.{AreNamed, attribute_is, is_name}
 use Rattle.writing_laws.proofs.Frame.{identity, cursor_after, Reads, ReadsAll, reads_none, ◌▸◌, ◌▸▸◌, by_row, row_of, piece_name, container_reads, text_value, text_rest, secret_rest}
-use Rattle.writing_laws.proofs.ReadOptions.{or_else, maybe_part, filled_back, nonzero_back, if_filled, if_nonzero}
+use Rattle.writing_laws.proofs.ReadOptions.{or_else, maybe_part, unless_empty_back, unless_zero_back, if_not_empty, if_not_zero}
 use Rattle.writing_laws.proofs.TimeTexts.{stamp_says}
 use Rattle.writing_laws.proofs.Goods.{Each, If, IsId, IsHash, IsSigned}
 use Rattle.writing_laws.proofs.ReadFields.{text_says, GoodItem, items_read}
@@ -72,15 +72,15 @@ pub record GoodIcon (i : Icon) : Type 0 where
 icon_read : {s : Setting} (form : DocForm) (i : Icon) → GoodIcon i → Reads s identity (by_name s (icons_rows s)) (icon_piece form i) (put (λ (i : Icon). i.id) i) 0
 icon_read {s} form i h =
     by_row (icons_rows s) (container_reads (icon_rows s) no_icon (λ icons icon. put (λ (i : Icon). i.id) icon icons) (codes "Icon") (put (λ (i : Icon). i.id) i)
-    (λ p q e. ap (λ (q : Icon). put (λ (i : Icon). i.id) q p) (e ∙ ap₂ (λ (t : List ℕ) (n : ℕ). record i { name = t; changed = n }) (filled_back i.name) (nonzero_back i.changed)))
+    (λ p q e. ap (λ (q : Icon). put (λ (i : Icon). i.id) q p) (e ∙ ap₂ (λ (t : List ℕ) (n : ℕ). record i { name = t; changed = n }) (unless_empty_back i.name) (unless_zero_back i.changed)))
     (by_row (icon_rows s) (text_value s identity _ _ _ _ i.id (λ p. record p { id = i.id }) (id_says nil_id i.id h.id.bytes h.id.sixteen) (λ p. refl))
     ▸ by_row (icon_rows s) (text_value s identity _ _ _ _ i.bytes (λ p. record p { bytes = i.bytes }) (bytes_say i.bytes h.bytes) (λ p. refl))
-    ▸ (maybe_part (text (codes "Name")) (λ (p : Icon). p.name) (λ p t. record p { name = t }) (λ t. is_utf8 t ≡ true) (λ p. refl)
+    ▸ (maybe_part (text_piece (codes "Name")) (λ (p : Icon). p.name) (λ p t. record p { name = t }) (λ t. is_utf8 t ≡ true) (λ p. refl)
     (λ t utf8. by_row (icon_rows s) (text_value s identity _ _ _ _ t (λ p. record p { name = t }) (text_says t utf8) (λ p. refl)))
-    (filled i.name) (if_filled (λ t. is_utf8 t ≡ true) i.name h.name)
+    (unless_empty i.name) (if_not_empty (λ t. is_utf8 t ≡ true) i.name h.name)
     ▸▸ maybe_part (time_piece form (codes "LastModificationTime")) (λ (p : Icon). p.changed) (λ p n. record p { changed = n }) (λ n. n ≤ last_stamp) (λ p. refl)
     (λ n low. by_row (icon_rows s) (text_value s identity _ _ _ _ n (λ p. record p { changed = n }) (stamp_says form n low) (λ p. refl)))
-    (nonzero i.changed) (if_nonzero (λ n. n ≤ last_stamp) i.changed h.changed))))
+    (unless_zero i.changed) (if_not_zero (λ n. n ≤ last_stamp) i.changed h.changed))))
 
 pub icons_read : {P V : Type 0} {s : Setting} {view : P → V} (form : DocForm) (icons : List Icon) → Each GoodIcon icons → rises (λ (i : Icon). i.id) icons ≡ true
     → (keep : P → List Icon → P) (g : V → V) → ((p : P) → view (keep p icons) ≡ g (view p))
@@ -91,7 +91,7 @@ icons_read {s = s} {view} form icons good up keep g kept =
 
 -- ---- binaries
 
--- their numbers have 64 bits
+-- The number of a binary has 64 bits.
 pub record GoodBinary (b : ReadBinary) : Type 0 where
   pub number : b.number ≤ 18446744073709551615
   pub bytes : IsBytes b.bytes
@@ -103,25 +103,25 @@ named_id : (n : ℕ) → AreNamed (number_attribute (codes "ID") n ∷ [])
 unfolding is_digit begins_name is_name_byte
 named_id n = (is_name 73 (68 ∷ []) refl refl, tt)
 
-named_in_memory : (n : ℕ) → AreNamed (number_attribute (codes "ID") n ∷ protect_in_memory ∷ [])
+named_in_memory : (n : ℕ) → AreNamed (number_attribute (codes "ID") n ∷ in_memory_attribute ∷ [])
 unfolding is_digit begins_name is_name_byte
 named_in_memory n = (is_name 73 (68 ∷ []) refl refl, (is_name 80 (codes "rotectInMemory") refl refl, tt))
 
-named_protected : (n : ℕ) → AreNamed (number_attribute (codes "ID") n ∷ protected ∷ [])
+named_protected : (n : ℕ) → AreNamed (number_attribute (codes "ID") n ∷ protected_attribute ∷ [])
 unfolding is_digit begins_name is_name_byte
 named_protected n = (is_name 73 (68 ∷ []) refl refl, (is_name 80 (codes "rotected") refl refl, tt))
 
-told_binary : (s : Setting) (place : ℕ) (raw : List ℕ) (content : told.Content) (l : List ReadBinary) (c d : Cursor) (said : ElementText) (b : ReadBinary) → GoodBinary b
+binary_is : (s : Setting) (place : ℕ) (raw : List ℕ) (content : told.Content) (l : List ReadBinary) (c d : Cursor) (said : ElementText) (b : ReadBinary) → GoodBinary b
     → read_rest s place raw [] content c ≡ Ok (said, d) → attribute_text raw (codes "ID") ≡ Some (decimal b.number) → bytes_in said ≡ Some b.bytes
     → is_marked (codes "Compressed") raw ≡ false → is_hidden raw ≡ b.hidden
     → binary s l (told.element place (codes "Binary") raw content) c ≡ Ok (l ++ b ∷ [], d)
-told_binary s place raw content l c d said b good e id bytes protected_marks is =
-    let last = λ (number : ℕ) (bytes : List ℕ) (d : Cursor) (protected_marks hidden : Bool). cond {A = Result (List ReadBinary × Cursor) DocFail} protected_marks (Err (Compressed place)) (Ok (l ++ record { number = number; bytes = bytes; hidden = hidden } ∷ [], d)) in
+binary_is s place raw content l c d said b good e id bytes marked is =
+    let last = λ (number : ℕ) (bytes : List ℕ) (d : Cursor) (marked hidden : Bool). cond {A = Result (List ReadBinary × Cursor) DocFail} marked (Err (Compressed place)) (Ok (l ++ record { number = number; bytes = bytes; hidden = hidden } ∷ [], d)) in
     ap (λ (r : Result (ElementText × Cursor) DocFail). r >>= λ x. (checked_value place (option_and_then number64 (attribute_text raw (codes "ID"))) >>= λ number. (checked_value place (bytes_in x.0) >>= λ bytes. last number bytes x.1 (is_marked (codes "Compressed") raw) (is_hidden raw)))) e
     ∙ (ap (λ (o : Option (List ℕ)). checked_value place (option_and_then number64 o) >>= λ number. (checked_value place (bytes_in said) >>= λ bytes. last number bytes d (is_marked (codes "Compressed") raw) (is_hidden raw))) id
     ∙ (ap (λ (o : Option ℕ). checked_value place o >>= λ number. (checked_value place (bytes_in said) >>= λ bytes. last number bytes d (is_marked (codes "Compressed") raw) (is_hidden raw))) (number_is 18446744073709551615 b.number good.number (omega (arith, good.number)))
     ∙ (ap (λ (o : Option (List ℕ)). checked_value place o >>= λ bytes. last b.number bytes d (is_marked (codes "Compressed") raw) (is_hidden raw)) bytes
-    ∙ ap₂ (last b.number b.bytes d) protected_marks is)))
+    ∙ ap₂ (last b.number b.bytes d) marked is)))
 
 binary_name : (form : DocForm) (n : ℕ) (bytes : List ℕ) (h : Bool) → piece_name (numbered_piece form n bytes h) ≡ codes "Binary"
 binary_name form n bytes false = refl
@@ -134,12 +134,12 @@ secret_read : {s : Setting} → may_hide s.form ≡ true → (n : ℕ) (bytes : 
 secret_read {s} may n bytes good = record {
   texts = ((number_utf8 n good.number, tt), good.bytes);
   read = λ place l c room.
-      let attrs = number_attribute (codes "ID") n ∷ protected ∷ [] in
+      let attrs = number_attribute (codes "ID") n ∷ protected_attribute ∷ [] in
       let b : ReadBinary = record { number = n; bytes = bytes; hidden = true } in
       let is = λ (name : List ℕ). attribute_is attrs (named_protected n) name in
       let closed : is_protected (attributes_text attrs) ≡ true = ap is_true (is (codes "Protected")) in (
         l ++ b ∷ [],
-        told_binary s place (attributes_text attrs) (told.last (unescaped (hidden_text s.keystream c.offset bytes))) l c (cursor_after c (length bytes) 0) (hidden_bytes bytes) b good
+        binary_is s place (attributes_text attrs) (told.last (unescaped (hidden_text s.keystream c.offset bytes))) l c (cursor_after c (length bytes) 0) (hidden_bytes bytes) b good
             (secret_rest s place (attributes_text attrs) bytes c closed may good.bytes) (is (codes "ID")) refl
             (ap is_true (is (codes "Compressed"))) (ap₂ (λ a b. a || b) closed (ap is_true (is (codes "ProtectInMemory")))),
         refl,
@@ -156,7 +156,7 @@ binary_read {s} form same n bytes false good = record {
       let is = λ (name : List ℕ). attribute_is attrs (named_id n) name in
       let in_open : is_protected (attributes_text attrs) ≡ false = ap is_true (is (codes "Protected")) in (
         l ++ b ∷ [],
-        told_binary s place (attributes_text attrs) (told.last (unescaped (escaped (encode_of standard bytes)))) l c (cursor_after c 0 0) (plain_text (encode_of standard bytes)) b good
+        binary_is s place (attributes_text attrs) (told.last (unescaped (escaped (encode_of standard bytes)))) l c (cursor_after c 0 0) (plain_text (encode_of standard bytes)) b good
             (text_rest s place (attributes_text attrs) (encode_of standard bytes) c in_open) (is (codes "ID")) (bytes_say bytes good.bytes).1
             (ap is_true (is (codes "Compressed"))) (ap₂ (λ a b. a || b) in_open (ap is_true (is (codes "ProtectInMemory")))),
         refl,
@@ -165,12 +165,12 @@ binary_read {s} form same n bytes false good = record {
 binary_read {s} Plain same n bytes true good = record {
   texts = ((number_utf8 n good.number, (literal 84 (codes "rue") refl, tt)), base64_utf8 bytes);
   read = λ place l c room.
-      let attrs = number_attribute (codes "ID") n ∷ protect_in_memory ∷ [] in
+      let attrs = number_attribute (codes "ID") n ∷ in_memory_attribute ∷ [] in
       let b : ReadBinary = record { number = n; bytes = bytes; hidden = true } in
       let is = λ (name : List ℕ). attribute_is attrs (named_in_memory n) name in
       let in_open : is_protected (attributes_text attrs) ≡ false = ap is_true (is (codes "Protected")) in (
         l ++ b ∷ [],
-        told_binary s place (attributes_text attrs) (told.last (unescaped (escaped (encode_of standard bytes)))) l c (cursor_after c 0 0) (plain_text (encode_of standard bytes)) b good
+        binary_is s place (attributes_text attrs) (told.last (unescaped (escaped (encode_of standard bytes)))) l c (cursor_after c 0 0) (plain_text (encode_of standard bytes)) b good
             (text_rest s place (attributes_text attrs) (encode_of standard bytes) c in_open) (is (codes "ID")) (bytes_say bytes good.bytes).1
             (ap is_true (is (codes "Compressed"))) (ap₂ (λ a b. a || b) in_open (ap is_true (is (codes "ProtectInMemory")))),
         refl,
@@ -179,7 +179,7 @@ binary_read {s} Plain same n bytes true good = record {
 binary_read {s} V3 same n bytes true good = secret_read (ap may_hide (sym same)) n bytes good
 binary_read {s} V4 same n bytes true good = secret_read (ap may_hide (sym same)) n bytes good
 
--- ---- what a document's form knows
+-- ---- what depends on the form
 
 -- the binaries in a document of this form
 abbrev pub in_form : DocForm → List ReadBinary → List ReadBinary → List ReadBinary

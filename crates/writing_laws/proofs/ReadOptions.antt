@@ -1,10 +1,10 @@
--- Elements that are written only where they say something else than what is known without them.
+-- Elements that are written only where they say something else than the default.
 use Rattle.std.proofs.Common.{◌≡◌, ℕ, zero, suc, Bool, true, false, cond, Option, Some, None, List, [], ◌∷◌, bytes_eq, sym, refl}
 use Rattle.std.proofs.lemmas.Slice.Eq.{bytes_eq-Decides}
 use Rattle.vault_model.specs.Db.{NodeId, nil_id}
 use Rattle.doc_forms.specs.ElementTexts.{Setting}
 use Rattle.doc_forms.specs.Children.{Child}
-use Rattle.doc_spelling.specs.Pieces.{Piece, piece_if, filled, nonzero, not_nil, if_false}
+use Rattle.doc_spelling.specs.Pieces.{Piece, piece_if, unless_empty, unless_zero, unless_nil, unless_true}
 use Rattle.writing_laws.proofs.Frame.{Reads, ReadsAll, reads_none, ◌▸◌, all_alike}
 use Rattle.writing_laws.proofs.Goods.{If}
 
@@ -22,41 +22,41 @@ maybe_part piece part put_in Good same reads (Some x) good = reads x good ▸ re
 
 -- ---- what is known in the end
 
-pub nonzero_back : (n : ℕ) → or_old (nonzero n) 0 ≡ n
-nonzero_back zero = refl
-nonzero_back (suc n) = refl
+pub unless_zero_back : (n : ℕ) → or_old (unless_zero n) 0 ≡ n
+unless_zero_back zero = refl
+unless_zero_back (suc n) = refl
 
-pub filled_back : {A : Type 0} (xs : List A) → or_old (filled xs) [] ≡ xs
-filled_back [] = refl
-filled_back (x ∷ xs) = refl
+pub unless_empty_back : {A : Type 0} (xs : List A) → or_old (unless_empty xs) [] ≡ xs
+unless_empty_back [] = refl
+unless_empty_back (x ∷ xs) = refl
 
-pub if_false_back : (b : Bool) → or_old (if_false b) true ≡ b
-if_false_back true = refl
-if_false_back false = refl
+pub unless_true_back : (b : Bool) → or_old (unless_true b) true ≡ b
+unless_true_back true = refl
+unless_true_back false = refl
 
-pub not_nil_back : (u : NodeId) → or_old (not_nil u) nil_id ≡ u
-not_nil_back u = by_test (bytes_eq u nil_id) refl
+pub unless_nil_back : (u : NodeId) → or_old (unless_nil u) nil_id ≡ u
+unless_nil_back u = by_test (bytes_eq u nil_id) refl
   where
     by_test : (b : Bool) → bytes_eq u nil_id ≡ b → or_old (cond b None (Some u)) nil_id ≡ u
     by_test true e = sym ((bytes_eq-Decides u nil_id).0 e)
     by_test false e = refl
 
--- ---- what is so of a thing is so of it where there is one
+-- ---- what holds of a thing holds of it where it is written
 
-pub if_nonzero : (P : ℕ → Type 0) (n : ℕ) → P n → If P (nonzero n)
-if_nonzero P zero h = tt
-if_nonzero P (suc n) h = h
+pub if_not_zero : (P : ℕ → Type 0) (n : ℕ) → P n → If P (unless_zero n)
+if_not_zero P zero h = tt
+if_not_zero P (suc n) h = h
 
-pub if_filled : {A : Type 0} (P : List A → Type 0) (xs : List A) → P xs → If P (filled xs)
-if_filled P [] h = tt
-if_filled P (x ∷ xs) h = h
+pub if_not_empty : {A : Type 0} (P : List A → Type 0) (xs : List A) → P xs → If P (unless_empty xs)
+if_not_empty P [] h = tt
+if_not_empty P (x ∷ xs) h = h
 
-pub if_falsehood : (P : Bool → Type 0) (b : Bool) → P b → If P (if_false b)
-if_falsehood P true h = tt
-if_falsehood P false h = h
+pub if_not_true : (P : Bool → Type 0) (b : Bool) → P b → If P (unless_true b)
+if_not_true P true h = tt
+if_not_true P false h = h
 
-pub if_other : (P : NodeId → Type 0) (u : NodeId) → P u → If P (not_nil u)
-if_other P u h = by_test (bytes_eq u nil_id)
+pub if_not_nil : (P : NodeId → Type 0) (u : NodeId) → P u → If P (unless_nil u)
+if_not_nil P u h = by_test (bytes_eq u nil_id)
   where
     by_test : (b : Bool) → If P (cond b None (Some u))
     by_test true = tt

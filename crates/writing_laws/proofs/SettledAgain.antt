@@ -60,7 +60,7 @@ settled_is form given pool file root tree t is_root is_tree is_pool is_found non
     ∙ (ap₂ (rest root) is_found none
     ∙ ap (λ o. ◌>>=◌ {B = DocumentAndHash} (refuse_duplicate o) (λ _. Ok (record { tree = t; tombs = tombs_of t root.tombs; meta = file.meta.meta }, hash_of form file.meta))) (none_twice (node_ids t) distinct))))
 
--- what a document must be to be read back
+-- What a document must be so that it is read back.
 pub record GoodDoc (d : BareDoc) : Type 0 where
   pub tree : GoodTree (binaries_from 0 (pool_of d)) (pool_of d) d.tree
   pub levels : height d.tree ≤ 128

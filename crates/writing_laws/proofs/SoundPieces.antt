@@ -1,4 +1,4 @@
--- The elements of pieces are in the grammar, in UTF-8, and not too high.
+-- The elements of pieces are in the grammar and in UTF-8, and not too many of them are open at once.
 use Rattle.std.proofs.Common.{◌≡◌, ℕ, zero, suc, ◌+◌, ◌≤◌, ◌&&◌, ◌||◌, Bool, true, false, ltb, leb, List, [], ◌∷◌, ◌++◌, map, codes, ap₂, subst, refl, arith}
 use Rattle.std.proofs.lemmas.Bool.Decides.{nat_tests}
 use Rattle.std.proofs.lemmas.Str.{IsUtf8-append, IsUtf8-nil}
@@ -15,7 +15,7 @@ use Rattle.markup_grammar.specs.Tree.{Element, element, Content, text_only, star
 use Rattle.stream_core.specs.InnerStream.{Keystream, keystream_byte}
 use Rattle.stream_core.specs.Stream.{xored}
 use Rattle.vault_model.proofs.Tests.{and_true}
-use Rattle.doc_spelling.specs.Pieces.{Piece, leaf, secret, box, Pieces, none, beside, protected, attribute_of, attributes_text, hidden_len, element_of, content_of}
+use Rattle.doc_spelling.specs.Pieces.{Piece, leaf, secret, box, Pieces, none, beside, protected_attribute, attribute_of, attributes_text, hidden_len, element_of, content_of}
 use Rattle.writing_laws.proofs.Attrs.{AreNamed, are_attributes, is_name}
 use Rattle.writing_laws.proofs.EscapedUtf8.{escaped_utf8}
 use Rattle.writing_laws.proofs.Frame.{HasTexts, HaveTexts}
@@ -80,13 +80,13 @@ words_named (a ∷ attrs) e =
     let both = and_true (is_word a.0) (are_words attrs) e in
     (word_named a.0 both.0, words_named attrs both.1)
 
-with_protected : (attrs : List (List ℕ × List ℕ)) → are_words attrs ≡ true → are_words (attrs ++ protected ∷ []) ≡ true
+with_protected : (attrs : List (List ℕ × List ℕ)) → are_words attrs ≡ true → are_words (attrs ++ protected_attribute ∷ []) ≡ true
 with_protected [] e = refl
 with_protected (a ∷ attrs) e =
     let both = and_true (is_word a.0) (are_words attrs) e in
     ap₂ (λ a b. a && b) both.0 (with_protected attrs both.1)
 
-utf8_protected : (attrs : List (List ℕ × List ℕ)) → Each (λ a. IsUtf8 a.1) attrs → Each (λ a. IsUtf8 a.1) (attrs ++ protected ∷ [])
+utf8_protected : (attrs : List (List ℕ × List ℕ)) → Each (λ a. IsUtf8 a.1) attrs → Each (λ a. IsUtf8 a.1) (attrs ++ protected_attribute ∷ [])
 utf8_protected [] e = (literal 84 (codes "rue") refl, tt)
 utf8_protected (a ∷ attrs) e = (e.0, utf8_protected attrs e.1)
 
@@ -109,11 +109,13 @@ tags_utf8 name raw inner n r i =
 
 -- ---- elements
 
+-- An element is in the grammar and in UTF-8, and at most so many are open in it at once.
 pub record Sound (k : ℕ) (e : Element) : Type 0 where
   pub is : IsElement e
   pub low : height e ≤ k
   pub utf8 : IsUtf8 (spelled e)
 
+-- The same of elements side by side.
 pub record SoundAll (k : ℕ) (c : Content) : Type 0 where
   pub is : IsContent c
   pub low : height_all c ≤ k
@@ -140,8 +142,8 @@ mutual
       let both = and_true (is_word name) (are_words attrs) e in
       let given = xored (keystream_byte stream) p bytes in
       let plain = coded_plain given (xored_bytes (keystream_byte stream) bytes p (stream_bytes stream) u.1) in
-      subst (λ (t : List ℕ). Sound (suc k) (element name (attributes_text (attrs ++ protected ∷ [])) (text_only t) [])) plain
-      (leaf_sound k name (attrs ++ protected ∷ []) (encode_of standard given) both.0 (with_protected attrs both.1) (utf8_protected attrs u.0) (base64_utf8 given))
+      subst (λ (t : List ℕ). Sound (suc k) (element name (attributes_text (attrs ++ protected_attribute ∷ [])) (text_only t) [])) plain
+      (leaf_sound k name (attrs ++ protected_attribute ∷ []) (encode_of standard given) both.0 (with_protected attrs both.1) (utf8_protected attrs u.0) (base64_utf8 given))
   sound (box name pieces) (suc k) e u stream p =
       let both = and_true (is_word name) (fit_height k pieces) e in
       let inner = all_sound pieces k both.1 u stream p in

@@ -1,4 +1,4 @@
--- A time as ISO says that time.
+-- The text of a time says that time.
 use Rattle.std.proofs.Common.{◌≡◌, ℕ, ◌+◌, ◌-◌, ◌*◌, ◌/◌, ◌%◌, ◌<◌, ◌≤◌, Bool, true, false, ◌&&◌, ◌||◌, ◌==◌, cond, leb, ltb, Option, Some, None, List, [], ◌∷◌, refl, ap, ◌∙◌, arith, ℤ, pos, Decides}
 use Rattle.std.proofs.lemmas.Int.{ints}
 use Rattle.std.proofs.lemmas.Bool.Decides.{nat_tests, Decides-and, Decides-ltb}
@@ -19,7 +19,7 @@ use Rattle.writing_laws.proofs.ValueTexts.{Says, IsVisible, says, time_says}
 
 -- ---- the calendar's form
 
--- the moment that a moment's text writes
+-- two digits are read as the number that they were written for
 pair_back : (n : ℕ) → n < 100 → (48 + n / 10 - 48) * 10 + (48 + n % 10 - 48) ≡ n
 pair_back n h = omega arith
 
@@ -87,7 +87,7 @@ moment_decides m =
       λ h. t8.1 ((((((((h.0.0, omega (arith, ints, h.0.1.0.1)), h.0.1.1.0), h.0.1.1.1), h.0.1.2.0), h.0.1.2.1), h.1.0), h.1.1), h.1.2),
     )
 
--- what a text says whose digits are those of a moment
+-- the seconds that a text says, whose digits are those of a moment
 abbrev said_of : List ℕ → Moment → Option ℕ
 said_of text m = cond (bytes_eq text (iso_text m) && is_moment m) (Some (seconds_of m)) None
 

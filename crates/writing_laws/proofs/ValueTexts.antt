@@ -1,4 +1,4 @@
--- What is plain_text of a value says that value, kind by kind.
+-- The text that is written for a value says that value, by its kind.
 use Rattle.std.proofs.Common.{◌≡◌, ℕ, zero, suc, ◌+◌, ◌*◌, ◌-◌, ◌/◌, ◌%◌, ◌^◌, ◌≤◌, ◌<◌, Bool, true, false, ltb, leb, Option, Some, None, List, [], ◌∷◌, ◌++◌, length, get_or, replicate, ap, refl, ◌∙◌, arith, bytes_eq, codes, w64, pos, take_all, ltb-true, leb-true, length-append, option_and_then, slice_index, option_map, ℤ, negsuc, nat_abs, int_le, neg_ℤ}
 use Rattle.std.proofs.lemmas.Bool.{ne_eqb, eq-eqb, false_from_ne_true}
 use Rattle.std.proofs.lemmas.Bool.Decides.{nat_tests}
@@ -85,7 +85,7 @@ pub says : {A : Type 0} (default v : A) (rule : List ℕ → Option A) (text : L
     → value_or default rule (plain_text text) ≡ Some v
 says default v rule text base64_visible some e = rw (trim_none text base64_visible, ne_eqb (length text) 0 (omega arith)) e
 
--- the text is UTF-8, and says the value by the rule
+-- a text is in UTF-8, and says the value by the rule
 abbrev pub Says : {A : Type 0} → (ElementText → Option A) → List ℕ → A → Type 0
 Says rule text v = IsUtf8 text × (rule (plain_text text) ≡ Some v)
 
@@ -158,7 +158,7 @@ all_digits (b ∷ bs) h =
     let rest = all_digits bs h.1 in
     (rw (is_digit b d.0 d.1) rest.0, (omega arith, rest.1))
 
--- digits are a whole_number number
+-- digits are a whole number
 whole_is : (ds : List ℕ) → IsNumeral 10 ds → whole_number ds ≡ Some (pos (digits_value 10 ds))
 whole_is [] h = absurd (omega (arith, h.0))
 whole_is (b ∷ bs) h =
@@ -201,7 +201,7 @@ signed_utf8 : (z : ℤ) → nat_abs z < 2 ^ 64 → IsUtf8 (signed_decimal z)
 signed_utf8 (pos n) small = IsUtf8-from_ascii (decimal n) (IsAscii-decimal n small)
 signed_utf8 (negsuc n) small = IsUtf8-from_ascii (45 ∷ decimal (suc n)) (IsAscii-cons 45 (decimal (suc n)) (omega arith) (IsAscii-decimal (suc n) small))
 
--- a number number_between two of 64 bits is one
+-- a number between two of 64 bits has 64 bits
 bounded : (least most z : ℤ) → nat_abs least < 2 ^ 64 → nat_abs most < 2 ^ 64 → int_le least z ≡ true → int_le z most ≡ true → nat_abs z < 2 ^ 64
 bounded least (pos m) (pos n) small big low high = omega (arith, leb-true n m high)
 bounded least (negsuc m) (pos n) small big low high = cc high
@@ -268,7 +268,7 @@ time_says default n h =
 
 -- ---- tests
 
--- a few letters
+-- a text of ASCII alone
 pub literal : (b : ℕ) (bs : List ℕ) → list_all (λ b. ltb b 128) (b ∷ bs) ≡ true → IsUtf8 (b ∷ bs)
 literal b bs e = IsUtf8-from_ascii (b ∷ bs) (ascii (b ∷ bs) e)
   where
