@@ -1,6 +1,6 @@
 use Rattle.std.proofs.Common.{◌≡◌, ◌+◌, ◌≤◌, ◌++◌, length, drop}
 use Rattle.markup_grammar.specs.Escapes.{escaped}
-use Rattle.markup_core.proofs.escapes.escape.Given as goal
+use Rattle.markup_core.proofs.escapes.escape_bytes.Given as goal
 
 abbrev pub invariant-loop-byte : goal.invariant-loop-byte
 invariant-loop-byte l =
