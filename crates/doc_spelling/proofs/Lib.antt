@@ -1,1 +1,3 @@
 mod Examples
+pub mod IsoTexts
+pub mod PlainCodes
