@@ -1,9 +1,10 @@
 //! The bytes of an attachment and whether they are hidden, as a key.
 
-ghost use Rattle.std.specs.Prelude.{◌≡◌};
+ghost use Rattle.std.specs.Prelude.{◌≡◌, true};
 ghost use Rattle.std.specs.Ordering.{as_partial_cmp, eq_by_cmp, on};
 ghost use Rattle.std.specs.Cmp.{eq_by_cmp_equiv, on_total, partial_equiv_from_equiv, partial_order_from_total};
 ghost use Rattle.std.proofs.Common.{refl};
+ghost use Rattle.doc_spelling.specs.Ranges.{are_bytes};
 ghost use Rattle.doc_pool.specs.Pairs.{pool_pair, pool_pair_cmp, pool_pair_total};
 
 use std::cmp::Ordering;
@@ -17,14 +18,20 @@ pub(crate) struct Pair<'a> {
 }
 
 impl<'a> Pair<'a> {
+    /// That of these bytes.
+    fn new(bytes: &'a [u8], hidden: bool) -> Pair<'a>
+        ensures pair { pool_pair result ≡ (bytes.now, hidden) }
+        ensures fits { are_bytes bytes.now ≡ true }
+    {
+        Pair { bytes, hidden }
+    }
+
     /// That of an attachment.
     pub(crate) fn of(file: &'a Attachment) -> Pair<'a>
-        ensures { pool_pair result ≡ (file.now.bytes.value.bytes, file.now.hidden) }
+        ensures pair { pool_pair result ≡ (file.now.bytes.value.bytes, file.now.hidden) }
+        ensures fits { are_bytes file.now.bytes.value.bytes ≡ true }
     {
-        Pair {
-            bytes: file.bytes.lend(0, file.bytes.len()),
-            hidden: file.hidden,
-        }
+        Pair::new(file.bytes.lend(0, file.bytes.len()), file.hidden)
     }
 }
 

@@ -1,8 +1,9 @@
 //! The pool of a document.
 
-ghost use Rattle.std.specs.Prelude.{◌≡◌, IfOk, map};
+ghost use Rattle.std.specs.Prelude.{◌≡◌, IfOk, map, true};
 ghost use Rattle.doc_forms.specs.SeenDocuments.{pool_item};
 ghost use Rattle.doc_spelling.specs.Pool as spec;
+ghost use Rattle.doc_spelling.specs.Ranges.{are_bytes};
 ghost use Rattle.vault_model.specs.SeenDoc.{doc_seen};
 
 use crate::gathering::gather_group;
@@ -54,7 +55,9 @@ impl<'a> Pool<'a> {
 
     /// The number of an attachment's bytes; of bytes that are not in the pool, how many are.
     pub fn number_of(&self, file: &'a Attachment) -> u64
-        ensures { result ≡ spec.number_in self.now (file.now.bytes.value.bytes, file.now.hidden) }
+        ensures number { result ≡ spec.number_in self.now
+            (file.now.bytes.value.bytes, file.now.hidden) }
+        ensures fits { are_bytes file.now.bytes.value.bytes ≡ true }
     {
         match self.numbers.get(&Pair::of(file)) {
             Some(number) => *number,

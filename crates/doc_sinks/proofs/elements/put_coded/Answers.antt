@@ -1,5 +1,6 @@
 use Rattle.std.proofs.Common.{◌∙◌, ap, sym}
-use Rattle.doc_sinks.proofs.Fitting.{bytes_fit, bytes_stand}
+use Rattle.doc_spelling.proofs.ByteLists.{bytes_fit}
+use Rattle.doc_sinks.proofs.Fitting.{bytes_stand}
 use Rattle.doc_sinks.proofs.Puts.{leaf_put}
 use Rattle.doc_sinks.proofs.elements.put_coded.Goals as goal
 

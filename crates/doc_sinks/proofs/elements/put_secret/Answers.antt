@@ -1,4 +1,4 @@
-use Rattle.doc_sinks.proofs.Fitting.{bytes_fit}
+use Rattle.doc_spelling.proofs.ByteLists.{bytes_fit}
 use Rattle.doc_sinks.proofs.Puts.{secret_put}
 use Rattle.doc_sinks.proofs.elements.put_secret.Goals as goal
 

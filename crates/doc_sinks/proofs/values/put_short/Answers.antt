@@ -1,4 +1,4 @@
-use Rattle.doc_sinks.proofs.Fitting.{bytes_fit}
+use Rattle.doc_spelling.proofs.ByteLists.{bytes_fit}
 use Rattle.doc_sinks.proofs.values.put_short.Goals as goal
 
 pub returns-clause-fits : goal.returns-clause-fits
