@@ -72,7 +72,7 @@ fn put_file<'a, O: TextSink>(
     doc: &'a Doc,
 )
     ensures puts { O.state out.new ≡ put O.step (O.state out.old)
-        (row.file_piece form (option_copied hash) pool.now (doc_seen doc.now)) }
+        (row.file_piece form (option_copied hash.entry) pool.now (doc_seen doc.now)) }
     ensures fits { fits_doc (doc_seen doc.now) ≡ true }
 {
     open(out, "KeePassFile", Mark::Unmarked);
@@ -90,7 +90,7 @@ pub(crate) fn put_document<'a, O: TextSink>(
     doc: &'a Doc,
 )
     ensures puts { O.state out.new ≡ put O.step (O.step (O.state out.old) (plain front_text))
-        (row.file_piece form (option_copied hash) pool.now (doc_seen doc.now)) }
+        (row.file_piece form (option_copied hash.entry) pool.now (doc_seen doc.now)) }
     ensures fits { fits_doc (doc_seen doc.now) ≡ true }
 {
     out.put(b"<?xml version=\"1.0\" encoding=\"utf-8\"?>\n");

@@ -31,8 +31,9 @@ pub(crate) fn put_icon_names<O: TextSink>(out: &mut O, icon: u32, custom_icon: O
     ensures fits { (fits_u32 icon && is_uuid_or_none custom_icon) ≡ true }
 {
     put_number(out, "IconID", icon as u64);
-    if let Some(id) = custom_icon {
-        put_id(out, "CustomIconUUID", id);
+    match custom_icon {
+        Some(id) => put_id(out, "CustomIconUUID", id),
+        None => {}
     }
 }
 

@@ -2,12 +2,12 @@
 
 ghost use Rattle.std.specs.List.{list_all};
 ghost use Rattle.std.specs.Option.{option_copied};
-ghost use Rattle.std.specs.Prelude.{◌≡◌, ◌&&◌, map, true};
+ghost use Rattle.std.specs.Prelude.{◌≡◌, ◌&&◌, [], codes, map, true};
 ghost use Rattle.doc_forms.specs.Attachments.{binaries_from};
 ghost use Rattle.doc_forms.specs.SeenDocuments.{pool_item};
 ghost use Rattle.doc_sinks.specs.States.{put, put_all};
 ghost use Rattle.doc_spelling.specs.Metas as row;
-ghost use Rattle.doc_spelling.specs.Pieces.{pieces_of};
+ghost use Rattle.doc_spelling.specs.Pieces.{box, coded, piece_if, pieces_of};
 ghost use Rattle.doc_spelling.specs.Ranges.{fits_changes, fits_i32, fits_i64, fits_icon, fits_meta, fits_places, fits_u32, is_stamp, is_uuid};
 
 use crate::icons::put_icons;
@@ -68,29 +68,46 @@ fn put_binaries<O: TextSink>(out: &mut O, form: DocForm, items: &[PoolItem])
     }
 }
 
+/// Puts `Binaries`.
+fn put_listed<O: TextSink>(out: &mut O, form: DocForm, items: &[PoolItem])
+    ensures { O.state out.new ≡ put O.step (O.state out.old) (box (codes "Binaries")
+        (pieces_of (row.binary_piece form) (binaries_from 0 (map pool_item items.now)))) }
+{
+    open(out, "Binaries", Mark::Unmarked);
+    put_binaries(out, form, items);
+    close(out, "Binaries");
+}
+
 /// Puts `Binaries`, which a file of KDBX 4 keeps apart from its document.
 fn put_pool<O: TextSink>(out: &mut O, form: DocForm, pool: &Pool<'_>)
     ensures { O.state out.new
         ≡ put_all O.step (O.state out.old) (row.pool_pieces form pool.now) }
 {
     match form {
-        DocForm::Plain | DocForm::V3 => {
-            open(out, "Binaries", Mark::Unmarked);
-            put_binaries(out, form, pool.items());
-            close(out, "Binaries");
-        }
+        DocForm::Plain | DocForm::V3 => put_listed(out, form, pool.items()),
         DocForm::V4 => {}
+    }
+}
+
+/// Puts the hash of a header, where it is given.
+fn put_named_hash<O: TextSink>(out: &mut O, hash: Option<&[u8; 32]>)
+    ensures { O.state out.new ≡ put_all O.step (O.state out.old)
+        (piece_if (coded (codes "HeaderHash") []) (option_copied hash.entry)) }
+{
+    match hash {
+        Some(hash) => put_coded(out, "HeaderHash", Mark::Unmarked, hash),
+        None => {}
     }
 }
 
 /// Puts the hash of the header of the document's file, which only a file of KDBX 3.1 has in it.
 fn put_hash<O: TextSink>(out: &mut O, form: DocForm, hash: Option<&[u8; 32]>)
     ensures { O.state out.new
-        ≡ put_all O.step (O.state out.old) (row.hash_pieces form (option_copied hash)) }
+        ≡ put_all O.step (O.state out.old) (row.hash_pieces form (option_copied hash.entry)) }
 {
-    match (form, hash) {
-        (DocForm::V3, Some(hash)) => put_coded(out, "HeaderHash", Mark::Unmarked, hash),
-        (_, _) => {}
+    match form {
+        DocForm::V3 => put_named_hash(out, hash),
+        DocForm::Plain | DocForm::V4 => {}
     }
 }
 
@@ -180,7 +197,7 @@ pub(crate) fn put_meta<O: TextSink>(
     meta: &Meta,
 )
     ensures puts { O.state out.new ≡ put O.step (O.state out.old)
-        (row.meta_piece form (option_copied hash) pool.now meta.now) }
+        (row.meta_piece form (option_copied hash.entry) pool.now meta.now) }
     ensures fits { fits_meta meta.now ≡ true }
 {
     open(out, "Meta", Mark::Unmarked);

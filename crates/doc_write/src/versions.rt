@@ -104,7 +104,7 @@ fn version_times(entry: &Entry, version: &Version) -> Times
 }
 
 /// Puts what an entry says of one of its versions.
-fn put_version<'a, O: TextSink>(
+pub(crate) fn put_version<'a, O: TextSink>(
     out: &mut O,
     form: DocForm,
     pool: &Pool<'a>,

@@ -62,7 +62,7 @@ pub fn write_doc(
     stream: &mut InnerStream,
 ) -> Result<Secret, WriteFail>
     requires { IsAt stream.old 0 }
-    ensures text { Writes result (written form (keystream stream.old) (option_copied header_hash)
+    ensures text { Writes result (written form (keystream stream.old) (option_copied header_hash.entry)
         (doc_seen doc.now)) }
     ensures spare { IfOk result (λ text. text.spare ≡ 0) }
     ensures writable { IfOk result (λ _. IsWritable (doc_seen doc.now)) }

@@ -1,0 +1,4 @@
+pub mod Counts
+pub mod GroupPieces
+pub mod PutBinaries
+pub mod PutOptions
