@@ -2,3 +2,4 @@ pub mod Counts
 pub mod GroupPieces
 pub mod PutBinaries
 pub mod PutOptions
+pub mod WrittenTexts

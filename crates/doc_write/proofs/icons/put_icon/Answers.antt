@@ -8,4 +8,4 @@ returns-clause-puts g c =
     boxed _ _ _ _ c.open.ensures rows c.close.ensures
 
 pub returns-clause-fits : goal.returns-clause-fits
-returns-clause-fits g c = let all = both (both c.put_id.ensures.fits c.put_coded.ensures.fits) c.put_change.ensures.fits in all
+returns-clause-fits g c = let all = both (both c.put_id.ensures.fits (rw c.as_slice.ensures at c.put_coded.ensures.fits)) c.put_change.ensures.fits in all

@@ -6,7 +6,8 @@ use Rattle.doc_write.proofs.lengths.binaries_len.Goals as goal
 
 pub loop-item-preserved : goal.loop-item-preserved
 loop-item-preserved c = record {
-  sum = count_more binary_len pool_item _ _ c.item-item.result c.loop-item.len _ _ c.loop-item-test.true c.item-item.is ? c.loop-item.invariant.sum;
+  sum = count_more binary_len pool_item _ _ c.item-item.result c.loop-item.len _ _ c.loop-item-test.true c.item-item.is
+      (omega (arith, rw c.deref.ensures at c.len.ensures, c.saturating_add.ensures, c.saturating_add-len.ensures)) c.loop-item.invariant.sum;
   most = omega arith;
 }
 

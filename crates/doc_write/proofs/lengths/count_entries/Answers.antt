@@ -8,7 +8,7 @@ use Rattle.doc_write.proofs.lengths.count_entries.Goals as goal
 pub loop-entry-preserved : goal.loop-entry-preserved
 loop-entry-preserved c = record {
   sum = count_more entry_nodes entry_row _ _ c.entry-item.result c.loop-entry.count _ _ c.loop-entry-test.true c.entry-item.is
-      (omega (arith, length-map bare_version c.entry-item.result.history, c.saturating_add.ensures, c.saturating_add-2.ensures, c.len.ensures)) c.loop-entry.invariant.sum;
+      (omega (arith, length-map c.entry-item.result.history bare_version, c.saturating_add.ensures, c.saturating_add-count.ensures, c.len.ensures)) c.loop-entry.invariant.sum;
   most = omega arith;
 }
 
