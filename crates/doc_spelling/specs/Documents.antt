@@ -36,15 +36,15 @@ file_piece form hash pool d =
 -- ---- its text
 
 -- what comes before the outermost element: the XML declaration and a line feed
-abbrev pub front : List Around
-front = aside (instruction (codes "xml version=\"1.0\" encoding=\"utf-8\"")) ∷ blank 10 ∷ []
+abbrev pub declaration : List Around
+declaration = aside (instruction (codes "xml version=\"1.0\" encoding=\"utf-8\"")) ∷ blank 10 ∷ []
 
 -- the tree of a written document: in a form, hidden by a keystream from its start on, and with the
 -- hash of the header of its file
 abbrev pub written_tree : DocForm → Keystream → Option (List ℕ) → BareDoc → Tree
 written_tree form k hash d = record {
   marked = false;
-  front = front;
+  front = declaration;
   root = element_of k 0 (file_piece form hash (pool_of d) d);
   back = [];
 }

@@ -8,14 +8,14 @@ use Rattle.vault_model.specs.declared.contents.Association.{Association}
 use Rattle.vault_model.specs.declared.contents.AutoType.{AutoType}
 use Rattle.vault_model.specs.declared.forms.DocForm.{DocForm}
 use Rattle.doc_forms.specs.declared.times.Times.{Times}
-use Rattle.doc_spelling.specs.Pieces.{Piece, Pieces, leaf, box, none, ◌▹◌, ◌▹▹◌, pieces_of, piece_if, not_nil, if_false, text}
+use Rattle.doc_spelling.specs.Pieces.{Piece, Pieces, leaf, box, none, ◌▹◌, ◌▹▹◌, pieces_of, piece_if, unless_nil, unless_true, text_piece}
 use Rattle.doc_spelling.specs.Pool.{PoolPair, number_in}
 use Rattle.doc_spelling.specs.Values.{bool_piece, number_piece, id_piece, value_piece, times_piece, items_pieces}
 
 -- an entry's `String`
 abbrev pub field_piece : DocForm → BareField → Piece
 field_piece form f = box (codes "String")
-    (text (codes "Key") f.key ▹ value_piece form (codes "Value") f.value f.hidden ▹ none)
+    (text_piece (codes "Key") f.key ▹ value_piece form (codes "Value") f.value f.hidden ▹ none)
 
 -- an attribute with a number
 abbrev pub number_attribute : List ℕ → ℕ → List ℕ × List ℕ
@@ -24,7 +24,7 @@ number_attribute name n = (name, decimal n)
 -- an entry's `Binary`: its bytes are named by their number in the pool
 abbrev pub attachment_piece : List PoolPair → BareAttachment → Piece
 attachment_piece pool a = box (codes "Binary") (
-    text (codes "Key") a.name
+    text_piece (codes "Key") a.name
     ▹ leaf (codes "Value")
     (number_attribute (codes "Ref") (number_in pool (a.bytes, a.hidden)) ∷ []) []
     ▹ none)
@@ -32,14 +32,14 @@ attachment_piece pool a = box (codes "Binary") (
 -- `Association`
 abbrev pub association_piece : Association → Piece
 association_piece a = box (codes "Association")
-    (text (codes "Window") a.window ▹ text (codes "KeystrokeSequence") a.keys ▹ none)
+    (text_piece (codes "Window") a.window ▹ text_piece (codes "KeystrokeSequence") a.keys ▹ none)
 
 -- `AutoType`
 abbrev pub auto_type_piece : AutoType → Piece
 auto_type_piece a = box (codes "AutoType") (
     bool_piece (codes "Enabled") a.enabled
     ▹ number_piece (codes "DataTransferObfuscation") a.obfuscation
-    ▹ text (codes "DefaultSequence") a.sequence
+    ▹ text_piece (codes "DefaultSequence") a.sequence
     ▹ pieces_of association_piece a.pairs)
 
 -- the times of an entry's version; since when the entry is in its group, each version says
@@ -61,16 +61,16 @@ icon_pieces icon custom_icon =
 
 -- the group in which a node was before, where it was in one
 abbrev pub previous_pieces : NodeId → Pieces
-previous_pieces previous = piece_if (id_piece (codes "PreviousParentGroup")) (not_nil previous)
+previous_pieces previous = piece_if (id_piece (codes "PreviousParentGroup")) (unless_nil previous)
 
 -- the colours, the texts and the quality of a version
 abbrev pub text_pieces : BareContent → Pieces
 text_pieces c =
-    text (codes "ForegroundColor") c.fore
-    ▹ text (codes "BackgroundColor") c.back
-    ▹ text (codes "OverrideURL") c.url_override
-    ▹ text (codes "Tags") c.tags
-    ▹ piece_if (bool_piece (codes "QualityCheck")) (if_false c.quality)
+    text_piece (codes "ForegroundColor") c.fore
+    ▹ text_piece (codes "BackgroundColor") c.back
+    ▹ text_piece (codes "OverrideURL") c.url_override
+    ▹ text_piece (codes "Tags") c.tags
+    ▹ piece_if (bool_piece (codes "QualityCheck")) (unless_true c.quality)
 
 -- what a version holds: its fields, attachments, auto-type and custom items
 abbrev pub held_pieces : DocForm → List PoolPair → BareContent → Pieces

@@ -8,7 +8,7 @@ use Rattle.vault_model.specs.declared.contents.GroupContent.{GroupContent}
 use Rattle.vault_model.specs.declared.forms.DocForm.{DocForm}
 use Rattle.doc_forms.specs.declared.times.Times.{Times}
 use Rattle.doc_spelling.specs.Entries.{icon_pieces, previous_pieces, entry_piece}
-use Rattle.doc_spelling.specs.Pieces.{Piece, Pieces, box, none, beside, ◌▹◌, ◌▹▹◌, pieces_of, piece_if, filled, text}
+use Rattle.doc_spelling.specs.Pieces.{Piece, Pieces, box, none, beside, ◌▹◌, ◌▹▹◌, pieces_of, piece_if, unless_empty, text_piece}
 use Rattle.doc_spelling.specs.Pool.{PoolPair}
 use Rattle.doc_spelling.specs.Values.{bool_piece, tri_piece, id_piece, times_piece, items_pieces}
 
@@ -27,16 +27,16 @@ group_times r = record {
 -- a group's name, notes, tags and icon
 abbrev pub name_pieces : GroupContent → Pieces
 name_pieces c =
-    text (codes "Name") c.name
-    ▹ text (codes "Notes") c.notes
-    ▹ piece_if (text (codes "Tags")) (filled c.tags)
+    text_piece (codes "Name") c.name
+    ▹ text_piece (codes "Notes") c.notes
+    ▹ piece_if (text_piece (codes "Tags")) (unless_empty c.tags)
     ▹▹ icon_pieces c.icon c.custom_icon
 
 -- how a group is shown, and how its entries are typed and searched
 abbrev pub choice_pieces : GroupRecord → Pieces
 choice_pieces r =
     bool_piece (codes "IsExpanded") r.view.expanded
-    ▹ text (codes "DefaultAutoTypeSequence") r.state.content.sequence
+    ▹ text_piece (codes "DefaultAutoTypeSequence") r.state.content.sequence
     ▹ tri_piece (codes "EnableAutoType") r.state.content.auto_type
     ▹ tri_piece (codes "EnableSearching") r.state.content.searching
     ▹ id_piece (codes "LastTopVisibleEntry") r.view.top_entry

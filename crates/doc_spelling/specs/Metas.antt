@@ -8,7 +8,7 @@ use Rattle.vault_model.specs.declared.metas.Protection.{Protection}
 use Rattle.doc_forms.specs.Attachments.{binaries_from}
 use Rattle.doc_forms.specs.Metas.{ReadBinary}
 use Rattle.doc_spelling.specs.Entries.{number_attribute}
-use Rattle.doc_spelling.specs.Pieces.{Piece, Pieces, secret, box, none, ◌▹◌, ◌▹▹◌, pieces_of, piece_if, filled, text, coded, protect_in_memory}
+use Rattle.doc_spelling.specs.Pieces.{Piece, Pieces, secret, box, none, ◌▹◌, ◌▹▹◌, pieces_of, piece_if, unless_empty, text_piece, base64_piece, in_memory_attribute}
 use Rattle.doc_spelling.specs.Pool.{PoolPair}
 use Rattle.doc_spelling.specs.Values.{bool_piece, number_piece, signed_piece, id_piece, time_piece, change_pieces, items_piece}
 
@@ -30,16 +30,16 @@ protection_piece p = box (codes "MemoryProtection") (
 abbrev pub icon_piece : DocForm → Icon → Piece
 icon_piece form i = box (codes "Icon") (
     id_piece (codes "UUID") i.id
-    ▹ coded (codes "Data") [] i.bytes
-    ▹ piece_if (text (codes "Name")) (filled i.name)
+    ▹ base64_piece (codes "Data") [] i.bytes
+    ▹ piece_if (text_piece (codes "Name")) (unless_empty i.name)
     ▹▹ change_pieces form i.changed)
 
 -- a binary of a number with its bytes; those that are hidden have the same attributes as a value
 abbrev pub numbered_piece : DocForm → ℕ → List ℕ → Bool → Piece
 numbered_piece form n bytes false =
-    coded (codes "Binary") (number_attribute (codes "ID") n ∷ []) bytes
+    base64_piece (codes "Binary") (number_attribute (codes "ID") n ∷ []) bytes
 numbered_piece Plain n bytes true =
-    coded (codes "Binary") (number_attribute (codes "ID") n ∷ protect_in_memory ∷ []) bytes
+    base64_piece (codes "Binary") (number_attribute (codes "ID") n ∷ in_memory_attribute ∷ []) bytes
 numbered_piece _ n bytes true =
     secret (codes "Binary") (number_attribute (codes "ID") n ∷ []) bytes
 
@@ -55,18 +55,18 @@ pool_pieces form pool =
 
 -- the hash of the header, which only a file of KDBX 3.1 has in its document
 abbrev pub hash_pieces : DocForm → Option (List ℕ) → Pieces
-hash_pieces V3 hash = piece_if (coded (codes "HeaderHash") []) hash
+hash_pieces V3 hash = piece_if (base64_piece (codes "HeaderHash") []) hash
 hash_pieces _ hash = none
 
 -- the names of a database, and when they and its settings were changed
 abbrev pub title_pieces : DocForm → Meta → Pieces
 title_pieces form m =
     time_piece form (codes "SettingsChanged") m.settings.changed
-    ▹ text (codes "DatabaseName") m.name.value
+    ▹ text_piece (codes "DatabaseName") m.name.value
     ▹ time_piece form (codes "DatabaseNameChanged") m.name.changed
-    ▹ text (codes "DatabaseDescription") m.description.value
+    ▹ text_piece (codes "DatabaseDescription") m.description.value
     ▹ time_piece form (codes "DatabaseDescriptionChanged") m.description.changed
-    ▹ text (codes "DefaultUserName") m.user.value
+    ▹ text_piece (codes "DefaultUserName") m.user.value
     ▹ time_piece form (codes "DefaultUserNameChanged") m.user.changed
     ▹ none
 
@@ -74,7 +74,7 @@ title_pieces form m =
 abbrev pub setting_pieces : DocForm → Meta → Pieces
 setting_pieces form m =
     number_piece (codes "MaintenanceHistoryDays") m.settings.value.days
-    ▹ text (codes "Color") m.settings.value.color
+    ▹ text_piece (codes "Color") m.settings.value.color
     ▹ time_piece form (codes "MasterKeyChanged") m.view.key_changed
     ▹ signed_piece (codes "MasterKeyChangeRec") m.settings.value.key_rec
     ▹ signed_piece (codes "MasterKeyChangeForce") m.settings.value.key_force
@@ -104,7 +104,7 @@ limit_pieces m =
 -- `Meta`
 abbrev pub meta_piece : DocForm → Option (List ℕ) → List PoolPair → Meta → Piece
 meta_piece form hash pool m = box (codes "Meta") (
-    text (codes "Generator") generator
+    text_piece (codes "Generator") generator
     ▹ hash_pieces form hash
     ▹▹ title_pieces form m
     ▹▹ setting_pieces form m

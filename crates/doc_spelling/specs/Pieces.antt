@@ -47,41 +47,41 @@ piece_if piece (Some x) = piece x ▹ none
 -- ---- what is written only where it differs from what an element that is missing says
 
 -- a text or a list with something in it
-abbrev pub filled : {A : Type 0} → List A → Option (List A)
-filled [] = None
-filled (x ∷ xs) = Some (x ∷ xs)
+abbrev pub unless_empty : {A : Type 0} → List A → Option (List A)
+unless_empty [] = None
+unless_empty (x ∷ xs) = Some (x ∷ xs)
 
 -- a time other than 0
-abbrev pub nonzero : ℕ → Option ℕ
-nonzero zero = None
-nonzero (suc n) = Some (suc n)
+abbrev pub unless_zero : ℕ → Option ℕ
+unless_zero zero = None
+unless_zero (suc n) = Some (suc n)
 
 -- an id other than nil
-abbrev pub not_nil : NodeId → Option NodeId
-not_nil u = if bytes_eq u nil_id then None else Some u
+abbrev pub unless_nil : NodeId → Option NodeId
+unless_nil u = if bytes_eq u nil_id then None else Some u
 
 -- a choice that is false
-abbrev pub if_false : Bool → Option Bool
-if_false true = None
-if_false false = Some false
+abbrev pub unless_true : Bool → Option Bool
+unless_true true = None
+unless_true false = Some false
 
 -- ---- elements without elements in them
 
 -- an element with a text
-abbrev pub text : List ℕ → List ℕ → Piece
-text name t = leaf name [] t
+abbrev pub text_piece : List ℕ → List ℕ → Piece
+text_piece name t = leaf name [] t
 
 -- an element with bytes in base64
-abbrev pub coded : List ℕ → List (List ℕ × List ℕ) → List ℕ → Piece
-coded name attributes bytes = leaf name attributes (encode_of standard bytes)
+abbrev pub base64_piece : List ℕ → List (List ℕ × List ℕ) → List ℕ → Piece
+base64_piece name attributes bytes = leaf name attributes (encode_of standard bytes)
 
 -- `Protected="True"`
-abbrev pub protected : List ℕ × List ℕ
-protected = (codes "Protected", codes "True")
+abbrev pub protected_attribute : List ℕ × List ℕ
+protected_attribute = (codes "Protected", codes "True")
 
 -- `ProtectInMemory="True"`
-abbrev pub protect_in_memory : List ℕ × List ℕ
-protect_in_memory = (codes "ProtectInMemory", codes "True")
+abbrev pub in_memory_attribute : List ℕ × List ℕ
+in_memory_attribute = (codes "ProtectInMemory", codes "True")
 
 -- ---- the elements of the grammar
 
@@ -122,7 +122,7 @@ abbrev mutual
   element_of k offset (leaf name attributes t) =
       element name (attributes_text attributes) (text_only (escaped t)) []
   element_of k offset (secret name attributes bytes) =
-      element name (attributes_text (attributes ++ protected ∷ []))
+      element name (attributes_text (attributes ++ protected_attribute ∷ []))
       (text_only (hidden_text k offset bytes)) []
   element_of k offset (box name pieces) = element name [] (content_of k offset pieces) []
 

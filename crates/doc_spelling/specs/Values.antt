@@ -9,7 +9,7 @@ use Rattle.vault_model.specs.declared.forms.DocForm.{DocForm}
 use Rattle.vault_model.specs.declared.forms.DocForm.TheVariants.{Plain}
 use Rattle.doc_forms.specs.declared.times.Times.{Times}
 use Rattle.doc_spelling.specs.Moments.{time_text}
-use Rattle.doc_spelling.specs.Pieces.{Piece, Pieces, leaf, secret, box, none, ◌▹◌, pieces_of, piece_if, filled, nonzero, text, coded, protect_in_memory}
+use Rattle.doc_spelling.specs.Pieces.{Piece, Pieces, leaf, secret, box, none, ◌▹◌, pieces_of, piece_if, unless_empty, unless_zero, text_piece, base64_piece, in_memory_attribute}
 
 -- ---- values
 
@@ -26,33 +26,33 @@ tri_text Yes = codes "True"
 
 -- an element with a truth value
 abbrev pub bool_piece : List ℕ → Bool → Piece
-bool_piece name b = text name (bool_text b)
+bool_piece name b = text_piece name (bool_text b)
 
 -- an element with a choice that a group may take from its parent
 abbrev pub tri_piece : List ℕ → Tri → Piece
-tri_piece name choice = text name (tri_text choice)
+tri_piece name choice = text_piece name (tri_text choice)
 
 -- an element with a number, in decimal digits
 abbrev pub number_piece : List ℕ → ℕ → Piece
-number_piece name n = text name (decimal n)
+number_piece name n = text_piece name (decimal n)
 
 -- an element with a number that may be below 0
 abbrev pub signed_piece : List ℕ → ℤ → Piece
-signed_piece name z = text name (signed_decimal z)
+signed_piece name z = text_piece name (signed_decimal z)
 
 -- an element with an id, in base64
 abbrev pub id_piece : List ℕ → NodeId → Piece
-id_piece name u = coded name [] u
+id_piece name u = base64_piece name [] u
 
 -- an element with a time
 abbrev pub time_piece : DocForm → List ℕ → ℕ → Piece
-time_piece form name seconds = text name (time_text form seconds)
+time_piece form name seconds = text_piece name (time_text form seconds)
 
 -- an element with a value that may be hidden: by the keystream, or in a document by itself, which
 -- has none, by an attribute alone
 abbrev pub value_piece : DocForm → List ℕ → List ℕ → Bool → Piece
-value_piece form name value false = text name value
-value_piece Plain name value true = leaf name (protect_in_memory ∷ []) value
+value_piece form name value false = text_piece name value
+value_piece Plain name value true = leaf name (in_memory_attribute ∷ []) value
 value_piece _ name value true = secret name [] value
 
 -- ---- times
@@ -74,12 +74,14 @@ times_piece form t = box (codes "Times") (
 -- the time of a change, where it is not 0
 abbrev pub change_pieces : DocForm → ℕ → Pieces
 change_pieces form changed = piece_if (time_piece form (codes "LastModificationTime"))
-    (nonzero changed)
+    (unless_zero changed)
 
 -- a custom item
 abbrev pub item_piece : DocForm → Item → Piece
-item_piece form i = box (codes "Item")
-    (text (codes "Key") i.key ▹ text (codes "Value") i.value ▹ change_pieces form i.changed)
+item_piece form i = box (codes "Item") (
+    text_piece (codes "Key") i.key
+    ▹ text_piece (codes "Value") i.value
+    ▹ change_pieces form i.changed)
 
 -- `CustomData`
 abbrev pub items_piece : DocForm → List Item → Piece
@@ -87,4 +89,4 @@ items_piece form items = box (codes "CustomData") (pieces_of (item_piece form) i
 
 -- `CustomData`, where there are items
 abbrev pub items_pieces : DocForm → List Item → Pieces
-items_pieces form items = piece_if (items_piece form) (filled items)
+items_pieces form items = piece_if (items_piece form) (unless_empty items)
