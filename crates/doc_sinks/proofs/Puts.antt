@@ -5,7 +5,7 @@ use Rattle.std.proofs.lemmas.List.{drop_all}
 use Rattle.std.specs.Prelude.{codes, flat_map}
 use Rattle.doc_sinks.specs.Chunks.{Chunk, plain, hidden, attribute_chunks, start_chunks, end_chunks, chunks, chunks_all}
 use Rattle.doc_sinks.specs.States.{after, begun, ended, put, put_all}
-use Rattle.doc_spelling.specs.Pieces.{Piece, Pieces, leaf, secret, box, none, beside, ◌▹◌, ◌▹▹◌, pieces_of, protected}
+use Rattle.doc_spelling.specs.Pieces.{Piece, Pieces, leaf, secret, box, none, beside, ◌▹◌, ◌▹▹◌, pieces_of, protected_attribute}
 use Rattle.markup_grammar.specs.Escapes.{escaped}
 
 abbrev pub Attributes : Type 0
@@ -58,11 +58,11 @@ leaf_put step s name attributes text start one end =
     end ∙ ap (λ x. ended step x name) (one ∙ ap (λ x. step x (plain (escaped text))) start) ∙ held step s name attributes (plain (escaped text))
 
 pub secret_put : {S : Type 0} {a b t : S} (step : S → Chunk → S) (s : S) (name : List ℕ) (attributes : Attributes) (bytes : List ℕ)
-    → a ≡ begun step s name (attributes ++ protected ∷ []) → b ≡ step a (hidden bytes) → t ≡ ended step b name
+    → a ≡ begun step s name (attributes ++ protected_attribute ∷ []) → b ≡ step a (hidden bytes) → t ≡ ended step b name
     → t ≡ put step s (secret name attributes bytes)
 unfolding put
 secret_put step s name attributes bytes start one end =
-    end ∙ ap (λ x. ended step x name) (one ∙ ap (λ x. step x (hidden bytes)) start) ∙ held step s name (attributes ++ protected ∷ []) (hidden bytes)
+    end ∙ ap (λ x. ended step x name) (one ∙ ap (λ x. step x (hidden bytes)) start) ∙ held step s name (attributes ++ protected_attribute ∷ []) (hidden bytes)
 
 -- ---- an element's calls one after another: its start tag, its elements, its end tag
 

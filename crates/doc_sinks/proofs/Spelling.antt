@@ -3,7 +3,7 @@ use Rattle.std.proofs.Common.{◌≡◌, ℕ, ◌+◌, List, [], ◌∷◌, ◌+
 use Rattle.std.specs.Prelude.{codes, flat_map}
 use Rattle.doc_sinks.specs.Chunks.{Chunk, plain, hidden, attribute_chunks, start_chunks, end_chunks, chunks, chunks_all, chunk_bytes, chunk_hides, bytes_of, hides}
 use Rattle.doc_sinks.proofs.Puts.{Attributes}
-use Rattle.doc_spelling.specs.Pieces.{Piece, Pieces, leaf, secret, box, none, beside, protected, attribute_of, attributes_text, hidden_text, hidden_len, hidden_len_all, element_of, content_of}
+use Rattle.doc_spelling.specs.Pieces.{Piece, Pieces, leaf, secret, box, none, beside, protected_attribute, attribute_of, attributes_text, hidden_text, hidden_len, hidden_len_all, element_of, content_of}
 use Rattle.markup_grammar.specs.Escapes.{escaped}
 use Rattle.markup_grammar.specs.Tags.{attribute_then}
 use Rattle.markup_grammar.specs.Tree as tree
@@ -55,7 +55,7 @@ tagged_hide name attributes inner = omega (arith, hides_append (start_chunks nam
 mutual
   pub hides_is : (piece : Piece) → hides (chunks piece) ≡ hidden_len piece
   hides_is (leaf name attributes text) = tagged_hide name attributes (plain (escaped text) ∷ [])
-  hides_is (secret name attributes bytes) = omega (arith, tagged_hide name (attributes ++ protected ∷ []) (hidden bytes ∷ []))
+  hides_is (secret name attributes bytes) = omega (arith, tagged_hide name (attributes ++ protected_attribute ∷ []) (hidden bytes ∷ []))
   hides_is (box name ps) = tagged_hide name [] (chunks_all ps) ∙ hides_all_is ps
 
   hides_all_is : (ps : Pieces) → hides (chunks_all ps) ≡ hidden_len_all ps
@@ -68,8 +68,8 @@ mutual
       tagged k p name attributes (plain (escaped text) ∷ [])
       ∙ ap (λ (b : List ℕ). tree.start_tag name (attributes_text attributes) ++ (b ++ tree.end_tag name [])) (append-nil (escaped text))
   spelled_is k p (secret name attributes bytes) =
-      tagged k p name (attributes ++ protected ∷ []) (hidden bytes ∷ [])
-      ∙ ap (λ (b : List ℕ). tree.start_tag name (attributes_text (attributes ++ protected ∷ [])) ++ (b ++ tree.end_tag name [])) (append-nil (hidden_text k p bytes))
+      tagged k p name (attributes ++ protected_attribute ∷ []) (hidden bytes ∷ [])
+      ∙ ap (λ (b : List ℕ). tree.start_tag name (attributes_text (attributes ++ protected_attribute ∷ [])) ++ (b ++ tree.end_tag name [])) (append-nil (hidden_text k p bytes))
   spelled_is k p (box name ps) =
       tagged k p name [] (chunks_all ps)
       ∙ ap (λ (b : List ℕ). tree.start_tag name [] ++ (b ++ tree.end_tag name [])) (content_is k p ps)

@@ -2,7 +2,7 @@
 use Rattle.std.specs.Prelude.{ℕ, ◌+◌, List, [], ◌∷◌, ◌++◌, length, codes, flat_map}
 use Rattle.base64.specs.GeneralPurpose.{encode_of}
 use Rattle.base64.specs.Engines.{standard}
-use Rattle.doc_spelling.specs.Pieces.{Piece, Pieces, leaf, secret, box, none, beside, hidden_text, protected}
+use Rattle.doc_spelling.specs.Pieces.{Piece, Pieces, leaf, secret, box, none, beside, hidden_text, protected_attribute}
 use Rattle.markup_grammar.specs.Escapes.{escaped}
 use Rattle.stream_core.specs.InnerStream.{Keystream}
 
@@ -37,7 +37,7 @@ abbrev mutual
   chunks (leaf name attributes t) =
       start_chunks name attributes ++ (plain (escaped t) ∷ end_chunks name)
   chunks (secret name attributes bytes) =
-      start_chunks name (attributes ++ protected ∷ []) ++ (hidden bytes ∷ end_chunks name)
+      start_chunks name (attributes ++ protected_attribute ∷ []) ++ (hidden bytes ∷ end_chunks name)
   chunks (box name pieces) = start_chunks name [] ++ (chunks_all pieces ++ end_chunks name)
 
   -- elements side by side

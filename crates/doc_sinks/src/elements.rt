@@ -3,7 +3,7 @@
 ghost use Rattle.std.specs.Prelude.{◌≡◌, [], ◌∷◌, ◌++◌, true};
 ghost use Rattle.doc_sinks.specs.Attributes.{attributes};
 ghost use Rattle.doc_sinks.specs.States.{begun, ended, put};
-ghost use Rattle.doc_spelling.specs.Pieces.{coded, leaf, protected, secret};
+ghost use Rattle.doc_spelling.specs.Pieces.{base64_piece, leaf, protected_attribute, secret};
 ghost use Rattle.doc_spelling.specs.Ranges.{are_bytes};
 
 use crate::attributes::{Mark, put_attribute, put_attributes};
@@ -22,7 +22,7 @@ pub fn open<O: TextSink>(out: &mut O, name: &str, mark: Mark)
 /// Puts the start tag of an element with hidden bytes.
 fn open_protected<O: TextSink>(out: &mut O, name: &str, mark: Mark)
     ensures { O.state out.new
-        ≡ begun O.step (O.state out.old) name.now (attributes mark ++ protected ∷ []) }
+        ≡ begun O.step (O.state out.old) name.now (attributes mark ++ protected_attribute ∷ []) }
 {
     out.put(b"<");
     out.put(name.as_bytes());
@@ -55,7 +55,7 @@ pub fn put_leaf<O: TextSink>(out: &mut O, name: &str, mark: Mark, text: &[u8])
 /// Puts an element with bytes in base64.
 pub fn put_coded<O: TextSink>(out: &mut O, name: &str, mark: Mark, bytes: &[u8])
     ensures puts { O.state out.new
-        ≡ put O.step (O.state out.old) (coded name.now (attributes mark) bytes.now) }
+        ≡ put O.step (O.state out.old) (base64_piece name.now (attributes mark) bytes.now) }
     ensures fits { are_bytes bytes.now ≡ true }
 {
     open(out, name, mark);

@@ -20,7 +20,7 @@ use vault_model::{DocForm, Stamp, Tri, iso_of};
 /// Puts an element with at most 16 bytes in base64.
 fn put_short<O: TextSink>(out: &mut O, name: &str, bytes: &[u8])
     requires { length bytes.now ≤ 16 }
-    ensures puts { O.state out.new ≡ put O.step (O.state out.old) (piece.coded name.now [] bytes.now) }
+    ensures puts { O.state out.new ≡ put O.step (O.state out.old) (piece.base64_piece name.now [] bytes.now) }
     ensures fits { are_bytes bytes.now ≡ true }
 {
     let mut buffer = [0; 24];
@@ -112,7 +112,7 @@ pub fn put_tri<O: TextSink>(out: &mut O, name: &str, choice: Tri)
 
 /// Puts an element with a text.
 pub fn put_text<O: TextSink>(out: &mut O, name: &str, text: &Text)
-    ensures { O.state out.new ≡ put O.step (O.state out.old) (piece.text name.now text.now) }
+    ensures { O.state out.new ≡ put O.step (O.state out.old) (piece.text_piece name.now text.now) }
 {
     put_leaf(out, name, Mark::Unmarked, text.as_str().as_bytes());
 }

@@ -5,7 +5,7 @@ ghost use Rattle.std.specs.Prelude.{◌≡◌, ◌&&◌, codes, true};
 ghost use Rattle.doc_sinks.specs.States.{put, put_all};
 ghost use Rattle.doc_spelling.specs.Entries as row;
 ghost use Rattle.doc_spelling.specs.Metas.{icon_piece};
-ghost use Rattle.doc_spelling.specs.Pieces.{box, filled, piece_if, pieces_of, text};
+ghost use Rattle.doc_spelling.specs.Pieces.{box, unless_empty, piece_if, pieces_of, text_piece};
 ghost use Rattle.doc_spelling.specs.Ranges.{fits_icon, fits_u32, is_uuid, is_uuid_or_none};
 
 use crate::items::put_change;
@@ -17,7 +17,7 @@ use vault_model::{DocForm, Icon};
 /// Puts a text, where it is not empty.
 pub(crate) fn put_any_text<O: TextSink>(out: &mut O, name: &str, value: &Text)
     ensures { O.state out.new
-        ≡ put_all O.step (O.state out.old) (piece_if (text name.now) (filled value.now)) }
+        ≡ put_all O.step (O.state out.old) (piece_if (text_piece name.now) (unless_empty value.now)) }
 {
     if value.len() != 0 {
         put_text(out, name, value);

@@ -7,7 +7,7 @@ ghost use Rattle.doc_forms.specs.Attachments.{binaries_from};
 ghost use Rattle.doc_forms.specs.SeenDocuments.{pool_item};
 ghost use Rattle.doc_sinks.specs.States.{put, put_all};
 ghost use Rattle.doc_spelling.specs.Metas as row;
-ghost use Rattle.doc_spelling.specs.Pieces.{box, coded, piece_if, pieces_of};
+ghost use Rattle.doc_spelling.specs.Pieces.{box, base64_piece, piece_if, pieces_of};
 ghost use Rattle.doc_spelling.specs.Ranges.{fits_changes, fits_i32, fits_i64, fits_icon, fits_meta, fits_places, fits_u32, is_stamp, is_uuid};
 
 use crate::icons::put_icons;
@@ -92,7 +92,7 @@ fn put_pool<O: TextSink>(out: &mut O, form: DocForm, pool: &Pool<'_>)
 /// Puts the hash of a header, where it is given.
 fn put_named_hash<O: TextSink>(out: &mut O, hash: Option<&[u8; 32]>)
     ensures { O.state out.new ≡ put_all O.step (O.state out.old)
-        (piece_if (coded (codes "HeaderHash") []) (option_copied hash.entry)) }
+        (piece_if (base64_piece (codes "HeaderHash") []) (option_copied hash.entry)) }
 {
     match hash {
         Some(hash) => put_coded(out, "HeaderHash", Mark::Unmarked, hash),

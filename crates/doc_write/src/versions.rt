@@ -4,7 +4,7 @@ ghost use Rattle.std.specs.List.{list_all};
 ghost use Rattle.std.specs.Prelude.{◌≡◌, codes, true};
 ghost use Rattle.doc_sinks.specs.States.{put, put_all};
 ghost use Rattle.doc_spelling.specs.Entries as row;
-ghost use Rattle.doc_spelling.specs.Pieces.{if_false, piece_if, pieces_of};
+ghost use Rattle.doc_spelling.specs.Pieces.{unless_true, piece_if, pieces_of};
 ghost use Rattle.doc_spelling.specs.Ranges.{fits_attachment, fits_item, fits_u32, fits_version, is_uuid};
 ghost use Rattle.doc_spelling.specs.Values.{bool_piece};
 ghost use Rattle.vault_model.specs.Seen.{bare_content};
@@ -55,7 +55,7 @@ fn put_auto_type<O: TextSink>(out: &mut O, auto_type: &AutoType)
 /// Puts the quality of a version, where it is false.
 fn put_quality<O: TextSink>(out: &mut O, quality: bool)
     ensures { O.state out.new ≡ put_all O.step (O.state out.old)
-        (piece_if (bool_piece (codes "QualityCheck")) (if_false quality)) }
+        (piece_if (bool_piece (codes "QualityCheck")) (unless_true quality)) }
 {
     if !quality {
         put_bool(out, "QualityCheck", false);
