@@ -18,18 +18,28 @@ use std::str;
 /// The most bytes of a line.
 const LINE_LIMIT: usize = 4096;
 
+// Secret memory of one byte, through which the bytes of a line go.
+fn window(alloc: Global) -> Result<Secret, NoMemory>
+    ensures { IfOk result (λ window. length window.bytes ≡ 1) }
+{
+    let mut window = Secret::with_room(alloc, 1)?;
+    window.push(0);
+    Ok(window)
+}
+
 // The next byte of the input, or none at its end.
-fn next_byte<S: Source>(input: &mut S) -> Result<Option<u8>, SourceFail>
+fn next_byte<S: Source>(input: &mut S, window: &mut Secret) -> Result<Option<u8>, SourceFail>
+    requires { length window.old.bytes ≡ 1 }
+    ensures window { length window.new.bytes ≡ 1 }
     ensures told { (i : List ℕ) → S.left input.old ≡ Some i
         → ComesNext result i (S.left input.new) }
     ensures cause { HasCause SourceFail.Failed (S.faults input.old) (S.faults input.new) result }
 {
-    let mut byte = [0; 1];
-    let read = input.read(&mut byte)?;
+    let read = input.read(window.lend_mut())?;
     if read == 0 {
         Ok(None)
     } else {
-        Ok(Some(byte[0]))
+        Ok(Some(window.lend(0, 1)[0]))
     }
 }
 
@@ -74,7 +84,13 @@ fn end(line: &mut Secret, returned: bool) -> bool
 }
 
 // Reads the line that begins with a byte, and reports whether it is not too long.
-fn read_from<S: Source>(input: &mut S, first: u8, line: &mut Secret) -> Result<bool, SourceFail>
+fn read_from<S: Source>(
+    input: &mut S,
+    window: &mut Secret,
+    first: u8,
+    line: &mut Secret,
+) -> Result<bool, SourceFail>
+    requires window { length window.old.bytes ≡ 1 }
     requires bytes { line.old.bytes ≡ [] }
     requires spare { line.old.spare ≡ 4096 }
     ensures told { (i : List ℕ) → S.left input.old ≡ Some i
@@ -88,7 +104,7 @@ fn read_from<S: Source>(input: &mut S, first: u8, line: &mut Secret) -> Result<b
             Some(now) => returned = now,
             None => return Ok(false),
         }
-        match next_byte(input)? {
+        match next_byte(input, window)? {
             Some(next) => byte = next,
             None => return Ok(end(line, returned)),
         }
@@ -123,12 +139,15 @@ fn read_line<S: Source>(alloc: Global, input: &mut S, number: u64) -> Result<Sec
     let Ok(mut line) = Secret::with_room(alloc, LINE_LIMIT) else {
         return Err(Stop::NoMemory);
     };
-    let first = match next_byte(input) {
+    let Ok(mut window) = window(alloc) else {
+        return Err(Stop::NoMemory);
+    };
+    let first = match next_byte(input, &mut window) {
         Ok(Some(first)) => first,
         Ok(None) => return Err(refused(alloc, Reason::InputEnded(number), "input")),
         Err(_) => return Err(Stop::InputFault),
     };
-    match read_from(input, first, &mut line) {
+    match read_from(input, &mut window, first, &mut line) {
         Ok(false) => Err(refused(alloc, Reason::LineLimit, "input")),
         Ok(true) if is_text_line(&line) => Ok(line),
         Ok(true) => Err(refused(alloc, Reason::LineForm(number), "input")),

@@ -1,6 +1,7 @@
 -- Reading in steps, of which the first refusal is the answer.
-use Rattle.std.specs.Prelude.{◌≡◌, ℕ, Option, Some, None, Result, Ok, Err}
+use Rattle.std.specs.Prelude.{ℕ, Option, Some, None, Result, Ok, Err}
 use Rattle.markup_grammar.specs.Answers.{Answer, form, depth}
+use Rattle.outside_core.specs.Results as results
 use Rattle.doc_forms.specs.declared.fails.DocFail.{DocFail}
 use Rattle.doc_forms.specs.declared.fails.DocFail.TheVariants.{Form, Depth, BadValue, NoMemory}
 
@@ -15,12 +16,16 @@ markup_refusal (form offset) = Err (Form offset)
 markup_refusal (depth offset) = Err (Depth offset)
 markup_refusal _ = Err NoMemory
 
+-- The refusal that a definition has where a function has this one: the same, but want of memory
+-- says nothing of what is defined.
+abbrev pub known : DocFail → Option DocFail
+known NoMemory = None
+known e = Some e
+
 -- a refusal is the defined one; want of memory says nothing
 abbrev pub Fails : {Y : Type 0} → DocFail → Result Y DocFail → Type 0
-Fails NoMemory defined = Unit {0}
-Fails e defined = defined ≡ Err e
+Fails e defined = results.Fails (known e) defined
 
 -- what a call returns is what is defined, seen without memory
 abbrev pub Returns : {X Y : Type 0} → (X → Y) → Result X DocFail → Result Y DocFail → Type 0
-Returns view (Ok x) defined = defined ≡ Ok (view x)
-Returns view (Err e) defined = Fails e defined
+Returns view result defined = results.Returns known view result defined

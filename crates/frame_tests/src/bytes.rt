@@ -8,6 +8,7 @@ use std::test::Fail;
 // id, four bytes of length and its content.
 const PIECES: &str = "sig 03d9a29a67fb4bb5
 v40 00000400
+v41 01000400
 aes 021000000031c1f2e6bf714350be5805216afc5aff
 twofish 0210000000ad68f29f576f4bb9a36ad47af965346c
 chacha 0210000000d6038a2b8b6f4cb5a524339a31dbb59a

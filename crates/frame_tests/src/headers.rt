@@ -1,25 +1,30 @@
 //! Headers with their answers.
 use crate::bytes::bytes_of;
-use kdbx_frame::{FrameFail, read_header};
+use kdbx_frame::{FileVersion, FrameFail, read_header};
 use std::alloc::Global;
 use std::test::Fail;
 
 // What is wrong, the header in words, and the answer. The answers are those of a reader written in
 // Python from the format's rules and not from the code.
 const ROWS: &str =
-    "every part in its order | sig v40 aes plain seed iv16 [ v1 u-aes r s 0 ] end # mac | Ok(207, Aes)
-Twofish and Argon2d | sig v40 twofish plain seed iv16 [ v1 u-d s p m i v 0 ] end # mac | Ok(253, Twofish)
-ChaCha20 and Argon2id | sig v40 chacha plain seed iv12 [ v1 u-id s p m i v 0 ] end # mac | Ok(249, ChaCha)
-the other id of AES | sig v40 aes plain seed iv16 [ v1 u-aes4 r s 0 ] end # mac | Ok(207, Aes)
-any order, a comment twice, fields of 3.1, an unknown field, public data, an end without content | sig v40 0c03000000010203 [ v1 u-aes r s 0 ] iv16 0101000000aa 0100000000 05020000000102 6300000000 seed plain aes 0000000000 # mac | Ok(234, Aes)
-any low byte of the version, bytes after the dictionary | sig v40 aes plain seed iv16 [ ff01 u-aes r s 0 ffff ] end # mac | Ok(209, Aes)
-the last of a key counts | sig v40 aes plain seed iv16 [ v1 u-d 4201000000530100000078 u-aes 050100000052080000000000000002000000 r s 18010000005400000000 0 ] end # mac | Ok(276, Aes)
-K and A occur and are empty, whatever their type | sig v40 aes plain seed iv16 [ v1 u-d s p m i v 42010000004b010000006b 18010000004b00000000 42010000004100000000 0 ] end # mac | Ok(284, Aes)
+    "every part in its order | sig v40 aes plain seed iv16 [ v1 u-aes r s 0 ] end # mac | Ok(V40, 207, Aes)
+Twofish and Argon2d | sig v40 twofish plain seed iv16 [ v1 u-d s p m i v 0 ] end # mac | Ok(V40, 253, Twofish)
+ChaCha20 and Argon2id | sig v40 chacha plain seed iv12 [ v1 u-id s p m i v 0 ] end # mac | Ok(V40, 249, ChaCha)
+the other id of AES | sig v40 aes plain seed iv16 [ v1 u-aes4 r s 0 ] end # mac | Ok(V40, 207, Aes)
+any order, a comment twice, fields of 3.1, an unknown field, public data, an end without content | sig v40 0c03000000010203 [ v1 u-aes r s 0 ] iv16 0101000000aa 0100000000 05020000000102 6300000000 seed plain aes 0000000000 # mac | Ok(V40, 234, Aes)
+any low byte of the version, bytes after the dictionary | sig v40 aes plain seed iv16 [ ff01 u-aes r s 0 ffff ] end # mac | Ok(V40, 209, Aes)
+the last of a key counts | sig v40 aes plain seed iv16 [ v1 u-d 4201000000530100000078 u-aes 050100000052080000000000000002000000 r s 18010000005400000000 0 ] end # mac | Ok(V40, 276, Aes)
+K and A occur and are empty, whatever their type | sig v40 aes plain seed iv16 [ v1 u-d s p m i v 42010000004b010000006b 18010000004b00000000 42010000004100000000 0 ] end # mac | Ok(V40, 284, Aes)
+4.1 | sig v41 aes plain seed iv16 [ v1 u-aes r s 0 ] end # mac | Ok(V41, 207, Aes)
+4.1 with ChaCha20, Argon2id and public data | sig v41 0c03000000010203 chacha plain seed iv12 [ v1 u-id s p m i v 0 ] end # mac | Ok(V41, 257, ChaCha)
+4.1 with nothing else | sig v41 | Truncated(12)
+4.1 with an IV twice | sig v41 aes plain seed iv16 iv16 [ v1 u-aes r s 0 ] end # mac | FieldTwice(7)
+4.1 without an IV | sig v41 aes plain seed [ v1 u-aes r s 0 ] end # mac | FieldMissing(7)
 an empty file |  | NotKdbx
 seven bytes of signature | 03d9a29a67fb4b | NotKdbx
 the signature of KDB | 03d9a29a65fb4bb5 v40 | NotKdbx
 3.1 | sig 01000300 | Version(196609)
-4.1 | sig 01000400 | Version(262145)
+4.2 | sig 02000400 | Version(262146)
 3.0 | sig 00000300 end | Version(196608)
 a signature alone | sig | Truncated(8)
 half a version | sig 0000 | Truncated(10)
@@ -39,7 +44,7 @@ a field that begins at the limit | sig v40 01efff0000 *65519 aes | TooLarge(6554
 a field that passes the limit and the end | sig v40 01e8fd0000 *65000 01ffff0000 | Truncated(65022)
 a hash past the limit by a byte | sig v40 aes plain seed iv16 [ v1 u-aes r s 0 ] 010dff0000 *65293 end # mac | TooLarge(65537)
 an HMAC past the limit by a byte | sig v40 aes plain seed iv16 [ v1 u-aes r s 0 ] 01edfe0000 *65261 end # mac | TooLarge(65537)
-an HMAC at the limit | sig v40 aes plain seed iv16 [ v1 u-aes r s 0 ] 01ecfe0000 *65260 end # mac | Ok(65472, Aes)
+an HMAC at the limit | sig v40 aes plain seed iv16 [ v1 u-aes r s 0 ] 01ecfe0000 *65260 end # mac | Ok(V40, 65472, Aes)
 a cipher twice, the second too short | sig v40 aes 020100000031 | FieldTwice(2)
 the flag twice, before it is judged | sig v40 aes plain seed iv16 zip [ v1 u-aes r s 0 ] end # mac | FieldTwice(3)
 the seed twice | sig v40 aes plain seed iv16 seed [ v1 u-aes r s 0 ] end # mac | FieldTwice(4)
@@ -93,23 +98,38 @@ a wrong version of the dictionary, of which the rest is not read | sig v40 aes p
 Argon2 of version 0x10 before K | sig v40 aes plain seed iv16 [ v1 u-d s p m i 0401000000560400000010000000 42010000004b010000006b 0 ] end # mac | Variant(16)
 K | sig v40 aes plain seed iv16 [ v1 u-d s p m i v 42010000004b010000006b 0 ] end # mac | Variant(0)
 A as a number, before a limit | sig v40 aes plain seed iv16 [ v1 u-d s p m 050100000049080000000000000000000000 v 0401000000410400000000000000 0 ] end # mac | Variant(0)
-rounds at their limit | sig v40 aes plain seed iv16 [ v1 u-aes 050100000052080000000000000001000000 s 0 ] end # mac | Ok(207, Aes)
+rounds at their limit | sig v40 aes plain seed iv16 [ v1 u-aes 050100000052080000000000000001000000 s 0 ] end # mac | Ok(V40, 207, Aes)
 rounds past their limit | sig v40 aes plain seed iv16 [ v1 u-aes 050100000052080000000100000001000000 s 0 ] end # mac | KdfLimit(Rounds, 4294967297)
 no pass, and no memory | sig v40 aes plain seed iv16 [ v1 u-d s p 05010000004d080000000000000000000000 050100000049080000000000000000000000 v 0 ] end # mac | KdfLimit(Passes, 0)
 too many passes | sig v40 aes plain seed iv16 [ v1 u-d s p m 050100000049080000000000000001000000 v 0 ] end # mac | KdfLimit(Passes, 4294967296)
 memory below that of two lanes by a byte | sig v40 aes plain seed iv16 [ v1 u-d s p 05010000004d08000000ff3f000000000000 i v 0 ] end # mac | KdfLimit(Memory, 16383)
-memory for two lanes | sig v40 aes plain seed iv16 [ v1 u-d s p 05010000004d080000000040000000000000 i v 0 ] end # mac | Ok(253, Aes)
+memory for two lanes | sig v40 aes plain seed iv16 [ v1 u-d s p 05010000004d080000000040000000000000 i v 0 ] end # mac | Ok(V40, 253, Aes)
 memory past its limit by a byte | sig v40 aes plain seed iv16 [ v1 u-d s p 05010000004d080000000100004000000000 i v 0 ] end # mac | KdfLimit(Memory, 1073741825)
 no lane | sig v40 aes plain seed iv16 [ v1 u-d s 0401000000500400000000000000 m i v 0 ] end # mac | KdfLimit(Lanes, 0)
 too many lanes | sig v40 aes plain seed iv16 [ v1 u-d s 0401000000500400000001040000 05010000004d080000000000004000000000 i v 0 ] end # mac | KdfLimit(Lanes, 1025)
 a salt of 7 bytes | sig v40 aes plain seed iv16 [ v1 u-d 4201000000530700000078787878787878 p m i v 0 ] end # mac | KdfLimit(Salt, 7)
 a salt of 1,025 bytes | sig v40 aes plain seed iv16 [ v1 u-d 42010000005301040000 *1025 p m i v 0 ] end # mac | KdfLimit(Salt, 1025)";
 
-/// The answer in a row's words: the header's length and cipher, or the refusal, of a wrong hash by
-/// its name alone.
+/// The version of a header in a row's words.
+pub fn version_name(version: FileVersion) -> &'static str {
+    match version {
+        FileVersion::V31 => "V31",
+        FileVersion::V40 => "V40",
+        FileVersion::V41 => "V41",
+    }
+}
+
+/// The answer in a row's words: the header's version, length and cipher, or the refusal, of a wrong
+/// hash by its name alone.
 pub fn answer(alloc: Global, bytes: &[u8]) -> Result<String, Fail> {
     let text = match read_header(alloc, bytes, bytes.len() as u64) {
-        Ok(header) => format!(in alloc; "Ok({}, {:?})", header.size, header.settings.cipher)?,
+        Ok(header) => {
+            let version = version_name(header.settings.version);
+            format!(in alloc;
+                "Ok({version}, {}, {:?})",
+                header.size, header.settings.cipher
+            )?
+        }
         Err(FrameFail::HeaderHash { .. }) => format!(in alloc; "HeaderHash")?,
         Err(fail) => format!(in alloc; "{fail:?}")?,
     };

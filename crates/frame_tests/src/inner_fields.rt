@@ -1,6 +1,6 @@
 //! Inner fields with their answers.
 use crate::bytes::bytes_of;
-use kdbx_frame::read_inner;
+use kdbx_inner::read_inner;
 use std::alloc::Global;
 use std::test::Fail;
 

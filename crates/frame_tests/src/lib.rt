@@ -1,4 +1,4 @@
-//! The tests of `kdbx_frame`: headers and inner fields as bytes, and what is read in them.
+//! The tests of `kdbx_frame` and `kdbx_inner`: headers and inner fields as bytes, and what is read in them.
 #![tactic(auto)]
 
 #[cfg(test)]

@@ -1,8 +1,8 @@
 //! Headers that other programs wrote. What they hold was read by KeePassXC and by a reader in
 //! Python.
 use crate::bytes::bytes_of;
-use crate::headers::answer;
-use kdbx_frame::{Cipher, FileVersion, read_header};
+use crate::headers::{answer, version_name};
+use kdbx_frame::{Cipher, read_header};
 use key_core::{ArgonKind, Kdf};
 use std::test::Fail;
 
@@ -10,6 +10,11 @@ use std::test::Fail;
 // compresses.
 const KEEPASSXC: &str =
     "03d9a29a67fb4bb500000400021000000031c1f2e6bf714350be5805216afc5aff0304000000010000000420000000ed45c6d5f09a293021ed8e49853923fc2deded79cb50f015b471d3cb8e940cb8071000000094761050baa2313a68433d2e03cb1e940b8b00000000014205000000245555494410000000ef636ddf8c29444b91f7a9a403e30a0c050100000049080000000e0000000000000005010000004d0800000000000004000000000401000000500400000002000000420100000053200000002d19603dd381166ef6458ac260fdad517b535407737a032a8338987e2273d16804010000005604000000130000000000040000000d0a0d0a9a30a1c729fbe771d4fff949c033d7bcbe992a8786f347d6a944d81553a7ed554742b8e08eac584d17d3b449614af1e32af02578e252102acac3a65baa5a4e83";
+
+// Written by keepassxc-cli 2.7.4 (Debian), `mv` in a database: KDBX 4.1 with AES twice. It
+// compresses.
+const KEEPASSXC_41: &str =
+    "03d9a29a67fb4bb501000400021000000031c1f2e6bf714350be5805216afc5aff0304000000010000000420000000a8be304bbd0c8608246a0259104078885220506729cdf88dd3bc5a975544f9660710000000582809a59a100e931b9ff8cca523e81a0b5d00000000014205000000245555494410000000c9d9f39a628a4460bf740d08c18a4fea05010000005208000000b9f30b00000000004201000000532000000070a476846d24647f31a5d9e78377822102696c1c1a483b7122046ba9d5eef2a10000040000000d0a0d0ae32e883ca4686c7ac1b11b8686cec448e7dd221da53453147eba2f9c9277affa6a936a751fecd8db30a654094bd67491dad16ff3ec1826dcc3dc823d300769a7";
 
 // Written by pykeepass 4.0.3 (Debian), `create_database` with compression off and the cipher
 // ChaCha20.
@@ -36,8 +41,11 @@ fn costs(kdf: &Kdf) -> Option<(ArgonKind, u64, u64, u32, &[u8])> {
 }
 
 #[test]
-fn a_header_of_keepassxc_is_read(rt: HostRuntime) -> Result<(), Fail> {
+fn headers_of_keepassxc_are_read(rt: HostRuntime) -> Result<(), Fail> {
     let bytes = bytes_of(rt.alloc(), KEEPASSXC)?;
+    let found = answer(rt.alloc(), bytes.as_slice())?;
+    assert_eq!(rt; found.as_str(), "Compressed(1)");
+    let bytes = bytes_of(rt.alloc(), KEEPASSXC_41)?;
     let found = answer(rt.alloc(), bytes.as_slice())?;
     assert_eq!(rt; found.as_str(), "Compressed(1)");
     Ok(())
@@ -58,7 +66,7 @@ fn a_header_of_pykeepass_is_read(rt: HostRuntime) -> Result<(), Fail> {
     )?;
     let iv = bytes_of(alloc, "a0a1a2a3a4a5a6a7a8a9aaab *4")?;
     assert_eq!(rt; header.size, 249);
-    assert_eq!(rt; header.settings.version, FileVersion::V40);
+    assert_eq!(rt; version_name(header.settings.version), "V40");
     assert_eq!(rt; header.settings.cipher, Cipher::ChaCha);
     assert_eq!(rt;
         costs(&header.settings.kdf),

@@ -3,11 +3,11 @@ use Rattle.std.proofs.Common.{◌≡◌, ℕ, List, [], ◌∷◌, ◌++◌, Non
 use Rattle.sha2.specs.Sha256.{compress, digest_bytes, first_words, hash_after, rounds, schedule, sha256}
 use Rattle.key_core.specs.declared.kdf.Kdf.TheVariants.{Aes}
 use Rattle.kdbx_frame.specs.declared.settings.Cipher.TheVariants.{ChaCha}
-use Rattle.kdbx_frame.specs.declared.settings.FileVersion.TheVariants.{V40}
-use Rattle.kdbx_frame.specs.Dictionary.{description_of, dictionary_of, item_at, item_step, with_item}
+use Rattle.vault_model.specs.declared.forms.FileVersion.TheVariants.{V40}
+use Rattle.kdbx_dictionary.specs.Dictionary.{description_of, dictionary_of, item_at, item_step, with_item}
 use Rattle.kdbx_frame.specs.Fields.{field_step, with_field}
 use Rattle.kdbx_frame.specs.Header.{header_at, header_of}
-use Rattle.kdbx_frame.specs.Parts.{field_at}
+use Rattle.kdbx_parts.specs.Parts.{field_at}
 use Rattle.outside_core.specs.Results.{repeated}
 use Rattle.kdbx_frame.specs.Settings.{checked_header, settings_and_iv}
 

@@ -1,3 +1,3 @@
 mod HeaderVectors
 pub mod Prefixes
-pub mod Refusals
+pub mod Versions

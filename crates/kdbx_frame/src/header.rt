@@ -2,17 +2,18 @@
 
 ghost use Rattle.std.specs.Prelude.{ℕ, List, ◌≡◌, ◌+◌, ◌≤◌, ◌<◌, ◌^◌, IfOk, Ok, length, take};
 ghost use Rattle.outside_core.specs.Results.{Returns};
-ghost use Rattle.kdbx_frame.specs.Results.{known};
-ghost use Rattle.kdbx_frame.specs.Header.{check_hash, header_at, header_of, rest_after_version};
-ghost use Rattle.kdbx_frame.specs.Settings.{IsInOrder};
+ghost use Rattle.kdbx_parts.specs.Results.{known};
+ghost use Rattle.kdbx_frame.specs.Fields.{header_limit};
+ghost use Rattle.kdbx_frame.specs.Header.{check_hash, header_at, header_of, version_and_rest, version_of};
+ghost use Rattle.kdbx_frame.specs.Settings.{IsInOrder, IsVersion4};
 
-use crate::FrameFail;
-use crate::fields::fields_from;
-use crate::parts::{array_of, out_of_bounds, same, split_bytes, u32_of};
+use crate::fields::{FieldsRead, fields_from};
 use crate::settings::{CheckedHeader, Settings, checked_header};
+use kdbx_parts::{FrameFail, array_of, out_of_bounds, same, split_bytes, u32_of};
 use outside_core::Bytes;
 use sha2::{Digest, Sha256};
 use std::alloc::Global;
+use vault_model::FileVersion;
 
 /// How many bytes of a file its header may reach into, with its hash and its HMAC.
 const LIMIT: usize = 65_536;
@@ -23,8 +24,11 @@ const SIGNATURE: [u8; 8] = [0x03, 0xD9, 0xA2, 0x9A, 0x67, 0xFB, 0x4B, 0xB5];
 /// Version 4.0.
 const VERSION_40: u32 = 0x0004_0000;
 
+/// Version 4.1.
+const VERSION_41: u32 = 0x0004_0001;
+
 /// A header that was read: the settings, and what it takes beside them to open the file.
-#[derive(Debug, Drop)]
+#[derive(Drop)]
 pub struct Header {
     /// What the user chose.
     pub settings: Settings,
@@ -32,31 +36,43 @@ pub struct Header {
     pub seed: [u8; 32],
     /// The IV of the cipher. A nonce of ChaCha20 is the first 12 bytes, and the rest is 0.
     pub iv: [u8; 16],
-    /// The inner stream of a file of version 3.1; 0 in version 4.0, whose inner fields have it.
+    /// The inner stream of a file of version 3.1; 0 in version 4, whose inner fields have it.
     pub stream_id: u32,
-    /// The key of the inner stream of a file of version 3.1; empty in version 4.0.
+    /// The key of the inner stream of a file of version 3.1; empty in version 4.
     pub stream_key: Bytes,
-    /// The bytes that a deciphered file of version 3.1 begins with; 0 in version 4.0.
+    /// The bytes that a deciphered file of version 3.1 begins with; 0 in version 4.
     pub start: [u8; 32],
     /// The header's length in bytes, up to its hash.
     pub size: usize,
 }
 
-// The bytes after the signature and the version.
-fn rest_after_version(size: u64, text: &[u8]) -> Result<&[u8], FrameFail>
-    ensures gives { Returns known (λ x. x.now) result (rest_after_version size text.now) }
-    ensures shorter { IfOk result (λ x. length x.now ≤ length text.now) }
+// The version of a number.
+fn version_of(number: u32) -> Result<FileVersion, FrameFail>
+    ensures gives { Returns known (λ x. x) result (version_of number) }
+    ensures four { IfOk result IsVersion4 }
+{
+    if number == VERSION_40 {
+        Ok(FileVersion::V40)
+    } else if number == VERSION_41 {
+        Ok(FileVersion::V41)
+    } else {
+        Err(FrameFail::Version(number))
+    }
+}
+
+// The version, which follows the signature, and the bytes after it.
+fn version_and_rest(size: u64, text: &[u8]) -> Result<(FileVersion, &[u8]), FrameFail>
+    ensures gives { Returns known (λ x. (x.0, x.1.now)) result (version_and_rest size text.now) }
+    ensures four { IfOk result (λ x. IsVersion4 x.0) }
+    ensures shorter { IfOk result (λ x. length x.1.now ≤ length text.now) }
 {
     let (signature, rest) = split_bytes(FrameFail::NotKdbx, SIGNATURE.len(), text)?;
     if !same(signature, &SIGNATURE) {
         return Err(FrameFail::NotKdbx);
     }
-    let (version, rest) = split_bytes(out_of_bounds(size, 12), 4, rest)?;
-    let version = u32_of(version);
-    if version != VERSION_40 {
-        return Err(FrameFail::Version(version));
-    }
-    Ok(rest)
+    let (number, rest) = split_bytes(out_of_bounds(size, 12), 4, rest)?;
+    let version = version_of(u32_of(number))?;
+    Ok((version, rest))
 }
 
 // Checks that the hash after a header is its SHA-256, and that 32 bytes of an HMAC follow the hash.
@@ -81,16 +97,16 @@ fn check_hash(size: u64, header: &[u8], rest: &[u8]) -> Result<(), FrameFail>
 // The header at the start of these bytes, with which a file of this size begins.
 #[tactic(auto, unfolding(crate::specs::Header::header_at))]
 fn header_at(alloc: Global, size: u64, text: &[u8]) -> Result<Header, FrameFail>
-    requires { length text.now ≤ 65536 }
+    requires { length text.now ≤ header_limit }
     ensures gives { Returns known (λ x. x) result (header_at size text.now) }
     ensures in_order { IfOk result (λ h. IsInOrder h.settings) }
     ensures within { IfOk result (λ h. h.size + 64 ≤ length text.now) }
 {
-    let rest = rest_after_version(size, text)?;
-    let (found, rest) = fields_from(size, text.len(), rest)?;
+    let (version, rest) = version_and_rest(size, text)?;
+    let FieldsRead { found, rest } = fields_from(size, text.len(), rest)?;
     let len = text.len() - rest.len();
     check_hash(size, &text[..len], rest)?;
-    let CheckedHeader { settings, seed, iv } = checked_header(alloc, found)?;
+    let CheckedHeader { settings, seed, iv } = checked_header(alloc, version, found)?;
     Ok(Header {
         settings,
         seed,
@@ -104,8 +120,8 @@ fn header_at(alloc: Global, size: u64, text: &[u8]) -> Result<Header, FrameFail>
 
 // The bytes of a file that its header may reach into.
 fn prefix(text: &[u8]) -> &[u8]
-    ensures value { result.now ≡ take 65536 text.now }
-    ensures limit { length result.now ≤ 65536 }
+    ensures value { result.now ≡ take header_limit text.now }
+    ensures limit { length result.now ≤ header_limit }
     ensures within { length result.now ≤ length text.now }
 {
     if text.len() < LIMIT {
@@ -126,13 +142,14 @@ fn prefix(text: &[u8]) -> &[u8]
 /// A text of fewer bytes is the whole file, and the answer is that of every file of this length
 /// that the text is a prefix of.
 pub fn read_header(alloc: Global, text: &[u8], file_len: u64) -> Result<Header, FrameFail>
-    requires enough { length text.now < 65536 → length text.now ≡ file_len }
-    ensures gives { Returns known (λ x. x) result (header_at file_len (take 65536 text.now)) }
+    requires enough { length text.now < header_limit → length text.now ≡ file_len }
+    ensures gives { Returns known (λ x. x) result
+        (header_at file_len (take header_limit text.now)) }
     ensures file { (file : List ℕ) → length file ≡ file_len
         → text.now ≡ take (length text.now) file → Returns known (λ x. x) result (header_of file) }
     ensures in_order { IfOk result (λ h. IsInOrder h.settings) }
     ensures within { IfOk result (λ h. h.size + 64 ≤ length text.now) }
-    ensures limit { IfOk result (λ h. h.size + 64 ≤ 65536) }
+    ensures limit { IfOk result (λ h. h.size + 64 ≤ header_limit) }
 {
     header_at(alloc, file_len, prefix(text))
 }

@@ -3,27 +3,20 @@
 ghost use Rattle.std.specs.Prelude.{◌≡◌, ◌-◌, ◌≤◌, ◌++◌, IfOk, IfSome, Ok, length, option_map, replicate};
 ghost use Rattle.key_core.specs.Kdf.{IsChecked};
 ghost use Rattle.outside_core.specs.Results.{Returns};
-ghost use Rattle.kdbx_frame.specs.Results.{known};
-ghost use Rattle.kdbx_frame.specs.Settings.{IsInOrder, cipher_of, iv_of, checked_header, kdf_of, settings_and_iv, refuse_compression};
-ghost use Rattle.kdbx_frame.specs.Seen.{HasSmall, header_fields_seen, checked_header_seen, description_seen};
+ghost use Rattle.kdbx_parts.specs.Results.{known};
+ghost use Rattle.kdbx_frame.specs.Settings.{IsInOrder, IsVersion4, cipher_of, iv_of, checked_header, kdf_of, settings_and_iv, refuse_compression};
+ghost use Rattle.kdbx_frame.specs.Fields.{header_limit};
+ghost use Rattle.kdbx_frame.specs.Seen.{HasSmall, header_fields_seen, checked_header_seen};
+ghost use Rattle.kdbx_dictionary.specs.Seen.{description_seen};
 
-use crate::FrameFail;
-use crate::dictionary::KdfDescription;
 use crate::fields::HeaderFields;
-use crate::parts::{copy_of, required, same};
+use kdbx_dictionary::KdfDescription;
+use kdbx_parts::{FrameFail, copy_of, required, same};
 use key_core::{Kdf, check_kdf};
 use outside_core::Bytes;
 use std::alloc::Global;
 use uuid::Uuid;
-
-/// The version of a file's format. They are ordered: 3.1 before 4.0.
-#[derive(Clone, Copy, Debug, PartialEq, Eq, PartialOrd, Ord)]
-pub enum FileVersion {
-    /// KDBX 3.1.
-    V31,
-    /// KDBX 4.0.
-    V40,
-}
+use vault_model::FileVersion;
 
 /// The cipher of a file's content.
 #[derive(Clone, Copy, Debug, PartialEq, Eq)]
@@ -37,7 +30,7 @@ pub enum Cipher {
 }
 
 /// What a user chose for a file, which is kept when the file is written again.
-#[derive(Debug, Drop)]
+#[derive(Drop)]
 pub struct Settings {
     /// The version of the format.
     pub version: FileVersion,
@@ -168,7 +161,7 @@ fn kdf_of(alloc: Global, described: KdfDescription) -> Result<Kdf, FrameFail>
 fn public_of(alloc: Global, public: Option<&[u8]>) -> Result<Option<Bytes>, FrameFail>
     requires { HasSmall public }
     ensures gives { Returns known (λ x. x) result (Ok (option_map (λ x. x.now) public.entry)) }
-    ensures small { IfOk result (λ x. IfSome x (λ bytes. length bytes ≤ 65536)) }
+    ensures small { IfOk result (λ x. IfSome x (λ bytes. length bytes ≤ header_limit)) }
 {
     match public {
         Some(bytes) => Ok(Some(copy_of(alloc, bytes)?)),
@@ -177,18 +170,20 @@ fn public_of(alloc: Global, public: Option<&[u8]>) -> Result<Option<Bytes>, Fram
 }
 
 // The settings and the IV that required fields give.
-#[tactic(auto, unfolding(crate::specs::Settings::settings_and_iv))]
+#[tactic(auto, using(crate::proofs::Versions::any_of_version), unfolding(crate::specs::Settings::settings_and_iv))]
 fn settings_and_iv(
     alloc: Global,
+    version: FileVersion,
     id: [u8; 16],
     flag: u32,
     iv: &[u8],
     described: KdfDescription,
     public: Option<&[u8]>,
 ) -> Result<(Settings, [u8; 16]), FrameFail>
-    requires { HasSmall public }
+    requires version { IsVersion4 version }
+    requires public { HasSmall public }
     ensures gives { Returns known (λ x. (x.0, x.1)) result
-        (settings_and_iv id flag iv.now (description_seen described.entry)
+        (settings_and_iv version id flag iv.now (description_seen described.entry)
         (option_map (λ x. x.now) public.entry)) }
     ensures in_order { IfOk result (λ x. IsInOrder x.0) }
 {
@@ -198,7 +193,7 @@ fn settings_and_iv(
     let kdf = kdf_of(alloc, described)?;
     let public = public_of(alloc, public)?;
     let settings = Settings {
-        version: FileVersion::V40,
+        version,
         cipher,
         kdf,
         public,
@@ -206,14 +201,19 @@ fn settings_and_iv(
     Ok((settings, iv))
 }
 
-/// The settings, master seed and IV that the fields of a header give. The refusals are
-/// FieldMissing, CipherUnknown, FieldLength of the IV, Compressed, KdfUnknown, Variant and
+/// The settings, master seed and IV that the fields of a header of this version give. The refusals
+/// are FieldMissing, CipherUnknown, FieldLength of the IV, Compressed, KdfUnknown, Variant and
 /// KdfLimit, the first in this order.
 #[tactic(auto, unfolding(crate::specs::Settings::checked_header))]
-pub fn checked_header(alloc: Global, found: HeaderFields) -> Result<CheckedHeader, FrameFail>
-    requires { HasSmall found.public }
+pub fn checked_header(
+    alloc: Global,
+    version: FileVersion,
+    found: HeaderFields,
+) -> Result<CheckedHeader, FrameFail>
+    requires version { IsVersion4 version }
+    requires public { HasSmall found.public }
     ensures gives { Returns known checked_header_seen result
-        (checked_header (header_fields_seen found.entry)) }
+        (checked_header version (header_fields_seen found.entry)) }
     ensures in_order { IfOk result (λ j. IsInOrder j.settings) }
 {
     let id = required(2, found.cipher)?;
@@ -221,6 +221,6 @@ pub fn checked_header(alloc: Global, found: HeaderFields) -> Result<CheckedHeade
     let seed = required(4, found.seed)?;
     let iv = required(7, found.iv)?;
     let described = required(11, found.kdf)?;
-    let (settings, iv) = settings_and_iv(alloc, id, flag, iv, described, found.public)?;
+    let (settings, iv) = settings_and_iv(alloc, version, id, flag, iv, described, found.public)?;
     Ok(CheckedHeader { settings, seed, iv })
 }

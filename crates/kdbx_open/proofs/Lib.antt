@@ -1,7 +1,5 @@
-mod BlockContents
 mod Causes
 pub mod NamedFiles
-mod Parts
 mod Pools
 pub mod SealedFiles
 mod Steps

@@ -3,7 +3,7 @@ use Rattle.std.proofs.Common.{◌≡◌, List, ℕ, [], ◌∷◌, map, refl, ap
 use Rattle.stream_core.specs.InnerStream.{Keystream}
 use Rattle.vault_model.specs.declared.forms.DocForm.TheVariants.{V4}
 use Rattle.vault_model.specs.declared.forms.PoolItem.{PoolItem}
-use Rattle.kdbx_frame.specs.Seen.{binary_seen}
+use Rattle.kdbx_inner.specs.Seen.{binary_seen}
 use Rattle.doc_forms.specs.Documents.{DocumentAndHash, document}
 use Rattle.doc_forms.specs.ElementTexts.{Setting}
 use Rattle.doc_forms.specs.Refusals as documents

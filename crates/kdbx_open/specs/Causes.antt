@@ -4,26 +4,31 @@ use Rattle.std.specs.Prelude.{ℕ, ◌≤◌, ◌<◌, Result, IsErrOf}
 use Rattle.outside_core.specs.Counts.{Increased}
 use Rattle.secret_core.specs.declared.files.ReadFail.{ReadFail}
 use Rattle.secret_core.specs.declared.files.ReadFail.TheVariants as read
-use Rattle.kdbx_frame.specs.declared.fail.FrameFail.{FrameFail}
-use Rattle.kdbx_frame.specs.declared.fail.FrameFail.TheVariants as frame
+use Rattle.kdbx_parts.specs.declared.fail.FrameFail.TheVariants as frame
+use Rattle.kdbx_payload.specs.declared.fail.PayloadFail.{PayloadFail}
+use Rattle.kdbx_payload.specs.declared.fail.PayloadFail.TheVariants as payload
 use Rattle.doc_forms.specs.declared.fails.DocFail.{DocFail}
 use Rattle.doc_forms.specs.declared.fails.DocFail.TheVariants as document
 use Rattle.kdbx_open.specs.declared.fail.OpenFail.{OpenFail}
-use Rattle.kdbx_open.specs.declared.fail.OpenFail.TheVariants.{File, Frame, Doc, NoMemory}
+use Rattle.kdbx_open.specs.declared.fail.OpenFail.TheVariants.{File, Frame, KeyOrHeader, Block, BadPadding, StreamUnknown, Doc, NoMemory}
 
 -- How many bytes a file may have.
-abbrev pub limit : ℕ
-limit = 134217728
+abbrev pub file_limit : ℕ
+file_limit = 134217728
 
 -- A refusal to read a file, as one to open it.
 abbrev pub of_read : ReadFail → OpenFail
 of_read read.NoMemory = NoMemory
 of_read fail = File fail
 
--- A refusal of the header or of the inner fields.
-abbrev pub of_frame : FrameFail → OpenFail
-of_frame frame.NoMemory = NoMemory
-of_frame fail = Frame fail
+-- A refusal of the payload.
+abbrev pub of_payload : PayloadFail → OpenFail
+of_payload (payload.Frame fail) = Frame fail
+of_payload (payload.KeyOrHeader kept found) = KeyOrHeader kept found
+of_payload (payload.Block fail) = Block fail
+of_payload payload.BadPadding = BadPadding
+of_payload (payload.StreamUnknown id) = StreamUnknown id
+of_payload payload.NoMemory = NoMemory
 
 -- A refusal of the document.
 abbrev pub of_document : DocFail → OpenFail
@@ -44,5 +49,5 @@ pub record HasOpenCause {X : Type 0} (faults_before faults_now absences_before a
   pub absences_later : absences_before ≤ absences_now
   pub fault : IsErrOf result (File read.FileFault) → Increased faults_before faults_now
   pub missing : IsErrOf result (File read.NoSuchFile) → Increased absences_before absences_now
-  pub large : (n : ℕ) → IsErrOf result (File (read.TooLarge n)) → limit < n
+  pub large : (n : ℕ) → IsErrOf result (File (read.TooLarge n)) → file_limit < n
   pub memory : MemoryIsOutermost result

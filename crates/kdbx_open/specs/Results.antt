@@ -1,7 +1,7 @@
 -- What a function of the code returns of a part of a file, by its definition.
 use Rattle.std.specs.Prelude.{◌≡◌, Result, Ok, Err}
 use Rattle.secret_core.specs.declared.files.ReadFail.TheVariants as read
-use Rattle.kdbx_frame.specs.declared.fail.FrameFail.TheVariants as frame
+use Rattle.kdbx_parts.specs.declared.fail.FrameFail.TheVariants as frame
 use Rattle.doc_forms.specs.declared.fails.DocFail.TheVariants as document
 use Rattle.kdbx_open.specs.declared.fail.OpenFail.{OpenFail}
 use Rattle.kdbx_open.specs.declared.fail.OpenFail.TheVariants.{Doc, File, Frame, NoMemory}

@@ -1,15 +1,13 @@
 //! Why a file is not opened.
 
 ghost use Rattle.std.specs.Prelude.{◌≡◌};
-ghost use Rattle.kdbx_open.specs.Causes.{of_document, of_frame, of_read};
-ghost use Rattle.kdbx_open.specs.declared.fail.OpenFail.TheVariants as fail;
+ghost use Rattle.kdbx_open.specs.Causes.{of_document, of_payload, of_read};
 
 use doc_read::DocFail;
 use kdbx_frame::FrameFail;
+use kdbx_payload::PayloadFail;
 use mac_core::BlockFail;
-use outside_core::NoMemory;
 use secret_core::ReadFail;
-use stream_core::StreamUnknown;
 
 /// Why a file is not opened. The first that holds comes, in the order of these variants; but Frame
 /// is tried twice, of the header at its place, and of the inner fields after BadPadding.
@@ -50,13 +48,17 @@ impl From<ReadFail> for OpenFail {
     }
 }
 
-impl From<FrameFail> for OpenFail {
-    ghost from_gives = { λ refusal e. e ≡ of_frame refusal };
+impl From<PayloadFail> for OpenFail {
+    ghost from_gives = { λ refusal e. e ≡ of_payload refusal };
 
-    fn from(refusal: FrameFail) -> OpenFail {
+    fn from(refusal: PayloadFail) -> OpenFail {
         match refusal {
-            FrameFail::NoMemory => OpenFail::NoMemory,
-            other => OpenFail::Frame(other),
+            PayloadFail::Frame(fail) => OpenFail::Frame(fail),
+            PayloadFail::KeyOrHeader { kept, found } => OpenFail::KeyOrHeader { kept, found },
+            PayloadFail::Block(fail) => OpenFail::Block(fail),
+            PayloadFail::BadPadding => OpenFail::BadPadding,
+            PayloadFail::StreamUnknown(id) => OpenFail::StreamUnknown(id),
+            PayloadFail::NoMemory => OpenFail::NoMemory,
         }
     }
 }
@@ -69,29 +71,5 @@ impl From<DocFail> for OpenFail {
             DocFail::NoMemory => OpenFail::NoMemory,
             other => OpenFail::Doc(other),
         }
-    }
-}
-
-impl From<BlockFail> for OpenFail {
-    ghost from_gives = { λ refusal e. e ≡ fail.Block refusal };
-
-    fn from(refusal: BlockFail) -> OpenFail {
-        OpenFail::Block(refusal)
-    }
-}
-
-impl From<StreamUnknown> for OpenFail {
-    ghost from_gives = { λ unknown e. e ≡ fail.StreamUnknown unknown.0 };
-
-    fn from(unknown: StreamUnknown) -> OpenFail {
-        OpenFail::StreamUnknown(unknown.0)
-    }
-}
-
-impl From<NoMemory> for OpenFail {
-    ghost from_gives = { λ _ e. e ≡ fail.NoMemory };
-
-    fn from(_none: NoMemory) -> OpenFail {
-        OpenFail::NoMemory
     }
 }

@@ -1,13 +1,11 @@
-//! Opening a file of KDBX 4.0: from its name and a composite key to its document and its settings,
+//! Opening a file of KDBX 4: from its name and a composite key to its document and its settings,
 //! or why not.
 #![tactic(auto)]
 
-mod content;
 mod documents;
 mod fail;
-mod header_mac;
 pub mod laws;
 mod opening;
 
 pub use fail::OpenFail;
-pub use opening::{Opened, open_file};
+pub use opening::{FILE_LIMIT, Opened, open_file};

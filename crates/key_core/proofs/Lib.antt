@@ -1,5 +1,4 @@
 mod Base64Keys
 mod Roots
 mod Steps
-mod Trims
 mod Turns

@@ -5,7 +5,8 @@ use Rattle.sha2.specs.Sha256.{sha256}
 use Rattle.markup_grammar.specs.Answers.{Answer, start}
 use Rattle.markup_grammar.specs.Elements.{Element, element, Content, last, also, cut, inner, outer, left, joined}
 use Rattle.markup_grammar.specs.Attributes.{attribute_text}
-use Rattle.key_core.specs.KeyTexts.{without_front, trimmed, dense, base64_key, hexadecimal_key, hexadecimal_hash}
+use Rattle.text_core.specs.Texts.{trim}
+use Rattle.key_core.specs.KeyTexts.{dense, base64_key, hexadecimal_key, hexadecimal_hash}
 use Rattle.key_core.specs.declared.key_document.Version.{Version}
 use Rattle.key_core.specs.declared.key_document.Version.TheVariants.{First, Second, Other}
 use Rattle.key_core.specs.declared.key_file.KeyFileFail.{KeyFileFail}
@@ -41,8 +42,8 @@ last_says name says other (cut text answer) = other
 -- counts
 abbrev pub version_by : ℕ → List ℕ → Version
 version_by place text =
-    if bytes_eq (take 2 (without_front text)) (codes "1.") then First
-    else (if bytes_eq (take 2 (without_front text)) (codes "2.") then Second else Other place)
+    if bytes_eq (take 2 (trim text)) (codes "1.") then First
+    else (if bytes_eq (take 2 (trim text)) (codes "2.") then Second else Other place)
 
 -- what a Version says
 abbrev pub version_in : Element → Option Version
@@ -95,7 +96,7 @@ proved_by place (Some digits) key = elim (formed place (hexadecimal_hash digits)
 
 -- the key of the first version: base64
 abbrev pub first_key : Told → Result (List ℕ) KeyFileFail
-first_key told = formed told.place (base64_key (trimmed told.text))
+first_key told = formed told.place (base64_key (trim told.text))
 
 -- the key of the second version: hexadecimal digits, with white space between them, and their hash
 abbrev pub second_key : Told → Result (List ℕ) KeyFileFail

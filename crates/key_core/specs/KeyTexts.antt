@@ -1,5 +1,5 @@
 -- Keys of 32 bytes written as text.
-use Rattle.std.specs.Prelude.{ℕ, ◌==◌, not, reverse, Option, Some, None, List, [], ◌∷◌, length, if◌then◌else◌}
+use Rattle.std.specs.Prelude.{ℕ, ◌==◌, not, Option, Some, None, List, length, if◌then◌else◌}
 use Rattle.std.specs.Option.{option_and_then}
 use Rattle.std.specs.Result.{result_ok}
 use Rattle.std.specs.List.{filter}
@@ -7,15 +7,6 @@ use Rattle.base64.specs.Engines.{standard}
 use Rattle.base64.specs.GeneralPurpose.{decoded_of}
 use Rattle.hex.specs.Hex.{decode_sized}
 use Rattle.markup_grammar.specs.Bytes.{is_space}
-
--- a text without the white space at its start
-abbrev pub without_front : List ℕ → List ℕ
-without_front [] = []
-without_front (b ∷ rest) = if is_space b then without_front rest else b ∷ rest
-
--- a text without the white space at its start and its end
-abbrev pub trimmed : List ℕ → List ℕ
-trimmed text = reverse (without_front (reverse (without_front text)))
 
 -- a text without any white space
 abbrev pub dense : List ℕ → List ℕ

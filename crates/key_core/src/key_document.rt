@@ -7,12 +7,12 @@ ghost use Rattle.markup_grammar.specs.Reading.{answers};
 ghost use Rattle.key_core.specs.KeyDocument as spec;
 ghost use Rattle.key_core.specs.Reading.{Begins, Ends, IsDocument, Reads, says_by, says_of, says_or, told_by, told_here, told_or, version_or};
 
-use crate::key_texts::{unescaped, without_front};
 use crate::reading::{Item, Stopped, next_item, read_text, skip};
 use markup_core::{Piece, Reader};
 use outside_core::NoMemory;
 use secret_core::Secret;
 use std::alloc::Global;
+use text_core::{trim, unescaped};
 
 /// The version of a key document.
 #[derive(Clone, Copy)]
@@ -47,7 +47,7 @@ pub(crate) struct Document {
 fn version_by(place: usize, text: &[u8]) -> Version
     ensures { result ≡ spec.version_by place text.now }
 {
-    match without_front(text) {
+    match trim(text) {
         [b'1', b'.', ..] => Version::First,
         [b'2', b'.', ..] => Version::Second,
         _ => Version::Other(place),

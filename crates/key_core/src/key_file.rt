@@ -8,10 +8,11 @@ ghost use Rattle.key_core.specs.Reading.{told_by};
 
 use crate::digests::digest_of;
 use crate::key_document::{Data, Document, Version, read_document};
-use crate::key_texts::{base64_key, dense, hexadecimal_hash, hexadecimal_key, trimmed};
+use crate::key_texts::{base64_key, dense, hexadecimal_hash, hexadecimal_key};
 use crate::reading::Stopped;
 use secret_core::Key;
 use std::alloc::Global;
+use text_core::trim;
 
 /// Why a key file gives no key.
 #[derive(Clone, Copy, Debug, PartialEq, Eq)]
@@ -81,7 +82,7 @@ fn document_key(alloc: Global, document: &Document) -> Result<Key, KeyFileFail>
 fn first_key(told: &Data) -> Result<Key, KeyFileFail>
     ensures { result ≡ spec.first_key (told_by told.now) }
 {
-    match base64_key(trimmed(told.text.lend(0, told.text.len()))) {
+    match base64_key(trim(told.text.lend(0, told.text.len()))) {
         Some(key) => Ok(key),
         None => Err(KeyFileFail::KeyFileForm(told.place)),
     }

@@ -5,10 +5,10 @@ ghost use Rattle.markup_grammar.specs.Elements.{inner, left, joined};
 ghost use Rattle.key_core.specs.KeyDocument.{is_whole};
 ghost use Rattle.key_core.specs.Reading.{Comes, Reads};
 
-use crate::key_texts::with_words;
 use markup_core::{Attrs, Piece, Reader};
 use secret_core::Secret;
 use std::alloc::Global;
+use text_core::append_unescaped;
 
 /// Why reading stops before the end of an element.
 #[derive(Clone, Copy)]
@@ -75,7 +75,7 @@ pub(crate) fn read_text(alloc: Global, reader: &mut Reader<'_>) -> Result<Secret
     'items: loop {
         match next_item(reader)? {
             Item::Child(..) => skip(reader)?,
-            Item::Words(raw) => text = with_words(alloc, text, raw)?,
+            Item::Words(raw) => append_unescaped(alloc, &mut text, raw)?,
             Item::End => return Ok(text),
         }
     }

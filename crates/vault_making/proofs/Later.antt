@@ -13,9 +13,3 @@ later_of_three V40 V40 V40 = refl
 later_of_three V40 V40 V41 = refl
 later_of_three V40 V41 c = refl
 later_of_three V41 b c = refl
-
--- the oldest version adds nothing
-pub later_than_oldest : (a : FileVersion) → later a V31 ≡ a
-later_than_oldest V31 = refl
-later_than_oldest V40 = refl
-later_than_oldest V41 = refl

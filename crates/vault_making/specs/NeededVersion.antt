@@ -27,34 +27,34 @@ latest_needed need [] = V31
 latest_needed need (x ∷ xs) = later (need x) (latest_needed need xs)
 
 -- a text that is not empty
-abbrev pub is_text : List ℕ → Bool
-is_text [] = false
-is_text (b ∷ bs) = true
+abbrev pub is_filled : List ℕ → Bool
+is_filled [] = false
+is_filled (b ∷ bs) = true
 
--- what is kept from 4.1 on needs that version, where it is there
-abbrev pub new_part : Bool → FileVersion
-new_part is_there = if is_there then V41 else V31
+-- 4.1 where something is there that is kept from 4.1 on, and otherwise the oldest version
+abbrev pub newest_if : Bool → FileVersion
+newest_if is_there = if is_there then V41 else V31
 
--- a time other than that of what was never done
-abbrev pub is_time : ℕ → Bool
-is_time time = not (time == 0)
+-- a time that is not 0
+abbrev pub is_after_zero : ℕ → Bool
+is_after_zero time = not (time == 0)
 
 -- an item's time is kept from 4.1 on
 abbrev pub has_item_time : Item → Bool
-has_item_time i = is_time i.changed
+has_item_time i = is_after_zero i.changed
 
--- the items of groups and entries are kept from 4.0 on
+-- the items of groups and entries are kept from 4.0 on, and their times from 4.1 on
 abbrev pub items_need : List Item → FileVersion
 items_need [] = V31
 items_need (i ∷ is) = if list_any has_item_time (i ∷ is) then V41 else V40
 
 -- a previous parent is kept from 4.1 on
 abbrev pub previous_needs : NodeId → FileVersion
-previous_needs previous = new_part (not (is_id previous nil_id))
+previous_needs previous = newest_if (not (is_id previous nil_id))
 
--- so is that a version of an entry does not count in reports
+-- a version: that it does not count in reports is kept from 4.1 on; and its items
 abbrev pub version_needs : BareVersion → FileVersion
-version_needs v = later (new_part (not v.mark.content.quality)) (items_need v.mark.content.items)
+version_needs v = later (newest_if (not v.mark.content.quality)) (items_need v.mark.content.items)
 
 -- where an entry was, and all its versions
 abbrev pub entry_needs : NodeId × EntryRecord → FileVersion
@@ -64,7 +64,7 @@ entry_needs e = later (previous_needs e.1.previous)
 -- where a group was, and what it says of itself: its tags are kept from 4.1 on
 abbrev pub group_needs : GroupRecord → FileVersion
 group_needs g = later (previous_needs g.previous)
-    (later (new_part (is_text g.state.content.tags)) (items_need g.state.content.items))
+    (later (newest_if (is_filled g.state.content.tags)) (items_need g.state.content.items))
 
 -- a group with all below it
 abbrev mutual
@@ -79,12 +79,13 @@ abbrev mutual
 
 -- the name and the time of an icon are kept from 4.1 on
 abbrev pub icon_needs : Icon → FileVersion
-icon_needs i = new_part (is_text i.name || is_time i.changed)
+icon_needs i = newest_if (is_filled i.name || is_after_zero i.changed)
 
--- what a database says of itself: the times of its items are kept from 4.1 on, the items from 3.1 on
+-- what a database says of itself: its icons, and the times of its items; items without a time are
+-- kept in every version
 abbrev pub meta_needs : Meta → FileVersion
 meta_needs m = later (latest_needed icon_needs m.icons)
-    (new_part (list_any has_item_time m.items))
+    (newest_if (list_any has_item_time m.items))
 
 -- the version that a document needs
 unfoldable pub needed_version : BareDoc → FileVersion

@@ -21,9 +21,9 @@ fn later(one: FileVersion, other: FileVersion) -> FileVersion
     }
 }
 
-/// Reports whether a time is other than that of what was never done.
-fn is_time(time: Stamp) -> bool
-    ensures { result ≡ spec.is_time time }
+/// Reports whether a time is other than 0.
+fn is_after_zero(time: Stamp) -> bool
+    ensures { result ≡ spec.is_after_zero time }
 {
     time.seconds() != 0
 }
@@ -33,7 +33,7 @@ fn have_item_times(items: &[Item]) -> bool
     ensures { result ≡ list_any spec.has_item_time items.now }
 {
     for item in items {
-        if is_time(item.changed) {
+        if is_after_zero(item.changed) {
             return true;
         }
     }
@@ -53,9 +53,9 @@ fn items_need(items: &[Item]) -> FileVersion
     }
 }
 
-/// What is kept from version 4.1 on needs that version, where it is there.
-fn new_part(is_there: bool) -> FileVersion
-    ensures { result ≡ spec.new_part is_there }
+/// Version 4.1 where something is there that is kept from 4.1 on, and otherwise the oldest version.
+fn newest_if(is_there: bool) -> FileVersion
+    ensures { result ≡ spec.newest_if is_there }
 {
     if is_there {
         FileVersion::V41
@@ -69,13 +69,13 @@ fn version_needs(version: &Version) -> FileVersion
     ensures { result ≡ spec.version_needs (bare_version version.now) }
 {
     later(
-        new_part(!version.content.quality),
+        newest_if(!version.content.quality),
         items_need(version.content.items.as_slice()),
     )
 }
 
 /// What the versions of an entry need that are before its current one.
-#[tactic(auto, using(crate::proofs::Later::later_of_three, crate::proofs::Later::later_than_oldest))]
+#[tactic(auto, using(crate::proofs::Later::later_of_three))]
 fn history_needs(history: &[Version]) -> FileVersion
     ensures { result ≡ spec.latest_needed spec.version_needs (map bare_version history.now) }
 {
@@ -90,7 +90,7 @@ fn history_needs(history: &[Version]) -> FileVersion
 fn previous_needs(previous: &Uuid) -> FileVersion
     ensures { result ≡ spec.previous_needs previous.now }
 {
-    new_part(!previous.cmp(&Uuid::nil()).is_eq())
+    newest_if(!previous.cmp(&Uuid::nil()).is_eq())
 }
 
 /// What an entry needs.
@@ -105,7 +105,7 @@ fn entry_needs(entry: &Entry) -> FileVersion
 }
 
 /// What some entries need.
-#[tactic(auto, using(crate::proofs::Later::later_of_three, crate::proofs::Later::later_than_oldest))]
+#[tactic(auto, using(crate::proofs::Later::later_of_three))]
 fn entries_need(entries: &[Entry]) -> FileVersion
     ensures { result ≡ spec.latest_needed spec.entry_needs (map entry_row entries.now) }
 {
@@ -119,18 +119,18 @@ fn entries_need(entries: &[Entry]) -> FileVersion
 /// What a group needs, without what is in it.
 fn group_needs(previous: &Uuid, content: &GroupContent) -> FileVersion
     ensures { result ≡ spec.later (spec.previous_needs previous.now)
-        (spec.later (spec.new_part (spec.is_text content.now.tags)) (spec.items_need
+        (spec.later (spec.newest_if (spec.is_filled content.now.tags)) (spec.items_need
         content.now.items)) }
 {
     let said = later(
-        new_part(content.tags.len() > 0),
+        newest_if(content.tags.len() > 0),
         items_need(content.items.as_slice()),
     );
     later(previous_needs(previous), said)
 }
 
 /// What a group needs, with all below it.
-#[tactic(auto, using(crate::proofs::Later::later_of_three, crate::proofs::Later::later_than_oldest))]
+#[tactic(auto, using(crate::proofs::Later::later_of_three))]
 fn tree_needs(group: &Group) -> FileVersion
     ensures { result ≡ spec.tree_needs (tree_seen group.now) }
 {
@@ -143,7 +143,7 @@ fn tree_needs(group: &Group) -> FileVersion
 }
 
 /// What some icons need.
-#[tactic(auto, using(crate::proofs::Later::later_of_three, crate::proofs::Later::later_than_oldest))]
+#[tactic(auto, using(crate::proofs::Later::later_of_three))]
 fn icons_need(icons: &[Icon]) -> FileVersion
     ensures { result ≡ spec.latest_needed spec.icon_needs icons.now }
 {
@@ -151,7 +151,7 @@ fn icons_need(icons: &[Icon]) -> FileVersion
     for icon in icons {
         needed = later(
             needed,
-            new_part(icon.name.len() > 0 || is_time(icon.changed)),
+            newest_if(icon.name.len() > 0 || is_after_zero(icon.changed)),
         );
     }
     needed
@@ -165,7 +165,7 @@ fn icons_need(icons: &[Icon]) -> FileVersion
 pub fn needed(doc: &Doc) -> FileVersion
     ensures { result ≡ spec.needed_version (doc_seen doc.now) }
 {
-    let items = new_part(have_item_times(doc.meta.items.as_slice()));
+    let items = newest_if(have_item_times(doc.meta.items.as_slice()));
     let meta = later(icons_need(doc.meta.icons.as_slice()), items);
     later(tree_needs(&doc.root), meta)
 }

@@ -54,7 +54,8 @@ group_mark_cmp = on (λ m. (m.modified, m.content)) (pair_cmp nat_cmp group_cont
 abbrev pub mark_of : GroupState → GroupMark
 mark_of s = record { modified = s.modified; content = s.content }
 
--- Where a node is: since when, in which group, and in which it was before, the nil id where in none.
+-- Where a node is: since when, in which group, and its previous parent, which may name anything and
+-- is nil where none is known.
 pub record Place : Type 0 where
   pub placed : ℕ
   pub parent : NodeId

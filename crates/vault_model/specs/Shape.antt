@@ -19,7 +19,8 @@ pub record BareVersion : Type 0 where
   pub mark : Mark
   pub stats : Stats
 
--- An entry without its place in a group: the current version, and those before it.
+-- An entry without its id and its group: since when it is there, its previous parent, its current
+-- version, and those before it.
 pub record EntryRecord : Type 0 where
   pub placed : ℕ
   pub previous : NodeId
@@ -58,16 +59,16 @@ versions_of e = unite_all stats_join (map (λ (v : BareVersion). insert empty v.
 abbrev pub no_children : Children
 no_children = record { entries = []; groups = [] }
 
--- Since when a node is in its group, and in which group it was before.
+-- Since when a node is in its group, and its previous parent.
 pub record Stay : Type 0 where
   pub placed : ℕ
   pub previous : NodeId
 
--- the stay of what is in no group
+-- the stay of what is no node
 abbrev pub no_stay : Stay
 no_stay = record { placed = 0; previous = nil_id }
 
--- the stay of an entry or else of a group
+-- the stay of an entry or else of a group, or of neither
 abbrev pub stay_or : Option EntryRecord → Option GroupRecord → Stay
 stay_or (Some e) g = record { placed = e.placed; previous = e.previous }
 stay_or None (Some g) = record { placed = g.placed; previous = g.previous }
@@ -143,7 +144,7 @@ record_of stay (v ∷ vs) = Some (record {
   history = map version_of (but_last v vs);
 })
 
--- the stay of a place; without one, that of what is in no group
+-- the stay of a place, or `no_stay` without one
 abbrev pub stay_at : Option Place → Stay
 stay_at None = no_stay
 stay_at (Some p) = record { placed = p.placed; previous = p.previous }
@@ -177,11 +178,13 @@ laid_children m t g = record {
 abbrev pub new_view : GroupView
 new_view = record { expanded = true; top_entry = nil_id }
 
--- a laid group's stay: that of its place, and of the root that of the older document
+-- a laid group's stay: that of its place, but the root keeps the one that it has in the older
+-- document
 abbrev pub laid_stay : Db → Shape → NodeId → Stay
 laid_stay m t u = cond (is_id u m.root) (stay_of t u) (stay_in m u)
 
--- a group as it is in the database, looked at as in the older document
+-- a group as it is in the database, looked at as in the older document, a new one as every new
+-- group
 abbrev pub laid_group : Db → Shape → NodeId → GroupState → GroupRecord
 laid_group m t u state = record {
   placed = (laid_stay m t u).placed;

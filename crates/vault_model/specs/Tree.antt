@@ -181,8 +181,8 @@ abbrev mutual
   with_previous_all old r (beside t ts) =
       beside (with_previous old r t) (with_previous_all old r ts)
 
--- the document with its root's id replaced, as a previous parent too, and without a tombstone of
--- the new one
+-- the document with its root's id replaced, as a previous parent too (a parent is known by the
+-- nesting alone), and without a tombstone of the new id
 abbrev pub rooted : BareDoc → NodeId → BareDoc
 rooted d r = record {
   tree = with_id r (with_previous (id_of d.tree) r d.tree);

@@ -1,4 +1,5 @@
-//! The forms of documents, the versions of files, and the binaries that a file keeps apart from its document.
+//! The forms of documents, the versions of files, and the binaries that a file keeps apart from its
+//! document.
 
 use secret_core::Secret;
 use std::rc::Rc;

@@ -38,8 +38,8 @@ pub struct Version {
     pub stats: Stats,
 }
 
-/// An entry: since when it is in its group, the group that it was in before, its current version,
-/// and those before it. Where it was in no other group, `previous` is nil.
+/// An entry: since when it is in its group, its current version, and those before it. `previous`, the
+/// group that it was in before, is nil where none is known, and need not name a group.
 #[derive(Drop)]
 pub struct Entry {
     pub id: Uuid,

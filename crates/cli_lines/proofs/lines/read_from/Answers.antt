@@ -7,6 +7,7 @@ use Rattle.cli_lines.proofs.lines.read_from.Goals as goal
 pub loop-byte-preserved : goal.loop-byte-preserved
 loop-byte-preserved g c =
     record {
+      window = c.in_ok-next.ensures.window;
       room = c.put.ensures.room;
       faults = omega (arith, c.loop-byte.invariant.faults, c.in_ok-next.ensures.cause.later);
       told = λ i is.

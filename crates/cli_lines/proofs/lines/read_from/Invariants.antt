@@ -7,6 +7,7 @@ use Rattle.cli_lines.proofs.lines.read_from.Given as goal
 abbrev pub invariant-loop-byte : goal.invariant-loop-byte
 invariant-loop-byte g l =
     record {
+      window : length l.window.bytes ≡ 1;
       room : length l.line.bytes + l.line.spare ≡ 4096;
       faults : g.S.Source.faults l.fn.input ≤ g.S.Source.faults l.input;
       told : (i : List ℕ) → g.S.Source.left l.fn.input ≡ Some i

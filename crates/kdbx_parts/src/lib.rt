@@ -1,0 +1,11 @@
+//! What headers, KDF dictionaries and inner fields are made of, and why one of them is refused.
+#![tactic(auto)]
+
+mod fail;
+mod parts;
+
+pub use fail::FrameFail;
+pub use parts::{
+    Field, array_of, copy_of, field_of, out_of_bounds, required, same, split_bytes, u32_of, u64_of,
+    unique, unique_of_length,
+};

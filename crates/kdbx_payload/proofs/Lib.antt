@@ -1,0 +1,4 @@
+mod BlockContents
+mod Macs
+pub mod SealedPayloads
+pub mod Steps

@@ -1,0 +1,7 @@
+pub mod Ciphers
+pub mod HeaderMacs
+pub mod Parts
+pub mod Payloads
+pub mod Results
+pub mod Sealed
+pub mod Seen

@@ -1,0 +1,104 @@
+//! The content of a file's blocks, and the text that it hides.
+
+ghost use Rattle.std.specs.Prelude.{◌≡◌, ◌≤◌, ◌%◌, ◌^◌, IfOk, length, take};
+ghost use Rattle.block_core.specs.Cbc.{cbc_deciphered};
+ghost use Rattle.block_core.specs.Padding.{unpadded};
+ghost use Rattle.mac_core.specs.Contents.{contents_of};
+ghost use Rattle.stream_core.specs.ChaCha20.{chacha_byte};
+ghost use Rattle.stream_core.specs.Stream.{xored};
+ghost use Rattle.kdbx_payload.specs.Ciphers.{deciphered, unchained};
+ghost use Rattle.kdbx_payload.specs.Parts.{of_blocks, right_padding};
+ghost use Rattle.kdbx_payload.specs.Results.{Returns};
+
+use crate::PayloadFail;
+use block_core::{Aes256, BadPadding, Block16, Twofish256, cbc_decrypt, unpad};
+use kdbx_frame::Cipher;
+use mac_core::read_contents;
+use secret_core::{Key, Key64, Secret};
+use std::alloc::Global;
+use stream_core::ChaCha20;
+
+/// The joined contents of the blocks at the end of a file of `size` bytes, up to the end block,
+/// under the file's MAC base.
+pub fn read_content(
+    alloc: Global,
+    base: &Key64,
+    size: usize,
+    blocks: &[u8],
+) -> Result<Secret, PayloadFail>
+    requires { length blocks.now ≤ size }
+    ensures gives { Returns (λ s. s.bytes) result
+        (of_blocks (contents_of base.now size blocks.now)) }
+    ensures within { IfOk result (λ s. length s.bytes ≤ length blocks.now) }
+{
+    let mut content = Secret::with_room(alloc, blocks.len())?;
+    read_contents(base, (size - blocks.len()) as u64, blocks, &mut content)?;
+    Ok(content)
+}
+
+// A content of whole blocks, deciphered in place.
+fn decipher_blocks<B: Block16>(cipher: &B, iv: &[u8; 16], mut content: Secret) -> Secret
+    requires { length content.bytes % 16 ≡ 0 }
+    ensures { result.bytes ≡ cbc_deciphered (B.deciphered cipher.now) iv.now content.bytes }
+{
+    cbc_decrypt(cipher, iv, content.lend_mut());
+    content
+}
+
+// A text without its padding.
+fn cut_padding(mut text: Secret) -> Result<Secret, PayloadFail>
+    ensures { Returns (λ s. s.bytes) result (right_padding (unpadded text.bytes)) }
+{
+    match unpad(text.lend(0, text.len())) {
+        Ok(len) => {
+            text.cut(len);
+            Ok(text)
+        }
+        Err(BadPadding) => Err(PayloadFail::BadPadding),
+    }
+}
+
+// The text of blocks that are chained.
+fn decipher_chained<B: Block16>(
+    cipher: &B,
+    iv: &[u8; 16],
+    content: Secret,
+) -> Result<Secret, PayloadFail>
+    ensures { Returns (λ s. s.bytes) result
+        (right_padding (unchained (B.deciphered cipher.now) iv.now content.bytes)) }
+{
+    if content.len() % 16 != 0 {
+        return Err(PayloadFail::BadPadding);
+    }
+    cut_padding(decipher_blocks(cipher, iv, content))
+}
+
+// Deciphers in place by ChaCha20, whose nonce is the first 12 bytes of the IV.
+fn decipher_stream(key: &Key, iv: &[u8; 16], mut content: Secret) -> Secret
+    requires { length content.bytes ≤ 2 ^ 38 }
+    ensures { result.bytes ≡ xored (chacha_byte key.now (take 12 iv.now)) 0 content.bytes }
+{
+    let mut nonce = [0; 12];
+    nonce.copy_from_slice(&iv[..12]);
+    let mut stream = ChaCha20::new(key.bytes(), &nonce);
+    stream.apply(content.lend_mut());
+    content
+}
+
+/// The text that a content hides under a cipher, which is deciphered in place.
+pub fn decipher(
+    cipher: Cipher,
+    key: &Key,
+    iv: &[u8; 16],
+    content: Secret,
+) -> Result<Secret, PayloadFail>
+    requires { length content.bytes ≤ 2 ^ 38 }
+    ensures { Returns (λ s. s.bytes) result
+        (right_padding (deciphered cipher key.now iv.now content.bytes)) }
+{
+    match cipher {
+        Cipher::Aes => decipher_chained(&Aes256::new(key), iv, content),
+        Cipher::Twofish => decipher_chained(&Twofish256::new(key), iv, content),
+        Cipher::ChaCha => Ok(decipher_stream(key, iv, content)),
+    }
+}

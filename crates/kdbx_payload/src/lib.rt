@@ -1,0 +1,14 @@
+//! The payload of a file of KDBX 4: from the file's bytes and a composite key to its settings, its
+//! attached files, and the text of its document with the stream that hides values in it; or why not.
+//! Nothing here speaks of what the document says.
+#![tactic(auto)]
+
+mod content;
+mod fail;
+mod header_macs;
+pub mod laws;
+mod payload;
+
+pub use fail::PayloadFail;
+pub use header_macs::header_mac;
+pub use payload::{Payload, open_payload};
