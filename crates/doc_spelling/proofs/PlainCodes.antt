@@ -1,11 +1,11 @@
 -- Base64 of bytes is written in markup as it is.
-use Rattle.std.proofs.Common.{◌≡◌, ℕ, zero, suc, ◌+◌, ◌*◌, ◌/◌, ◌%◌, ◌<◌, Bool, true, false, List, [], ◌∷◌, ◌++◌, length, replicate, slice_index, get_or, refl, ap, ◌∙◌, arith}
-use Rattle.std.specs.List.{list_all}
+use Rattle.std.proofs.Common.{◌≡◌, ℕ, zero, suc, ◌+◌, ◌*◌, ◌/◌, ◌%◌, ◌<◌, ◌≤◌, Bool, true, false, List, [], ◌∷◌, ◌++◌, length, replicate, slice_index, get_or, refl, sym, ap, ◌∙◌, arith}
+use Rattle.std.specs.List.{list_all, flat_map}
 use Rattle.std.specs.Prelude.{bytes_eq}
 use Rattle.std.proofs.lemmas.Grind.{flat_map-append}
 use Rattle.std.proofs.lemmas.List.Folds.{list_all_at}
 use Rattle.std.proofs.lemmas.Slice.Eq.{bytes_eq-Decides}
-use Rattle.base64.specs.Rfc4648.{encode_symbols, padding_len}
+use Rattle.base64.specs.Rfc4648.{encode_symbols, encode_group, encode_two, encode_one, padding_len}
 use Rattle.base64.specs.Engines.{standard}
 use Rattle.markup_grammar.specs.Escapes.{escaped, escaped_byte}
 use Rattle.base64.specs.GeneralPurpose.{IsBytes, encode_of}

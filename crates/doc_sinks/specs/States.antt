@@ -1,0 +1,25 @@
+-- The state of a sink after pieces were put into it, where a step is what a chunk makes of a state.
+use Rattle.std.specs.Prelude.{ℕ, List, [], ◌∷◌}
+use Rattle.doc_sinks.specs.Chunks.{Chunk, start_chunks, end_chunks, chunks, chunks_all}
+use Rattle.doc_spelling.specs.Pieces.{Piece, Pieces}
+
+-- after some chunks
+abbrev pub after : {S : Type 0} → (S → Chunk → S) → S → List Chunk → S
+after step s [] = s
+after step s (c ∷ cs) = after step (step s c) cs
+
+-- after a start tag
+unfoldable pub begun : {S : Type 0} → (S → Chunk → S) → S → List ℕ → List (List ℕ × List ℕ) → S
+begun step s name attributes = after step s (start_chunks name attributes)
+
+-- after an end tag
+unfoldable pub ended : {S : Type 0} → (S → Chunk → S) → S → List ℕ → S
+ended step s name = after step s (end_chunks name)
+
+-- after an element
+unfoldable pub put : {S : Type 0} → (S → Chunk → S) → S → Piece → S
+put step s piece = after step s (chunks piece)
+
+-- after elements side by side
+unfoldable pub put_all : {S : Type 0} → (S → Chunk → S) → S → Pieces → S
+put_all step s pieces = after step s (chunks_all pieces)
