@@ -12,7 +12,7 @@ use Rattle.vault_model.specs.declared.metas.Icon.{Icon}
 use Rattle.vault_model.specs.declared.nodes.GroupState.{GroupState}
 use Rattle.vault_model.specs.Db.{NodeId, id_cmp, Mark, Versions, Place, Db, Sound}
 use Rattle.vault_model.specs.Join.{is_id, stats_join, IsIn}
-use Rattle.vault_model.specs.Shape.{BareVersion, EntryRecord, GroupRecord, Children, Shape, versions_of, no_children, placed_or, placed_of, place_rows, shared_of, db_of, in_order, last_of, but_last, version_of, record_of, placed_in, stands_in, standing, kids, laid_children, new_view, laid_group, laid_meta, versions_in, lay}
+use Rattle.vault_model.specs.Shape.{BareVersion, GroupRecord, Children, Shape, versions_of, no_children, Stay, stay_or, stay_of, place_at, place_rows, shared_of, db_of, in_order, last_of, but_last, version_of, record_of, stay_at, stay_in, stands_in, standing, kids, laid_children, new_view, laid_stay, laid_group, laid_meta, versions_in, lay}
 use Rattle.vault_model.specs.Unite.{merged, gather, unite_all, tabulate}
 use Rattle.vault_model.proofs.Ids.{same_id, id_itself}
 use Rattle.join_laws.proofs.Facts.{placed_held}
@@ -37,9 +37,9 @@ module _ {A B : Type 0} where
       get-tabulate id_order.total id_order.same (keys m) (λ v. f v (get m v)) u
       ∙ within (get m u) (f u) (list_any (eq_by_cmp id_cmp u) (keys m)) (none u) (contains_key-keys m u)
 
-pub lay_entries : (m : Db) (t : Shape) (u : NodeId) → get (lay m t).entries u ≡ record_of (placed_in m u) (versions_in (get m.entries u))
+pub lay_entries : (m : Db) (t : Shape) (u : NodeId) → get (lay m t).entries u ≡ record_of (stay_in m u) (versions_in (get m.entries u))
 unfolding lay
-lay_entries m t u = tabulated m.entries (λ v o. record_of (placed_in m v) (versions_in o)) (λ v. refl) u
+lay_entries m t u = tabulated m.entries (λ v o. record_of (stay_in m v) (versions_in o)) (λ v. refl) u
 
 pub lay_groups : (m : Db) (t : Shape) (u : NodeId) → get (lay m t).groups u ≡ option_map (laid_group m t u) (get m.groups u)
 unfolding lay
@@ -103,18 +103,18 @@ same_versions v e es is = same_map mark_order.total mark_order.same _ v (λ k.
     ∙ gathered_singles mark_order.total mark_order.same stats_join (entries v) (entries_sorted v) k
     ∙ sym (get-entries v k))
 
-made_again : (placed : ℕ) (v : Versions) (es : List (Mark × Stats)) → entries v ≡ es → keys v ≢ [] → option_map versions_of (record_of placed es) ≡ Some v
-made_again placed v [] is some = absurd (some (ap (map (λ (e : Mark × Stats). e.0)) is))
-made_again placed v (e ∷ es) is some = ap Some (same_versions v e es is)
+made_again : (stay : Stay) (v : Versions) (es : List (Mark × Stats)) → entries v ≡ es → keys v ≢ [] → option_map versions_of (record_of stay es) ≡ Some v
+made_again stay v [] is some = absurd (some (ap (map (λ (e : Mark × Stats). e.0)) is))
+made_again stay v (e ∷ es) is some = ap Some (same_versions v e es is)
 
-entry_again : (m : Db) (u : NodeId) (o : Option Versions) → Sound m → get m.entries u ≡ o → option_map versions_of (record_of (placed_in m u) (versions_in o)) ≡ o
+entry_again : (m : Db) (u : NodeId) (o : Option Versions) → Sound m → get m.entries u ≡ o → option_map versions_of (record_of (stay_in m u) (versions_in o)) ≡ o
 entry_again m u None s e = refl
-entry_again m u (Some v) s e = made_again (placed_in m u) v (entries v) refl (s.versions u v e)
+entry_again m u (Some v) s e = made_again (stay_in m u) v (entries v) refl (s.versions u v e)
 
--- an entry that is laid has its place's time
-entry_placed : (placed : ℕ) (v : Versions) (es : List (Mark × Stats)) → entries v ≡ es → keys v ≢ [] → (e : EntryRecord) × ((record_of placed es ≡ Some e) × (e.placed ≡ placed))
-entry_placed placed v [] is some = absurd (some (ap (map (λ (e : Mark × Stats). e.0)) is))
-entry_placed placed v (e ∷ es) is some = (record { placed = placed; current = version_of (last_of e es); history = map version_of (but_last e es) }, (refl, refl))
+-- an entry that is laid stays where and since when it is said to
+entry_stays : (stay : Stay) (v : Versions) (es : List (Mark × Stats)) → entries v ≡ es → keys v ≢ [] → (g : Option GroupRecord) → stay_or (record_of stay es) g ≡ stay
+entry_stays stay v [] is some g = absurd (some (ap (map (λ (e : Mark × Stats). e.0)) is))
+entry_stays stay v (e ∷ es) is some g = refl
 
 -- ---- the order of children
 
@@ -183,29 +183,28 @@ module _ (m : Db) (t : Shape) (s : Sound m) where
   same_groups = same_map id_order.total id_order.same _ _ (λ u.
       db_groups laid u ∙ ap (option_map (λ (g : GroupRecord). g.state)) (lay_groups m t u) ∙ state_again u (get m.groups u))
 
-  -- a node that has a place stands there since that time
-  placed_entry : (u : NodeId) (p : Place) (o : Option Versions) → get m.entries u ≡ o → contains_key m.entries u ≡ true → get m.places u ≡ Some p → placed_of laid u ≡ p.placed
-  placed_entry u p None q e h = apart (contains_key m.entries u) e (ap is_some q)
-  placed_entry u p (Some v) q e h =
-      let r = entry_placed (placed_in m u) v (entries v) refl (s.versions u v q) in
-      ap (λ x. placed_or x (get laid.groups u)) (lay_entries m t u ∙ ap (λ x. record_of (placed_in m u) (versions_in x)) q ∙ r.1.0)
-      ∙ r.1.1 ∙ ap (λ x. unwrap_or (option_map (λ (p : Place). p.placed) x) 0) h
+  -- a node that has a place stays there
+  stays_entry : (u : NodeId) (p : Place) (o : Option Versions) → get m.entries u ≡ o → contains_key m.entries u ≡ true → get m.places u ≡ Some p → stay_of laid u ≡ stay_at (Some p)
+  stays_entry u p None q e h = apart (contains_key m.entries u) e (ap is_some q)
+  stays_entry u p (Some v) q e h =
+      ap (λ x. stay_or x (get laid.groups u)) (lay_entries m t u ∙ ap (λ x. record_of (stay_in m u) (versions_in x)) q)
+      ∙ entry_stays (stay_in m u) v (entries v) refl (s.versions u v q) (get laid.groups u) ∙ ap stay_at h
 
-  placed_group : (u : NodeId) (p : Place) (o : Option GroupState) → get m.groups u ≡ o → contains_key m.groups u ≡ true → get m.places u ≡ Some p → placed_of laid u ≡ p.placed
-  placed_group u p None q e h = apart (contains_key m.groups u) e (ap is_some q)
-  placed_group u p (Some g) q e h =
+  stays_group : (u : NodeId) (p : Place) (o : Option GroupState) → get m.groups u ≡ o → contains_key m.groups u ≡ true → get m.places u ≡ Some p → stay_of laid u ≡ stay_at (Some p)
+  stays_group u p None q e h = apart (contains_key m.groups u) e (ap is_some q)
+  stays_group u p (Some g) q e h =
       let no_entry : get m.entries u ≡ None = none_of (get m.entries u) (is_false (contains_key m.entries u) (λ x. apart (contains_key m.groups u) e (s.kinds u x))) in
       let off : is_id u m.root ≡ false = is_false (is_id u m.root) (λ x. (placed_held m u p s h).0 (same_id u m.root x)) in
-      ap (λ x. placed_or x (get laid.groups u)) (lay_entries m t u ∙ ap (λ x. record_of (placed_in m u) (versions_in x)) no_entry)
-      ∙ ap (placed_or None) (lay_groups m t u ∙ ap (option_map (laid_group m t u)) q)
-      ∙ ap (λ b. cond b (placed_of t u) (placed_in m u)) off
-      ∙ ap (λ x. unwrap_or (option_map (λ (p : Place). p.placed) x) 0) h
+      ap (λ x. stay_or x (get laid.groups u)) (lay_entries m t u ∙ ap (λ x. record_of (stay_in m u) (versions_in x)) no_entry)
+      ∙ ap (stay_or None) (lay_groups m t u ∙ ap (option_map (laid_group m t u)) q)
+      ∙ ap (λ b. cond b (stay_of t u) (stay_in m u)) off
+      ∙ ap stay_at h
 
-  placed_as : (u : NodeId) (p : Place) → get m.places u ≡ Some p → placed_of laid u ≡ p.placed
-  placed_as u p h =
+  stays_at : (u : NodeId) (p : Place) → get m.places u ≡ Some p → stay_of laid u ≡ stay_at (Some p)
+  stays_at u p h =
       elim (or_cases (contains_key m.entries u) (contains_key m.groups u) (placed_held m u p s h).1) [
-        | inl e ↦ placed_entry u p (get m.entries u) refl e h
-        | inr e ↦ placed_group u p (get m.groups u) refl e h
+        | inl e ↦ stays_entry u p (get m.entries u) refl e h
+        | inr e ↦ stays_group u p (get m.groups u) refl e h
       ]
 
   -- what a laid group's lists have
@@ -236,23 +235,23 @@ module _ (m : Db) (t : Shape) (s : Sound m) where
 
   row_right : (row : NodeId × Place) → IsIn row (place_rows laid) → get m.places row.0 ≡ Some row.1
   row_right row h =
-      let f = from_flat (λ (r : NodeId × Children). map (λ u. (u, record { placed = placed_of laid u; parent = r.0 })) (r.1.entries ++ r.1.groups)) (entries laid.children) row h in
+      let f = from_flat (λ (r : NodeId × Children). map (λ u. (u, place_at (stay_of laid u) r.0)) (r.1.entries ++ r.1.groups)) (entries laid.children) row h in
       let c = children_some f.0.0 f.0.1 (entry_get id_order.total id_order.same laid.children f.0 f.1.0) in
-      let g = from_map (λ u. (u, record { placed = placed_of laid u; parent = f.0.0 })) (f.0.1.entries ++ f.0.1.groups) row f.1.1 in
+      let g = from_map (λ u. (u, place_at (stay_of laid u) f.0.0)) (f.0.1.entries ++ f.0.1.groups) row f.1.1 in
       let k = kid_place f.0.0 g.0 (subst (λ (x : Children). IsIn g.0 (x.entries ++ x.groups)) c.1 g.1.0) in
-      let here : get m.places g.0 ≡ Some (record { placed = placed_of laid g.0; parent = f.0.0 }) =
-      k.1.0 ∙ (λ i. Some (record { placed = sym (placed_as g.0 k.0 k.1.0) i; parent = sym k.1.1 i })) in
+      let here : get m.places g.0 ≡ Some (place_at (stay_of laid g.0) f.0.0) =
+      k.1.0 ∙ (λ i. Some (place_at (sym (stays_at g.0 k.0 k.1.0) i) (sym k.1.1 i))) in
       subst (λ (r : NodeId × Place). get m.places r.0 ≡ Some r.1) g.1.1 here
 
   row_there : (u : NodeId) (p : Place) → get m.places u ≡ Some p → (q : Place) × IsIn (u, q) (place_rows laid)
   row_there u p h =
       let parent : get laid.children p.parent ≡ Some (laid_children m t p.parent) =
       lay_children m t p.parent ∙ ap (λ b. cond b (Some (laid_children m t p.parent)) None) (s.parents u p h) in (
-        record { placed = placed_of laid u; parent = p.parent },
-        in_flat (λ (r : NodeId × Children). map (λ v. (v, record { placed = placed_of laid v; parent = r.0 })) (r.1.entries ++ r.1.groups)) (entries laid.children)
-            (p.parent, laid_children m t p.parent) (u, record { placed = placed_of laid u; parent = p.parent })
+        place_at (stay_of laid u) p.parent,
+        in_flat (λ (r : NodeId × Children). map (λ v. (v, place_at (stay_of laid v) r.0)) (r.1.entries ++ r.1.groups)) (entries laid.children)
+            (p.parent, laid_children m t p.parent) (u, place_at (stay_of laid u) p.parent)
             (get_entry id_order.total id_order.same laid.children p.parent (laid_children m t p.parent) parent)
-            (in_map (λ v. (v, record { placed = placed_of laid v; parent = p.parent })) ((laid_children m t p.parent).entries ++ (laid_children m t p.parent).groups) u (place_kid u p h)),
+            (in_map (λ v. (v, place_at (stay_of laid v) p.parent)) ((laid_children m t p.parent).entries ++ (laid_children m t p.parent).groups) u (place_kid u p h)),
       )
 
   db_places : (x : Shape) → (db_of x).places ≡ from_entries (place_rows x)
@@ -320,15 +319,17 @@ module _ (m : Db) (t : Shape) (s : Sound m) where
       let here : get laid.groups u ≡ Some (laid_group m t u g) = lay_groups m t u ∙ ap (option_map (laid_group m t u)) q in
       let no_entry : get m.entries u ≡ None =
       none_of (get m.entries u) (is_false (contains_key m.entries u) (λ x. apart (contains_key m.groups u) (ap is_some q) (s.kinds u x))) in
-      let placed : placed_of laid u ≡ (laid_group m t u g).placed =
-      (λ i. placed_or ((lay_entries m t u ∙ ap (λ x. record_of (placed_in m u) (versions_in x)) no_entry) i) (here i)) in
+      let stays : stay_of laid u ≡ laid_stay m t u =
+      (λ i. stay_or ((lay_entries m t u ∙ ap (λ x. record_of (stay_in m u) (versions_in x)) no_entry) i) (here i)) in
+      let again = at_root (is_id u m.root) stays in
       λ i. record {
-        placed = at_root (is_id u m.root) placed i;
+        placed = (again i).placed;
+        previous = (again i).previous;
         state = g;
         view = unwrap_or (option_map (λ (r : GroupRecord). r.view) (here i)) new_view;
       }
     where
-      at_root : (b : Bool) → placed_of laid u ≡ cond b (placed_of t u) (placed_in m u) → cond b (placed_of laid u) (placed_in m u) ≡ cond b (placed_of t u) (placed_in m u)
+      at_root : (b : Bool) → stay_of laid u ≡ cond b (stay_of t u) (stay_in m u) → cond b (stay_of laid u) (stay_in m u) ≡ cond b (stay_of t u) (stay_in m u)
       at_root true e = e
       at_root false e = refl
 

@@ -15,7 +15,7 @@ use Rattle.vault_model.specs.declared.nodes.Tombstone.{Tombstone}
 use Rattle.vault_model.specs.Db.{NodeId, id_cmp, nil_id, Mark, mark_cmp, Versions, Place, Db, holds, parent_or, parent_in, steps, IsProperMeta, Sound}
 use Rattle.vault_model.specs.Join.{is_id, stats_join, IsIn}
 use Rattle.vault_model.specs.Proper.{is_proper_content, is_proper_group_content, is_text_icon, is_text_item}
-use Rattle.vault_model.specs.Shape.{BareVersion, EntryRecord, GroupRecord, Children, Shape, versions_of, placed_of, place_rows, shared_of, db_of}
+use Rattle.vault_model.specs.Shape.{BareVersion, EntryRecord, GroupRecord, Children, Shape, versions_of, stay_of, place_at, place_rows, shared_of, db_of}
 use Rattle.vault_model.specs.Tree.{Tree, node, Trees, none, beside, BareDoc, id_of, ids_of, entry_rows, entry_rows_all, group_rows, group_rows_all, child_rows, child_rows_all, node_ids, node_ids_all, are_distinct, is_elsewhere, is_proper_entry, IsDoc, shape_of, db_in}
 use Rattle.join_laws.proofs.Laid.{db_entries, db_groups, in_list, list_in}
 use Rattle.vault_model.proofs.Orders.{id_order, mark_order, bytes_order}
@@ -462,8 +462,8 @@ module _ (d : BareDoc) (is : IsDoc d) where
   pub place_kid : (u : NodeId) (p : Place) → get db.places u ≡ Some p → IsKid (child_rows d.tree) p.parent u
   place_kid u p e =
       let row = find_in id_order.total id_order.same (place_rows s) u p (sym (db_place u) ∙ e) in
-      let f = from_flat (λ (r : NodeId × Children). map (λ v. (v, record { placed = placed_of s v; parent = r.0 })) (r.1.entries ++ r.1.groups)) (entries s.children) (u, p) row in
-      let g = from_map (λ v. (v, record { placed = placed_of s v; parent = f.0.0 })) (f.0.1.entries ++ f.0.1.groups) (u, p) f.1.1 in
+      let f = from_flat (λ (r : NodeId × Children). map (λ v. (v, place_at (stay_of s v) r.0)) (r.1.entries ++ r.1.groups)) (entries s.children) (u, p) row in
+      let g = from_map (λ v. (v, place_at (stay_of s v) f.0.0)) (f.0.1.entries ++ f.0.1.groups) (u, p) f.1.1 in
       let here : IsIn f.0 (child_rows d.tree) =
       find_in id_order.total id_order.same (child_rows d.tree) f.0.0 f.0.1 (sym (shape_kids f.0.0) ∙ entry_get id_order.total id_order.same s.children f.0 f.1.0) in
       let same_u : g.0 ≡ u = ap (λ (x : NodeId × Place). x.0) g.1.1 in
@@ -475,10 +475,10 @@ module _ (d : BareDoc) (is : IsDoc d) where
       let there = some_find id_order.total id_order.same (child_rows d.tree) g k.0 k.1.0 in
       let same = one_row d.tree g there.0 k.0 distinct (find_in id_order.total id_order.same (child_rows d.tree) g there.0 there.1) k.1.0 in
       let entry = get_entry id_order.total id_order.same s.children g k.0 (shape_kids g ∙ there.1 ∙ ap Some same) in
-      let row = in_flat (λ (r : NodeId × Children). map (λ v. (v, record { placed = placed_of s v; parent = r.0 })) (r.1.entries ++ r.1.groups)) (entries s.children)
-      (g, k.0) (u, record { placed = placed_of s u; parent = g }) entry
-      (in_map (λ v. (v, record { placed = placed_of s v; parent = g })) (k.0.entries ++ k.0.groups) u k.1.1) in
-      let found = some_find id_order.total id_order.same (place_rows s) u (record { placed = placed_of s u; parent = g }) row in
+      let row = in_flat (λ (r : NodeId × Children). map (λ v. (v, place_at (stay_of s v) r.0)) (r.1.entries ++ r.1.groups)) (entries s.children)
+      (g, k.0) (u, place_at (stay_of s u) g) entry
+      (in_map (λ v. (v, place_at (stay_of s v) g)) (k.0.entries ++ k.0.groups) u k.1.1) in
+      let found = some_find id_order.total id_order.same (place_rows s) u (place_at (stay_of s u) g) row in
       let at : get db.places u ≡ Some found.0 = db_place u ∙ found.1 in
       (found.0, (at, one_parent d.tree found.0.parent g u distinct (place_kid u found.0 at) k))
 

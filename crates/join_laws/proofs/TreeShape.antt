@@ -7,7 +7,7 @@ use Rattle.vault_model.specs.declared.nodes.GroupState.{GroupState}
 use Rattle.vault_model.specs.declared.nodes.Tombstone.{Tombstone}
 use Rattle.vault_model.specs.Db.{NodeId, id_cmp, Mark, Versions, Place, Db, holds, parent_or, parent_in, steps, Sound}
 use Rattle.vault_model.specs.Join.{is_id, IsIn}
-use Rattle.vault_model.specs.Shape.{EntryRecord, GroupRecord, Children, Shape, kids, laid_children, laid_group, placed_in, record_of, versions_in, standing, no_children, lay, db_of}
+use Rattle.vault_model.specs.Shape.{EntryRecord, GroupRecord, Children, Shape, kids, laid_children, laid_group, stay_in, record_of, versions_in, standing, no_children, lay, db_of}
 use Rattle.vault_model.specs.Tree.{Tree, BareDoc, id_of, ids_of, entry_rows, entry_rows_all, group_rows, group_rows_all, child_rows, child_rows_all, shape_of, with_record, with_records, all_trees, tree_of, no_group, doc_of, lay_doc, IsSettled, db_in, IsDeep, FitsLevels}
 use Rattle.vault_model.proofs.Ids.{same_id, id_itself}
 use Rattle.join_laws.proofs.Laid.{lay_entries, lay_groups, lay_children, lay_root, into_order, from_order, into_standing, from_standing, laid_db, laid_again}
@@ -208,7 +208,7 @@ module _ (n : ℕ) (m : Db) (t : Shape) (s : Sound m) (fits : FitsLevels n m) wh
   group_back g x (Some y) q e = ap is_some q
 
   entry_back : (u : NodeId) (x : EntryRecord) (o : Option Versions) → get m.entries u ≡ o → get laid.entries u ≡ Some x → contains_key m.entries u ≡ true
-  entry_back u x None q e = never x (sym (lay_entries m t u ∙ ap (λ o. record_of (placed_in m u) (versions_in o)) q) ∙ e)
+  entry_back u x None q e = never x (sym (lay_entries m t u ∙ ap (λ o. record_of (stay_in m u) (versions_in o)) q) ∙ e)
   entry_back u x (Some y) q e = ap is_some q
 
   laid_kids : (g : NodeId) → contains_key m.groups g ≡ true → kids laid g ≡ laid_children m t g
@@ -241,10 +241,10 @@ module _ (n : ℕ) (m : Db) (t : Shape) (s : Sound m) (fits : FitsLevels n m) wh
   entry_is : (u : NodeId) (o : Option Versions) → get m.entries u ≡ o → contains_key m.entries u ≡ true → contains_key laid.entries u ≡ true
   entry_is u None q e = apart (contains_key m.entries u) e (ap is_some q)
   entry_is u (Some v) q e =
-      let again : is_some (record_of (placed_in m u) (entries v)) ≡ true = some_record (entries v) refl in
-      ap is_some (lay_entries m t u ∙ ap (λ o. record_of (placed_in m u) (versions_in o)) q) ∙ again
+      let again : is_some (record_of (stay_in m u) (entries v)) ≡ true = some_record (entries v) refl in
+      ap is_some (lay_entries m t u ∙ ap (λ o. record_of (stay_in m u) (versions_in o)) q) ∙ again
     where
-      some_record : (es : List (Mark × Stats)) → entries v ≡ es → is_some (record_of (placed_in m u) es) ≡ true
+      some_record : (es : List (Mark × Stats)) → entries v ≡ es → is_some (record_of (stay_in m u) es) ≡ true
       some_record [] p = absurd (s.versions u v q (ap (map (λ (e : Mark × Stats). e.0)) p))
       some_record (e ∷ es) p = refl
 

@@ -1,23 +1,22 @@
 -- The three copies of the example agree.
-use Rattle.std.proofs.Common.{◌≡◌, ◌≤◌, ◌<◌, ℕ, Bool, true, false, not, cond, ◌⊎◌, inl, inr, List, [], ◌∷◌, ◌++◌, Option, Some, None, map, max, nat_le, nat_lt, refl, sym, ap, subst, ◌∙◌, arith}
+use Rattle.std.proofs.Common.{◌≡◌, ◌≤◌, ◌<◌, ℕ, Bool, true, false, not, cond, inl, inr, [], ◌∷◌, ◌++◌, Option, Some, None, map, nat_le, nat_lt, refl, sym, ap, subst, ◌∙◌, arith}
 use Rattle.std.proofs.lemmas.Bool.{leb-true, ltb-true}
 use Rattle.std.specs.FinMap.{get, contains_key}
 use Rattle.std.specs.List.{list_all, list_any}
 use Rattle.std.specs.Str.{chars, is_utf8}
 use Rattle.vault_model.specs.declared.nodes.GroupState.{GroupState}
 use Rattle.vault_model.specs.declared.nodes.Tombstone.{Tombstone}
-use Rattle.vault_model.specs.Db.{NodeId, id_cmp, Mark, Versions, Place, Db, holds, newest, state_time, stamp_in, Sound}
-use Rattle.vault_model.specs.Join.{is_id, root_of, IsIn, Compatible, Agreed}
+use Rattle.vault_model.specs.Db.{NodeId, Mark, Versions, Place, Db, newest, state_time, stamp_in, Sound}
+use Rattle.vault_model.specs.Join.{is_id, IsIn, Compatible, Agreed}
 use Rattle.vault_model.specs.Proper.{is_proper_content, is_proper_group_content}
 use Rattle.vault_model.specs.Shape.{BareVersion, EntryRecord, GroupRecord, Children}
 use Rattle.vault_model.specs.Tree.{BareDoc, id_of, entry_rows, group_rows, child_rows, IsDoc, db_in}
-use Rattle.vault_model.proofs.Ids.{same_id, id_itself}
-use Rattle.join_laws.proofs.SoundDoc.{all_in, version_marks, entry_at, group_at, place_kid, db_tomb, db_root, document_sound, IsKid}
+use Rattle.vault_model.proofs.Ids.{same_id}
+use Rattle.join_laws.proofs.SoundDoc.{all_in, version_marks, entry_at, group_at, place_kid, db_tomb, db_root, document_sound}
 use Rattle.vault_model.proofs.Tests.{not_true, apart, is_false, some_of, from_map, greatest_below}
 use Rattle.join_laws.proofs.Tables.{find_in}
 use Rattle.vault_model.proofs.Orders.{id_order, mark_order}
 use Rattle.join_laws.proofs.Unite.{from_keys}
-use Rattle.join_laws.proofs.Versions.{never}
 use Rattle.merge_core.specs.Example.{root, bank, mail, as_it_was, edited, moved, copies}
 use Rattle.merge_core.proofs.Ranked.{ranked_agreed}
 

@@ -1,9 +1,9 @@
 -- When members agree: what stands in a deleted group is deleted with it, and one rank falls from child to
 -- parent in every member.
-use Rattle.std.proofs.Common.{◌≡◌, ◌≢◌, ◌≤◌, ◌<◌, ℕ, zero, suc, Bool, true, false, ◌||◌, ◌⊎◌, inl, inr, List, [], ◌∷◌, Option, Some, None, map, is_some, refl, sym, ap, subst, ◌∙◌, arith}
-use Rattle.std.specs.FinMap.{get, contains_key}
-use Rattle.vault_model.specs.Db.{NodeId, Place, place_cmp, Db, holds, parent_or, Reaches, Sound}
-use Rattle.vault_model.specs.Join.{is_id, root_of, latest, above, is_held, own, IsIn, IsPart, KeepsParents, IsAcyclic, Compatible, Agreed}
+use Rattle.std.proofs.Common.{◌≡◌, ◌≢◌, ◌≤◌, ◌<◌, ℕ, zero, suc, true, inl, inr, List, Option, Some, None, refl, sym, ap, ◌∙◌, arith}
+use Rattle.std.specs.FinMap.{get}
+use Rattle.vault_model.specs.Db.{NodeId, Place, place_cmp, Db, holds, parent_or, Reaches}
+use Rattle.vault_model.specs.Join.{is_id, root_of, latest, above, own, IsIn, IsPart, KeepsParents, IsAcyclic, Compatible, Agreed}
 use Rattle.vault_model.specs.Unite.{greater}
 use Rattle.vault_model.proofs.Ids.{same_id, is_same_id}
 use Rattle.join_laws.proofs.Facts.{latest_found, part_sound, part_roots, alive_from_own, next_own}

@@ -1,12 +1,11 @@
 -- Three copies of one database that agree: the first as it was, the second with an edit and a new
 -- group, the third with a move and a deletion.
-use Rattle.std.specs.Prelude.{ℕ, false, true, List, [], ◌∷◌, None, codes, pos, negsuc, replicate}
+use Rattle.std.specs.Prelude.{ℕ, false, true, List, [], ◌∷◌, None, codes, pos, negsuc}
 use Rattle.vault_model.specs.declared.contents.Tri.TheVariants.{Inherit}
 use Rattle.vault_model.specs.declared.metas.Meta.{Meta}
-use Rattle.vault_model.specs.Bare.{BareContent}
 use Rattle.vault_model.specs.Db.{NodeId, Db, nil_id}
 use Rattle.vault_model.specs.Shape.{BareVersion, EntryRecord, GroupRecord, new_view}
-use Rattle.vault_model.specs.Tree.{Tree, node, Trees, none, beside, BareDoc, db_in}
+use Rattle.vault_model.specs.Tree.{node, none, beside, BareDoc, db_in}
 
 -- an id by its repeated byte
 abbrev pub id : ℕ → NodeId
@@ -52,19 +51,27 @@ version time title notes = record {
       url_override = [];
       auto_type = record { enabled = true; obfuscation = 0; sequence = []; pairs = [] };
       items = [];
+      quality = true;
     };
   };
   stats = record { accessed = time; usage = 0 };
 }
 
--- an entry that is where it is since a time, with its current version and those before it
-abbrev pub entry : ℕ → BareVersion → List BareVersion → EntryRecord
-entry placed current history = record { placed = placed; current = current; history = history }
+-- an entry in its group since a time and in another group before, with its current version and those
+-- before it
+abbrev pub entry : ℕ → NodeId → BareVersion → List BareVersion → EntryRecord
+entry placed previous current history = record {
+  placed = placed;
+  previous = previous;
+  current = current;
+  history = history;
+}
 
 -- a group made and placed at a time, with a name
 abbrev pub group : ℕ → List ℕ → GroupRecord
 group time name = record {
   placed = time;
+  previous = nil_id;
   state = record {
     modified = time;
     content = record {
@@ -79,6 +86,7 @@ group time name = record {
       auto_type = Inherit;
       searching = Inherit;
       items = [];
+      tags = [];
     };
     stats = record { accessed = time; usage = 0 };
   };
@@ -114,8 +122,8 @@ meta = record {
 abbrev pub as_it_was : BareDoc
 as_it_was = record {
   tree = node root (group 10 (codes "Root"))
-      ((bank, entry 10 (version 10 (codes "Bank") (codes "a")) []) ∷
-      (mail, entry 10 (version 10 (codes "Mail") []) []) ∷ [])
+      ((bank, entry 10 nil_id (version 10 (codes "Bank") (codes "a")) []) ∷
+      (mail, entry 10 nil_id (version 10 (codes "Mail") []) []) ∷ [])
       (beside (node work (group 10 (codes "Work")) [] none) none);
   tombs = [];
   meta = meta;
@@ -127,10 +135,10 @@ edited = record {
   tree = node root (group 10 (codes "Root"))
       ((
         bank,
-        entry 10 (version 20 (codes "Bank") (codes "b"))
+        entry 10 nil_id (version 20 (codes "Bank") (codes "b"))
             (version 10 (codes "Bank") (codes "a") ∷ []),
       ) ∷
-      (mail, entry 10 (version 10 (codes "Mail") []) []) ∷ [])
+      (mail, entry 10 nil_id (version 10 (codes "Mail") []) []) ∷ [])
       (beside (node work (group 10 (codes "Work")) [] none)
       (beside (node home (group 30 (codes "Home")) [] none) none));
   tombs = [];
@@ -142,7 +150,7 @@ abbrev pub moved : BareDoc
 moved = record {
   tree = node root (group 10 (codes "Root")) []
       (beside (node work (group 10 (codes "Work"))
-      ((bank, entry 25 (version 10 (codes "Bank") (codes "a")) []) ∷ []) none) none);
+      ((bank, entry 25 root (version 10 (codes "Bank") (codes "a")) []) ∷ []) none) none);
   tombs = record { id = mail; deleted = 40 } ∷ [];
   meta = meta;
 }

@@ -3,9 +3,9 @@ use Rattle.std.specs.Prelude.{◌≡◌, ◌≤◌, ℕ, true, List, [], ◌∷�
 use Rattle.std.specs.FinMap.{get}
 use Rattle.vault_model.specs.declared.contents.Stats.{Stats}
 use Rattle.vault_model.specs.Db.{NodeId, Mark, Versions, Place, Db, holds, Sound}
-use Rattle.vault_model.specs.Join.{is_held, latest, own, kept, join, IsIn, IsWithin, IsNotEmpty, IsPart, Allowed, Agreed}
+use Rattle.vault_model.specs.Join.{is_held, latest, own, kept, join, IsIn, IsWithin, IsNotEmpty, IsPart, Agreed}
 use Rattle.vault_model.specs.Plans.{Plan, value, tree, leaves, IsAllowed, Fits, World, Step, begin, run, IsSchedule}
-use Rattle.vault_model.specs.Tree.{BareDoc, id_of, db_in, lay_doc, IsSettled, FitsLevels, IsDoc}
+use Rattle.vault_model.specs.Tree.{BareDoc, db_in, lay_doc, IsSettled}
 use Rattle.vault_model.specs.Unite.{gather}
 
 -- ---- what agreed sets inherit; R is any part of the members
