@@ -1,0 +1,10 @@
+pub mod Added
+pub mod Around
+pub mod Binds
+pub mod Changed
+pub mod Counted
+pub mod Edited
+pub mod Holders
+pub mod Named
+pub mod Options
+pub mod Rows
