@@ -140,6 +140,10 @@ abbrev pub own_group : NodeId → Trees → Option Tree
 own_group u none = None
 own_group u (beside t ts) = cond (is_id (id_of t) u) (Some t) (own_group u ts)
 
+-- a group's own group of this id
+abbrev pub child_with : NodeId → Tree → Option Tree
+child_with u (node v r es ts) = own_group u ts
+
 -- a group with one group more, after the others
 abbrev pub with_group : Tree → Tree → Tree
 with_group t = on_groups (with_last t)
