@@ -1,5 +1,5 @@
 -- Finding along the walk of a document is finding from group to group.
-use Rattle.std.proofs.Common.{◌≡◌, ◌==◌, ℕ, Bool, true, false, true≢false, arith, length, cond, ◌||◌, List, [], ◌∷◌, ◌++◌, map, Option, Some, None, refl, sym, ap, ◌∙◌}
+use Rattle.std.proofs.Common.{◌≡◌, ◌==◌, ℕ, Bool, true, false, true≢false, arith, length, cond, ◌||◌, List, [], ◌∷◌, ◌++◌, map, Option, Some, None, refl, sym, ap, ◌∙◌, is_some}
 use Rattle.std.specs.Prelude.{codes, bytes_eq}
 use Rattle.std.proofs.lemmas.Bool.Decides.{Decides-eqb}
 use Rattle.std.proofs.lemmas.Slice.Eq.{bytes_eq-Decides}
@@ -8,7 +8,7 @@ use Rattle.vault_model.specs.Db.{NodeId}
 use Rattle.vault_model.specs.Shape.{EntryRecord}
 use Rattle.vault_model.specs.Tree.{BareDoc, Tree, Trees, beside, id_of, node, none}
 use Rattle.vault_model.specs.Walk.{Walked, slash_joined, name_of, title_of, walk_tree, walk_trees, walked_entry}
-use Rattle.tree_core.specs.Finding.{entry_found, entry_named, first, group_found, group_named, or_else, without_slashes}
+use Rattle.tree_core.specs.Finding.{entry_at, entry_found, entry_named, first, group_found, group_named, has_entry_path, has_group_path, or_else, without_slashes}
 use Rattle.tree_core.specs.Path.{strip_prefix, strip_component, entry_among, entry_in, entry_in_all, group_in, group_in_all, is_exactly}
 use Rattle.tree_core.proofs.Leading.{leading, one_below, path_left}
 
@@ -129,3 +129,51 @@ is_empty (x ∷ xs) b is holds = let none : length (x ∷ xs) ≡ 0 = (Decides-e
 
 pub is_not_empty : (path : List ℕ) (b : Bool) → b ≡ (length path == 0) → b ≡ false → path ≡ [] → ⊥
 is_not_empty path b is fails empty = true≢false (sym ((Decides-eqb (length path) 0).1 (ap length empty)) ∙ sym is ∙ fails)
+
+-- ---- very paths
+
+own_entries_at : (text : List ℕ) (names : List (List ℕ)) (es : List (NodeId × EntryRecord))
+    → first (entry_at text) (map (walked_entry names) es) ≡ entry_among (rest text names) None es
+own_entries_at text names [] = refl
+own_entries_at text names (e ∷ es) =
+    tested (bytes_eq text (slash_joined (names ++ title_of e.1 ∷ []))) e.0 (first (entry_at text) (map (walked_entry names) es))
+    ∙ ap (λ (b : Bool). cond b (Some e.0) (first (entry_at text) (map (walked_entry names) es))) (path_left [] names (title_of e.1) text ∙ sym (or_none (is_exactly (title_of e.1) (rest text names))))
+    ∙ ap (λ o. cond (is_exactly (title_of e.1) (rest text names) || false) (Some e.0) o) (own_entries_at text names es)
+  where
+    or_none : (b : Bool) → (b || false) ≡ b
+    or_none true = refl
+    or_none false = refl
+
+mutual
+  entries_at : (text : List ℕ) (names : List (List ℕ)) (t : Tree)
+      → first (entry_at text) (walk_tree names t) ≡ entry_in (rest text names) None t
+  entries_at text names (node u r es ts) =
+      passed (bytes_eq text (slash_joined names)) (first (entry_at text) (map (walked_entry names) es ++ walk_trees names ts))
+      ∙ first_append (entry_at text) (map (walked_entry names) es) (walk_trees names ts)
+      ∙ ap (λ o. or_else o (first (entry_at text) (walk_trees names ts))) (own_entries_at text names es)
+      ∙ ap (or_else (entry_among (rest text names) None es)) (all_entries_at text names ts)
+
+  all_entries_at : (text : List ℕ) (names : List (List ℕ)) (ts : Trees)
+      → first (entry_at text) (walk_trees names ts) ≡ entry_in_all (rest text names) None ts
+  all_entries_at text names none = refl
+  all_entries_at text names (beside t ts) =
+      first_append (entry_at text) (walk_tree (names ++ name_of t ∷ []) t) (walk_trees names ts)
+      ∙ ap (λ o. or_else o (first (entry_at text) (walk_trees names ts))) (entries_at text (names ++ name_of t ∷ []) t)
+      ∙ ap (λ (o : Option (List ℕ)). or_else (entry_in o None t) (first (entry_at text) (walk_trees names ts))) (one_below [] names (name_of t) text)
+      ∙ ap (or_else (entry_in (strip_component (name_of t) (rest text names)) None t)) (all_entries_at text names ts)
+
+pub entry_path_by_groups : (doc : BareDoc) (path : List ℕ) → is_some (entry_in (Some path) None doc.tree) ≡ has_entry_path doc path
+unfolding has_entry_path
+entry_path_by_groups doc path = ap is_some (sym (entries_at path [] doc.tree))
+
+pub root_path : (doc : BareDoc) (path : List ℕ) → path ≡ [] → true ≡ has_group_path doc path
+unfolding has_group_path
+root_path doc path empty =
+    ap is_some (sym (groups_walked path [] doc.tree
+    ∙ ap (λ (b : Bool). cond b (Some (id_of doc.tree)) (group_in (Some path) doc.tree)) ((bytes_eq-Decides path []).1 empty)))
+
+pub path_below_root : (doc : BareDoc) (path : List ℕ) → (path ≡ [] → ⊥) → is_some (group_in (Some path) doc.tree) ≡ has_group_path doc path
+unfolding has_group_path
+path_below_root doc path some =
+    ap is_some (sym (groups_walked path [] doc.tree
+    ∙ ap (λ (b : Bool). cond b (Some (id_of doc.tree)) (group_in (Some path) doc.tree)) (is_false (bytes_eq path []) (λ e. some ((bytes_eq-Decides path []).0 e)))))

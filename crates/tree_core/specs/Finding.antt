@@ -1,5 +1,5 @@
 -- Which entry and which group a text names.
-use Rattle.std.specs.Prelude.{ℕ, ◌||◌, ◌==◌, if◌then◌else◌, cond, List, [], ◌∷◌, ◌++◌, codes, Option, None, Some, bytes_eq}
+use Rattle.std.specs.Prelude.{ℕ, Bool, ◌||◌, ◌==◌, if◌then◌else◌, cond, List, [], ◌∷◌, ◌++◌, codes, Option, None, Some, is_some, bytes_eq}
 use Rattle.std.specs.Io.BufRead.{strip_last}
 use Rattle.vault_model.specs.Db.{NodeId}
 use Rattle.vault_model.specs.Tree.{BareDoc}
@@ -51,3 +51,15 @@ group_named text w = cond (bytes_eq text w.path) (group_id w.found) None
 -- root's path.
 unfoldable pub group_found : BareDoc → List ℕ → Option NodeId
 group_found doc text = first (group_named (without_slashes text)) (walk doc)
+
+-- an entry whose path is a text
+abbrev pub entry_at : List ℕ → Walked → Option NodeId
+entry_at text w = cond (bytes_eq text w.path) (entry_id w.found) None
+
+-- some entry has this very path
+unfoldable pub has_entry_path : BareDoc → List ℕ → Bool
+has_entry_path doc path = is_some (first (entry_at path) (walk doc))
+
+-- some group has this very path; the root's is empty
+unfoldable pub has_group_path : BareDoc → List ℕ → Bool
+has_group_path doc path = is_some (first (group_named path) (walk doc))

@@ -4,7 +4,7 @@ ghost use Rattle.std.specs.Prelude.{◌≡◌, Some, map, option_map};
 ghost use Rattle.vault_model.specs.SeenDoc.{doc_seen};
 ghost use Rattle.vault_model.specs.SeenNodes.{entry_record, entry_row, tree_seen};
 ghost use Rattle.vault_model.specs.Walk.{title_of};
-ghost use Rattle.tree_core.specs.Finding.{entry_found, group_found};
+ghost use Rattle.tree_core.specs.Finding.{entry_found, group_found, has_entry_path, has_group_path};
 ghost use Rattle.tree_core.specs.Path as spec;
 
 use crate::path::{is_exactly, strip_component, strip_prefix, without_slashes};
@@ -92,9 +92,30 @@ pub fn find_entry(doc: &Doc, path: &str) -> Option<Uuid>
 pub fn find_group(doc: &Doc, path: &str) -> Option<Uuid>
     ensures { result ≡ group_found (doc_seen doc.now) path.now }
 {
-    let path = without_slashes(path.as_bytes());
+    find_group_of(doc, path.as_bytes())
+}
+
+/// The group that a path names which is given as bytes. Takes no memory.
+pub fn find_group_of(doc: &Doc, path: &[u8]) -> Option<Uuid>
+    ensures { result ≡ group_found (doc_seen doc.now) path.now }
+{
+    let path = without_slashes(path);
     if path.is_empty() {
         return Some(doc.root.id);
     }
     group_in(&doc.root, Some(path))
+}
+
+/// Reports whether an entry has this very path. Takes no memory.
+pub fn is_entry_path(doc: &Doc, path: &[u8]) -> bool
+    ensures { result ≡ has_entry_path (doc_seen doc.now) path.now }
+{
+    entry_in(&doc.root, Some(path), None).is_some()
+}
+
+/// Reports whether a group has this very path; the root's is empty. Takes no memory.
+pub fn is_group_path(doc: &Doc, path: &[u8]) -> bool
+    ensures { result ≡ has_group_path (doc_seen doc.now) path.now }
+{
+    path.is_empty() || group_in(&doc.root, Some(path)).is_some()
 }

@@ -29,8 +29,8 @@ pub(crate) fn is_exactly(name: &[u8], rest: Option<&[u8]>) -> bool
     }
 }
 
-// A text without one slash at its start and one at its end.
-pub(crate) fn without_slashes(text: &[u8]) -> &[u8]
+/// A text without one slash at its start and one at its end.
+pub fn without_slashes(text: &[u8]) -> &[u8]
     ensures { result.now ≡ named.without_slashes text.now }
 {
     let text = match text {

@@ -1,0 +1,15 @@
+pub mod Added
+pub mod Around
+pub mod Binds
+pub mod Changed
+pub mod Counted
+pub mod Edited
+pub mod EntriesMoved
+pub mod EntriesRemoved
+pub mod GroupDocs
+pub mod GroupMoves
+pub mod Holders
+pub mod Named
+pub mod Options
+pub mod Rows
+pub mod Ways

@@ -1,0 +1,59 @@
+-- What a path names is in the tree.
+use Rattle.std.proofs.Common.{◌≡◌, Bool, true, false, cond, ◌||◌, inl, inr, List, [], ◌∷◌, ◌++◌, Option, None, Some, map, is_some, find, refl, sym, ap, ◌∙◌}
+use Rattle.std.specs.Prelude.{ℕ, bytes_eq, codes}
+use Rattle.std.proofs.lemmas.Option.{same_Some}
+use Rattle.vault_model.specs.Db.{NodeId}
+use Rattle.vault_model.specs.Join.{is_id}
+use Rattle.vault_model.specs.Shape.{EntryRecord}
+use Rattle.vault_model.specs.Tree.{BareDoc, Tree, Trees, beside, node, none}
+use Rattle.vault_model.specs.Walk.{Walked, slash_joined, name_of, title_of, walk_tree, walk_trees, walked_entry}
+use Rattle.vault_model.proofs.Ids.{id_itself}
+use Rattle.vault_model.proofs.Tests.{decide, or_left, or_right}
+use Rattle.tree_core.specs.Finding.{first, group_found, group_named, or_else, without_slashes}
+use Rattle.tree_core.proofs.Walks.{first_append}
+use Rattle.tree_changes.specs.Changes.{has_group, have_group}
+use Rattle.tree_changes.proofs.Options.{never}
+
+-- one or the other
+either : {A P : Type 0} (x y : Option A) (a : A) → (x ≡ Some a → P) → (y ≡ Some a → P) → or_else x y ≡ Some a → P
+either None y a f g h = g h
+either (Some x) y a f g h = f h
+
+tested : {A P : Type 0} (b : Bool) (x a : A) → (x ≡ a → P) → cond b (Some x) None ≡ Some a → P
+tested true x a f h = f (same_Some x a h)
+tested false x a f h = never a h
+
+-- an entry is no group
+no_group : (b : Bool) (A : Type 0) (a : NodeId) → cond b None None ≡ Some a → A
+no_group true A a h = never a h
+no_group false A a h = never a h
+
+entries_off : (text : List ℕ) (names : List (List ℕ)) (es : List (NodeId × EntryRecord)) (a : NodeId) (A : Type 0) → first (group_named text) (map (walked_entry names) es) ≡ Some a → A
+entries_off text names [] a A h = never a h
+entries_off text names (e ∷ es) a A h =
+    either (cond (bytes_eq text (slash_joined (names ++ title_of e.1 ∷ []))) None None) (first (group_named text) (map (walked_entry names) es)) a
+    (no_group (bytes_eq text (slash_joined (names ++ title_of e.1 ∷ []))) A a) (entries_off text names es a A) h
+
+mutual
+  named_in : (text : List ℕ) (names : List (List ℕ)) (a : NodeId) (t : Tree) → first (group_named text) (walk_tree names t) ≡ Some a → has_group a t ≡ true
+  named_in text names a (node u r es ts) h =
+      either (cond (bytes_eq text (slash_joined names)) (Some u) None) (first (group_named text) (map (walked_entry names) es ++ walk_trees names ts)) a
+      (tested (bytes_eq text (slash_joined names)) u a (λ same. or_left (is_id u a) (have_group a ts) (ap (is_id u) (sym same) ∙ id_itself u)))
+      (λ k. either (first (group_named text) (map (walked_entry names) es)) (first (group_named text) (walk_trees names ts)) a
+      (entries_off text names es a (has_group a (node u r es ts) ≡ true))
+      (λ m. or_right (is_id u a) (have_group a ts) (named_among text names a ts m))
+      (sym (first_append (group_named text) (map (walked_entry names) es) (walk_trees names ts)) ∙ k))
+      h
+
+  named_among : (text : List ℕ) (names : List (List ℕ)) (a : NodeId) (ts : Trees) → first (group_named text) (walk_trees names ts) ≡ Some a → have_group a ts ≡ true
+  named_among text names a none h = never a h
+  named_among text names a (beside t ts) h =
+      either (first (group_named text) (walk_tree (names ++ name_of t ∷ []) t)) (first (group_named text) (walk_trees names ts)) a
+      (λ k. or_left (has_group a t) (have_group a ts) (named_in text (names ++ name_of t ∷ []) a t k))
+      (λ k. or_right (has_group a t) (have_group a ts) (named_among text names a ts k))
+      (sym (first_append (group_named text) (walk_tree (names ++ name_of t ∷ []) t) (walk_trees names ts)) ∙ h)
+
+-- the group that a path names is in the tree
+pub named_group : (d : BareDoc) (text : List ℕ) (a : NodeId) → group_found d text ≡ Some a → has_group a d.tree ≡ true
+unfolding group_found
+named_group d text a h = named_in (without_slashes text) [] a d.tree h

@@ -1,0 +1,6 @@
+-- Options.
+use Rattle.std.proofs.Common.{◌≡◌, Option, None, Some, true, false, true≢false, is_some, sym, ap, ◌∙◌}
+
+-- nothing is never something
+pub never : {A B : Type 0} (x : A) → None ≡ Some x → B
+never x e = absurd (true≢false (sym (ap is_some e)))

@@ -1,0 +1,6 @@
+pub mod After
+pub mod Changes
+pub mod Histories
+pub mod InOrder
+pub mod NewNodes
+pub mod NewPaths

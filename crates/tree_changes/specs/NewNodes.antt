@@ -1,0 +1,131 @@
+-- New entries and groups, and entries with other values.
+use Rattle.std.specs.Prelude.{ℕ, Bool, true, false, List, [], ◌∷◌, codes, Option, None, Some}
+use Rattle.std.specs.Borrow.{Bor}
+use Rattle.std.specs.Option.{option_map, unwrap_or}
+use Rattle.vault_model.specs.declared.contents.Tri.TheVariants.{No}
+use Rattle.vault_model.specs.declared.metas.Protection.{Protection}
+use Rattle.vault_model.specs.Bare.{BareContent, BareField}
+use Rattle.vault_model.specs.Db.{NodeId, nil_id}
+use Rattle.vault_model.specs.Empty.{new_group}
+use Rattle.vault_model.specs.Orders.{bytes_cmp}
+use Rattle.vault_model.specs.Shape.{BareVersion, EntryRecord, GroupRecord}
+use Rattle.vault_model.specs.Tree.{Tree, node, none}
+use Rattle.tree_changes.specs.declared.values.Values.{Values}
+use Rattle.tree_changes.specs.InOrder.{put_in_order}
+
+-- The values that an entry is given, each where it is given.
+pub record GivenValues : Type 0 where
+  pub title : Option (List ℕ)
+  pub user : Option (List ℕ)
+  pub password : Option (List ℕ)
+  pub url : Option (List ℕ)
+  pub notes : Option (List ℕ)
+
+-- a value that is lent
+abbrev pub lent : Option (Bor (List ℕ)) → Option (List ℕ)
+lent = option_map (λ value. value.now)
+
+-- the values that a call is given
+abbrev pub given : Values → GivenValues
+given v = record {
+  title = lent v.title;
+  user = lent v.user;
+  password = lent v.password;
+  url = lent v.url;
+  notes = lent v.notes;
+}
+
+-- ---- a new entry
+
+-- a field, and whether its value is hidden
+abbrev pub field : List ℕ → List ℕ → Bool → BareField
+field key value hidden = record { key = key; value = value; hidden = hidden }
+
+-- the five fields of every new entry, by rising key; a value that is not given is empty
+abbrev pub new_fields : Protection → List ℕ → GivenValues → List BareField
+new_fields p title v =
+    field (codes "Notes") (unwrap_or v.notes []) p.notes
+    ∷ field (codes "Password") (unwrap_or v.password []) p.password
+    ∷ field (codes "Title") title p.title
+    ∷ field (codes "URL") (unwrap_or v.url []) p.url
+    ∷ field (codes "UserName") (unwrap_or v.user []) p.user ∷ []
+
+-- what a new entry says that has these fields
+abbrev pub new_content : List BareField → ℕ → BareContent
+new_content fields now = record {
+  created = now;
+  expiry = now;
+  expires = false;
+  icon = 0;
+  custom_icon = None;
+  fields = fields;
+  attachments = [];
+  tags = [];
+  fore = [];
+  back = [];
+  url_override = [];
+  auto_type = record { enabled = true; obfuscation = 0; sequence = []; pairs = [] };
+  items = [];
+  quality = true;
+}
+
+-- an entry with one version, all of whose times are now, and which was in no other group
+abbrev pub new_entry : List BareField → ℕ → EntryRecord
+new_entry fields now = record {
+  placed = now;
+  previous = nil_id;
+  current = record {
+    mark = record { modified = now; content = new_content fields now };
+    stats = record { accessed = now; usage = 0 };
+  };
+  history = [];
+}
+
+-- ---- an entry with other values
+
+-- fields with another value of a key; a field that was not there is put in its place by rising key,
+-- and is hidden or not as it is said
+abbrev pub with_value : List ℕ → Bool → List ℕ → List BareField → List BareField
+with_value key hidden value fields = put_in_order (λ (f : BareField). bytes_cmp key f.key)
+    (field key value hidden) (λ (f : BareField). record f { value = value }) fields
+
+-- the same where a value is given
+abbrev pub with_given : List ℕ → Bool → Option (List ℕ) → List BareField → List BareField
+with_given key hidden None fields = fields
+with_given key hidden (Some value) fields = with_value key hidden value fields
+
+-- fields with all values that are given
+abbrev pub edited_fields : Protection → GivenValues → List BareField → List BareField
+edited_fields p v fields =
+    with_given (codes "UserName") p.user v.user (with_given (codes "URL") p.url v.url
+    (with_given (codes "Title") p.title v.title (with_given (codes "Password") p.password v.password
+    (with_given (codes "Notes") p.notes v.notes fields))))
+
+-- a version with the values that are given, made and looked at then, and used as often as before
+abbrev pub edited_version : Protection → GivenValues → ℕ → BareVersion → BareVersion
+edited_version p v time old = record {
+  mark = record {
+    modified = time;
+    content = record old.mark.content { fields = edited_fields p v old.mark.content.fields };
+  };
+  stats = record { accessed = time; usage = old.stats.usage };
+}
+
+-- ---- new groups
+
+-- a new group of this name, with nothing in it
+abbrev pub empty_group : NodeId → List ℕ → ℕ → Tree
+empty_group id name now = node id (new_group name now) [] none
+
+-- a new group as the bin: of an icon and a name of its own, into whose entries nothing is typed and
+-- in which nothing is searched
+abbrev pub as_bin : GroupRecord → GroupRecord
+as_bin g = record g {
+  state = record g.state {
+    content = record g.state.content { icon = 43; auto_type = No; searching = No };
+  };
+}
+
+-- a new bin, with nothing in it
+abbrev pub empty_bin : NodeId → ℕ → Tree
+empty_bin id now = node id (as_bin (new_group (codes "Recycle Bin") now)) [] none

@@ -1,0 +1,48 @@
+//! Why a document is not changed, and what became of a node that is removed.
+
+ghost use Rattle.std.specs.Prelude.{◌≡◌};
+ghost use Rattle.tree_changes.specs.declared.fails.TreeFail.TheVariants as fail;
+
+use outside_core::NoMemory;
+use uuid::Uuid;
+
+/// Why a document is not changed. Where several hold, the first of this list is the answer; want of
+/// memory may come in the place of any.
+#[derive(Clone, Copy)]
+pub enum TreeFail {
+    /// A path, or the part of it that must name a group, names nothing.
+    NoSuchPath,
+    /// The path of the new node is another's already.
+    NameTaken,
+    /// The node is in that group already.
+    AlreadyThere,
+    /// The root can neither be moved nor removed.
+    RootFixed,
+    /// The group of this id would be moved into itself.
+    IntoItself(Uuid),
+    /// A group would be below the last level.
+    TooDeep,
+    /// This id is nil, a node's, or that of a node that was deleted.
+    IdTaken(Uuid),
+    /// This time, in seconds, is after the year 9999.
+    StampLimit(u64),
+    /// Memory ran out.
+    NoMemory,
+}
+
+impl From<NoMemory> for TreeFail {
+    ghost from_gives = { λ _ e. e ≡ fail.NoMemory };
+
+    fn from(_none: NoMemory) -> TreeFail {
+        TreeFail::NoMemory
+    }
+}
+
+/// What became of a node that is removed.
+#[derive(Clone, Copy)]
+pub enum Removed {
+    /// It is in the bin.
+    Recycled,
+    /// It is gone.
+    Deleted,
+}

@@ -1,0 +1,9 @@
+pub mod AddedDoc
+pub mod AfterAdd
+pub mod AfterEdit
+pub mod EditedDoc
+pub mod Suffixes
+pub mod Places
+pub mod Proper
+pub mod RisingVersions
+pub mod Rooms

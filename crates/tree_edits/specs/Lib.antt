@@ -1,0 +1,4 @@
+pub mod Rooms
+pub mod Spots
+pub mod Texts
+pub mod Versions

@@ -1,0 +1,153 @@
+//! Entries edited.
+
+ghost use Rattle.std.specs.Prelude.{◌≡◌, IfOk, IfSome, OnOk, map, true};
+ghost use Rattle.std.specs.Str.{is_utf8};
+ghost use Rattle.vault_model.specs.Seen.{bare_field};
+ghost use Rattle.vault_model.specs.SeenDoc.{doc_seen};
+ghost use Rattle.vault_model.specs.SeenNodes.{bare_version, entry_record};
+ghost use Rattle.vault_model.specs.Shape.{BareVersion};
+ghost use Rattle.tree_changes.specs.After.{Changes, after_edit};
+ghost use Rattle.tree_changes.specs.Histories.{settled_history, with_version};
+ghost use Rattle.tree_changes.specs.NewNodes as spec;
+
+use crate::fields::set_value;
+use crate::histories::rising_versions;
+use crate::limits::limit_history;
+use crate::texts::values_are_utf8;
+use outside_core::{List, NoMemory};
+use std::alloc::Global;
+use tree_changes::{TreeFail, Values};
+use tree_core::find_entry;
+use tree_steps::{entry_of, holder, set_versions, time_after};
+use vault_making::copy_version;
+use vault_model::{Doc, Entry, Field, Meta, Protection, Stamp, Stats, Version, entry_stamp};
+
+// Gives the field of a key another value, where one is given.
+fn set_given(
+    alloc: Global,
+    fields: &mut List<Field>,
+    key: &str,
+    value: Option<&[u8]>,
+    hidden: bool,
+) -> Result<(), NoMemory>
+    ensures { OnOk result (map bare_field fields.new
+        ≡ spec.with_given key.now hidden (spec.lent value.entry) (map bare_field fields.old)) }
+{
+    match value {
+        Some(value) => set_value(alloc, fields, key, value, hidden),
+        None => Ok(()),
+    }
+}
+
+// The bytes of a text, where it is given.
+fn bytes_of(text: Option<&str>) -> Option<&[u8]>
+    ensures { spec.lent result ≡ spec.lent text.entry }
+{
+    match text {
+        Some(text) => Some(text.as_bytes()),
+        None => None,
+    }
+}
+
+// Gives fields all values that are given.
+fn set_values(
+    alloc: Global,
+    fields: &mut List<Field>,
+    protect: &Protection,
+    values: &Values<'_>,
+) -> Result<(), NoMemory>
+    ensures { OnOk result (map bare_field fields.new
+        ≡ spec.edited_fields protect.now (spec.given values.now) (map bare_field fields.old)) }
+{
+    set_given(
+        alloc,
+        fields,
+        "Notes",
+        bytes_of(values.notes),
+        protect.notes,
+    )?;
+    set_given(alloc, fields, "Password", values.password, protect.password)?;
+    set_given(
+        alloc,
+        fields,
+        "Title",
+        bytes_of(values.title),
+        protect.title,
+    )?;
+    set_given(alloc, fields, "URL", bytes_of(values.url), protect.url)?;
+    set_given(
+        alloc,
+        fields,
+        "UserName",
+        bytes_of(values.user),
+        protect.user,
+    )
+}
+
+// A copy of a version with the values that are given, made at this time.
+fn edited_version(
+    alloc: Global,
+    old: &Version,
+    protect: &Protection,
+    values: &Values<'_>,
+    time: Stamp,
+) -> Result<Version, NoMemory>
+    ensures { IfOk result (λ version. bare_version version
+        ≡ spec.edited_version protect.now (spec.given values.now) time (bare_version old.now)) }
+{
+    let mut version = copy_version(alloc, old)?;
+    set_values(alloc, &mut version.content.fields, protect, values)?;
+    version.modified = time;
+    version.stats = Stats {
+        accessed: time,
+        usage: version.stats.usage,
+    };
+    Ok(version)
+}
+
+// The history of an entry that is edited: all its versions, within the limits.
+fn edited_history(alloc: Global, entry: &Entry, meta: &Meta) -> Result<List<Version>, NoMemory>
+    ensures { IfOk result (λ history. (version : BareVersion) → record (entry_record entry.now) {
+      current = version;
+      history = map bare_version history;
+    } ≡ settled_history meta.now.settings.value.history_items meta.now.settings.value.history_size
+        (with_version version (entry_record entry.now))) }
+{
+    let settings = &meta.settings.value;
+    let mut history = rising_versions(alloc, entry)?;
+    limit_history(&mut history, settings.history_items, settings.history_size);
+    Ok(history)
+}
+
+/// Gives the entry that a path names other values, in a new version that is made now, or a second
+/// after the newest of the others if that is later; the other versions are its history, in rising
+/// order, of which the longest suffix within the limits of the database stays. A field that is new is
+/// hidden as the database says. A refusal changes nothing.
+pub fn edit(
+    alloc: Global,
+    doc: &mut Doc,
+    path: &str,
+    values: &Values<'_>,
+    now: Stamp,
+) -> Result<(), TreeFail>
+    requires { IfSome values.now.password (λ password. is_utf8 password.now ≡ true) }
+    ensures { Changes (after_edit path.now (spec.given values.now) now (doc_seen doc.old)) result
+        (doc_seen doc.old) (doc_seen doc.new) }
+{
+    let Some(id) = find_entry(doc, path) else {
+        return Err(TreeFail::NoSuchPath);
+    };
+    let Some(group) = holder(&doc.root, id) else {
+        return Err(TreeFail::NoSuchPath);
+    };
+    let Some(entry) = entry_of(&doc.root, group, id) else {
+        return Err(TreeFail::NoSuchPath);
+    };
+    let time = time_after(now, entry_stamp(entry))?;
+    values_are_utf8(values);
+    let protect = &doc.meta.settings.value.protect;
+    let current = edited_version(alloc, &entry.current, protect, values, time)?;
+    let history = edited_history(alloc, entry, &doc.meta)?;
+    set_versions(&mut doc.root, group, id, current, history);
+    Ok(())
+}

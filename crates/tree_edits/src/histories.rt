@@ -1,0 +1,100 @@
+//! The versions of an entry in rising order.
+
+ghost use Rattle.std.specs.Prelude.{◌≡◌, IfOk, OnOk, map};
+ghost use Rattle.vault_model.specs.Db.{mark_cmp};
+ghost use Rattle.vault_model.specs.Join.{stats_join};
+ghost use Rattle.vault_model.specs.SeenNodes.{bare_version, entry_record};
+ghost use Rattle.vault_model.specs.Shape.{BareVersion};
+ghost use Rattle.tree_changes.specs.Histories as spec;
+ghost use Rattle.tree_edits.specs.Versions.{put_version};
+ghost use Rattle.tree_edits.specs.Spots.{changed_nth, spot};
+
+use outside_core::{List, NoMemory};
+use std::alloc::Global;
+use std::cmp::Ordering;
+use vault_making::copy_version;
+use vault_model::{Entry, Stats, Version, compare_content};
+
+// Orders versions by when they were made and then by what they say.
+#[tactic(auto, unfolding(vault_model::specs::Db::mark_cmp))]
+fn compare_marks(one: &Version, other: &Version) -> Ordering
+    ensures { result ≡ mark_cmp (bare_version one.now).mark (bare_version other.now).mark }
+{
+    one.modified
+        .cmp(&other.modified)
+        .then(compare_content(&one.content, &other.content))
+}
+
+// The later access and the greater use.
+fn join_stats(one: Stats, other: Stats) -> Stats
+    ensures { result ≡ stats_join one other }
+{
+    Stats {
+        accessed: one.accessed.max(other.accessed),
+        usage: one.usage.max(other.usage),
+    }
+}
+
+// Where the version of the same mark is, or where a version is to be put.
+fn version_spot(versions: &[Version], version: &Version) -> Result<usize, usize>
+    ensures { result ≡ spot (λ (v : BareVersion). mark_cmp (bare_version version.now).mark v.mark)
+        (map bare_version versions.now) }
+{
+    for (at, other) in versions.iter().enumerate() {
+        match compare_marks(version, other) {
+            Ordering::Less => return Err(at),
+            Ordering::Equal => return Ok(at),
+            Ordering::Greater => {}
+        }
+    }
+    Err(versions.len())
+}
+
+// Joins the stats of the version at an index with others.
+fn join_stats_at(versions: &mut List<Version>, at: usize, stats: Stats)
+    ensures { map bare_version versions.new
+        ≡ changed_nth at (λ (v : BareVersion). record v { stats = stats_join stats v.stats })
+        (map bare_version versions.old) }
+{
+    if let Some(version) = versions.get_mut(at) {
+        version.stats = join_stats(stats, version.stats);
+    }
+}
+
+// Puts a version in its place among versions that rise; of one mark they are made one.
+fn add_version(versions: &mut List<Version>, version: Version) -> Result<(), NoMemory>
+    ensures { OnOk result (map bare_version versions.new
+        ≡ put_version (bare_version version) (map bare_version versions.old)) }
+{
+    match version_spot(versions.as_slice(), &version) {
+        Ok(at) => {
+            join_stats_at(versions, at, version.stats);
+            Ok(())
+        }
+        Err(at) => match versions.insert(at, version) {
+            Ok(()) => Ok(()),
+            Err(_) => Err(NoMemory),
+        },
+    }
+}
+
+// Puts a copy of a version in its place.
+fn add_copy(alloc: Global, versions: &mut List<Version>, version: &Version) -> Result<(), NoMemory>
+    ensures { OnOk result (map bare_version versions.new
+        ≡ put_version (bare_version version.now) (map bare_version versions.old)) }
+{
+    add_version(versions, copy_version(alloc, version)?)
+}
+
+/// Copies of all versions of an entry in rising order; those of one mark are one.
+pub(crate) fn rising_versions(alloc: Global, entry: &Entry) -> Result<List<Version>, NoMemory>
+    ensures { IfOk result (λ versions. map bare_version versions
+        ≡ spec.rising_versions (entry_record entry.now)) }
+{
+    let mut rising = List::new(alloc);
+    for version in entry.history.as_slice() {
+        add_copy(alloc, &mut rising, version)?;
+    }
+    add_copy(alloc, &mut rising, &entry.current)?;
+    Ok(rising)
+}

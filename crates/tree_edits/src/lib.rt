@@ -1,0 +1,14 @@
+//! Entries added and edited, and histories kept within their limits.
+#![tactic(auto)]
+
+mod adding;
+mod editing;
+mod fields;
+mod histories;
+mod limits;
+mod new_entries;
+mod texts;
+
+pub use adding::add;
+pub use editing::edit;
+pub use limits::settle_history;

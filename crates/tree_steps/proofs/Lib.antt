@@ -1,0 +1,4 @@
+pub mod ChangedEntries
+pub mod Holds
+pub mod InPlace
+pub mod Texts
