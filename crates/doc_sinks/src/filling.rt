@@ -30,7 +30,11 @@ impl TextSink for TextFiller {
     ghost State = { Filled };
 
     ghost state = { λ f. record {
-        bytes = f.text.bytes; spare = f.text.spare; key = keystream f.stream; offset = f.offset } };
+      bytes = f.text.bytes;
+      spare = f.text.spare;
+      key = keystream f.stream;
+      offset = f.offset;
+    } };
 
     ghost step = { filled };
 

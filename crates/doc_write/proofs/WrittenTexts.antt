@@ -55,7 +55,6 @@ is_not_more a b h = grind (arith, nat_tests)
 -- ---- what writing gives
 
 module _ (form : DocForm) (k : Keystream) (hash : Option (List ℕ)) (d : BareDoc) where
-
   pub too_many : (n : ℕ) → n ≡ min (0 + tree_nodes d.tree) 18446744073709551615 → 262144 < n → written form k hash d ≡ Err (TooMany n)
   too_many n e more =
       let past : nat_lt 262144 (tree_nodes d.tree) ≡ true = is_more 262144 (tree_nodes d.tree) (omega (arith, e)) in
@@ -74,7 +73,6 @@ module _ (form : DocForm) (k : Keystream) (hash : Option (List ℕ)) (d : BareDo
       (all : nodes ≡ min (0 + tree_nodes d.tree) 18446744073709551615) (most : nodes ≤ 262144)
       (count : n ≡ put counted (counted 0 (plain front_text)) (file_piece form hash pool d))
       (beside : apart ≡ min (pool_len form pool) 18446744073709551615) (sum : len ≡ min (n + apart) 18446744073709551615) where
-
     total : len ≡ saturated (written_len form k hash d)
     total =
         let one = count_whole n (file_piece form hash (pool_of d) d) (rw own at count) in
@@ -88,7 +86,6 @@ module _ (form : DocForm) (k : Keystream) (hash : Option (List ℕ)) (d : BareDo
 
     module _ (within : len ≤ 134086656) (s t : Filled) (empty : s.bytes ≡ []) (room : s.spare ≡ n) (start : s.offset ≡ 0) (key : s.key ≡ k)
         (end : t ≡ put filled (filled s (plain front_text)) (file_piece form hash pool d)) where
-
       filled_whole : t ≡ with_all s (whole (file_piece form hash (pool_of d) d))
       filled_whole =
           let one = count_whole n (file_piece form hash (pool_of d) d) (rw own at count) in
