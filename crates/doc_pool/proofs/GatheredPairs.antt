@@ -182,7 +182,6 @@ taken xs i item below here = ap (λ (n : ℕ). take n xs) (add-one i) ∙ take-s
 
 module _ {A B : Type 0} (a b c : BTreeMap Pair ℕ) (x y z : List PoolItem) (g : A → B) (xs : List A) (i : ℕ) (item : A)
     (below : i < length xs) (here : item ≡ get_or xs i item) where
-
   -- one more item of which each gives pairs
   pub gathers_more : (f : B → List PoolPair) → Gathers a x b y (flat_map f (map g (take i xs))) → Gathers b y c z (f (g item))
       → Gathers a x c z (flat_map f (map g (take (i + 1) xs)))

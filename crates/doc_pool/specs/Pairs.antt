@@ -16,6 +16,7 @@ pool_pair p = (p.bytes.now, p.hidden)
 unfoldable pub pool_pair_cmp : PoolPair → PoolPair → Ordering
 pool_pair_cmp = pair_cmp bytes_cmp bool_cmp
 
+-- a total order
 pub pool_pair_total : IsTotalOrder pool_pair_cmp
 unfolding pool_pair_cmp
 pool_pair_total = then_total (on_total {J = List ℕ} (λ (p : PoolPair). p.0) nat_list_cmp_total)

@@ -4,7 +4,7 @@ use Rattle.std.proofs.Math.Seq.{drop-cons}
 use Rattle.std.proofs.lemmas.List.{drop_all}
 use Rattle.std.specs.Prelude.{codes, flat_map}
 use Rattle.doc_sinks.specs.Chunks.{Chunk, plain, hidden, attribute_chunks, start_chunks, end_chunks, chunks, chunks_all}
-use Rattle.doc_sinks.specs.States.{after, begun, ended, put, put_all}
+use Rattle.doc_sinks.specs.States.{after, after_start_tag, after_end_tag, put, put_all}
 use Rattle.doc_spelling.specs.Pieces.{Piece, Pieces, leaf, secret, box, none, beside, ◌▹◌, ◌▹▹◌, pieces_of, protected_attribute}
 use Rattle.markup_grammar.specs.Escapes.{escaped}
 
@@ -16,8 +16,8 @@ after_append step s [] ys = refl
 after_append step s (x ∷ xs) ys = after_append step (step s x) xs ys
 
 put_box : {S : Type 0} (step : S → Chunk → S) (s : S) (name : List ℕ) (ps : Pieces)
-    → put step s (box name ps) ≡ ended step (put_all step (begun step s name []) ps) name
-unfolding put put_all begun ended
+    → put step s (box name ps) ≡ after_end_tag step (put_all step (after_start_tag step s name []) ps) name
+unfolding put put_all after_start_tag after_end_tag
 put_box step s name ps =
     after_append step s (start_chunks name []) (chunks_all ps ++ end_chunks name)
     ∙ after_append step (after step s (start_chunks name [])) (chunks_all ps) (end_chunks name)
@@ -40,36 +40,36 @@ put_joined step s (beside p ps) more =
 
 pub begun_by : {S : Type 0} {t : S} (step : S → Chunk → S) (s : S) (name : List ℕ) (attributes : Attributes)
     → t ≡ step (after step (step (step s (plain (codes "<"))) (plain name)) (flat_map attribute_chunks attributes)) (plain (codes ">"))
-    → t ≡ begun step s name attributes
-unfolding begun
+    → t ≡ after_start_tag step s name attributes
+unfolding after_start_tag
 begun_by step s name attributes e =
     e ∙ sym (after_append step (step (step s (plain (codes "<"))) (plain name)) (flat_map attribute_chunks attributes) (plain (codes ">") ∷ []))
 
 held : {S : Type 0} (step : S → Chunk → S) (s : S) (name : List ℕ) (attributes : Attributes) (c : Chunk)
-    → ended step (step (begun step s name attributes) c) name ≡ after step s (start_chunks name attributes ++ (c ∷ end_chunks name))
-unfolding begun ended
+    → after_end_tag step (step (after_start_tag step s name attributes) c) name ≡ after step s (start_chunks name attributes ++ (c ∷ end_chunks name))
+unfolding after_start_tag after_end_tag
 held step s name attributes c = sym (after_append step s (start_chunks name attributes) (c ∷ end_chunks name))
 
 pub leaf_put : {S : Type 0} {a b t : S} (step : S → Chunk → S) (s : S) (name : List ℕ) (attributes : Attributes) (text : List ℕ)
-    → a ≡ begun step s name attributes → b ≡ step a (plain (escaped text)) → t ≡ ended step b name
+    → a ≡ after_start_tag step s name attributes → b ≡ step a (plain (escaped text)) → t ≡ after_end_tag step b name
     → t ≡ put step s (leaf name attributes text)
 unfolding put
 leaf_put step s name attributes text start one end =
-    end ∙ ap (λ x. ended step x name) (one ∙ ap (λ x. step x (plain (escaped text))) start) ∙ held step s name attributes (plain (escaped text))
+    end ∙ ap (λ x. after_end_tag step x name) (one ∙ ap (λ x. step x (plain (escaped text))) start) ∙ held step s name attributes (plain (escaped text))
 
 pub secret_put : {S : Type 0} {a b t : S} (step : S → Chunk → S) (s : S) (name : List ℕ) (attributes : Attributes) (bytes : List ℕ)
-    → a ≡ begun step s name (attributes ++ protected_attribute ∷ []) → b ≡ step a (hidden bytes) → t ≡ ended step b name
+    → a ≡ after_start_tag step s name (attributes ++ protected_attribute ∷ []) → b ≡ step a (hidden bytes) → t ≡ after_end_tag step b name
     → t ≡ put step s (secret name attributes bytes)
 unfolding put
 secret_put step s name attributes bytes start one end =
-    end ∙ ap (λ x. ended step x name) (one ∙ ap (λ x. step x (hidden bytes)) start) ∙ held step s name (attributes ++ protected_attribute ∷ []) (hidden bytes)
+    end ∙ ap (λ x. after_end_tag step x name) (one ∙ ap (λ x. step x (hidden bytes)) start) ∙ held step s name (attributes ++ protected_attribute ∷ []) (hidden bytes)
 
 -- ---- an element's calls one after another: its start tag, its elements, its end tag
 
 pub boxed : {S : Type 0} {a b t : S} (step : S → Chunk → S) (s : S) (name : List ℕ) (ps : Pieces)
-    → a ≡ begun step s name [] → b ≡ put_all step a ps → t ≡ ended step b name → t ≡ put step s (box name ps)
+    → a ≡ after_start_tag step s name [] → b ≡ put_all step a ps → t ≡ after_end_tag step b name → t ≡ put step s (box name ps)
 boxed step s name ps start within end =
-    end ∙ ap (λ x. ended step x name) (within ∙ ap (λ x. put_all step x ps) start) ∙ sym (put_box step s name ps)
+    end ∙ ap (λ x. after_end_tag step x name) (within ∙ ap (λ x. put_all step x ps) start) ∙ sym (put_box step s name ps)
 
 pub first : {S : Type 0} {a t : S} (step : S → Chunk → S) (s : S) (p : Piece) (ps : Pieces)
     → a ≡ put step s p → t ≡ put_all step a ps → t ≡ put_all step s (beside p ps)

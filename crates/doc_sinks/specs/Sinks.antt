@@ -16,12 +16,12 @@ chunk_len (plain bytes) = length bytes
 chunk_len (hidden bytes) = coded_len (length bytes)
 
 -- a count with those of a chunk; the last number of 64 bits stands for every larger one
-abbrev pub counted : ℕ → Chunk → ℕ
-counted n c = min (n + chunk_len c) 18446744073709551615
+abbrev pub count_with : ℕ → Chunk → ℕ
+count_with n c = min (n + chunk_len c) 18446744073709551615
 
 -- A text that is being written: its bytes, the room after them, the keystream, and the offset of
 -- the keystream's next byte.
-pub record Filled : Type 0 where
+pub record TextState : Type 0 where
   pub bytes : List ℕ
   pub spare : ℕ
   pub key : Keystream
@@ -29,8 +29,8 @@ pub record Filled : Type 0 where
 
 -- a text with a chunk after it; one for which there is no room, or too little of the keystream, is
 -- left out
-unfoldable pub filled : Filled → Chunk → Filled
-filled s (plain bytes) =
+unfoldable pub with_chunk : TextState → Chunk → TextState
+with_chunk s (plain bytes) =
     if nat_le (length bytes) s.spare
     then record {
       bytes = s.bytes ++ bytes;
@@ -39,7 +39,7 @@ filled s (plain bytes) =
       offset = s.offset;
     }
     else s
-filled s (hidden bytes) =
+with_chunk s (hidden bytes) =
     if nat_le (coded_len (length bytes)) s.spare && nat_le (s.offset + length bytes) (2 ^ 38)
     then record {
       bytes = s.bytes ++ hidden_text s.key s.offset bytes;

@@ -9,12 +9,12 @@ after step s [] = s
 after step s (c ∷ cs) = after step (step s c) cs
 
 -- after a start tag
-unfoldable pub begun : {S : Type 0} → (S → Chunk → S) → S → List ℕ → List (List ℕ × List ℕ) → S
-begun step s name attributes = after step s (start_chunks name attributes)
+unfoldable pub after_start_tag : {S : Type 0} → (S → Chunk → S) → S → List ℕ → List (List ℕ × List ℕ) → S
+after_start_tag step s name attributes = after step s (start_chunks name attributes)
 
 -- after an end tag
-unfoldable pub ended : {S : Type 0} → (S → Chunk → S) → S → List ℕ → S
-ended step s name = after step s (end_chunks name)
+unfoldable pub after_end_tag : {S : Type 0} → (S → Chunk → S) → S → List ℕ → S
+after_end_tag step s name = after step s (end_chunks name)
 
 -- after an element
 unfoldable pub put : {S : Type 0} → (S → Chunk → S) → S → Piece → S

@@ -1,7 +1,7 @@
 //! The sink that counts.
 
 ghost use Rattle.std.specs.Prelude.{ℕ};
-ghost use Rattle.doc_sinks.specs.Sinks.{counted};
+ghost use Rattle.doc_sinks.specs.Sinks.{count_with};
 
 use crate::coding::coded_len;
 use crate::sink::TextSink;
@@ -18,7 +18,7 @@ impl TextSink for TextCounter {
 
     ghost state = { λ counter. counter.len };
 
-    ghost step = { counted };
+    ghost step = { count_with };
 
     fn put(&mut self, bytes: &[u8]) {
         self.len = self.len.saturating_add(bytes.len());

@@ -2,7 +2,7 @@
 
 ghost use Rattle.std.specs.Prelude.{◌≡◌, [], ◌∷◌, ◌++◌, true};
 ghost use Rattle.doc_sinks.specs.Attributes.{attributes};
-ghost use Rattle.doc_sinks.specs.States.{begun, ended, put};
+ghost use Rattle.doc_sinks.specs.States.{after_start_tag, after_end_tag, put};
 ghost use Rattle.doc_spelling.specs.Pieces.{base64_piece, leaf, protected_attribute, secret};
 ghost use Rattle.doc_spelling.specs.Ranges.{are_bytes};
 
@@ -11,7 +11,7 @@ use crate::sink::TextSink;
 
 /// Puts a start tag.
 pub fn open<O: TextSink>(out: &mut O, name: &str, mark: Mark)
-    ensures { O.state out.new ≡ begun O.step (O.state out.old) name.now (attributes mark) }
+    ensures { O.state out.new ≡ after_start_tag O.step (O.state out.old) name.now (attributes mark) }
 {
     out.put(b"<");
     out.put(name.as_bytes());
@@ -22,7 +22,7 @@ pub fn open<O: TextSink>(out: &mut O, name: &str, mark: Mark)
 /// Puts the start tag of an element with hidden bytes.
 fn open_protected<O: TextSink>(out: &mut O, name: &str, mark: Mark)
     ensures { O.state out.new
-        ≡ begun O.step (O.state out.old) name.now (attributes mark ++ protected_attribute ∷ []) }
+        ≡ after_start_tag O.step (O.state out.old) name.now (attributes mark ++ protected_attribute ∷ []) }
 {
     out.put(b"<");
     out.put(name.as_bytes());
@@ -32,9 +32,9 @@ fn open_protected<O: TextSink>(out: &mut O, name: &str, mark: Mark)
 }
 
 /// Puts an end tag.
-#[tactic(auto, unfolding(crate::specs::States::ended))]
+#[tactic(auto, unfolding(crate::specs::States::after_end_tag))]
 pub fn close<O: TextSink>(out: &mut O, name: &str)
-    ensures { O.state out.new ≡ ended O.step (O.state out.old) name.now }
+    ensures { O.state out.new ≡ after_end_tag O.step (O.state out.old) name.now }
 {
     out.put(b"</");
     out.put(name.as_bytes());

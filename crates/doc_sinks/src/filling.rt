@@ -1,7 +1,7 @@
 //! The sink that keeps the text.
 
 ghost use Rattle.std.specs.Prelude.{◌≡◌, ◌<◌, ◌≤◌, ◌^◌};
-ghost use Rattle.doc_sinks.specs.Sinks.{Filled, filled};
+ghost use Rattle.doc_sinks.specs.Sinks.{TextState, with_chunk};
 ghost use Rattle.doc_sinks.specs.StreamOffsets.{is_prop_at};
 ghost use Rattle.stream_core.specs.InnerStream.{IsAt, keystream};
 
@@ -27,35 +27,39 @@ pub struct TextFiller {
 }
 
 impl TextSink for TextFiller {
-    ghost State = { Filled };
+    ghost State = { TextState };
 
     ghost state = { λ f. record {
-        bytes = f.text.bytes; spare = f.text.spare; key = keystream f.stream; offset = f.offset } };
+      bytes = f.text.bytes;
+      spare = f.text.spare;
+      key = keystream f.stream;
+      offset = f.offset;
+    } };
 
-    ghost step = { filled };
+    ghost step = { with_chunk };
 
-    #[tactic(auto, unfolding(crate::specs::Sinks::filled))]
+    #[tactic(auto, unfolding(crate::specs::Sinks::with_chunk))]
     fn put(&mut self, bytes: &[u8]) {
         if bytes.len() <= self.text.spare() {
             self.text.extend(bytes);
         }
     }
 
-    #[tactic(auto, unfolding(crate::specs::Sinks::filled))]
+    #[tactic(auto, unfolding(crate::specs::Sinks::with_chunk))]
     fn put_escaped(&mut self, text: &[u8]) {
         if escaped_bytes_len(text) <= self.text.spare() {
             escape_bytes(text, &mut self.text);
         }
     }
 
-    #[tactic(auto, using(crate::proofs::Base64Groups::coded_length), unfolding(crate::specs::Sinks::filled))]
+    #[tactic(auto, using(crate::proofs::Base64Groups::coded_length), unfolding(crate::specs::Sinks::with_chunk))]
     fn put_coded(&mut self, bytes: &[u8]) {
         if coded_len(bytes.len()) <= self.text.spare() {
             put_base64(&mut self.text, bytes);
         }
     }
 
-    #[tactic(auto, unfolding(crate::specs::Sinks::filled))]
+    #[tactic(auto, unfolding(crate::specs::Sinks::with_chunk))]
     fn put_hidden(&mut self, bytes: &[u8]) {
         let len = bytes.len() as u64;
         if coded_len(bytes.len()) <= self.text.spare() && len <= STREAM - self.offset {

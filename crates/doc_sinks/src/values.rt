@@ -20,7 +20,8 @@ use vault_model::{DocForm, Stamp, Tri, iso_of};
 /// Puts an element with at most 16 bytes in base64.
 fn put_short<O: TextSink>(out: &mut O, name: &str, bytes: &[u8])
     requires { length bytes.now ≤ 16 }
-    ensures puts { O.state out.new ≡ put O.step (O.state out.old) (piece.base64_piece name.now [] bytes.now) }
+    ensures puts { O.state out.new
+        ≡ put O.step (O.state out.old) (piece.base64_piece name.now [] bytes.now) }
     ensures fits { are_bytes bytes.now ≡ true }
 {
     let mut buffer = [0; 24];
@@ -61,7 +62,8 @@ pub fn put_time<O: TextSink>(out: &mut O, form: DocForm, name: &str, stamp: Stam
 
 /// Puts an element with a number.
 pub fn put_number<O: TextSink>(out: &mut O, name: &str, number: u64)
-    ensures puts { O.state out.new ≡ put O.step (O.state out.old) (row.number_piece name.now number) }
+    ensures puts { O.state out.new
+        ≡ put O.step (O.state out.old) (row.number_piece name.now number) }
     ensures fits { fits_u64 number ≡ true }
 {
     let mut buffer = Buffer::new();

@@ -30,21 +30,21 @@ abbrev pub written_len : DocForm → Keystream → Option (List ℕ) → BareDoc
 written_len form k hash d = length (spelled_document form k hash d) + pool_len form (pool_of d)
 
 -- a number, of which the last one of 64 bits stands for every larger one
-abbrev pub saturated : ℕ → ℕ
-saturated n = min n 18446744073709551615
+abbrev pub up_to_u64 : ℕ → ℕ
+up_to_u64 n = min n 18446744073709551615
 
 -- what is written of a document whose text is not too long
 abbrev pub text_or : DocForm → Keystream → Option (List ℕ) → BareDoc → Result (List ℕ) WriteFail
 text_or form k hash d =
     if nat_lt 134086656 (written_len form k hash d)
-    then Err (TooLarge (saturated (written_len form k hash d)))
+    then Err (TooLarge (up_to_u64 (written_len form k hash d)))
     else Ok (spelled_document form k hash d)
 
 -- what is written of a document
-abbrev pub written : DocForm → Keystream → Option (List ℕ) → BareDoc → Result (List ℕ) WriteFail
-written form k hash d =
+abbrev pub write_outcome : DocForm → Keystream → Option (List ℕ) → BareDoc → Result (List ℕ) WriteFail
+write_outcome form k hash d =
     if nat_lt 262144 (tree_nodes d.tree)
-    then Err (TooMany (saturated (tree_nodes d.tree)))
+    then Err (TooMany (up_to_u64 (tree_nodes d.tree)))
     else text_or form k hash d
 
 -- a call returns what is defined; want of memory says nothing

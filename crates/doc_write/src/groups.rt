@@ -34,7 +34,11 @@ fn put_choices<O: TextSink>(out: &mut O, group: &Group)
     ensures fits { is_uuid (group_record group.now).view.top_entry ≡ true }
 {
     put_bool(out, "IsExpanded", group.view.expanded);
-    put_text(out, "DefaultAutoTypeSequence", &group.state.content.sequence);
+    put_text(
+        out,
+        "DefaultAutoTypeSequence",
+        &group.state.content.sequence,
+    );
     put_tri(out, "EnableAutoType", group.state.content.auto_type);
     put_tri(out, "EnableSearching", group.state.content.searching);
     put_id(out, "LastTopVisibleEntry", group.view.top_entry);

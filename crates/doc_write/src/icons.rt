@@ -17,7 +17,8 @@ use vault_model::{DocForm, Icon};
 /// Puts a text, where it is not empty.
 pub(crate) fn put_any_text<O: TextSink>(out: &mut O, name: &str, value: &Text)
     ensures { O.state out.new
-        ≡ put_all O.step (O.state out.old) (piece_if (text_piece name.now) (unless_empty value.now)) }
+        ≡ put_all O.step (O.state out.old)
+        (piece_if (text_piece name.now) (unless_empty value.now)) }
 {
     if value.len() != 0 {
         put_text(out, name, value);

@@ -19,7 +19,9 @@ fn count_entries(count: u64, entries: &[Entry]) -> u64
 {
     let mut count = count;
     for entry in entries {
-        count = count.saturating_add(1).saturating_add(entry.history.len() as u64);
+        count = count
+            .saturating_add(1)
+            .saturating_add(entry.history.len() as u64);
     }
     count
 }

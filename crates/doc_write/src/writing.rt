@@ -3,7 +3,7 @@
 ghost use Rattle.std.specs.Option.{option_copied};
 ghost use Rattle.std.specs.Prelude.{◌≡◌, IfOk};
 ghost use Rattle.doc_spelling.specs.Ranges.{IsWritable};
-ghost use Rattle.doc_write.specs.Written.{Writes, written};
+ghost use Rattle.doc_write.specs.Written.{Writes, write_outcome};
 ghost use Rattle.stream_core.specs.InnerStream.{IsAt, keystream};
 ghost use Rattle.vault_model.specs.SeenDoc.{doc_seen};
 
@@ -62,8 +62,8 @@ pub fn write_doc(
     stream: &mut InnerStream,
 ) -> Result<Secret, WriteFail>
     requires { IsAt stream.old 0 }
-    ensures text { Writes result (written form (keystream stream.old) (option_copied header_hash.entry)
-        (doc_seen doc.now)) }
+    ensures text { Writes result (write_outcome form (keystream stream.old)
+        (option_copied header_hash.entry) (doc_seen doc.now)) }
     ensures spare { IfOk result (λ text. text.spare ≡ 0) }
     ensures writable { IfOk result (λ _. IsWritable (doc_seen doc.now)) }
 {

@@ -8,4 +8,4 @@ use Rattle.doc_write.proofs.attachments.put_fields.Given as goal
 abbrev pub invariant-loop-field : goal.invariant-loop-field
 invariant-loop-field g l =
     put_all g.O.TextSink.step (g.O.TextSink.state l.out) (pieces_of (field_piece l.form) (map bare_field (drop l.field-index l.fields)))
-        ≡ put_all g.O.TextSink.step (g.O.TextSink.state l.initial.out) (pieces_of (field_piece l.form) (map bare_field l.fields))
+    ≡ put_all g.O.TextSink.step (g.O.TextSink.state l.initial.out) (pieces_of (field_piece l.form) (map bare_field l.fields))

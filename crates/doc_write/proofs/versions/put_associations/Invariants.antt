@@ -7,4 +7,4 @@ use Rattle.doc_write.proofs.versions.put_associations.Given as goal
 abbrev pub invariant-loop-pair : goal.invariant-loop-pair
 invariant-loop-pair g l =
     put_all g.O.TextSink.step (g.O.TextSink.state l.out) (pieces_of association_piece (drop l.pair-index l.pairs))
-        ≡ put_all g.O.TextSink.step (g.O.TextSink.state l.initial.out) (pieces_of association_piece l.pairs)
+    ≡ put_all g.O.TextSink.step (g.O.TextSink.state l.initial.out) (pieces_of association_piece l.pairs)
