@@ -10,7 +10,7 @@ use Rattle.doc_spelling.specs.Pieces.{Piece, element_of, hidden_text}
 use Rattle.doc_sinks.proofs.Base64Groups.{coded_length}
 use Rattle.doc_sinks.proofs.Spelling.{spelled_is}
 use Rattle.markup_grammar.specs.Tree as tree
-use Rattle.doc_sinks.specs.States.{after, put}
+use Rattle.doc_sinks.specs.States.{after_chunks, after_piece}
 use Rattle.doc_sinks.specs.Chunks.{Chunk, plain, hidden, chunks, chunk_bytes, chunk_hides, bytes_of, hides}
 use Rattle.doc_sinks.specs.Sinks.{TextState, chunk_len, coded_len, count_with, with_chunk}
 
@@ -33,7 +33,7 @@ length_bytes k p (c ∷ cs) =
 pub min_more : (n a b m : ℕ) → min (min (n + a) m + b) m ≡ min (n + (a + b)) m
 min_more n a b m = omega arith
 
-pub count_after : (n : ℕ) (cs : List Chunk) → n ≤ 18446744073709551615 → after count_with n cs ≡ min (n + len_of cs) 18446744073709551615
+pub count_after : (n : ℕ) (cs : List Chunk) → n ≤ 18446744073709551615 → after_chunks count_with n cs ≡ min (n + len_of cs) 18446744073709551615
 count_after n [] below = omega arith
 count_after n (c ∷ cs) below = count_after (count_with n c) cs (omega arith) ∙ min_more n (chunk_len c) (len_of cs) 18446744073709551615
 
@@ -66,32 +66,32 @@ filled_one s (plain bytes) room left =
 filled_one s (hidden bytes) room left =
     rw (is_le (coded_len (length bytes)) s.spare room, is_le (s.offset + length bytes) (2 ^ 38) left) refl
 
-pub fill_after : (s : TextState) (cs : List Chunk) → len_of cs ≤ s.spare → s.offset + hides cs ≤ 2 ^ 38 → after with_chunk s cs ≡ with_all s cs
+pub fill_after : (s : TextState) (cs : List Chunk) → len_of cs ≤ s.spare → s.offset + hides cs ≤ 2 ^ 38 → after_chunks with_chunk s cs ≡ with_all s cs
 fill_after s [] room left = same_filled s.key s.bytes (s.bytes ++ []) s.spare (s.spare - 0) s.offset (s.offset + 0) (sym (append-nil s.bytes)) (omega arith) (omega arith)
 fill_after s (c ∷ cs) room left =
-    ap (λ x. after with_chunk x cs) (filled_one s c (omega arith) (omega arith))
+    ap (λ x. after_chunks with_chunk x cs) (filled_one s c (omega arith) (omega arith))
     ∙ fill_after (with_one s c) cs (omega arith) (omega arith)
     ∙ same_filled s.key _ _ _ _ _ _
     (append_assoc s.bytes (chunk_bytes s.key s.offset c) (bytes_of s.key (s.offset + chunk_hides c) cs)) (omega arith) (omega arith)
 
 -- ---- the two passes
 
-pub count_put : (n : ℕ) (p : Piece) → n ≡ put count_with 0 p → n ≡ min (len_of (chunks p)) 18446744073709551615
-unfolding put
+pub count_put : (n : ℕ) (p : Piece) → n ≡ after_piece count_with 0 p → n ≡ min (len_of (chunks p)) 18446744073709551615
+unfolding after_piece
 count_put n p e = e ∙ count_after 0 (chunks p) (omega arith) ∙ ap (λ k. min k 18446744073709551615) (omega arith)
 
-pub too_long : (n : ℕ) (k : Keystream) (p : Piece) → n ≡ put count_with 0 p → 2 ^ 38 < n → 2 ^ 38 < length (tree.spelled (element_of k 0 p))
+pub too_long : (n : ℕ) (k : Keystream) (p : Piece) → n ≡ after_piece count_with 0 p → 2 ^ 38 < n → 2 ^ 38 < length (tree.spelled (element_of k 0 p))
 too_long n k p e more = let f = count_put n p e in rw (← spelled_is k 0 p, length_bytes k 0 (chunks p)) (omega (arith, f))
 
-pub fill_put : (n : ℕ) (s t : TextState) (p : Piece) → n ≡ put count_with 0 p → n ≤ 2 ^ 38 → s.spare ≡ n → s.offset ≡ 0 → t ≡ put with_chunk s p → t ≡ with_all s (chunks p)
-unfolding put
+pub fill_put : (n : ℕ) (s t : TextState) (p : Piece) → n ≡ after_piece count_with 0 p → n ≤ 2 ^ 38 → s.spare ≡ n → s.offset ≡ 0 → t ≡ after_piece with_chunk s p → t ≡ with_all s (chunks p)
+unfolding after_piece
 fill_put n s t p e within room start end =
     let f = count_put n p e in
     let same : len_of (chunks p) ≡ n = omega (arith, f) in
     let most = hides_within (chunks p) in
     end ∙ fill_after s (chunks p) (omega (arith, same)) (omega (arith, same, most))
 
-pub fill_bytes : (n : ℕ) (s t : TextState) (p : Piece) → n ≡ put count_with 0 p → n ≤ 2 ^ 38 → s.bytes ≡ [] → s.spare ≡ n → s.offset ≡ 0 → t ≡ put with_chunk s p
+pub fill_bytes : (n : ℕ) (s t : TextState) (p : Piece) → n ≡ after_piece count_with 0 p → n ≤ 2 ^ 38 → s.bytes ≡ [] → s.spare ≡ n → s.offset ≡ 0 → t ≡ after_piece with_chunk s p
     → t.bytes ≡ tree.spelled (element_of s.key 0 p)
 fill_bytes n s t p e within empty room start end =
     ap (λ (x : TextState). x.bytes) (fill_put n s t p e within room start end)
@@ -99,7 +99,7 @@ fill_bytes n s t p e within empty room start end =
     ∙ ap (λ (k : ℕ). bytes_of s.key k (chunks p)) start
     ∙ spelled_is s.key 0 p
 
-pub fill_spare : (n : ℕ) (s t : TextState) (p : Piece) → n ≡ put count_with 0 p → n ≤ 2 ^ 38 → s.spare ≡ n → s.offset ≡ 0 → t ≡ put with_chunk s p → t.spare ≡ 0
+pub fill_spare : (n : ℕ) (s t : TextState) (p : Piece) → n ≡ after_piece count_with 0 p → n ≤ 2 ^ 38 → s.spare ≡ n → s.offset ≡ 0 → t ≡ after_piece with_chunk s p → t.spare ≡ 0
 fill_spare n s t p e within room start end =
     let f = count_put n p e in
     ap (λ (x : TextState). x.spare) (fill_put n s t p e within room start end) ∙ omega (arith, f)

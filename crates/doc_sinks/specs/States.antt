@@ -4,22 +4,23 @@ use Rattle.doc_sinks.specs.Chunks.{Chunk, start_chunks, end_chunks, chunks, chun
 use Rattle.doc_spelling.specs.Pieces.{Piece, Pieces}
 
 -- after some chunks
-abbrev pub after : {S : Type 0} → (S → Chunk → S) → S → List Chunk → S
-after step s [] = s
-after step s (c ∷ cs) = after step (step s c) cs
+abbrev pub after_chunks : {S : Type 0} → (S → Chunk → S) → S → List Chunk → S
+after_chunks step s [] = s
+after_chunks step s (c ∷ cs) = after_chunks step (step s c) cs
 
 -- after a start tag
-unfoldable pub after_start_tag : {S : Type 0} → (S → Chunk → S) → S → List ℕ → List (List ℕ × List ℕ) → S
-after_start_tag step s name attributes = after step s (start_chunks name attributes)
+unfoldable pub after_start_tag : {S : Type 0} → (S → Chunk → S) → S → List ℕ
+    → List (List ℕ × List ℕ) → S
+after_start_tag step s name attributes = after_chunks step s (start_chunks name attributes)
 
 -- after an end tag
 unfoldable pub after_end_tag : {S : Type 0} → (S → Chunk → S) → S → List ℕ → S
-after_end_tag step s name = after step s (end_chunks name)
+after_end_tag step s name = after_chunks step s (end_chunks name)
 
 -- after an element
-unfoldable pub put : {S : Type 0} → (S → Chunk → S) → S → Piece → S
-put step s piece = after step s (chunks piece)
+unfoldable pub after_piece : {S : Type 0} → (S → Chunk → S) → S → Piece → S
+after_piece step s piece = after_chunks step s (chunks piece)
 
 -- after elements side by side
-unfoldable pub put_all : {S : Type 0} → (S → Chunk → S) → S → Pieces → S
-put_all step s pieces = after step s (chunks_all pieces)
+unfoldable pub after_pieces : {S : Type 0} → (S → Chunk → S) → S → Pieces → S
+after_pieces step s pieces = after_chunks step s (chunks_all pieces)

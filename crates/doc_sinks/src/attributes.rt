@@ -3,7 +3,7 @@
 ghost use Rattle.std.specs.Prelude.{◌≡◌, codes, decimal, flat_map};
 ghost use Rattle.doc_sinks.specs.Attributes.{attributes};
 ghost use Rattle.doc_sinks.specs.Chunks.{attribute_chunks};
-ghost use Rattle.doc_sinks.specs.States.{after};
+ghost use Rattle.doc_sinks.specs.States.{after_chunks};
 
 use crate::sink::TextSink;
 use itoa::Buffer;
@@ -26,7 +26,7 @@ pub enum Mark {
 /// Puts an attribute.
 pub(crate) fn put_attribute<O: TextSink>(out: &mut O, name: &str, text: &[u8])
     ensures { O.state out.new
-        ≡ after O.step (O.state out.old) (attribute_chunks (name.now, text.now)) }
+        ≡ after_chunks O.step (O.state out.old) (attribute_chunks (name.now, text.now)) }
 {
     out.put(b" ");
     out.put(name.as_bytes());
@@ -38,7 +38,7 @@ pub(crate) fn put_attribute<O: TextSink>(out: &mut O, name: &str, text: &[u8])
 /// Puts an attribute that is a number.
 fn put_numbered<O: TextSink>(out: &mut O, name: &str, number: u64)
     ensures { O.state out.new
-        ≡ after O.step (O.state out.old) (attribute_chunks (name.now, decimal number)) }
+        ≡ after_chunks O.step (O.state out.old) (attribute_chunks (name.now, decimal number)) }
 {
     let mut buffer = Buffer::new();
     put_attribute(out, name, buffer.format(number).as_bytes());
@@ -47,7 +47,7 @@ fn put_numbered<O: TextSink>(out: &mut O, name: &str, number: u64)
 /// Puts the attributes of an element.
 pub(crate) fn put_attributes<O: TextSink>(out: &mut O, mark: Mark)
     ensures { O.state out.new
-        ≡ after O.step (O.state out.old) (flat_map attribute_chunks (attributes mark)) }
+        ≡ after_chunks O.step (O.state out.old) (flat_map attribute_chunks (attributes mark)) }
 {
     match mark {
         Mark::Unmarked => {}

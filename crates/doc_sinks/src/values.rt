@@ -1,7 +1,7 @@
 //! Elements with one value.
 
 ghost use Rattle.std.specs.Prelude.{◌≡◌, ◌≤◌, [], length, true};
-ghost use Rattle.doc_sinks.specs.States.{put};
+ghost use Rattle.doc_sinks.specs.States.{after_piece};
 ghost use Rattle.doc_spelling.specs.Moments.{iso_at};
 ghost use Rattle.doc_spelling.specs.Pieces as piece;
 ghost use Rattle.doc_spelling.specs.Ranges.{are_bytes, fits_i32, fits_i64, fits_u64, is_stamp, is_uuid};
@@ -21,7 +21,7 @@ use vault_model::{DocForm, Stamp, Tri, iso_of};
 fn put_short<O: TextSink>(out: &mut O, name: &str, bytes: &[u8])
     requires { length bytes.now ≤ 16 }
     ensures puts { O.state out.new
-        ≡ put O.step (O.state out.old) (piece.base64_piece name.now [] bytes.now) }
+        ≡ after_piece O.step (O.state out.old) (piece.base64_piece name.now [] bytes.now) }
     ensures fits { are_bytes bytes.now ≡ true }
 {
     let mut buffer = [0; 24];
@@ -34,7 +34,8 @@ fn put_short<O: TextSink>(out: &mut O, name: &str, bytes: &[u8])
 
 /// Puts an element with an id.
 pub fn put_id<O: TextSink>(out: &mut O, name: &str, id: Uuid)
-    ensures puts { O.state out.new ≡ put O.step (O.state out.old) (row.id_piece name.now id) }
+    ensures puts { O.state out.new
+        ≡ after_piece O.step (O.state out.old) (row.id_piece name.now id) }
     ensures fits { is_uuid id ≡ true }
 {
     put_short(out, name, id.as_bytes());
@@ -50,7 +51,7 @@ fn iso_text(stamp: Stamp) -> [u8; 20]
 /// Puts an element with a time.
 pub fn put_time<O: TextSink>(out: &mut O, form: DocForm, name: &str, stamp: Stamp)
     ensures puts { O.state out.new
-        ≡ put O.step (O.state out.old) (row.time_piece form name.now stamp) }
+        ≡ after_piece O.step (O.state out.old) (row.time_piece form name.now stamp) }
     ensures fits { is_stamp stamp ≡ true }
 {
     let seconds = stamp.seconds();
@@ -63,7 +64,7 @@ pub fn put_time<O: TextSink>(out: &mut O, form: DocForm, name: &str, stamp: Stam
 /// Puts an element with a number.
 pub fn put_number<O: TextSink>(out: &mut O, name: &str, number: u64)
     ensures puts { O.state out.new
-        ≡ put O.step (O.state out.old) (row.number_piece name.now number) }
+        ≡ after_piece O.step (O.state out.old) (row.number_piece name.now number) }
     ensures fits { fits_u64 number ≡ true }
 {
     let mut buffer = Buffer::new();
@@ -73,7 +74,7 @@ pub fn put_number<O: TextSink>(out: &mut O, name: &str, number: u64)
 /// Puts an element with a number of 64 bits that may be below 0.
 pub fn put_signed<O: TextSink>(out: &mut O, name: &str, number: &i64)
     ensures puts { O.state out.new
-        ≡ put O.step (O.state out.old) (row.signed_piece name.now number.now) }
+        ≡ after_piece O.step (O.state out.old) (row.signed_piece name.now number.now) }
     ensures fits { fits_i64 number.now ≡ true }
 {
     let mut buffer = Buffer::new();
@@ -83,7 +84,7 @@ pub fn put_signed<O: TextSink>(out: &mut O, name: &str, number: &i64)
 /// Puts an element with a number of 32 bits that may be below 0.
 pub fn put_small_signed<O: TextSink>(out: &mut O, name: &str, number: &i32)
     ensures puts { O.state out.new
-        ≡ put O.step (O.state out.old) (row.signed_piece name.now number.now) }
+        ≡ after_piece O.step (O.state out.old) (row.signed_piece name.now number.now) }
     ensures fits { fits_i32 number.now ≡ true }
 {
     let mut buffer = Buffer::new();
@@ -92,7 +93,8 @@ pub fn put_small_signed<O: TextSink>(out: &mut O, name: &str, number: &i32)
 
 /// Puts an element with a truth value.
 pub fn put_bool<O: TextSink>(out: &mut O, name: &str, value: bool)
-    ensures { O.state out.new ≡ put O.step (O.state out.old) (row.bool_piece name.now value) }
+    ensures { O.state out.new
+        ≡ after_piece O.step (O.state out.old) (row.bool_piece name.now value) }
 {
     if value {
         put_leaf(out, name, Mark::Unmarked, b"True");
@@ -103,7 +105,8 @@ pub fn put_bool<O: TextSink>(out: &mut O, name: &str, value: bool)
 
 /// Puts an element with a choice that a group may take from its parent.
 pub fn put_tri<O: TextSink>(out: &mut O, name: &str, choice: Tri)
-    ensures { O.state out.new ≡ put O.step (O.state out.old) (row.tri_piece name.now choice) }
+    ensures { O.state out.new
+        ≡ after_piece O.step (O.state out.old) (row.tri_piece name.now choice) }
 {
     match choice {
         Tri::Inherit => put_leaf(out, name, Mark::Unmarked, b"null"),
@@ -114,7 +117,8 @@ pub fn put_tri<O: TextSink>(out: &mut O, name: &str, choice: Tri)
 
 /// Puts an element with a text.
 pub fn put_text<O: TextSink>(out: &mut O, name: &str, text: &Text)
-    ensures { O.state out.new ≡ put O.step (O.state out.old) (piece.text_piece name.now text.now) }
+    ensures { O.state out.new
+        ≡ after_piece O.step (O.state out.old) (piece.text_piece name.now text.now) }
 {
     put_leaf(out, name, Mark::Unmarked, text.as_str().as_bytes());
 }
@@ -129,7 +133,7 @@ pub fn whole(secret: &Secret) -> &[u8]
 /// Puts an element with a value that is hidden when it is shown.
 fn put_hidden_value<O: TextSink>(out: &mut O, form: DocForm, name: &str, value: &[u8])
     ensures { O.state out.new
-        ≡ put O.step (O.state out.old) (row.value_piece form name.now value.now true) }
+        ≡ after_piece O.step (O.state out.old) (row.value_piece form name.now value.now true) }
 {
     match form {
         DocForm::Plain => put_leaf(out, name, Mark::InMemory, value),
@@ -140,7 +144,8 @@ fn put_hidden_value<O: TextSink>(out: &mut O, form: DocForm, name: &str, value: 
 /// Puts an element with a value that may be hidden.
 pub fn put_value<O: TextSink>(out: &mut O, form: DocForm, name: &str, value: &Secret, hidden: bool)
     ensures { O.state out.new
-        ≡ put O.step (O.state out.old) (row.value_piece form name.now value.now.bytes hidden) }
+        ≡ after_piece O.step (O.state out.old)
+        (row.value_piece form name.now value.now.bytes hidden) }
 {
     let value = whole(value);
     if hidden {

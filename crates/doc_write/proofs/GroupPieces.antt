@@ -11,7 +11,7 @@ use Rattle.vault_model.specs.declared.nodes.Group.TheFolds.{fold_out-Group}
 use Rattle.doc_sinks.proofs.Fitting.{both}
 use Rattle.doc_sinks.proofs.Puts.{before, boxed}
 use Rattle.doc_sinks.specs.Chunks.{Chunk}
-use Rattle.doc_sinks.specs.States.{after_start_tag, after_end_tag, put, put_all}
+use Rattle.doc_sinks.specs.States.{after_start_tag, after_end_tag, after_piece, after_pieces}
 use Rattle.doc_spelling.specs.Entries.{entry_piece}
 use Rattle.doc_spelling.specs.Groups.{group_piece, group_pieces, record_pieces}
 use Rattle.doc_spelling.specs.Pieces.{◌▹◌, ◌▹▹◌, pieces_of}
@@ -26,21 +26,21 @@ pieces_below form pool (t ∷ ts) = ap (λ ps. group_piece form pool t ▹ ps) (
 
 pub group_boxed : {S : Type 0} {a b e f t : S} (step : S → Chunk → S) (s : S) (form : DocForm) (pool : List PoolPair) (g : Group) (es : List Entry) (gs : List Group)
     → a ≡ after_start_tag step s (codes "Group") []
-    → b ≡ put_all step a (record_pieces form (group_id g) (group_record g))
+    → b ≡ after_pieces step a (record_pieces form (group_id g) (group_record g))
     → es ≡ (out-Group g).entries
-    → e ≡ put_all step b (pieces_of (entry_piece form pool) (map entry_row es))
+    → e ≡ after_pieces step b (pieces_of (entry_piece form pool) (map entry_row es))
     → gs ≡ (out-Group g).groups
-    → f ≡ put_all step e (pieces_of (group_piece form pool) (map tree_seen gs))
+    → f ≡ after_pieces step e (pieces_of (group_piece form pool) (map tree_seen gs))
     → t ≡ after_end_tag step f (codes "Group")
-    → t ≡ put step s (group_piece form pool (tree_seen g))
+    → t ≡ after_piece step s (group_piece form pool (tree_seen g))
 group_boxed {b = b} {e = e} step s form pool g es gs start own same_entries entries same_groups groups end =
-    let own_entries = entries ∙ ap (λ (l : List Entry). put_all step b (pieces_of (entry_piece form pool) (map entry_row l))) same_entries in
+    let own_entries = entries ∙ ap (λ (l : List Entry). after_pieces step b (pieces_of (entry_piece form pool) (map entry_row l))) same_entries in
     let own_groups =
-    groups ∙ ap (λ (l : List Group). put_all step e (pieces_of (group_piece form pool) (map tree_seen l))) same_groups
-    ∙ ap (λ ps. put_all step e ps) (pieces_below form pool (map tree_seen (out-Group g).groups)) in
+    groups ∙ ap (λ (l : List Group). after_pieces step e (pieces_of (group_piece form pool) (map tree_seen l))) same_groups
+    ∙ ap (λ ps. after_pieces step e ps) (pieces_below form pool (map tree_seen (out-Group g).groups)) in
     let rows = before _ _ _ _ own (before _ _ _ _ own_entries own_groups) in
     boxed _ _ _ _ start rows end
-    ∙ ap (λ x. put step s (group_piece form pool x)) (sym (fold_out-Group Tree tree_step g))
+    ∙ ap (λ x. after_piece step s (group_piece form pool x)) (sym (fold_out-Group Tree tree_step g))
 
 trees_fit : (ts : List Tree) → list_all fits_tree ts ≡ fits_trees (all_trees ts)
 trees_fit [] = refl

@@ -4,17 +4,17 @@ use Rattle.std.proofs.lemmas.Slice.Eq.{bytes_eq-Decides}
 use Rattle.std.specs.Prelude.{bytes_eq}
 use Rattle.doc_sinks.proofs.Puts.{done, one}
 use Rattle.doc_sinks.specs.Chunks.{Chunk}
-use Rattle.doc_sinks.specs.States.{put, put_all}
+use Rattle.doc_sinks.specs.States.{after_piece, after_pieces}
 use Rattle.doc_spelling.specs.Ranges.{are_bytes, is_uuid}
 use Rattle.vault_model.specs.Db.{NodeId, nil_id}
 use Rattle.doc_spelling.specs.Pieces.{Piece, unless_empty, unless_true, unless_zero, unless_nil, piece_if}
 
 -- a thing that is there, and one that is not
 pub put_some : {S A : Type 0} {t : S} (step : S → Chunk → S) (s : S) (f : A → Piece) (o : Option A) (x : A)
-    → o ≡ Some x → t ≡ put step s (f x) → t ≡ put_all step s (piece_if f o)
+    → o ≡ Some x → t ≡ after_piece step s (f x) → t ≡ after_pieces step s (piece_if f o)
 put_some step s f o x e h = rw e (one step s (f x) h)
 
-pub put_no : {S A : Type 0} {s : S} (step : S → Chunk → S) (f : A → Piece) (o : Option A) → o ≡ None → s ≡ put_all step s (piece_if f o)
+pub put_no : {S A : Type 0} {s : S} (step : S → Chunk → S) (f : A → Piece) (o : Option A) → o ≡ None → s ≡ after_pieces step s (piece_if f o)
 put_no step f o e = rw e (done step)
 
 -- which are there

@@ -10,7 +10,7 @@ use Rattle.doc_sinks.proofs.Spelling.{spelled_is}
 use Rattle.doc_sinks.proofs.WholeTexts.{count_after, fill_after, hides_within, len_of, length_bytes, with_all}
 use Rattle.doc_sinks.specs.Chunks.{Chunk, plain, bytes_of, chunks, hides}
 use Rattle.doc_sinks.specs.Sinks.{TextState, count_with, with_chunk}
-use Rattle.doc_sinks.specs.States.{put}
+use Rattle.doc_sinks.specs.States.{after_piece}
 use Rattle.doc_spelling.specs.Documents.{file_piece, spelled_document}
 use Rattle.doc_spelling.specs.Pieces.{Piece, element_of}
 use Rattle.doc_spelling.specs.Pool.{PoolPair, pool_of}
@@ -33,13 +33,13 @@ pub whole_length : (form : DocForm) (k : Keystream) (hash : Option (List ℕ)) (
 whole_length form k hash d =
     ap length (sym (whole_bytes form k hash d)) ∙ length_bytes k 0 (whole (file_piece form hash (pool_of d) d))
 
-count_whole : (n : ℕ) (p : Piece) → n ≡ put count_with (count_with 0 (plain front_text)) p → n ≡ min (len_of (whole p)) 18446744073709551615
-unfolding put
+count_whole : (n : ℕ) (p : Piece) → n ≡ after_piece count_with (count_with 0 (plain front_text)) p → n ≡ min (len_of (whole p)) 18446744073709551615
+unfolding after_piece
 count_whole n p e = e ∙ count_after 0 (whole p) (omega arith) ∙ ap (λ (m : ℕ). min m 18446744073709551615) (omega arith)
 
 fill_whole : (n : ℕ) (s t : TextState) (p : Piece) → n ≡ len_of (whole p) → n ≤ 2 ^ 38 → s.spare ≡ n → s.offset ≡ 0
-    → t ≡ put with_chunk (with_chunk s (plain front_text)) p → t ≡ with_all s (whole p)
-unfolding put
+    → t ≡ after_piece with_chunk (with_chunk s (plain front_text)) p → t ≡ with_all s (whole p)
+unfolding after_piece
 fill_whole n s t p same within room start end =
     let most = hides_within (whole p) in
     end ∙ fill_after s (whole p) (omega (arith, same)) (omega (arith, same, most))
@@ -71,7 +71,7 @@ module _ (form : DocForm) (k : Keystream) (hash : Option (List ℕ)) (d : BareDo
 
   module _ (pool : List PoolPair) (own : pool ≡ pool_of d) (nodes n apart len : ℕ)
       (all : nodes ≡ min (0 + tree_nodes d.tree) 18446744073709551615) (most : nodes ≤ 262144)
-      (count : n ≡ put count_with (count_with 0 (plain front_text)) (file_piece form hash pool d))
+      (count : n ≡ after_piece count_with (count_with 0 (plain front_text)) (file_piece form hash pool d))
       (beside : apart ≡ min (pool_len form pool) 18446744073709551615) (sum : len ≡ min (n + apart) 18446744073709551615) where
     total : len ≡ up_to_u64 (written_len form k hash d)
     total =
@@ -85,7 +85,7 @@ module _ (form : DocForm) (k : Keystream) (hash : Option (List ℕ)) (d : BareDo
         few nodes all most ∙ rw past (ap (λ (m : ℕ). Err (TooLarge m)) (sym total))
 
     module _ (within : len ≤ 134086656) (s t : TextState) (empty : s.bytes ≡ []) (room : s.spare ≡ n) (start : s.offset ≡ 0) (key : s.key ≡ k)
-        (end : t ≡ put with_chunk (with_chunk s (plain front_text)) (file_piece form hash pool d)) where
+        (end : t ≡ after_piece with_chunk (with_chunk s (plain front_text)) (file_piece form hash pool d)) where
       filled_whole : t ≡ with_all s (whole (file_piece form hash (pool_of d) d))
       filled_whole =
           let one = count_whole n (file_piece form hash (pool_of d) d) (rw own at count) in

@@ -41,7 +41,8 @@ text_or form k hash d =
     else Ok (spelled_document form k hash d)
 
 -- what is written of a document
-abbrev pub write_outcome : DocForm → Keystream → Option (List ℕ) → BareDoc → Result (List ℕ) WriteFail
+abbrev pub write_outcome : DocForm → Keystream → Option (List ℕ) → BareDoc
+    → Result (List ℕ) WriteFail
 write_outcome form k hash d =
     if nat_lt 262144 (tree_nodes d.tree)
     then Err (TooMany (up_to_u64 (tree_nodes d.tree)))

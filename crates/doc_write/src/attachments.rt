@@ -2,7 +2,7 @@
 
 ghost use Rattle.std.specs.List.{list_all};
 ghost use Rattle.std.specs.Prelude.{◌≡◌, map, true};
-ghost use Rattle.doc_sinks.specs.States.{put, put_all};
+ghost use Rattle.doc_sinks.specs.States.{after_piece, after_pieces};
 ghost use Rattle.doc_spelling.specs.Entries as row;
 ghost use Rattle.doc_spelling.specs.Pieces.{pieces_of};
 ghost use Rattle.doc_spelling.specs.Ranges.{fits_attachment};
@@ -15,7 +15,7 @@ use vault_model::{Attachment, DocForm, Field};
 /// Puts a field.
 fn put_field<O: TextSink>(out: &mut O, form: DocForm, field: &Field)
     ensures { O.state out.new
-        ≡ put O.step (O.state out.old) (row.field_piece form (bare_field field.now)) }
+        ≡ after_piece O.step (O.state out.old) (row.field_piece form (bare_field field.now)) }
 {
     open(out, "String", Mark::Unmarked);
     put_text(out, "Key", &field.key);
@@ -25,7 +25,7 @@ fn put_field<O: TextSink>(out: &mut O, form: DocForm, field: &Field)
 
 /// Puts fields.
 pub(crate) fn put_fields<O: TextSink>(out: &mut O, form: DocForm, fields: &[Field])
-    ensures { O.state out.new ≡ put_all O.step (O.state out.old)
+    ensures { O.state out.new ≡ after_pieces O.step (O.state out.old)
         (pieces_of (row.field_piece form) (map bare_field fields.now)) }
 {
     for field in fields {
@@ -35,7 +35,7 @@ pub(crate) fn put_fields<O: TextSink>(out: &mut O, form: DocForm, fields: &[Fiel
 
 /// Puts an attachment.
 fn put_attachment<'a, O: TextSink>(out: &mut O, pool: &Pool<'a>, file: &'a Attachment)
-    ensures puts { O.state out.new ≡ put O.step (O.state out.old)
+    ensures puts { O.state out.new ≡ after_piece O.step (O.state out.old)
         (row.attachment_piece pool.now (bare_attachment file.now)) }
     ensures fits { fits_attachment (bare_attachment file.now) ≡ true }
 {
@@ -51,7 +51,7 @@ pub(crate) fn put_attachments<'a, O: TextSink>(
     pool: &Pool<'a>,
     files: &'a [Attachment],
 )
-    ensures puts { O.state out.new ≡ put_all O.step (O.state out.old)
+    ensures puts { O.state out.new ≡ after_pieces O.step (O.state out.old)
         (pieces_of (row.attachment_piece pool.now) (map bare_attachment files.now)) }
     ensures fits { list_all fits_attachment (map bare_attachment files.now) ≡ true }
 {

@@ -4,7 +4,7 @@ ghost use Rattle.std.specs.List.{list_all};
 ghost use Rattle.std.specs.Option.{option_copied};
 ghost use Rattle.std.specs.Prelude.{◌≡◌, ◌&&◌, true};
 ghost use Rattle.doc_sinks.specs.Chunks.{plain};
-ghost use Rattle.doc_sinks.specs.States.{put, put_all};
+ghost use Rattle.doc_sinks.specs.States.{after_piece, after_pieces};
 ghost use Rattle.doc_spelling.specs.Documents as row;
 ghost use Rattle.doc_spelling.specs.Pieces.{pieces_of};
 ghost use Rattle.doc_spelling.specs.Ranges.{fits_doc, fits_tomb, fits_tree};
@@ -20,7 +20,8 @@ use vault_model::{Doc, DocForm, Tombstone};
 
 /// Puts a tombstone.
 fn put_tomb<O: TextSink>(out: &mut O, form: DocForm, tomb: &Tombstone)
-    ensures puts { O.state out.new ≡ put O.step (O.state out.old) (row.tomb_piece form tomb.now) }
+    ensures puts { O.state out.new
+        ≡ after_piece O.step (O.state out.old) (row.tomb_piece form tomb.now) }
     ensures fits { fits_tomb tomb.now ≡ true }
 {
     open(out, "DeletedObject", Mark::Unmarked);
@@ -32,7 +33,7 @@ fn put_tomb<O: TextSink>(out: &mut O, form: DocForm, tomb: &Tombstone)
 /// Puts tombstones.
 fn put_tomb_list<O: TextSink>(out: &mut O, form: DocForm, tombs: &[Tombstone])
     ensures puts { O.state out.new
-        ≡ put_all O.step (O.state out.old) (pieces_of (row.tomb_piece form) tombs.now) }
+        ≡ after_pieces O.step (O.state out.old) (pieces_of (row.tomb_piece form) tombs.now) }
     ensures fits { list_all fits_tomb tombs.now ≡ true }
 {
     for tomb in tombs {
@@ -42,7 +43,8 @@ fn put_tomb_list<O: TextSink>(out: &mut O, form: DocForm, tombs: &[Tombstone])
 
 /// Puts `DeletedObjects`.
 fn put_tombs<O: TextSink>(out: &mut O, form: DocForm, tombs: &[Tombstone])
-    ensures puts { O.state out.new ≡ put O.step (O.state out.old) (row.tombs_piece form tombs.now) }
+    ensures puts { O.state out.new
+        ≡ after_piece O.step (O.state out.old) (row.tombs_piece form tombs.now) }
     ensures fits { list_all fits_tomb tombs.now ≡ true }
 {
     open(out, "DeletedObjects", Mark::Unmarked);
@@ -53,7 +55,7 @@ fn put_tombs<O: TextSink>(out: &mut O, form: DocForm, tombs: &[Tombstone])
 /// Puts `Root`.
 fn put_root<'a, O: TextSink>(out: &mut O, form: DocForm, pool: &Pool<'a>, doc: &'a Doc)
     ensures puts { O.state out.new
-        ≡ put O.step (O.state out.old) (row.root_piece form pool.now (doc_seen doc.now)) }
+        ≡ after_piece O.step (O.state out.old) (row.root_piece form pool.now (doc_seen doc.now)) }
     ensures fits { (fits_tree (tree_seen doc.now.root) && list_all fits_tomb doc.now.tombs)
         ≡ true }
 {
@@ -71,7 +73,7 @@ fn put_file<'a, O: TextSink>(
     pool: &Pool<'a>,
     doc: &'a Doc,
 )
-    ensures puts { O.state out.new ≡ put O.step (O.state out.old)
+    ensures puts { O.state out.new ≡ after_piece O.step (O.state out.old)
         (row.file_piece form (option_copied hash.entry) pool.now (doc_seen doc.now)) }
     ensures fits { fits_doc (doc_seen doc.now) ≡ true }
 {
@@ -89,7 +91,8 @@ pub(crate) fn put_document<'a, O: TextSink>(
     pool: &Pool<'a>,
     doc: &'a Doc,
 )
-    ensures puts { O.state out.new ≡ put O.step (O.step (O.state out.old) (plain front_text))
+    ensures puts { O.state out.new
+        ≡ after_piece O.step (O.step (O.state out.old) (plain front_text))
         (row.file_piece form (option_copied hash.entry) pool.now (doc_seen doc.now)) }
     ensures fits { fits_doc (doc_seen doc.now) ≡ true }
 {

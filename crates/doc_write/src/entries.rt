@@ -2,7 +2,7 @@
 
 ghost use Rattle.std.specs.List.{list_all};
 ghost use Rattle.std.specs.Prelude.{◌≡◌, map, true};
-ghost use Rattle.doc_sinks.specs.States.{put, put_all};
+ghost use Rattle.doc_sinks.specs.States.{after_piece, after_pieces};
 ghost use Rattle.doc_spelling.specs.Entries as row;
 ghost use Rattle.doc_spelling.specs.Pieces.{pieces_of};
 ghost use Rattle.doc_spelling.specs.Ranges.{fits_entry, fits_version};
@@ -21,7 +21,7 @@ fn put_history_item<'a, O: TextSink>(
     entry: &Entry,
     version: &'a Version,
 )
-    ensures puts { O.state out.new ≡ put O.step (O.state out.old)
+    ensures puts { O.state out.new ≡ after_piece O.step (O.state out.old)
         (row.history_item_piece form pool.now (entry_row entry.now) (bare_version version.now)) }
     ensures fits { fits_version (entry_record entry.now) (bare_version version.now) ≡ true }
 {
@@ -38,7 +38,7 @@ fn put_history_items<'a, O: TextSink>(
     entry: &Entry,
     history: &'a [Version],
 )
-    ensures puts { O.state out.new ≡ put_all O.step (O.state out.old)
+    ensures puts { O.state out.new ≡ after_pieces O.step (O.state out.old)
         (pieces_of (row.history_item_piece form pool.now (entry_row entry.now))
         (map bare_version history.now)) }
     ensures fits { list_all (fits_version (entry_record entry.now))
@@ -51,7 +51,7 @@ fn put_history_items<'a, O: TextSink>(
 
 /// Puts `History`.
 fn put_history<'a, O: TextSink>(out: &mut O, form: DocForm, pool: &Pool<'a>, entry: &'a Entry)
-    ensures puts { O.state out.new ≡ put O.step (O.state out.old)
+    ensures puts { O.state out.new ≡ after_piece O.step (O.state out.old)
         (row.history_piece form pool.now (entry_row entry.now)) }
     ensures fits { list_all (fits_version (entry_record entry.now))
         (entry_record entry.now).history ≡ true }
@@ -63,7 +63,7 @@ fn put_history<'a, O: TextSink>(out: &mut O, form: DocForm, pool: &Pool<'a>, ent
 
 /// Puts an entry: its current version, and then its history.
 fn put_entry<'a, O: TextSink>(out: &mut O, form: DocForm, pool: &Pool<'a>, entry: &'a Entry)
-    ensures puts { O.state out.new ≡ put O.step (O.state out.old)
+    ensures puts { O.state out.new ≡ after_piece O.step (O.state out.old)
         (row.entry_piece form pool.now (entry_row entry.now)) }
     ensures fits { fits_entry (entry_row entry.now) ≡ true }
 {
@@ -80,7 +80,7 @@ pub(crate) fn put_entries<'a, O: TextSink>(
     pool: &Pool<'a>,
     entries: &'a [Entry],
 )
-    ensures puts { O.state out.new ≡ put_all O.step (O.state out.old)
+    ensures puts { O.state out.new ≡ after_pieces O.step (O.state out.old)
         (pieces_of (row.entry_piece form pool.now) (map entry_row entries.now)) }
     ensures fits { list_all fits_entry (map entry_row entries.now) ≡ true }
 {

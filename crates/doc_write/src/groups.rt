@@ -1,7 +1,7 @@
 //! Groups.
 
 ghost use Rattle.std.specs.Prelude.{◌≡◌, ◌&&◌, true};
-ghost use Rattle.doc_sinks.specs.States.{put, put_all};
+ghost use Rattle.doc_sinks.specs.States.{after_piece, after_pieces};
 ghost use Rattle.doc_spelling.specs.Groups as row;
 ghost use Rattle.doc_write.specs.GroupRecords.{group_id, group_record};
 ghost use Rattle.doc_spelling.specs.Ranges.{fits_record, fits_tree, fits_u32, is_uuid, is_uuid_or_none};
@@ -18,7 +18,7 @@ use vault_model::{DocForm, Group, GroupContent};
 /// Puts a group's name, notes, tags and icon.
 fn put_names<O: TextSink>(out: &mut O, content: &GroupContent)
     ensures puts { O.state out.new
-        ≡ put_all O.step (O.state out.old) (row.name_pieces content.now) }
+        ≡ after_pieces O.step (O.state out.old) (row.name_pieces content.now) }
     ensures fits { (fits_u32 content.now.icon && is_uuid_or_none content.now.custom_icon) ≡ true }
 {
     put_text(out, "Name", &content.name);
@@ -30,7 +30,7 @@ fn put_names<O: TextSink>(out: &mut O, content: &GroupContent)
 /// Puts how a group is shown, and how its entries are typed and searched.
 fn put_choices<O: TextSink>(out: &mut O, group: &Group)
     ensures puts { O.state out.new
-        ≡ put_all O.step (O.state out.old) (row.choice_pieces (group_record group.now)) }
+        ≡ after_pieces O.step (O.state out.old) (row.choice_pieces (group_record group.now)) }
     ensures fits { is_uuid (group_record group.now).view.top_entry ≡ true }
 {
     put_bool(out, "IsExpanded", group.view.expanded);
@@ -61,7 +61,7 @@ fn group_times(group: &Group) -> Times
 
 /// Puts what a group says of itself.
 fn put_record<O: TextSink>(out: &mut O, form: DocForm, group: &Group)
-    ensures puts { O.state out.new ≡ put_all O.step (O.state out.old)
+    ensures puts { O.state out.new ≡ after_pieces O.step (O.state out.old)
         (row.record_pieces form (group_id group.now) (group_record group.now)) }
     ensures fits { fits_record (group_id group.now) (group_record group.now) ≡ true }
 {
@@ -80,7 +80,7 @@ pub(crate) fn put_group<'a, O: TextSink>(
     pool: &Pool<'a>,
     group: &'a Group,
 )
-    ensures puts { O.state out.new ≡ put O.step (O.state out.old)
+    ensures puts { O.state out.new ≡ after_piece O.step (O.state out.old)
         (row.group_piece form pool.now (tree_seen group.now)) }
     ensures fits { fits_tree (tree_seen group.now) ≡ true }
 {

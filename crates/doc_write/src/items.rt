@@ -2,7 +2,7 @@
 
 ghost use Rattle.std.specs.List.{list_all};
 ghost use Rattle.std.specs.Prelude.{◌≡◌, true};
-ghost use Rattle.doc_sinks.specs.States.{put, put_all};
+ghost use Rattle.doc_sinks.specs.States.{after_piece, after_pieces};
 ghost use Rattle.doc_spelling.specs.Pieces.{pieces_of};
 ghost use Rattle.doc_spelling.specs.Ranges.{fits_item, fits_times, is_stamp};
 ghost use Rattle.doc_spelling.specs.Values as row;
@@ -13,7 +13,8 @@ use vault_model::{DocForm, Item, Stamp};
 
 /// Puts `Times`.
 pub(crate) fn put_times<O: TextSink>(out: &mut O, form: DocForm, times: Times)
-    ensures puts { O.state out.new ≡ put O.step (O.state out.old) (row.times_piece form times) }
+    ensures puts { O.state out.new
+        ≡ after_piece O.step (O.state out.old) (row.times_piece form times) }
     ensures fits { fits_times times ≡ true }
 {
     open(out, "Times", Mark::Unmarked);
@@ -30,7 +31,7 @@ pub(crate) fn put_times<O: TextSink>(out: &mut O, form: DocForm, times: Times)
 /// Puts the time of a change, where it is not 0.
 pub(crate) fn put_change<O: TextSink>(out: &mut O, form: DocForm, changed: Stamp)
     ensures puts { O.state out.new
-        ≡ put_all O.step (O.state out.old) (row.change_pieces form changed) }
+        ≡ after_pieces O.step (O.state out.old) (row.change_pieces form changed) }
     ensures fits { is_stamp changed ≡ true }
 {
     if changed.seconds() != 0 {
@@ -40,7 +41,8 @@ pub(crate) fn put_change<O: TextSink>(out: &mut O, form: DocForm, changed: Stamp
 
 /// Puts a custom item.
 fn put_item<O: TextSink>(out: &mut O, form: DocForm, item: &Item)
-    ensures puts { O.state out.new ≡ put O.step (O.state out.old) (row.item_piece form item.now) }
+    ensures puts { O.state out.new
+        ≡ after_piece O.step (O.state out.old) (row.item_piece form item.now) }
     ensures fits { fits_item item.now ≡ true }
 {
     open(out, "Item", Mark::Unmarked);
@@ -53,7 +55,7 @@ fn put_item<O: TextSink>(out: &mut O, form: DocForm, item: &Item)
 /// Puts custom items.
 fn put_item_list<O: TextSink>(out: &mut O, form: DocForm, items: &[Item])
     ensures puts { O.state out.new
-        ≡ put_all O.step (O.state out.old) (pieces_of (row.item_piece form) items.now) }
+        ≡ after_pieces O.step (O.state out.old) (pieces_of (row.item_piece form) items.now) }
     ensures fits { list_all fits_item items.now ≡ true }
 {
     for item in items {
@@ -63,7 +65,8 @@ fn put_item_list<O: TextSink>(out: &mut O, form: DocForm, items: &[Item])
 
 /// Puts `CustomData`.
 pub(crate) fn put_items<O: TextSink>(out: &mut O, form: DocForm, items: &[Item])
-    ensures puts { O.state out.new ≡ put O.step (O.state out.old) (row.items_piece form items.now) }
+    ensures puts { O.state out.new
+        ≡ after_piece O.step (O.state out.old) (row.items_piece form items.now) }
     ensures fits { list_all fits_item items.now ≡ true }
 {
     open(out, "CustomData", Mark::Unmarked);
@@ -74,7 +77,7 @@ pub(crate) fn put_items<O: TextSink>(out: &mut O, form: DocForm, items: &[Item])
 /// Puts `CustomData`, where there are items.
 pub(crate) fn put_any_items<O: TextSink>(out: &mut O, form: DocForm, items: &[Item])
     ensures puts { O.state out.new
-        ≡ put_all O.step (O.state out.old) (row.items_pieces form items.now) }
+        ≡ after_pieces O.step (O.state out.old) (row.items_pieces form items.now) }
     ensures fits { list_all fits_item items.now ≡ true }
 {
     if !items.is_empty() {

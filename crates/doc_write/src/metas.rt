@@ -5,7 +5,7 @@ ghost use Rattle.std.specs.Option.{option_copied};
 ghost use Rattle.std.specs.Prelude.{◌≡◌, ◌&&◌, [], codes, map, true};
 ghost use Rattle.doc_forms.specs.Attachments.{binaries_from};
 ghost use Rattle.doc_forms.specs.SeenDocuments.{pool_item};
-ghost use Rattle.doc_sinks.specs.States.{put, put_all};
+ghost use Rattle.doc_sinks.specs.States.{after_piece, after_pieces};
 ghost use Rattle.doc_spelling.specs.Metas as row;
 ghost use Rattle.doc_spelling.specs.Pieces.{box, base64_piece, piece_if, pieces_of};
 ghost use Rattle.doc_spelling.specs.Ranges.{fits_changes, fits_i32, fits_i64, fits_icon, fits_meta, fits_places, fits_u32, is_stamp, is_uuid};
@@ -21,7 +21,8 @@ use vault_model::{DocForm, Meta, PoolItem, Protection};
 
 /// Puts `MemoryProtection`.
 fn put_protection<O: TextSink>(out: &mut O, protect: &Protection)
-    ensures { O.state out.new ≡ put O.step (O.state out.old) (row.protection_piece protect.now) }
+    ensures { O.state out.new
+        ≡ after_piece O.step (O.state out.old) (row.protection_piece protect.now) }
 {
     open(out, "MemoryProtection", Mark::Unmarked);
     put_bool(out, "ProtectTitle", protect.title);
@@ -35,7 +36,7 @@ fn put_protection<O: TextSink>(out: &mut O, protect: &Protection)
 /// Puts a hidden binary of this number.
 fn put_hidden_binary<O: TextSink>(out: &mut O, form: DocForm, number: u64, bytes: &[u8])
     ensures { O.state out.new
-        ≡ put O.step (O.state out.old) (row.numbered_piece form number bytes.now true) }
+        ≡ after_piece O.step (O.state out.old) (row.numbered_piece form number bytes.now true) }
 {
     match form {
         DocForm::Plain => put_coded(out, "Binary", Mark::IdInMemory(number), bytes),
@@ -45,7 +46,7 @@ fn put_hidden_binary<O: TextSink>(out: &mut O, form: DocForm, number: u64, bytes
 
 /// Puts a binary of this number.
 fn put_binary<O: TextSink>(out: &mut O, form: DocForm, number: u64, item: &PoolItem)
-    ensures { O.state out.new ≡ put O.step (O.state out.old) (row.numbered_piece form number
+    ensures { O.state out.new ≡ after_piece O.step (O.state out.old) (row.numbered_piece form number
         item.now.bytes.value.bytes item.now.hidden) }
 {
     let bytes = whole(&item.bytes);
@@ -58,7 +59,7 @@ fn put_binary<O: TextSink>(out: &mut O, form: DocForm, number: u64, item: &PoolI
 
 /// Puts binaries, by their numbers from 0 on.
 fn put_binaries<O: TextSink>(out: &mut O, form: DocForm, items: &[PoolItem])
-    ensures { O.state out.new ≡ put_all O.step (O.state out.old)
+    ensures { O.state out.new ≡ after_pieces O.step (O.state out.old)
         (pieces_of (row.binary_piece form) (binaries_from 0 (map pool_item items.now))) }
 {
     let mut number = 0;
@@ -70,7 +71,7 @@ fn put_binaries<O: TextSink>(out: &mut O, form: DocForm, items: &[PoolItem])
 
 /// Puts `Binaries`.
 fn put_listed<O: TextSink>(out: &mut O, form: DocForm, items: &[PoolItem])
-    ensures { O.state out.new ≡ put O.step (O.state out.old) (box (codes "Binaries")
+    ensures { O.state out.new ≡ after_piece O.step (O.state out.old) (box (codes "Binaries")
         (pieces_of (row.binary_piece form) (binaries_from 0 (map pool_item items.now)))) }
 {
     open(out, "Binaries", Mark::Unmarked);
@@ -81,7 +82,7 @@ fn put_listed<O: TextSink>(out: &mut O, form: DocForm, items: &[PoolItem])
 /// Puts `Binaries`, which a file of KDBX 4 keeps apart from its document.
 fn put_pool<O: TextSink>(out: &mut O, form: DocForm, pool: &Pool<'_>)
     ensures { O.state out.new
-        ≡ put_all O.step (O.state out.old) (row.pool_pieces form pool.now) }
+        ≡ after_pieces O.step (O.state out.old) (row.pool_pieces form pool.now) }
 {
     match form {
         DocForm::Plain | DocForm::V3 => put_listed(out, form, pool.items()),
@@ -91,7 +92,7 @@ fn put_pool<O: TextSink>(out: &mut O, form: DocForm, pool: &Pool<'_>)
 
 /// Puts the hash of a header, where it is given.
 fn put_named_hash<O: TextSink>(out: &mut O, hash: Option<&[u8; 32]>)
-    ensures { O.state out.new ≡ put_all O.step (O.state out.old)
+    ensures { O.state out.new ≡ after_pieces O.step (O.state out.old)
         (piece_if (base64_piece (codes "HeaderHash") []) (option_copied hash.entry)) }
 {
     match hash {
@@ -103,7 +104,7 @@ fn put_named_hash<O: TextSink>(out: &mut O, hash: Option<&[u8; 32]>)
 /// Puts the hash of the header of the document's file, which only a file of KDBX 3.1 has in it.
 fn put_hash<O: TextSink>(out: &mut O, form: DocForm, hash: Option<&[u8; 32]>)
     ensures { O.state out.new
-        ≡ put_all O.step (O.state out.old) (row.hash_pieces form (option_copied hash.entry)) }
+        ≡ after_pieces O.step (O.state out.old) (row.hash_pieces form (option_copied hash.entry)) }
 {
     match form {
         DocForm::V3 => put_named_hash(out, hash),
@@ -114,7 +115,7 @@ fn put_hash<O: TextSink>(out: &mut O, form: DocForm, hash: Option<&[u8; 32]>)
 /// Puts the names of a database, and when they and its settings were changed.
 fn put_titles<O: TextSink>(out: &mut O, form: DocForm, meta: &Meta)
     ensures puts { O.state out.new
-        ≡ put_all O.step (O.state out.old) (row.title_pieces form meta.now) }
+        ≡ after_pieces O.step (O.state out.old) (row.title_pieces form meta.now) }
     ensures fits { (is_stamp meta.now.settings.changed && is_stamp meta.now.name.changed
         && is_stamp meta.now.description.changed && is_stamp meta.now.user.changed) ≡ true }
 {
@@ -135,7 +136,7 @@ fn put_titles<O: TextSink>(out: &mut O, form: DocForm, meta: &Meta)
 /// Puts the settings of a database, and the icons that it holds.
 fn put_settings<O: TextSink>(out: &mut O, form: DocForm, meta: &Meta)
     ensures puts { O.state out.new
-        ≡ put_all O.step (O.state out.old) (row.setting_pieces form meta.now) }
+        ≡ after_pieces O.step (O.state out.old) (row.setting_pieces form meta.now) }
     ensures days { fits_u32 meta.now.settings.value.days ≡ true }
     ensures key_changed { is_stamp meta.now.view.key_changed ≡ true }
     ensures key_rec { fits_i64 meta.now.settings.value.key_rec ≡ true }
@@ -158,7 +159,7 @@ fn put_settings<O: TextSink>(out: &mut O, form: DocForm, meta: &Meta)
 /// Puts the recycle bin of a database, its templates, and what was last looked at.
 fn put_places<O: TextSink>(out: &mut O, form: DocForm, meta: &Meta)
     ensures puts { O.state out.new
-        ≡ put_all O.step (O.state out.old) (row.place_pieces form meta.now) }
+        ≡ after_pieces O.step (O.state out.old) (row.place_pieces form meta.now) }
     ensures fits { fits_places meta.now ≡ true }
     ensures changes { (is_stamp meta.now.bin.changed && is_stamp meta.now.templates.changed)
         ≡ true }
@@ -180,7 +181,7 @@ fn put_places<O: TextSink>(out: &mut O, form: DocForm, meta: &Meta)
 /// Puts the limits of histories.
 fn put_limits<O: TextSink>(out: &mut O, meta: &Meta)
     ensures puts { O.state out.new
-        ≡ put_all O.step (O.state out.old) (row.limit_pieces meta.now) }
+        ≡ after_pieces O.step (O.state out.old) (row.limit_pieces meta.now) }
     ensures items { fits_i32 meta.now.settings.value.history_items ≡ true }
     ensures size { fits_i64 meta.now.settings.value.history_size ≡ true }
 {
@@ -196,7 +197,7 @@ pub(crate) fn put_meta<O: TextSink>(
     pool: &Pool<'_>,
     meta: &Meta,
 )
-    ensures puts { O.state out.new ≡ put O.step (O.state out.old)
+    ensures puts { O.state out.new ≡ after_piece O.step (O.state out.old)
         (row.meta_piece form (option_copied hash.entry) pool.now meta.now) }
     ensures fits { fits_meta meta.now ≡ true }
 {

@@ -2,7 +2,7 @@
 
 ghost use Rattle.std.specs.List.{list_all};
 ghost use Rattle.std.specs.Prelude.{◌≡◌, codes, true};
-ghost use Rattle.doc_sinks.specs.States.{put, put_all};
+ghost use Rattle.doc_sinks.specs.States.{after_piece, after_pieces};
 ghost use Rattle.doc_spelling.specs.Entries as row;
 ghost use Rattle.doc_spelling.specs.Pieces.{unless_true, piece_if, pieces_of};
 ghost use Rattle.doc_spelling.specs.Ranges.{fits_attachment, fits_item, fits_u32, fits_version, is_uuid};
@@ -20,7 +20,8 @@ use vault_model::{Association, AutoType, Content, DocForm, Entry, Version};
 
 /// Puts a window with its key strokes.
 fn put_association<O: TextSink>(out: &mut O, pair: &Association)
-    ensures { O.state out.new ≡ put O.step (O.state out.old) (row.association_piece pair.now) }
+    ensures { O.state out.new
+        ≡ after_piece O.step (O.state out.old) (row.association_piece pair.now) }
 {
     open(out, "Association", Mark::Unmarked);
     put_text(out, "Window", &pair.window);
@@ -31,7 +32,7 @@ fn put_association<O: TextSink>(out: &mut O, pair: &Association)
 /// Puts windows with their key strokes.
 fn put_associations<O: TextSink>(out: &mut O, pairs: &[Association])
     ensures { O.state out.new
-        ≡ put_all O.step (O.state out.old) (pieces_of row.association_piece pairs.now) }
+        ≡ after_pieces O.step (O.state out.old) (pieces_of row.association_piece pairs.now) }
 {
     for pair in pairs {
         put_association(out, pair);
@@ -41,7 +42,7 @@ fn put_associations<O: TextSink>(out: &mut O, pairs: &[Association])
 /// Puts `AutoType`.
 fn put_auto_type<O: TextSink>(out: &mut O, auto_type: &AutoType)
     ensures puts { O.state out.new
-        ≡ put O.step (O.state out.old) (row.auto_type_piece auto_type.now) }
+        ≡ after_piece O.step (O.state out.old) (row.auto_type_piece auto_type.now) }
     ensures fits { fits_u32 auto_type.now.obfuscation ≡ true }
 {
     open(out, "AutoType", Mark::Unmarked);
@@ -54,7 +55,7 @@ fn put_auto_type<O: TextSink>(out: &mut O, auto_type: &AutoType)
 
 /// Puts the quality of a version, where it is false.
 fn put_quality<O: TextSink>(out: &mut O, quality: bool)
-    ensures { O.state out.new ≡ put_all O.step (O.state out.old)
+    ensures { O.state out.new ≡ after_pieces O.step (O.state out.old)
         (piece_if (bool_piece (codes "QualityCheck")) (unless_true quality)) }
 {
     if !quality {
@@ -65,7 +66,7 @@ fn put_quality<O: TextSink>(out: &mut O, quality: bool)
 /// Puts the colours, the texts and the quality of a version.
 fn put_texts<O: TextSink>(out: &mut O, content: &Content)
     ensures { O.state out.new
-        ≡ put_all O.step (O.state out.old) (row.text_pieces (bare_content content.now)) }
+        ≡ after_pieces O.step (O.state out.old) (row.text_pieces (bare_content content.now)) }
 {
     put_text(out, "ForegroundColor", &content.fore);
     put_text(out, "BackgroundColor", &content.back);
@@ -76,7 +77,7 @@ fn put_texts<O: TextSink>(out: &mut O, content: &Content)
 
 /// Puts what a version holds: its fields, attachments, auto-type and custom items.
 fn put_held<'a, O: TextSink>(out: &mut O, form: DocForm, pool: &Pool<'a>, content: &'a Content)
-    ensures puts { O.state out.new ≡ put_all O.step (O.state out.old)
+    ensures puts { O.state out.new ≡ after_pieces O.step (O.state out.old)
         (row.held_pieces form pool.now (bare_content content.now)) }
     ensures attachments { list_all fits_attachment (bare_content content.now).attachments ≡ true }
     ensures obfuscation { fits_u32 content.now.auto_type.obfuscation ≡ true }
@@ -111,7 +112,7 @@ pub(crate) fn put_version<'a, O: TextSink>(
     entry: &Entry,
     version: &'a Version,
 )
-    ensures puts { O.state out.new ≡ put_all O.step (O.state out.old)
+    ensures puts { O.state out.new ≡ after_pieces O.step (O.state out.old)
         (row.version_pieces form pool.now (entry_row entry.now) (bare_version version.now)) }
     ensures id { is_uuid entry.now.id ≡ true }
     ensures previous { is_uuid entry.now.previous ≡ true }

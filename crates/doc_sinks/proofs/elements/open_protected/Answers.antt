@@ -3,7 +3,7 @@ use Rattle.std.specs.Prelude.{flat_map}
 use Rattle.std.proofs.lemmas.Grind.{flat_map-append}
 use Rattle.doc_sinks.specs.Attributes.{attributes}
 use Rattle.doc_sinks.specs.Chunks.{attribute_chunks}
-use Rattle.doc_sinks.specs.States.{after}
+use Rattle.doc_sinks.specs.States.{after_chunks}
 use Rattle.doc_sinks.proofs.Puts.{after_append, begun_by}
 use Rattle.doc_spelling.specs.Pieces.{protected_attribute}
 use Rattle.doc_sinks.proofs.elements.open_protected.Goals as goal
