@@ -119,6 +119,12 @@ entry_moved from to time e t =
     changed_at to (with_entry (e.0, moved_entry from time e.1))
     (changed_at from (without_entry e.0) t)
 
+-- entries with one in the place of the first without an id, which was kept for it
+abbrev pub filled : NodeId × EntryRecord → List (NodeId × EntryRecord)
+    → List (NodeId × EntryRecord)
+filled e [] = []
+filled e (x ∷ xs) = cond (is_id x.0 nil_id) (e ∷ xs) (x ∷ filled e xs)
+
 -- ---- groups
 
 -- a group whose own groups are changed
