@@ -2,7 +2,7 @@
 use Rattle.std.proofs.Common.{◌≡◌, ◌≢◌, ◌≤◌, ℕ, Bool, true, false, not, cond, ◌&&◌, ◌||◌, inl, inr, option_and_then, IfSome, IsSome, MatchResult, Result, Ok, Err, List, [], ◌∷◌, ◌++◌, Option, None, Some, refl, sym, ap, subst, ◌∙◌, arith}
 use Rattle.vault_model.specs.Db.{NodeId, nil_id}
 use Rattle.vault_model.specs.Join.{is_id}
-use Rattle.vault_model.specs.Shape.{EntryRecord, GroupRecord}
+use Rattle.vault_model.specs.Shape.{EntryRecord}
 use Rattle.std.specs.List.{list_all}
 use Rattle.vault_model.specs.declared.nodes.Tombstone.{Tombstone}
 use Rattle.vault_model.specs.Tree.{BareDoc, IsDoc, Tree, Trees, beside, entry_rows, entry_rows_all, is_elsewhere, is_proper_entry, node, node_ids, node_ids_all, none}
