@@ -9,6 +9,7 @@ use Rattle.doc_forms.specs.SeenDrafts.{attachment_seen, version_seen}
 abbrev pub entry_known : EntryBuilder → EntryParts
 entry_known e = record {
   id = e.id;
+  previous = e.previous;
   times = e.times;
   content = record (bare_content e.content) { fields = map bare_field e.fields };
   attachments = map attachment_seen e.attachments;

@@ -1,6 +1,7 @@
 //! Entries and history items before their end, and the versions that they make.
 
 ghost use Rattle.std.specs.Prelude.{◌≡◌, ◌++◌, ◌∷◌, [], map, None, Ok};
+ghost use Rattle.vault_model.specs.Db.{nil_id};
 ghost use Rattle.vault_model.specs.Seen.{bare_content, bare_field};
 ghost use Rattle.doc_entries.specs.SeenBuilders.{entry_known};
 ghost use Rattle.doc_forms.specs.Entries as spec;
@@ -21,6 +22,7 @@ use vault_model::{Content, Field, Stats};
 #[derive(Drop)]
 pub(crate) struct EntryBuilder {
     pub(crate) id: Option<Uuid>,
+    pub(crate) previous: Uuid,
     pub(crate) times: Times,
     pub(crate) content: Content,
     pub(crate) fields: KeyedList<Field>,
@@ -46,6 +48,7 @@ fn no_content(alloc: Global) -> Content
         url_override: Text::new(alloc),
         auto_type: no_auto_type(alloc),
         items: List::new(alloc),
+        quality: true,
     }
 }
 
@@ -55,6 +58,7 @@ pub(crate) fn no_entry(alloc: Global) -> EntryBuilder
 {
     EntryBuilder {
         id: None,
+        previous: Uuid::nil(),
         times: no_times(),
         content: no_content(alloc),
         fields: KeyedList::new(alloc),
@@ -121,6 +125,7 @@ pub(crate) fn version_of(
 ) -> Result<VersionDraft, DocFail>
     ensures { Returns version_seen result (Ok (spec.version_of (record {
       id = None;
+      previous = nil_id;
       times = times;
       content = record (bare_content content) { fields = map bare_field fields };
       attachments = map attachment_seen attachments;

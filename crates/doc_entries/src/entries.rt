@@ -15,7 +15,7 @@ use crate::histories::history;
 use crate::nodes::node_id;
 use crate::versions::version_child;
 use doc_forms::{DocFail, EntryDraft};
-use doc_values::OwnId;
+use doc_values::{IdValue, OwnId};
 use doc_walk::{Parts, Tag, Walk, contents};
 use std::alloc::Global;
 use uuid::Uuid;
@@ -40,6 +40,7 @@ impl Parts for EntryKnown {
                 Ok(())
             }
             "History" => history(walk, tag, &mut self.known.history),
+            "PreviousParentGroup" => walk.keep::<IdValue>(tag, &mut self.known.previous),
             _ => version_child(&mut self.known, walk, tag),
         }
     }
@@ -47,15 +48,12 @@ impl Parts for EntryKnown {
 
 /// The entry that the parts of an id make.
 fn entry_of(alloc: Global, id: Uuid, known: EntryBuilder) -> Result<EntryDraft, DocFail>
-    ensures { Returns entry_seen result (Ok (record {
-      id = id;
-      placed = (entry_known known).times.placed;
-      current = spec.version_of (entry_known known);
-      history = (entry_known known).history;
-    })) }
+    ensures { Returns entry_seen result
+        (Ok (spec.entry_of id (entry_known known))) }
 {
     let EntryBuilder {
         id: _,
+        previous,
         times,
         content,
         fields,
@@ -67,6 +65,7 @@ fn entry_of(alloc: Global, id: Uuid, known: EntryBuilder) -> Result<EntryDraft, 
     Ok(EntryDraft {
         id,
         placed,
+        previous,
         current,
         history,
     })

@@ -44,7 +44,8 @@ impl Parts for FieldDraft {
         match tag.name {
             "Key" => walk.keep::<TextValue>(tag, &mut self.field.key),
             "Value" => {
-                self.field.hidden = walk.is_hidden(tag)?;
+                let hidden = walk.is_hidden(tag)?;
+                self.field.hidden = hidden;
                 walk.keep::<SecretText>(tag, &mut self.field.value)
             }
             _ => walk.pass(tag),

@@ -14,7 +14,7 @@ ghost use Rattle.doc_walk.specs.Tags.{contents_step};
 use crate::builders::{EntryBuilder, no_entry, version_of};
 use crate::versions::version_child;
 use doc_forms::{DocFail, VersionDraft};
-use doc_values::IdOrNone;
+use doc_values::{IdOrNone, IdValue};
 use doc_walk::{Parts, Tag, Walk, contents};
 
 /// What is known of a history item before its end.
@@ -32,10 +32,8 @@ impl Parts for ItemDraft {
 
     fn read_child(&mut self, walk: &mut Walk<'_>, tag: &Tag<'_>) -> Result<(), DocFail> {
         match tag.name {
-            "UUID" => {
-                let _ = walk.value::<IdOrNone>(tag)?;
-                Ok(())
-            }
+            "UUID" => walk.check::<IdOrNone>(tag),
+            "PreviousParentGroup" => walk.check::<IdValue>(tag),
             _ => version_child(&mut self.known, walk, tag),
         }
     }
@@ -52,6 +50,7 @@ fn history_item(walk: &mut Walk<'_>, tag: &Tag<'_>) -> Result<VersionDraft, DocF
     walk.count()?;
     let EntryBuilder {
         id: _,
+        previous: _,
         times,
         content,
         fields,

@@ -11,11 +11,11 @@ use crate::auto_types::auto_type;
 use crate::builders::{EntryBuilder, put_attachment, put_field};
 use crate::fields::field;
 use doc_forms::DocFail;
-use doc_values::{IdOrNone, Number32, TextValue};
+use doc_values::{IdOrNone, Number32, TextValue, TrueUnlessFalse};
 use doc_walk::{Tag, Walk, custom_data, times};
 
-/// Reads a child of an entry or a history item after those that [`version_child`] reads: its times,
-/// a field, an attachment, how it is typed, or its custom items.
+/// Reads a child of an entry or a history item after those that [`text_child`] reads itself: its
+/// times, a field, an attachment, how it is typed, or its custom items.
 fn part_child(known: &mut EntryBuilder, walk: &mut Walk<'_>, tag: &Tag<'_>) -> Result<(), DocFail>
     ensures { Steps (λ _. entry_known known.new) walk.old walk.new result
         (child_step (λ s. by_name s (spec.part_rows s)) (entry_known known.old) tag.now) }
@@ -36,6 +36,22 @@ fn part_child(known: &mut EntryBuilder, walk: &mut Walk<'_>, tag: &Tag<'_>) -> R
     }
 }
 
+/// Reads a child of an entry or a history item after those that [`version_child`] reads itself:
+/// whether it counts in reports, or one of its texts.
+fn text_child(known: &mut EntryBuilder, walk: &mut Walk<'_>, tag: &Tag<'_>) -> Result<(), DocFail>
+    ensures { Steps (λ _. entry_known known.new) walk.old walk.new result
+        (child_step (λ s. by_name s (spec.text_rows s)) (entry_known known.old) tag.now) }
+{
+    match tag.name {
+        "QualityCheck" => walk.keep::<TrueUnlessFalse>(tag, &mut known.content.quality),
+        "ForegroundColor" => walk.keep::<TextValue>(tag, &mut known.content.fore),
+        "BackgroundColor" => walk.keep::<TextValue>(tag, &mut known.content.back),
+        "OverrideURL" => walk.keep::<TextValue>(tag, &mut known.content.url_override),
+        "Tags" => walk.keep::<TextValue>(tag, &mut known.content.tags),
+        _ => part_child(known, walk, tag),
+    }
+}
+
 /// Reads a child that an entry and a history item have in common.
 pub(crate) fn version_child(
     known: &mut EntryBuilder,
@@ -48,10 +64,6 @@ pub(crate) fn version_child(
     match tag.name {
         "IconID" => walk.keep::<Number32<0>>(tag, &mut known.content.icon),
         "CustomIconUUID" => walk.keep::<IdOrNone>(tag, &mut known.content.custom_icon),
-        "ForegroundColor" => walk.keep::<TextValue>(tag, &mut known.content.fore),
-        "BackgroundColor" => walk.keep::<TextValue>(tag, &mut known.content.back),
-        "OverrideURL" => walk.keep::<TextValue>(tag, &mut known.content.url_override),
-        "Tags" => walk.keep::<TextValue>(tag, &mut known.content.tags),
-        _ => part_child(known, walk, tag),
+        _ => text_child(known, walk, tag),
     }
 }

@@ -194,12 +194,14 @@ part_rows s =
 
 -- whether it counts in reports, its texts, and these
 abbrev pub text_rows : Setting → List (List ℕ × Child EntryParts)
-text_rows s =
-    (
-      codes "QualityCheck",
-      value s (value_or true boolean) (λ p v. with_content (λ c. record c { quality = v }) p),
+text_rows s = (
+  codes "QualityCheck",
+  value s (value_or true boolean) (λ p v. with_content (λ c. record c { quality = v }) p),
+)
+    ∷ (
+      codes "ForegroundColor",
+      value s text_in (λ p v. with_content (λ c. record c { fore = v }) p),
     )
-    ∷ (codes "ForegroundColor", value s text_in (λ p v. with_content (λ c. record c { fore = v }) p))
     ∷ (
       codes "BackgroundColor",
       value s text_in

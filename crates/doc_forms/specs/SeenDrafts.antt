@@ -3,7 +3,6 @@ use Rattle.std.specs.Prelude.{List, [], ◌∷◌, map, option_map}
 use Rattle.vault_model.specs.Seen.{bare_content, bare_field}
 use Rattle.doc_forms.specs.declared.drafts.AttachmentDraft.{AttachmentDraft}
 use Rattle.doc_forms.specs.declared.drafts.Binary.{Binary}
-use Rattle.doc_forms.specs.declared.drafts.EntryBuilder.{EntryBuilder}
 use Rattle.doc_forms.specs.declared.drafts.EntryDraft.{EntryDraft}
 use Rattle.doc_forms.specs.declared.drafts.FileBuilder.{FileBuilder}
 use Rattle.doc_forms.specs.declared.drafts.GroupBuilder.{GroupBuilder}
@@ -16,7 +15,7 @@ use Rattle.doc_forms.specs.declared.drafts.SourceDraft.{SourceDraft}
 use Rattle.doc_forms.specs.declared.drafts.SourceDraft.TheVariants.{OwnBytes, PoolNumber}
 use Rattle.doc_forms.specs.declared.drafts.VersionDraft.{VersionDraft}
 use Rattle.doc_forms.specs.Documents.{RootParts, FileParts}
-use Rattle.doc_forms.specs.Entries.{ReadSource, own_bytes, pool_number, ReadAttachment, ReadVersion, ReadEntry, EntryParts}
+use Rattle.doc_forms.specs.Entries.{ReadSource, own_bytes, pool_number, ReadAttachment, ReadVersion, ReadEntry}
 use Rattle.doc_forms.specs.Groups.{ReadTree, ReadTrees, node, none, beside, GroupParts}
 use Rattle.doc_forms.specs.Metas.{ReadBinary, MetaParts}
 
@@ -67,17 +66,6 @@ draft_seen = fold-GroupDraft ReadTree draft_step
 -- bytes of a number
 abbrev pub binary_seen : Binary → ReadBinary
 binary_seen b = record { number = b.number; bytes = b.bytes.value.bytes; hidden = b.hidden }
-
--- what is known of an entry
-abbrev pub entry_parts : EntryBuilder → EntryParts
-entry_parts e = record {
-  id = e.id;
-  previous = e.previous;
-  times = e.times;
-  content = bare_content e.content;
-  attachments = map attachment_seen e.attachments;
-  history = map version_seen e.history.items;
-}
 
 -- what is known of a group
 abbrev pub group_parts_seen : GroupBuilder → GroupParts

@@ -68,17 +68,6 @@ pub struct Binary {
     pub hidden: bool,
 }
 
-/// What is known of an entry, or of a history item, before its end.
-#[derive(Drop)]
-pub struct EntryBuilder {
-    pub id: Option<Uuid>,
-    pub previous: Uuid,
-    pub times: Times,
-    pub content: Content,
-    pub attachments: List<AttachmentDraft>,
-    pub history: Vec<VersionDraft>,
-}
-
 /// What is known of a group before its end.
 #[derive(Drop)]
 pub struct GroupBuilder {

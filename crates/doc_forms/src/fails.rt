@@ -29,7 +29,7 @@ pub enum DocFail {
     BadValue(usize),
     /// The attachment's bytes at the offset are compressed.
     Compressed(usize),
-    /// The group at the offset lies below the 64th level.
+    /// The group at the offset lies below the 128th level.
     TooDeep(usize),
     /// More groups, entries and history items than 262,144: 262,145.
     TooMany(u64),

@@ -12,8 +12,8 @@ pub mod times;
 pub use cursor::Cursor;
 pub use documents::{DocParts, ReadDoc};
 pub use drafts::{
-    AttachmentDraft, Binary, EntryBuilder, EntryDraft, FileBuilder, GroupBuilder, GroupDraft,
-    MetaBuilder, RootBuilder, SourceDraft, VersionDraft,
+    AttachmentDraft, Binary, EntryDraft, FileBuilder, GroupBuilder, GroupDraft, MetaBuilder,
+    RootBuilder, SourceDraft, VersionDraft,
 };
 pub use fails::{DocFail, RequiredElement};
 pub use texts::ElementText;

@@ -1,20 +1,57 @@
--- Groups: the content of one, as a walk over its children.
-use Rattle.std.proofs.Common.{◌≡◌, ℕ, Bool, false, List, [], ◌∷◌, ◌++◌, map, refl, ap, sym, ◌∙◌, arith, Result, Ok}
+-- Groups: what one is when its children and its end have been read.
+use Rattle.std.specs.Prelude.{if◌then◌else◌}
+use Rattle.std.proofs.Common.{◌≡◌, ℕ, Bool, List, [], ◌∷◌, ◌++◌, length, map, refl, ap, sym, ◌∙◌, subst, arith, Result, Ok, Err}
 use Rattle.markup_grammar.specs.Elements.{Content, last, also, cut, element, joined, inner, left}
+use Rattle.vault_model.specs.Db.{NodeId}
 use Rattle.doc_forms.specs.declared.cursor.Cursor.{Cursor}
 use Rattle.doc_forms.specs.declared.drafts.GroupDraft.{GroupDraft}
 use Rattle.doc_forms.specs.declared.fails.DocFail.{DocFail}
-use Rattle.doc_forms.specs.Groups.{ReadTree, ReadTrees, GroupParts, no_group, group, group_parts, group_child, group_end, append_tree, beside}
-use Rattle.doc_forms.specs.ElementTexts.{Setting, is_protected}
-use Rattle.doc_forms.specs.Children.{all_children}
+use Rattle.doc_forms.specs.declared.fails.DocFail.TheVariants.{BadValue}
+use Rattle.doc_forms.specs.Groups.{ReadTree, node, GroupParts, no_group, group, group_parts, group_child, append_tree, beside, record_of}
+use Rattle.doc_forms.specs.ElementTexts.{ElementText, Setting, text_at_end}
+use Rattle.doc_forms.specs.Children.{all_children, children_and_end, count_node}
+use Rattle.doc_forms.specs.Entries.{node_id}
+use Rattle.doc_forms.specs.Refusals.{Fails}
 use Rattle.outside_core.specs.Results.{◌>>=◌}
 use Rattle.doc_forms.specs.SeenDrafts.{side_by_side, draft_seen}
-use Rattle.doc_walk.proofs.Goes.{Goes}
+use Rattle.doc_walk.proofs.Pieces.{carried}
 use Rattle.doc_walk.specs.declared.walk.Tag.{Tag}
-use Rattle.doc_walk.specs.Steps.{Course}
-use Rattle.doc_groups.proofs.Onward.{onto}
-use Rattle.doc_groups.proofs.Walks.{End, walk, bound_same}
-use Rattle.doc_groups.specs.GroupSteps.{group_step}
+use Rattle.doc_walk.specs.Steps.{Course, Rest, Steps}
+use Rattle.doc_walk.specs.Tags.{contents_step}
+use Rattle.doc_groups.proofs.Places.{one_more_seen}
+use Rattle.doc_groups.specs.GroupSteps.{group_step, id_at_end}
+
+-- ---- one step after another
+
+bound_same : {A B : Type 0} (r : Result A DocFail) (f g : A → Result B DocFail) → ((x : A) → f x ≡ g x) → (r >>= f) ≡ (r >>= g)
+bound_same (Ok x) f g same = same x
+bound_same (Err e) f g same = refl
+
+regrouped : {A B C : Type 0} (r : Result A DocFail) (f : A → Result B DocFail) (g : B → Result C DocFail) → ((r >>= f) >>= g) ≡ (r >>= λ x. f x >>= g)
+regrouped (Ok x) f g = refl
+regrouped (Err e) f g = refl
+
+-- ---- a group
+
+-- the tree of an id that the parts make
+abbrev tree_of : GroupParts → NodeId × Cursor → Result (ReadTree × Cursor) DocFail
+tree_of p y = Ok (node y.0 (record_of p) p.entries p.groups, y.1)
+
+-- a group whose children and end have been read
+abbrev closed : Bool → ℕ → GroupParts × Cursor → Result (ReadTree × Cursor) DocFail
+closed fits offset x = id_at_end fits offset x.0.id x.1 >>= tree_of x.0
+
+with_id : (p : GroupParts) (after : Result Cursor DocFail) (id : Result NodeId DocFail)
+    → ((after >>= λ a. id >>= λ u. Ok (u, a)) >>= tree_of p) ≡ (after >>= λ a. id >>= λ u. Ok (node u (record_of p) p.entries p.groups, a))
+with_id p (Ok a) (Ok u) = refl
+with_id p (Ok a) (Err e) = refl
+with_id p (Err e) id = refl
+
+at_end : (fits : Bool) (offset : ℕ) (p : GroupParts) (text : Result (ElementText × Cursor) DocFail)
+    → ((text >>= λ y. Ok (p, y.1)) >>= closed fits offset)
+    ≡ (text >>= λ y. (if fits then count_node y.1 else Err (BadValue offset)) >>= λ a. node_id offset p.id >>= λ u. Ok (node u (record_of p) p.entries p.groups, a))
+at_end fits offset p (Ok y) = with_id p (if fits then count_node y.1 else Err (BadValue offset)) (node_id offset p.id)
+at_end fits offset p (Err e) = refl
 
 parts_all : (s : Setting) (levels : ℕ) (content : Content) (p : GroupParts) (at : Cursor) → group_parts s levels content p at ≡ all_children (group_child s levels) content p at
 parts_all s levels (last text) p at = refl
@@ -22,48 +59,73 @@ parts_all s levels (also text e more) p at =
     bound_same (group_child s levels p e at) (λ x. group_parts s levels more x.0 x.1) (λ x. all_children (group_child s levels) more x.0 x.1) (λ x. parts_all s levels more x.0 x.1)
 parts_all s levels (cut text answer) p at = refl
 
--- a group is a walk over its children
-pub group_walk : (s : Setting) (levels : ℕ) (fits : Bool) (place : ℕ) (name raw : List ℕ) (content : Content) (at : Cursor)
-    → walk (group_child s levels) (group_end s fits place raw) [] content no_group at ≡ group s levels fits (element place name raw content) at
-group_walk s levels fits place name raw content at =
-    ap (λ r. r >>= λ x. group_end s fits place raw (joined content) x.0 x.1) (sym (parts_all s levels content no_group at))
+-- a group is read as its children and its end, and then its id
+group_as : (s : Setting) (levels : ℕ) (fits : Bool) (offset : ℕ) (name raw : List ℕ) (content : Content) (at : Cursor)
+    → (children_and_end s (group_child s levels) offset raw [] content no_group at >>= closed fits offset) ≡ group s levels fits (element offset name raw content) at
+group_as s levels fits offset name raw content at =
+    let all = all_children (group_child s levels) content no_group at in
+    regrouped all (λ x. text_at_end s offset raw (joined content) x.1 >>= λ y. Ok (x.0, y.1)) (closed fits offset)
+    ∙ (bound_same all _ _ (λ x. at_end fits offset x.0 (text_at_end s offset raw (joined content) x.1))
+    ∙ ap (λ r. r >>= λ x. text_at_end s offset raw (joined content) x.1 >>= λ y. (if fits then count_node y.1 else Err (BadValue offset)) >>= λ a. node_id offset x.0.id >>= λ u. Ok (node u (record_of x.0) x.0.entries x.0.groups, a))
+    (sym (parts_all s levels content no_group at)))
 
--- what is not hidden may have any text
-pub any_end : (s : Setting) (fits : Bool) (place : ℕ) (raw : List ℕ) → is_protected raw ≡ false
-    → (a b : List ℕ) (p : GroupParts) (at : Cursor) → group_end s fits place raw a p at ≡ group_end s fits place raw b p at
-any_end s fits place raw e a b p at = rw e refl
+-- the children and the end of a group
+abbrev pub children_step : ℕ → Tag → Rest GroupParts
+children_step levels tag = contents_step (λ s. group_child s levels) no_group tag
+
+abbrev as_group : (levels : ℕ) (fits : Bool) (tag : Tag) (old : Course)
+    → (children_step levels tag old.setting (inner (left old.answers)) old.cursor >>= closed fits tag.offset)
+    ≡ group_step levels fits tag old.setting (inner (left old.answers)) old.cursor
+as_group levels fits tag old = group_as old.setting levels fits tag.offset tag.name.now tag.attrs.raw.now (inner (left old.answers)) old.cursor
+
+-- they are read where nothing is known of the group
+pub begun : {X : Type 0} (levels : ℕ) (tag : Tag) (old mid : Course) (r : Result X DocFail) (first p : GroupParts) → first ≡ no_group
+    → Steps (λ _. p) old mid r (contents_step (λ s. group_child s levels) first tag) → Steps (λ _. p) old mid r (children_step levels tag)
+begun levels tag old mid r first p new steps = subst (λ q. Steps (λ _. p) old mid r (contents_step (λ s. group_child s levels) q tag)) new steps
+
+-- of a group whose children, end and id have been read
+pub whole_group : {X : Type 0} (levels : ℕ) (fits : Bool) (tag : Tag) (old mid new : Course) (x : X) (id : NodeId) (p : GroupParts) (draft : GroupDraft)
+    → Steps (λ _. p) old mid (Ok x) (children_step levels tag)
+    → id_at_end fits tag.offset p.id mid.cursor ≡ Ok (id, new.cursor) → new.answers ≡ mid.answers → new.setting ≡ mid.setting
+    → draft_seen draft ≡ node id (record_of p) p.entries p.groups
+    → Steps draft_seen old new (Ok draft) (group_step levels fits tag)
+whole_group levels fits tag old mid new x id p draft steps ids answers setting made = record {
+  gives = sym (as_group levels fits tag old) ∙ (ap (λ d. d >>= closed fits tag.offset) steps.gives ∙ (ap (λ d. d >>= tree_of p) ids ∙ ap (λ (t : ReadTree). let r : Result (ReadTree × Cursor) DocFail = Ok (t, new.cursor) in r) (sym made)));
+  left = ap left answers ∙ steps.left;
+  shorter = omega (arith, ap length answers, steps.shorter);
+  setting = setting ∙ steps.setting;
+}
+
+-- of one whose children or end are refused
+pub children_refused : {X : Type 0} (levels : ℕ) (fits : Bool) (tag : Tag) (old mid : Course) (p : GroupParts) (e : DocFail)
+    → Steps {X = X} (λ _. p) old mid (Err e) (children_step levels tag)
+    → Steps draft_seen old mid (Err e) (group_step levels fits tag)
+children_refused levels fits tag old mid p e steps = record {
+  gives = subst (Fails e) (as_group levels fits tag old) (carried e (children_step levels tag old.setting (inner (left old.answers)) old.cursor) _ (λ same. ap (λ d. d >>= closed fits tag.offset) same) steps.gives);
+  left = tt;
+  shorter = tt;
+  setting = steps.setting;
+}
+
+-- of one whose id is refused
+pub id_refused : {X : Type 0} (levels : ℕ) (fits : Bool) (tag : Tag) (old mid new : Course) (x : X) (p : GroupParts) (e : DocFail)
+    → Steps (λ _. p) old mid (Ok x) (children_step levels tag)
+    → Fails e (id_at_end fits tag.offset p.id mid.cursor) → new.setting ≡ mid.setting
+    → Steps draft_seen old new (Err e) (group_step levels fits tag)
+id_refused levels fits tag old mid new x p e steps fails setting = record {
+  gives = carried e (id_at_end fits tag.offset p.id mid.cursor) _ (λ same. sym (as_group levels fits tag old) ∙ (ap (λ d. d >>= closed fits tag.offset) steps.gives ∙ ap (λ d. d >>= tree_of p) same)) fails;
+  left = tt;
+  shorter = tt;
+  setting = setting ∙ steps.setting;
+}
+
+-- ---- the groups in a group
 
 -- one group more, after the others
 one_more : (trees : List ReadTree) (tree : ReadTree) → side_by_side (trees ++ tree ∷ []) ≡ append_tree (side_by_side trees) tree
 one_more [] tree = refl
 one_more (t ∷ ts) tree = ap (beside t) (one_more ts tree)
 
-mapped : (drafts : List GroupDraft) (draft : GroupDraft) → map draft_seen (drafts ++ draft ∷ []) ≡ map draft_seen drafts ++ draft_seen draft ∷ []
-mapped [] draft = refl
-mapped (d ∷ ds) draft = ap (λ more. draft_seen d ∷ more) (mapped ds draft)
-
 pub one_more_draft : (drafts : List GroupDraft) (draft : GroupDraft)
     → side_by_side (map draft_seen (drafts ++ draft ∷ [])) ≡ append_tree (side_by_side (map draft_seen drafts)) (draft_seen draft)
-one_more_draft drafts draft = ap side_by_side (mapped drafts draft) ∙ one_more (map draft_seen drafts) (draft_seen draft)
-
--- what is known of a group, with these groups in it
-abbrev pub with_trees : GroupParts → ReadTrees → Result GroupParts DocFail
-with_trees p trees = Ok (record p { groups = trees })
-
--- how the group of a start tag ends
-abbrev pub end_of : Bool → Tag → Setting → End GroupParts (ReadTree × Cursor)
-end_of fits tag s text p at = group_end s fits tag.offset tag.attrs.raw.now text p at
-
-pub any_end_of : (s : Setting) (fits : Bool) (tag : Tag) → is_protected tag.attrs.raw.now ≡ false
-    → (a b : List ℕ) (p : GroupParts) (at : Cursor) → end_of fits tag s a p at ≡ end_of fits tag s b p at
-any_end_of s fits tag e a b p at = any_end s fits tag.offset tag.attrs.raw.now e a b p at
-
--- at its start
-pub group_start : (levels : ℕ) (fits : Bool) (tag : Tag) (old : Course) (text : List ℕ) (parts : GroupParts) → text ≡ [] → parts ≡ no_group
-    → Goes old old (group_step levels fits tag) (onto (λ s. group_child s levels) (end_of fits tag) text parts)
-group_start levels fits tag old text parts none new = record {
-  gives = rw (none, new) (group_walk old.setting levels fits tag.offset tag.name.now tag.attrs.raw.now (inner (left old.answers)) old.cursor);
-  outer = refl;
-  shorter = omega arith;
-  setting = refl;
-}
+one_more_draft drafts draft = ap side_by_side (one_more_seen draft_seen drafts draft) ∙ one_more (map draft_seen drafts) (draft_seen draft)

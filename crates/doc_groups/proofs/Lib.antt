@@ -1,3 +1,3 @@
 mod GroupWalks
-mod Onward
-mod Walks
+mod Places
+mod TextPieces

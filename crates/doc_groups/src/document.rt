@@ -1,16 +1,19 @@
 //! A whole text, up to its end.
 
-ghost use Rattle.std.specs.Prelude.{◌≡◌, option_map};
+ghost use Rattle.std.specs.Prelude.{option_map};
+ghost use Rattle.markup_grammar.specs.Elements.{inner, left};
 ghost use Rattle.stream_core.specs.InnerStream.{IsAt};
 ghost use Rattle.doc_forms.specs.Children.{by_name};
 ghost use Rattle.doc_forms.specs.Documents as spec;
 ghost use Rattle.doc_forms.specs.Refusals.{Returns};
 ghost use Rattle.doc_forms.specs.SeenDrafts.{file_parts};
 ghost use Rattle.doc_forms.specs.SeenTexts.{setting_of};
+ghost use Rattle.doc_groups.specs.GroupSteps.{parts_left};
 ghost use Rattle.doc_walk.specs.Steps.{Steps};
 ghost use Rattle.doc_walk.specs.Tags.{child_step};
 
 use crate::outermost::file;
+use crate::whole_parts::{known_after, put};
 use doc_forms::{Cursor, DocFail, FileBuilder};
 use doc_walk::{Tag, Walk};
 use markup_core::{MarkupFail, Piece, Reader};
@@ -31,10 +34,41 @@ fn document_child(
     match tag.name {
         "KeePassFile" => {
             let file = file(walk, tag)?;
-            *known = Some(file);
+            put(known, file);
             Ok(())
         }
         _ => walk.pass(tag),
+    }
+}
+
+/// Reads what is left of a text.
+fn read_rest(known: &mut Option<FileBuilder>, walk: &mut Walk<'_>) -> Result<(), DocFail>
+    ensures { Returns (λ _. option_map file_parts known.new) result
+        (parts_left walk.old.setting (inner (left walk.old.answers))
+        (option_map file_parts known.old) walk.old.cursor) }
+{
+    'pieces: loop {
+        match walk.next_piece() {
+            Ok(
+                Piece::Start {
+                    name,
+                    attrs,
+                    place: offset,
+                },
+            ) => {
+                let child = Tag {
+                    name,
+                    attrs,
+                    offset,
+                };
+                document_child(known, walk, &child)?;
+            }
+            Ok(Piece::Words { raw: _, place: _ }) => {}
+            Ok(Piece::Stop { place: _ }) => return Err(DocFail::NoMemory),
+            Ok(Piece::Finish) => return Ok(()),
+            Err(MarkupFail::Form(at)) => return Err(DocFail::Form(at)),
+            Err(MarkupFail::Depth(at)) => return Err(DocFail::Depth(at)),
+        }
     }
 }
 
@@ -55,27 +89,6 @@ pub fn read_document(
     };
     let mut walk = Walk::new(alloc, form, Reader::new(text), stream, start);
     let mut known = None;
-    'pieces: loop {
-        match walk.next_piece() {
-            Ok(
-                Piece::Start {
-                    name,
-                    attrs,
-                    place: offset,
-                },
-            ) => {
-                let child = Tag {
-                    name,
-                    attrs,
-                    offset,
-                };
-                document_child(&mut known, &mut walk, &child)?;
-            }
-            Ok(Piece::Words { raw: _, place: _ }) => {}
-            Ok(Piece::Stop { place: _ }) => return Err(DocFail::NoMemory),
-            Ok(Piece::Finish) => return Ok(known),
-            Err(MarkupFail::Form(at)) => return Err(DocFail::Form(at)),
-            Err(MarkupFail::Depth(at)) => return Err(DocFail::Depth(at)),
-        }
-    }
+    let read = read_rest(&mut known, &mut walk);
+    known_after(read, known)
 }

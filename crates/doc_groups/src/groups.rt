@@ -4,9 +4,9 @@ ghost use Rattle.std.specs.Prelude.{◌≡◌};
 ghost use Rattle.doc_forms.specs.Groups as spec;
 ghost use Rattle.doc_forms.specs.Refusals.{Returns};
 ghost use Rattle.doc_forms.specs.SeenDrafts.{draft_seen, group_parts_seen};
-ghost use Rattle.doc_groups.specs.GroupSteps.{group_step};
+ghost use Rattle.doc_groups.specs.GroupSteps.{group_step, id_at_end};
 ghost use Rattle.doc_walk.specs.Steps.{Steps};
-ghost use Rattle.doc_walk.specs.Tags.{child_step};
+ghost use Rattle.doc_walk.specs.Tags.{child_step, contents_step};
 
 use crate::group_children::read_child;
 use crate::new_groups::{add_group, draft_of, no_group};
@@ -15,30 +15,26 @@ use doc_forms::{DocFail, GroupBuilder, GroupDraft};
 use doc_values::{appended, is_marked, no_text};
 use doc_walk::{Tag, Walk};
 use markup_core::{MarkupFail, Piece};
-use secret_core::Secret;
+use uuid::Uuid;
 
-/// The end of the group whose start tag was given, which has this text. One that does not fit where
-/// it is is refused.
-fn group_end(
+/// The id of a group that begins at the offset, when all that is in it has been read. A group that
+/// does not fit where it is is refused.
+fn group_id(
     walk: &mut Walk<'_>,
-    tag: &Tag<'_>,
-    text: Secret,
+    offset: usize,
     fits: bool,
-    known: GroupBuilder,
-) -> Result<GroupDraft, DocFail>
-    ensures gives { Returns (λ g. (draft_seen g, walk.new.cursor)) result
-        (spec.group_end walk.old.setting fits tag.now.offset tag.now.attrs.raw.now text.bytes
-        (group_parts_seen known) walk.old.cursor) }
+    id: Option<Uuid>,
+) -> Result<Uuid, DocFail>
+    ensures gives { Returns (λ u. (u, walk.new.cursor)) result
+        (id_at_end fits offset id walk.old.cursor) }
     ensures answers { walk.new.answers ≡ walk.old.answers }
     ensures setting { walk.new.setting ≡ walk.old.setting }
 {
-    let _ = walk.own_text(tag, text)?;
     if !fits {
-        return Err(DocFail::BadValue(tag.offset));
+        return Err(DocFail::BadValue(offset));
     }
     walk.count()?;
-    let id = node_id(tag.offset, known.id)?;
-    Ok(draft_of(id, known))
+    node_id(offset, id)
 }
 
 /// Reads a child of a group, below which so many levels are allowed.
@@ -62,20 +58,20 @@ fn group_child(
     add_group(known, draft)
 }
 
-/// The group whose start tag was given, below which so many levels are allowed. One that does not
-/// fit where it is is refused at its end.
+/// Reads all children of the group whose start tag was given, below which so many levels are
+/// allowed, and its end.
 #[cycle(tree)]
-pub(crate) fn group(
+fn group_children(
+    known: &mut GroupBuilder,
     walk: &mut Walk<'_>,
     tag: &Tag<'_>,
     levels: usize,
-    fits: bool,
-) -> Result<GroupDraft, DocFail>
-    ensures { Steps draft_seen walk.old walk.new result (group_step levels fits tag.now) }
+) -> Result<(), DocFail>
+    ensures { Steps (λ _. group_parts_seen known.new) walk.old walk.new result
+        (contents_step (λ s. spec.group_child s levels) (group_parts_seen known.old) tag.now) }
 {
     let hides = is_marked(walk.alloc(), &tag.attrs, "Protected")?;
     let mut text = no_text(walk.alloc())?;
-    let mut known = no_group(walk.alloc());
     'pieces: loop {
         match walk.next_piece() {
             Ok(
@@ -90,17 +86,37 @@ pub(crate) fn group(
                     attrs,
                     offset,
                 };
-                group_child(&mut known, walk, &child, levels)?;
+                group_child(known, walk, &child, levels)?;
             }
             Ok(Piece::Words { raw, place: _ }) => {
                 if hides {
                     text = appended(walk.alloc(), text, raw)?;
                 }
             }
-            Ok(Piece::Stop { place: _ }) => return group_end(walk, tag, text, fits, known),
+            Ok(Piece::Stop { place: _ }) => {
+                let _ = walk.own_text(tag, text)?;
+                return Ok(());
+            }
             Ok(Piece::Finish) => return Err(DocFail::NoMemory),
             Err(MarkupFail::Form(at)) => return Err(DocFail::Form(at)),
             Err(MarkupFail::Depth(at)) => return Err(DocFail::Depth(at)),
         }
     }
+}
+
+/// The group whose start tag was given, below which so many levels are allowed. One that does not
+/// fit where it is is refused at its end.
+#[cycle(tree)]
+pub(crate) fn group(
+    walk: &mut Walk<'_>,
+    tag: &Tag<'_>,
+    levels: usize,
+    fits: bool,
+) -> Result<GroupDraft, DocFail>
+    ensures { Steps draft_seen walk.old walk.new result (group_step levels fits tag.now) }
+{
+    let mut known = no_group(walk.alloc());
+    group_children(&mut known, walk, tag, levels)?;
+    let id = group_id(walk, tag.offset, fits, known.id)?;
+    Ok(draft_of(id, known))
 }

@@ -1,11 +1,12 @@
 //! Groups before and at their end.
 
-ghost use Rattle.std.specs.Prelude.{◌≡◌, ◌++◌, ◌∷◌, [], Ok};
+ghost use Rattle.std.specs.Prelude.{◌≡◌, Ok};
 ghost use Rattle.doc_forms.specs.Groups as spec;
 ghost use Rattle.doc_forms.specs.Refusals.{Returns};
-ghost use Rattle.doc_forms.specs.SeenDrafts.{draft_seen, entry_seen, group_parts_seen};
+ghost use Rattle.doc_forms.specs.SeenDrafts.{draft_seen, group_parts_seen};
 
-use doc_forms::{DocFail, EntryDraft, GroupBuilder, GroupDraft};
+use crate::whole_parts::append;
+use doc_forms::{DocFail, GroupBuilder, GroupDraft};
 use doc_walk::no_times;
 use outside_core::{List, Text};
 use std::alloc::Global;
@@ -19,6 +20,7 @@ pub(crate) fn no_group(alloc: Global) -> GroupBuilder
     let times = no_times();
     GroupBuilder {
         id: None,
+        previous: Uuid::nil(),
         times,
         content: GroupContent {
             created: times.created,
@@ -32,6 +34,7 @@ pub(crate) fn no_group(alloc: Global) -> GroupBuilder
             auto_type: Tri::Inherit,
             searching: Tri::Inherit,
             items: List::new(alloc),
+            tags: Text::new(alloc),
         },
         view: GroupView {
             expanded: true,
@@ -49,6 +52,7 @@ pub(crate) fn draft_of(id: Uuid, builder: GroupBuilder) -> GroupDraft
 {
     let GroupBuilder {
         id: _,
+        previous,
         times,
         content,
         view,
@@ -62,6 +66,7 @@ pub(crate) fn draft_of(id: Uuid, builder: GroupBuilder) -> GroupDraft
     GroupDraft {
         id,
         placed: times.placed,
+        previous,
         state: GroupState {
             modified: times.modified,
             content,
@@ -76,19 +81,6 @@ pub(crate) fn draft_of(id: Uuid, builder: GroupBuilder) -> GroupDraft
     }
 }
 
-/// Appends an entry to those of a group.
-pub(crate) fn add_entry(known: &mut GroupBuilder, entry: EntryDraft) -> Result<(), DocFail>
-    ensures { Returns (λ _. group_parts_seen known.new) result
-        (Ok (record (group_parts_seen known.old) {
-          entries = (group_parts_seen known.old).entries ++ entry_seen entry ∷ [];
-        })) }
-{
-    if known.entries.push(entry).is_err() {
-        return Err(DocFail::NoMemory);
-    }
-    Ok(())
-}
-
 /// Appends a group to those in a group.
 pub(crate) fn add_group(known: &mut GroupBuilder, draft: GroupDraft) -> Result<(), DocFail>
     ensures { Returns (λ _. group_parts_seen known.new) result
@@ -96,8 +88,5 @@ pub(crate) fn add_group(known: &mut GroupBuilder, draft: GroupDraft) -> Result<(
           groups = spec.append_tree (group_parts_seen known.old).groups (draft_seen draft);
         })) }
 {
-    if known.groups.push(draft).is_err() {
-        return Err(DocFail::NoMemory);
-    }
-    Ok(())
+    append(&mut known.groups, draft)
 }

@@ -8,9 +8,10 @@ ghost use Rattle.doc_walk.specs.Steps.{Steps};
 ghost use Rattle.doc_walk.specs.Tags.{child_step, contents_step};
 
 use crate::roots::root;
+use crate::whole_parts::{put, read_whole};
 use doc_forms::{DocFail, FileBuilder};
 use doc_metas::{meta, no_meta};
-use doc_walk::{Parts, Tag, Walk, contents};
+use doc_walk::{Parts, Tag, Walk};
 use std::alloc::Global;
 
 /// What is known of a `KeePassFile` before its end.
@@ -24,12 +25,14 @@ fn root_child(draft: &mut FileDraft, walk: &mut Walk<'_>, tag: &Tag<'_>) -> Resu
     ensures { Steps (λ _. file_parts draft.new.file) walk.old walk.new result
         (child_step spec.root (file_parts draft.old.file) tag.now) }
 {
+    let fits = draft.file.root.is_none();
     let root = root(walk, tag)?;
-    if draft.file.root.is_some() {
-        return Err(DocFail::BadValue(tag.offset));
+    put(&mut draft.file.root, root);
+    if fits {
+        Ok(())
+    } else {
+        Err(DocFail::BadValue(tag.offset))
     }
-    draft.file.root = Some(root);
-    Ok(())
 }
 
 impl Parts for FileDraft {
@@ -63,9 +66,9 @@ pub(crate) fn file(walk: &mut Walk<'_>, tag: &Tag<'_>) -> Result<FileBuilder, Do
     ensures { Steps file_parts walk.old walk.new result
         (contents_step (λ s. by_name s (spec.file_rows s)) spec.no_file_parts tag.now) }
 {
-    let mut draft = FileDraft {
+    let first = FileDraft {
         file: no_file_parts(walk.alloc()),
     };
-    contents(walk, tag, &mut draft)?;
+    let draft = read_whole(walk, tag, first)?;
     Ok(draft.file)
 }

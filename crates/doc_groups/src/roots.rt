@@ -9,8 +9,9 @@ ghost use Rattle.doc_walk.specs.Tags.{child_step, contents_step};
 
 use crate::groups::group;
 use crate::tombs::tombs;
+use crate::whole_parts::{put, read_whole};
 use doc_forms::{DocFail, RootBuilder};
-use doc_walk::{Parts, Tag, Walk, contents};
+use doc_walk::{Parts, Tag, Walk};
 use outside_core::List;
 use std::alloc::Global;
 
@@ -26,8 +27,8 @@ fn root_group(draft: &mut RootDraft, walk: &mut Walk<'_>, tag: &Tag<'_>) -> Resu
         (child_step spec.root_group (root_parts draft.old.root) tag.now) }
 {
     let fits = draft.root.tree.is_none();
-    let tree = group(walk, tag, 63, fits)?;
-    draft.root.tree = Some(tree);
+    let tree = group(walk, tag, 127, fits)?;
+    put(&mut draft.root.tree, tree);
     Ok(())
 }
 
@@ -62,9 +63,9 @@ pub(crate) fn root(walk: &mut Walk<'_>, tag: &Tag<'_>) -> Result<RootBuilder, Do
     ensures { Steps root_parts walk.old walk.new result
         (contents_step (λ s. by_name s (spec.root_rows s)) spec.no_root tag.now) }
 {
-    let mut draft = RootDraft {
+    let first = RootDraft {
         root: no_root(walk.alloc()),
     };
-    contents(walk, tag, &mut draft)?;
+    let draft = read_whole(walk, tag, first)?;
     Ok(draft.root)
 }

@@ -19,8 +19,8 @@ KeptRoot p = is_kept_root p.tree ≡ true
 
 root_group_kept : (s : Setting) → Keeps KeptRoot (root_group s)
 root_group_kept s p e cursor g =
-    step_and_next (λ x. is_kept_tree 63 x.0 ≡ true) (λ x. KeptRoot x.0) (group s 63 (not (is_some p.tree)) e cursor) (λ x. Ok (record p { tree = Some x.0 }, x.1))
-    (group_kept s 63 (not (is_some p.tree)) e cursor) (λ x k. k)
+    step_and_next (λ x. is_kept_tree 127 x.0 ≡ true) (λ x. KeptRoot x.0) (group s 127 (not (is_some p.tree)) e cursor) (λ x. Ok (record p { tree = Some x.0 }, x.1))
+    (group_kept s 127 (not (is_some p.tree)) e cursor) (λ x k. k)
 
 root_rows_kept : (s : Setting) → Rows KeptRoot (root_rows s)
 root_rows_kept s = root_group_kept s & any_container KeptRoot s (tombs_rows s) [] _ (λ p v g. g) & tt
@@ -49,11 +49,7 @@ text_kept s =
 text_is_kept : (s : Setting) (text : List ℕ) → IfOk (parts_at_end s text) (λ x. are_kept x.0 ≡ true)
 text_is_kept s text = all_keep KeptText s (by_name s (document_rows s)) (by_name_keeps KeptText s (document_rows s) (text_kept s)) (content_of (answers text)) None start refl
 
--- what is read through to the end of a text is kept
-pub kept : (s : Setting) (text : List ℕ) (x : Option FileParts × Cursor) → parts_at_end s text ≡ Ok x → are_kept x.0 ≡ true
-kept s text x e = subst (λ (r : Result (Option FileParts × Cursor) DocFail). IfOk r (λ y. are_kept y.0 ≡ true)) e (text_is_kept s text)
-
--- the same of the parts alone
+-- what is read of a text to its end is kept
 pub parts_kept : (s : Setting) (text : List ℕ) (parts : Option FileParts) → parts_in s text ≡ Ok parts → are_kept parts ≡ true
 parts_kept s text parts e =
     subst (λ (r : Result (Option FileParts) DocFail). IfOk r (λ o. are_kept o ≡ true)) e

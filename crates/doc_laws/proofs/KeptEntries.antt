@@ -16,7 +16,7 @@ use Rattle.doc_forms.specs.declared.cursor.Cursor.{Cursor}
 use Rattle.doc_forms.specs.declared.fails.DocFail.TheVariants.{Compressed, NilId}
 use Rattle.doc_forms.specs.declared.times.Times.{Times}
 use Rattle.doc_forms.specs.Entries.{attachment_rows}
-use Rattle.doc_forms.specs.Entries.{EntryParts, ReadAttachment, ReadEntry, ReadVersion, association_rows, attachment_value, auto_type_rows, entry, entry_at, entry_rows, field_rows, history, history_item, history_item_at, history_item_rows, history_rows, id_or_none, is_compressed, no_association, no_attachment, no_auto_type, no_entry, no_field, node_id, own_id, source_in, version_of, version_rows}
+use Rattle.doc_forms.specs.Entries.{EntryParts, ReadAttachment, ReadEntry, ReadVersion, association_rows, attachment_value, auto_type_rows, entry, entry_at, entry_of, entry_rows, field_rows, history, history_item, history_item_at, history_item_rows, history_rows, id_or_none, is_compressed, no_association, no_attachment, no_auto_type, no_entry, no_field, node_id, own_id, source_in, version_of, version_rows}
 use Rattle.doc_forms.specs.KeptParts.{is_kept_entry, is_kept_version}
 use Rattle.doc_forms.specs.Children.{by_name, children_and_end, count_node}
 use Rattle.doc_forms.specs.ElementTexts.{Setting, is_hidden, read_element}
@@ -41,7 +41,8 @@ abbrev IsTextItem : Item → Type 0
 IsTextItem i = (is_utf8 i.key ≡ true) × (is_utf8 i.value ≡ true)
 
 item_kept : (s : Setting) → Rows IsTextItem (item_rows s)
-item_kept s = text_row IsTextItem s _ (λ p v g u. (u, g.1)) & text_row IsTextItem s _ (λ p v g u. (g.0, u)) & tt
+item_kept s =
+    text_row IsTextItem s _ (λ p v g u. (u, g.1)) & text_row IsTextItem s _ (λ p v g u. (g.0, u)) & any_row IsTextItem s _ _ (λ p v g. g) & tt
 
 items_kept : (s : Setting) → Rows KeptItems (items_rows s)
 items_kept s =
@@ -162,6 +163,7 @@ version_kept : (s : Setting) → Rows KeptParts (version_rows s)
 version_kept s =
     any_row KeptParts s _ _ (λ p v g. g)
     & any_row KeptParts s id_or_none _ (λ p v g. g)
+    & any_row KeptParts s _ _ (λ p v g. g)
     & text_row KeptParts s _ (λ p v g u. (assumption (u, g.0), g.1, g.2))
     & text_row KeptParts s _ (λ p v g u. (assumption (u, g.0), g.1, g.2))
     & text_row KeptParts s _ (λ p v g u. (assumption (u, g.0), g.1, g.2))
@@ -187,7 +189,7 @@ KeptHistory history = list_all is_kept_version history ≡ true
 item_at_kept : (s : Setting) (offset : ℕ) (raw : List ℕ) (content : Content) (cursor : Cursor) → IfOk (history_item_at s offset raw content cursor) (λ x. is_kept_version x.0 ≡ true)
 item_at_kept s offset raw content cursor =
     step_and_next (λ x. KeptParts x.0) (λ x. is_kept_version x.0 ≡ true) (children_and_end s (by_name s (history_item_rows s)) offset raw [] content no_entry cursor) _
-    (element_keeps KeptParts s (history_item_rows s) (any_row KeptParts s id_or_none _ (λ p v k. k) & version_kept s) offset raw [] content no_entry cursor no_entry_kept)
+    (element_keeps KeptParts s (history_item_rows s) (any_row KeptParts s id_or_none _ (λ p v k. k) & any_row KeptParts s _ _ (λ p v k. k) & version_kept s) offset raw [] content no_entry cursor no_entry_kept)
     (λ x k. any_and_next (λ y. is_kept_version y.0 ≡ true) (count_node x.1) (λ later. Ok (version_of x.0, later)) (λ later. made_kept x.0 k))
 
 item_of_history : (s : Setting) → Keeps KeptHistory (history_item s)
@@ -212,11 +214,12 @@ entry_kept : (s : Setting) → Rows KeptParts (entry_rows s)
 entry_kept s =
     id_row KeptParts s _ (λ p v g. g)
     & container_keeps KeptParts KeptHistory s (history_rows s) [] _ (item_of_history s & tt) refl (λ p v g h. (g.0, g.1, h))
+    & any_row KeptParts s _ _ (λ p v g. g)
     & version_kept s
 
-whole_entry : (u : NodeId) (placed : ℕ) (p : EntryParts) → not (bytes_eq u nil_id) ≡ true → KeptParts p
-    → is_kept_entry (record { id = u; placed = placed; current = version_of p; history = p.history }) ≡ true
-whole_entry u placed p n g = rw (n, made_kept p g, g.2) refl
+whole_entry : (u : NodeId) (p : EntryParts) → not (bytes_eq u nil_id) ≡ true → KeptParts p
+    → is_kept_entry (entry_of u p) ≡ true
+whole_entry u p n g = rw (n, made_kept p g, g.2) refl
 
 entry_at_kept : (s : Setting) (offset : ℕ) (raw : List ℕ) (content : Content) (cursor : Cursor) → IfOk (entry_at s offset raw content cursor) (λ x. is_kept_entry x.0 ≡ true)
 entry_at_kept s offset raw content cursor =
@@ -224,8 +227,8 @@ entry_at_kept s offset raw content cursor =
     (element_keeps KeptParts s (entry_rows s) (entry_kept s) offset raw [] content no_entry cursor no_entry_kept)
     (λ x g. any_and_next (λ y. is_kept_entry y.0 ≡ true) (count_node x.1) _ (λ later.
     step_and_next (λ u. not (bytes_eq u nil_id) ≡ true) (λ y. is_kept_entry y.0 ≡ true) (node_id offset x.0.id)
-    (λ u. Ok (record { id = u; placed = x.0.times.placed; current = version_of x.0; history = x.0.history }, later))
-    (node_kept offset x.0.id) (λ u n. whole_entry u x.0.times.placed x.0 n g)))
+    (λ u. Ok (entry_of u x.0, later))
+    (node_kept offset x.0.id) (λ u n. whole_entry u x.0 n g)))
 
 -- an entry, with what is known of its parent
 pub entry_row : {P : Type 0} (Good : P → Type 0) (s : Setting) (keep : P → ReadEntry → P)

@@ -25,32 +25,34 @@ use Rattle.doc_laws.proofs.Rising.{all_later}
 -- what is known of a group is in order, with at most so many levels below it
 abbrev KeptGroup : ℕ → GroupParts → Type 0
 KeptGroup levels p =
-    (is_utf8 p.content.name ≡ true) × (is_utf8 p.content.notes ≡ true) × (is_utf8 p.content.sequence ≡ true) × KeptItems p.content.items
-    × (list_all is_kept_entry p.entries ≡ true) × (are_kept_trees levels p.groups ≡ true)
+    (is_utf8 p.content.name ≡ true) × (is_utf8 p.content.notes ≡ true) × (is_utf8 p.content.sequence ≡ true) × (is_utf8 p.content.tags ≡ true)
+    × KeptItems p.content.items × (list_all is_kept_entry p.entries ≡ true) × (are_kept_trees levels p.groups ≡ true)
 
 no_group_kept : (levels : ℕ) → KeptGroup levels no_group
 unfolding is_utf8 chars encode
-no_group_kept levels = (refl, refl, refl, (refl, refl), refl, refl)
+no_group_kept levels = (refl, refl, refl, refl, (refl, refl), refl, refl)
 
-proper : (c : GroupContent) → is_utf8 c.name ≡ true → is_utf8 c.notes ≡ true → is_utf8 c.sequence ≡ true → KeptItems c.items → is_proper_group_content c ≡ true
+proper : (c : GroupContent) → is_utf8 c.name ≡ true → is_utf8 c.notes ≡ true → is_utf8 c.sequence ≡ true → is_utf8 c.tags ≡ true → KeptItems c.items → is_proper_group_content c ≡ true
 unfolding is_proper_group_content
-proper c n o q i = rw (i.0, i.1, n, o, q) refl
+proper c n o q t i = rw (i.0, i.1, n, o, q, t) refl
 
 rows_kept : (levels : ℕ) (s : Setting) → Rows (KeptGroup levels) (group_rows s)
 rows_kept levels s =
     id_row (KeptGroup levels) s _ (λ p v g. g)
-    & text_row (KeptGroup levels) s _ (λ p v g u. (u, g.1, g.2, g.3, g.4, g.5))
-    & text_row (KeptGroup levels) s _ (λ p v g u. (g.0, u, g.2, g.3, g.4, g.5))
+    & text_row (KeptGroup levels) s _ (λ p v g u. (u, g.1, g.2, g.3, g.4, g.5, g.6))
+    & text_row (KeptGroup levels) s _ (λ p v g u. (g.0, u, g.2, g.3, g.4, g.5, g.6))
+    & text_row (KeptGroup levels) s _ (λ p v g u. (g.0, g.1, g.2, u, g.4, g.5, g.6))
     & any_row (KeptGroup levels) s _ _ (λ p v g. g)
     & any_row (KeptGroup levels) s id_or_none _ (λ p v g. g)
     & times_row (KeptGroup levels) s _ (λ p v g. g)
     & any_row (KeptGroup levels) s _ _ (λ p v g. g)
-    & text_row (KeptGroup levels) s _ (λ p v g u. (g.0, g.1, u, g.3, g.4, g.5))
+    & text_row (KeptGroup levels) s _ (λ p v g u. (g.0, g.1, u, g.3, g.4, g.5, g.6))
     & any_row (KeptGroup levels) s _ _ (λ p v g. g)
     & any_row (KeptGroup levels) s _ _ (λ p v g. g)
     & any_row (KeptGroup levels) s _ _ (λ p v g. g)
-    & custom_data_row (KeptGroup levels) s _ (λ p v g u. (g.0, g.1, g.2, u, g.4, g.5))
-    & entry_row (KeptGroup levels) s _ (λ p v g u. (g.0, g.1, g.2, g.3, all_later is_kept_entry p.entries v g.4 u, g.5))
+    & any_row (KeptGroup levels) s _ _ (λ p v g. g)
+    & custom_data_row (KeptGroup levels) s _ (λ p v g u. (g.0, g.1, g.2, g.3, u, g.5, g.6))
+    & entry_row (KeptGroup levels) s _ (λ p v g u. (g.0, g.1, g.2, g.3, g.4, all_later is_kept_entry p.entries v g.5 u, g.6))
     & tt
 
 -- ---- levels
@@ -76,11 +78,11 @@ deeper : (b : Bool) (levels offset : ℕ) (p : GroupParts) (r : Result (ReadTree
 deeper true levels offset p r e g k = tt
 deeper false levels offset p r e g k =
     step_and_next (λ x. is_kept_tree (levels - 1) x.0 ≡ true) (λ x. KeptGroup levels x.0) r (with_tree p) k
-    (λ x t. (g.0, g.1, g.2, g.3, g.4, one_more_tree levels p.groups x.0 (some_level levels e) t g.5))
+    (λ x t. (g.0, g.1, g.2, g.3, g.4, g.5, one_more_tree levels p.groups x.0 (some_level levels e) t g.6))
 
 whole_group : (levels : ℕ) (u : NodeId) (p : GroupParts) → not (bytes_eq u nil_id) ≡ true → KeptGroup levels p
     → is_kept_tree levels (node u (record_of p) p.entries p.groups) ≡ true
-whole_group levels u p n g = rw (n, proper (record_of p).state.content g.0 g.1 g.2 g.3, g.4, g.5) refl
+whole_group levels u p n g = rw (n, proper (record_of p).state.content g.0 g.1 g.2 g.3 g.4, g.5, g.6) refl
 
 end_kept : (s : Setting) (levels : ℕ) (fits : Bool) (offset : ℕ) (raw text : List ℕ) (p : GroupParts) (cursor : Cursor) → KeptGroup levels p
     → IfOk (group_end s fits offset raw text p cursor) (λ x. is_kept_tree levels x.0 ≡ true)

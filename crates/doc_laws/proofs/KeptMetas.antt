@@ -56,7 +56,9 @@ abbrev HasTextName : Icon → Type 0
 HasTextName i = is_text_icon i ≡ true
 
 icon_kept : (s : Setting) → Rows HasTextName (icon_rows s)
-icon_kept s = any_row HasTextName s _ _ (λ p v g. g) & any_row HasTextName s _ _ (λ p v g. g) & tt
+icon_kept s =
+    any_row HasTextName s _ _ (λ p v g. g) & any_row HasTextName s _ _ (λ p v g. g)
+    & text_row HasTextName s _ (λ p v g u. u) & any_row HasTextName s _ _ (λ p v g. g) & tt
 
 icons_kept : (s : Setting) → Rows KeptIcons (icons_rows s)
 icons_kept s =

@@ -34,8 +34,8 @@ less_from Greater e = cc e
 before_all : (a b c : List ℕ) → bytes_cmp a b ≡ Less → is_lt (bytes_cmp b c) ≡ true → is_lt (bytes_cmp a c) ≡ true
 before_all a b c ab bc = ap is_lt (bytes_order.total.trans a b c ab (less_from (bytes_cmp b c) bc))
 
-turned : (a b : List ℕ) → bytes_cmp a b ≡ Greater → bytes_cmp b a ≡ Less
-turned a b e = bytes_order.total.antisymm b a ∙ ap ordering_reverse e
+reversed_order : (a b : List ℕ) → bytes_cmp a b ≡ Greater → bytes_cmp b a ≡ Less
+reversed_order a b e = bytes_order.total.antisymm b a ∙ ap ordering_reverse e
 
 -- ---- lists with keys
 
@@ -67,7 +67,7 @@ module _ {A : Type 0} (key : A → List ℕ) where
       (subst (λ (k : List ℕ). list_all (λ z. is_lt (bytes_cmp k (key z))) ys ≡ true) (sym (bytes_order.same (key x) (key y) e)) first) rest
   rises_put_beside x y ys Greater e first rest later =
       and_both (list_all (λ z. is_lt (bytes_cmp (key y) (key z))) (put key x ys)) (rises key (put key x ys))
-      (all_put (λ z. is_lt (bytes_cmp (key y) (key z))) x ys (ap is_lt (turned (key x) (key y) e)) first) later
+      (all_put (λ z. is_lt (bytes_cmp (key y) (key z))) x ys (ap is_lt (reversed_order (key x) (key y) e)) first) later
 
   pub rises_put : (x : A) (xs : List A) → rises key xs ≡ true → rises key (put key x xs) ≡ true
   rises_put x [] up = refl

@@ -33,7 +33,7 @@ times_sound : {P : Type 0} (s : Setting) (keep : P → Times → P) → IsSound 
 times_sound s keep = container_sound s (times_rows s) no_times keep (times_rows_sound s)
 
 item_rows_sound : (s : Setting) → AreSound (item_rows s)
-item_rows_sound s = value_sound s _ _ & value_sound s _ _ & tt
+item_rows_sound s = value_sound s _ _ & value_sound s _ _ & value_sound s _ _ & tt
 
 items_rows_sound : (s : Setting) → AreSound (items_rows s)
 items_rows_sound s = container_sound s (item_rows s) no_item _ (item_rows_sound s) & tt
@@ -74,13 +74,13 @@ part_rows_sound s =
     & container_sound s (attachment_rows s) no_attachment with_attachment (attachment_rows_sound s) & held_rows_sound s
 
 text_rows_sound : (s : Setting) → AreSound (text_rows s)
-text_rows_sound s = value_sound s _ _ & value_sound s _ _ & value_sound s _ _ & value_sound s _ _ & part_rows_sound s
+text_rows_sound s = value_sound s _ _ & value_sound s _ _ & value_sound s _ _ & value_sound s _ _ & value_sound s _ _ & part_rows_sound s
 
 version_rows_sound : (s : Setting) → AreSound (version_rows s)
 version_rows_sound s = value_sound s _ _ & value_sound s _ _ & text_rows_sound s
 
 history_item_rows_sound : (s : Setting) → AreSound (history_item_rows s)
-history_item_rows_sound s = value_sound s _ _ & version_rows_sound s
+history_item_rows_sound s = value_sound s _ _ & value_sound s _ _ & version_rows_sound s
 
 item_respects : (s : Setting) (offset : ℕ) (raw : List ℕ) (content : Content) (cursor : Cursor)
     → Respects (first_cut content) (history_item_at s offset raw content cursor)
@@ -98,7 +98,7 @@ history_sound : (s : Setting) → IsSound (history s)
 history_sound s = container_sound s (history_rows s) [] _ (history_item_sound s & tt)
 
 entry_rows_sound : (s : Setting) → AreSound (entry_rows s)
-entry_rows_sound s = value_sound s _ _ & history_sound s & version_rows_sound s
+entry_rows_sound s = value_sound s _ _ & history_sound s & value_sound s _ _ & version_rows_sound s
 
 id_respects : (offset : ℕ) (id : Option NodeId) → Respects None (node_id offset id)
 id_respects offset None = tt
@@ -121,8 +121,9 @@ entry_sound s keep p (element offset name raw content) cursor =
 
 group_rows_sound : (s : Setting) → AreSound (group_rows s)
 group_rows_sound s =
-    value_sound s _ _ & value_sound s _ _ & value_sound s _ _ & value_sound s _ _ & value_sound s _ _ & times_sound s _
-    & value_sound s _ _ & value_sound s _ _ & value_sound s _ _ & value_sound s _ _ & value_sound s _ _ & data_sound s _ & entry_sound s _ & tt
+    value_sound s _ _ & value_sound s _ _ & value_sound s _ _ & value_sound s _ _ & value_sound s _ _ & value_sound s _ _ & times_sound s _
+    & value_sound s _ _ & value_sound s _ _ & value_sound s _ _ & value_sound s _ _ & value_sound s _ _ & value_sound s _ _
+    & data_sound s _ & entry_sound s _ & tt
 
 group_end_respects : (s : Setting) (fits : Bool) (offset : ℕ) (raw text : List ℕ) (p : GroupParts) (cursor : Cursor)
     → Respects None (group_end s fits offset raw text p cursor)
@@ -163,7 +164,7 @@ protection_rows_sound : (s : Setting) → AreSound (protection_rows s)
 protection_rows_sound s = value_sound s _ _ & value_sound s _ _ & value_sound s _ _ & value_sound s _ _ & value_sound s _ _ & tt
 
 icon_rows_sound : (s : Setting) → AreSound (icon_rows s)
-icon_rows_sound s = value_sound s _ _ & value_sound s _ _ & tt
+icon_rows_sound s = value_sound s _ _ & value_sound s _ _ & value_sound s _ _ & value_sound s _ _ & tt
 
 icons_rows_sound : (s : Setting) → AreSound (icons_rows s)
 icons_rows_sound s = container_sound s (icon_rows s) no_icon _ (icon_rows_sound s) & tt
@@ -205,8 +206,8 @@ tombs_rows_sound s = container_sound s (tomb_rows s) no_tomb _ (tomb_rows_sound 
 
 root_group_sound : (s : Setting) → IsSound (root_group s)
 root_group_sound s p e cursor =
-    step_then (first_cut_in e) (group s 63 (not (is_some p.tree)) e cursor) (λ x. Ok (record p { tree = Some x.0 }, x.1))
-    (group_respects s 63 (not (is_some p.tree)) e cursor) (λ x. tt {0})
+    step_then (first_cut_in e) (group s 127 (not (is_some p.tree)) e cursor) (λ x. Ok (record p { tree = Some x.0 }, x.1))
+    (group_respects s 127 (not (is_some p.tree)) e cursor) (λ x. tt {0})
 
 root_rows_sound : (s : Setting) → AreSound (root_rows s)
 root_rows_sound s = root_group_sound s & container_sound s (tombs_rows s) [] _ (tombs_rows_sound s) & tt

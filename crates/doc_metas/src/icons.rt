@@ -7,7 +7,7 @@ ghost use Rattle.doc_walk.specs.Steps.{Steps};
 ghost use Rattle.doc_walk.specs.Tags.{contents_step};
 
 use doc_forms::DocFail;
-use doc_values::{IdValue, KeyedList, OpenBytes};
+use doc_values::{IdValue, KeyedList, OpenBytes, TextValue, TimeValue};
 use doc_walk::{Parts, Tag, Walk, contents, never};
 use outside_core::{Bytes, List, Text};
 use std::alloc::Global;
@@ -33,6 +33,8 @@ impl Parts for IconDraft {
         match tag.name {
             "UUID" => walk.keep::<IdValue>(tag, &mut self.icon.id),
             "Data" => walk.keep::<OpenBytes>(tag, &mut self.icon.bytes),
+            "Name" => walk.keep::<TextValue>(tag, &mut self.icon.name),
+            "LastModificationTime" => walk.keep::<TimeValue>(tag, &mut self.icon.changed),
             _ => walk.pass(tag),
         }
     }

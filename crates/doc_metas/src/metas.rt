@@ -147,10 +147,7 @@ fn name_child(known: &mut MetaBuilder, walk: &mut Walk<'_>, tag: &Tag<'_>) -> Re
         (child_step (λ s. by_name s (spec.meta_rows s)) (meta_parts known.old) tag.now) }
 {
     match tag.name {
-        "Generator" => {
-            let _ = walk.value::<TextValue>(tag)?;
-            Ok(())
-        }
+        "Generator" => walk.check::<TextValue>(tag),
         "HeaderHash" => walk.keep::<HashOrNone>(tag, &mut known.hash),
         "SettingsChanged" => walk.keep::<TimeValue>(tag, &mut known.meta.settings.changed),
         "DatabaseName" => walk.keep::<TextValue>(tag, &mut known.meta.name.value),

@@ -1,6 +1,6 @@
 //! Reading a document.
 
-ghost use Rattle.std.specs.Prelude.{map};
+ghost use Rattle.std.specs.Prelude.{◌≡◌, IfOk, map};
 ghost use Rattle.stream_core.specs.InnerStream.{IsAt};
 ghost use Rattle.doc_forms.specs.Documents as spec;
 ghost use Rattle.doc_forms.specs.Refusals.{Returns};
@@ -30,11 +30,13 @@ pub fn read_parts(
     stream: &mut InnerStream,
 ) -> Result<DocParts, DocFail>
     requires { IsAt stream.old 0 }
-    ensures { Returns parts_seen result (spec.parts_in (setting_of form stream.old) text.now) }
+    ensures parts { Returns parts_seen result
+        (spec.parts_in (setting_of form stream.old) text.now) }
+    ensures form { IfOk result (λ parts. parts.form ≡ form) }
 {
     let stream = mem::replace(stream, InnerStream::Clear);
     let file = read_document(alloc, text, form, stream)?;
-    Ok(DocParts { file })
+    Ok(DocParts { form, file })
 }
 
 /// Reads the document that a text is, in one form, with the binaries that its file keeps apart
@@ -60,5 +62,5 @@ pub fn read_doc(
         (spec.document (setting_of form stream.old) (map pool_item pool.now) text.now) }
 {
     let parts = read_parts(alloc, text, form, stream)?;
-    settle(alloc, form, pool, parts)
+    settle(alloc, pool, parts)
 }

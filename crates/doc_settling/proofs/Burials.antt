@@ -26,8 +26,8 @@ abbrev pub later_of : Tombstone → List (NodeId × ℕ) → ℕ
 later_of t es = max t.deleted (unwrap_or (lookup (is_at (id_cmp t.id)) es) 0)
 
 -- by an order: the entry before the others, in the place of the first, or among those after it
-laid : Ordering → Tombstone → NodeId × ℕ → List (NodeId × ℕ) → ℕ → List (NodeId × ℕ)
-laid o t e es time = match_ordering o ((t.id, time) ∷ e ∷ es) ((e.0, time) ∷ es) (e ∷ insert_entry id_cmp es t.id time)
+entry_beside : Ordering → Tombstone → NodeId × ℕ → List (NodeId × ℕ) → ℕ → List (NodeId × ℕ)
+entry_beside o t e es time = match_ordering o ((t.id, time) ∷ e ∷ es) ((e.0, time) ∷ es) (e ∷ insert_entry id_cmp es t.id time)
 
 later_alone : (n : ℕ) → n ≡ max n 0
 later_alone n = omega arith
@@ -36,8 +36,8 @@ bury_by : (t : Tombstone) (e : NodeId × ℕ) (es : List (NodeId × ℕ)) (o : O
     → id_cmp t.id e.0 ≡ o
     → IsStrictlySortedBy id_cmp (keys_of (e ∷ es))
     → bury t (map tomb_of es) ≡ map tomb_of (insert_entry id_cmp es t.id (later_of t es))
-    → bury_beside o t (tomb_of e) (map tomb_of es) (bury t (map tomb_of es)) ≡ map tomb_of (laid o t e es (later_of t (e ∷ es)))
-unfolding laid
+    → bury_beside o t (tomb_of e) (map tomb_of es) (bury t (map tomb_of es)) ≡ map tomb_of (entry_beside o t e es (later_of t (e ∷ es)))
+unfolding entry_beside
 bury_by t e es Less o up rest =
     let none : lookup (is_at (id_cmp t.id)) (e ∷ es) ≡ None = lookup-none (is_at (id_cmp t.id)) (e ∷ es) (none_below_head id_order.total t.id e es up o) in
     let time : t.deleted ≡ later_of t (e ∷ es) = later_alone t.deleted ∙ ap (λ (v : Option ℕ). max t.deleted (unwrap_or v 0)) (sym none) in
@@ -51,7 +51,7 @@ bury_by t e es Greater o up rest =
 
 pub bury_entry : (t : Tombstone) (es : List (NodeId × ℕ)) → IsStrictlySortedBy id_cmp (keys_of es)
     → bury t (map tomb_of es) ≡ map tomb_of (insert_entry id_cmp es t.id (later_of t es))
-unfolding laid
+unfolding entry_beside
 bury_entry t [] up = ap (λ (n : ℕ). tomb_of (t.id, n) ∷ []) (later_alone t.deleted)
 bury_entry t (e ∷ es) up = bury_by t e es (id_cmp t.id e.0) refl up (bury_entry t es (sorted_tail id_cmp e.0 (keys_of es) up))
 

@@ -51,9 +51,9 @@ pub record SetFrom (ids : List NodeId) (at : ℕ) (least : Option NodeId) (set :
   pub least_is : least ≡ least_duplicate (drop at ids)
   pub ids_are : (u : NodeId) → contains id_cmp set u ≡ list_any (is_id u) (drop at ids)
 
-turned : {A : Type 0} (b : Bool) (x y : A) → cond (not b) x y ≡ cond b y x
-turned true x y = refl
-turned false x y = refl
+cond_not : {A : Type 0} (b : Bool) (x y : A) → cond (not b) x y ≡ cond b y x
+cond_not true x y = refl
+cond_not false x y = refl
 
 -- the least after one more
 least_with : (us : List NodeId) (u : NodeId) (least : Option NodeId) (is_new again : Bool)
@@ -63,7 +63,7 @@ least_with : (us : List NodeId) (u : NodeId) (least : Option NodeId) (is_new aga
     → cond is_new least (Some (lesser_id u least)) ≡ least_duplicate (u ∷ us)
 least_with us u least is_new again p q r =
     ap (λ b. cond b least (Some (lesser_id u least))) q
-    ∙ turned again least (Some (lesser_id u least))
+    ∙ cond_not again least (Some (lesser_id u least))
     ∙ ap (λ l. cond again (Some (lesser_id u l)) l) p
     ∙ ap (λ b. cond b (Some (lesser_id u (least_duplicate us))) (least_duplicate us)) r
 

@@ -246,10 +246,10 @@ pub record KeptTree (t : Tree) : Type 0 where
   pub entries : are_entries_proper t ≡ true
   pub groups : are_groups_proper t ≡ true
 
-pub resolved_keeps : (pool : List ReadBinary) (t : ReadTree) → is_kept_tree 63 t ≡ true → KeptTree (resolved_tree pool t)
+pub resolved_keeps : (pool : List ReadBinary) (t : ReadTree) → is_kept_tree 127 t ≡ true → KeptTree (resolved_tree pool t)
 resolved_keeps pool t k = record {
-  no_nil = ap not (none_nil pool 63 t k);
-  levels = levels_of pool 63 t k;
-  entries = all_entries pool 63 t k;
-  groups = all_groups pool 63 t k;
+  no_nil = ap not (none_nil pool 127 t k);
+  levels = levels_of pool 127 t k;
+  entries = all_entries pool 127 t k;
+  groups = all_groups pool 127 t k;
 }

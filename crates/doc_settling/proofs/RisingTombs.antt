@@ -80,8 +80,8 @@ above_bury u t (s ∷ ss) a e =
     let both = and_true (is_lt (bytes_cmp u s.id)) (are_above u ss) e in
     above_buried u (bytes_cmp t.id s.id) t s ss (bury t ss) a both.0 both.1 (above_bury u t ss a both.1)
 
-turned : (a b : NodeId) → bytes_cmp a b ≡ Greater → bytes_cmp b a ≡ Less
-turned a b e = id_order.total.antisymm b a ∙ ap ordering_reverse e
+reversed_order : (a b : NodeId) → bytes_cmp a b ≡ Greater → bytes_cmp b a ≡ Less
+reversed_order a b e = id_order.total.antisymm b a ∙ ap ordering_reverse e
 
 rises_buried : (o : Ordering) (t s : Tombstone) (ss : List Tombstone)
     → bytes_cmp t.id s.id ≡ o
@@ -96,7 +96,7 @@ rises_buried Less t s ss e above up rest =
 rises_buried Equal t s ss e above up rest =
     and_both (are_above t.id ss) (tombs_rise ss) (subst (λ (u : NodeId). are_above u ss ≡ true) (sym (id_order.same t.id s.id e)) above) up
 rises_buried Greater t s ss e above up rest =
-    and_both (are_above s.id (bury t ss)) (tombs_rise (bury t ss)) (above_bury s.id t ss (ap is_lt (turned t.id s.id e)) above) rest
+    and_both (are_above s.id (bury t ss)) (tombs_rise (bury t ss)) (above_bury s.id t ss (ap is_lt (reversed_order t.id s.id e)) above) rest
 
 rises_bury : (t : Tombstone) (ts : List Tombstone) → tombs_rise ts ≡ true → tombs_rise (bury t ts) ≡ true
 rises_bury t [] up = refl

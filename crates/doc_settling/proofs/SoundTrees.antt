@@ -78,9 +78,9 @@ module _ (form : DocForm) (pool : List ReadBinary) (meta : MetaParts) (read : Re
   by_tree : settled_with form pool meta read tombs ≡ (sound_tree pool read tombs >>= λ x. Ok (document_of form meta x))
   by_tree = in_one _ _ (resolved_tree pool read, tombs_of (resolved_tree pool read) tombs) (document_of form meta)
 
-  pub settled_sound : (tree : Tree) (laid : List Tombstone) → sound_tree pool read tombs ≡ Ok (tree, laid)
-      → settled_with form pool meta read tombs ≡ Ok (document_of form meta (tree, laid))
-  settled_sound tree laid h = by_tree ∙ ap (λ r. r >>= λ x. Ok (document_of form meta x)) h
+  pub settled_sound : (tree : Tree) (buried : List Tombstone) → sound_tree pool read tombs ≡ Ok (tree, buried)
+      → settled_with form pool meta read tombs ≡ Ok (document_of form meta (tree, buried))
+  settled_sound tree buried h = by_tree ∙ ap (λ r. r >>= λ x. Ok (document_of form meta x)) h
 
   pub settled_refused : (e : DocFail) → Fails e (sound_tree pool read tombs) → Fails e (settled_with form pool meta read tombs)
   settled_refused e h =
@@ -88,24 +88,24 @@ module _ (form : DocForm) (pool : List ReadBinary) (meta : MetaParts) (read : Re
 
 -- ---- what is known of a sound tree
 
-facts_by : (duplicate : Option NodeId) (missing : Option Missing) (t tree : Tree) (b laid : List Tombstone)
-    → ◌>>=◌ {B = Tree × List Tombstone} (refusal_of duplicate missing) (λ _. Ok (t, b)) ≡ Ok (tree, laid) → (duplicate ≡ None) × (t ≡ tree) × (b ≡ laid)
-facts_by None None t tree b laid h =
-    let same : ◌≡◌ {A = Tree × List Tombstone} (t, b) (tree, laid) = cc h in
+facts_by : (duplicate : Option NodeId) (missing : Option Missing) (t tree : Tree) (b buried : List Tombstone)
+    → ◌>>=◌ {B = Tree × List Tombstone} (refusal_of duplicate missing) (λ _. Ok (t, b)) ≡ Ok (tree, buried) → (duplicate ≡ None) × (t ≡ tree) × (b ≡ buried)
+facts_by None None t tree b buried h =
+    let same : ◌≡◌ {A = Tree × List Tombstone} (t, b) (tree, buried) = cc h in
     (refl, ap (λ x. x.0) same, ap (λ x. x.1) same)
-facts_by None (Some m) t tree b laid h = absurd (cc h)
-facts_by (Some u) missing t tree b laid h = absurd (cc h)
+facts_by None (Some m) t tree b buried h = absurd (cc h)
+facts_by (Some u) missing t tree b buried h = absurd (cc h)
 
 -- What a sound tree and its tombstones are.
-pub record IsSound (pool : List ReadBinary) (read : ReadTree) (tombs : List Tombstone) (tree : Tree) (laid : List Tombstone) : Type 0 where
+pub record IsSound (pool : List ReadBinary) (read : ReadTree) (tombs : List Tombstone) (tree : Tree) (buried : List Tombstone) : Type 0 where
   pub tree_is : resolved_tree pool read ≡ tree
   pub distinct : least_duplicate (node_ids tree) ≡ None
-  pub tombs_are : tombs_of tree tombs ≡ laid
+  pub tombs_are : tombs_of tree tombs ≡ buried
 
-pub is_sound : (pool : List ReadBinary) (read : ReadTree) (tombs : List Tombstone) (tree : Tree) (laid : List Tombstone)
-    → sound_tree pool read tombs ≡ Ok (tree, laid) → IsSound pool read tombs tree laid
-is_sound pool read tombs tree laid h =
-    let facts = facts_by _ _ (resolved_tree pool read) tree (tombs_of (resolved_tree pool read) tombs) laid h in
+pub is_sound : (pool : List ReadBinary) (read : ReadTree) (tombs : List Tombstone) (tree : Tree) (buried : List Tombstone)
+    → sound_tree pool read tombs ≡ Ok (tree, buried) → IsSound pool read tombs tree buried
+is_sound pool read tombs tree buried h =
+    let facts = facts_by _ _ (resolved_tree pool read) tree (tombs_of (resolved_tree pool read) tombs) buried h in
     record {
       tree_is = facts.1;
       distinct = ap (λ t. least_duplicate (node_ids t)) (sym facts.1) ∙ facts.0;

@@ -2,10 +2,7 @@
 //! then.
 #![tactic(auto)]
 
-mod attachments;
 mod ids;
-mod missing;
-mod pools;
 mod settling;
 mod tombs;
 

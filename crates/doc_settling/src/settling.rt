@@ -3,19 +3,19 @@
 
 ghost use Rattle.doc_forms.specs.Attachments.{pool_from};
 ghost use Rattle.doc_forms.specs.Documents as spec;
-ghost use Rattle.doc_forms.specs.KeptParts.{is_kept_meta, is_kept_tree};
+ghost use Rattle.doc_forms.specs.Ids.{least_duplicate, tombs_of};
+ghost use Rattle.doc_forms.specs.KeptParts.{are_kept, is_kept_half, is_kept_meta, is_kept_tree};
 ghost use Rattle.doc_forms.specs.Refusals.{Returns};
 ghost use Rattle.doc_forms.specs.SeenDocuments.{parts_seen, pool_item, read_seen};
-ghost use Rattle.doc_forms.specs.SeenDrafts.{binary_seen, draft_seen, meta_parts};
+ghost use Rattle.doc_forms.specs.SeenDrafts.{binary_seen, draft_seen, file_parts, meta_parts, root_parts};
 ghost use Rattle.doc_settling.specs.Trees.{ArePartsOf, refusal_of, sound_tree};
-ghost use Rattle.std.specs.Prelude.{◌≡◌, IfOk, map, true};
+ghost use Rattle.std.specs.Prelude.{◌≡◌, IfOk, Some, map, true};
 ghost use Rattle.vault_model.specs.SeenNodes.{tree_seen};
+ghost use Rattle.vault_model.specs.Tree.{node_ids};
 
-use crate::attachments::resolved_tree;
 use crate::ids::ids_of;
-use crate::missing::{Missing, missing_in};
-use crate::pools::{Pool, numbered};
 use crate::tombs::tombs_without;
+use doc_attachments::resolve_tree;
 use doc_forms::{
     Binary, DocFail, DocParts, FileBuilder, GroupDraft, MetaBuilder, ReadDoc, RequiredElement,
     RootBuilder,
@@ -32,35 +32,35 @@ use vault_model::{Doc, DocForm, Group, PoolItem, Tombstone};
 pub struct TreeParts {
     pub root: Group,
     pub duplicate: Option<Uuid>,
-    pub missing: Missing,
+    pub missing: Option<(usize, u64)>,
     pub tombs: List<Tombstone>,
 }
 
-/// The parts of a tree that was read, with the binaries to which its attachments refer.
-fn tree_parts(
-    alloc: Global,
-    binaries: &[Binary],
-    draft: GroupDraft,
-    tombs: &List<Tombstone>,
-) -> Result<TreeParts, NoMemory>
-    ensures { IfOk result (λ parts. ArePartsOf (map binary_seen binaries.now) (draft_seen draft)
-        tombs.now parts) }
+/// What is known of the ids of a tree's nodes: the least that two of them have, and the tombstones
+/// that name none.
+#[derive(Drop)]
+struct NodeParts {
+    duplicate: Option<Uuid>,
+    tombs: List<Tombstone>,
+}
+
+/// What is known of the ids of a tree's nodes, with these tombstones.
+fn node_parts(alloc: Global, root: &Group, tombs: &[Tombstone]) -> Result<NodeParts, NoMemory>
+    ensures duplicate { IfOk result (λ parts. parts.duplicate
+        ≡ least_duplicate (node_ids (tree_seen root.now))) }
+    ensures tombs { IfOk result (λ parts. parts.tombs ≡ tombs_of (tree_seen root.now) tombs.now) }
 {
-    let pool = Pool::new(alloc, binaries)?;
-    let missing = missing_in(&pool, &draft);
-    let root = resolved_tree(alloc, &pool, draft)?;
-    let ids = ids_of(alloc, &root)?;
-    let tombs = tombs_without(alloc, &ids.ids, tombs.as_slice())?;
-    Ok(TreeParts {
-        root,
+    let ids = ids_of(alloc, root)?;
+    let tombs = tombs_without(alloc, &ids.ids, tombs)?;
+    Ok(NodeParts {
         duplicate: ids.duplicate,
-        missing,
         tombs,
     })
 }
 
-/// The same with the binaries that the file keeps apart, or the document's own.
-fn parts_of(
+/// The parts of a tree that was read, with the binaries that the file keeps apart, or the
+/// document's own.
+fn tree_parts(
     alloc: Global,
     form: DocForm,
     given: &List<PoolItem>,
@@ -72,17 +72,18 @@ fn parts_of(
         ArePartsOf (pool_from form (map pool_item given.now) (map binary_seen own.now))
         (draft_seen draft) tombs.now parts) }
 {
-    match form {
-        DocForm::V4 => {
-            let binaries = numbered(alloc, given.as_slice())?;
-            tree_parts(alloc, binaries.as_slice(), draft, tombs)
-        }
-        _ => tree_parts(alloc, own.as_slice(), draft, tombs),
-    }
+    let tree = resolve_tree(alloc, form, given, own, draft)?;
+    let nodes = node_parts(alloc, &tree.root, tombs.as_slice())?;
+    Ok(TreeParts {
+        root: tree.root,
+        duplicate: nodes.duplicate,
+        missing: tree.missing,
+        tombs: nodes.tombs,
+    })
 }
 
 /// Refuses an id that two nodes have, and then a reference to a binary that does not exist.
-fn refuse(duplicate: Option<Uuid>, missing: Missing) -> Result<(), DocFail>
+fn refuse(duplicate: Option<Uuid>, missing: Option<(usize, u64)>) -> Result<(), DocFail>
     ensures { result ≡ refusal_of duplicate missing }
 {
     match (duplicate, missing) {
@@ -113,7 +114,7 @@ fn sound_tree(
         (sound_tree (pool_from form (map pool_item given.now) (map binary_seen own.now))
         (draft_seen draft) tombs.now) }
 {
-    let Ok(parts) = parts_of(alloc, form, given, own, draft, tombs) else {
+    let Ok(parts) = tree_parts(alloc, form, given, own, draft, tombs) else {
         return Err(DocFail::NoMemory);
     };
     match refuse(parts.duplicate, parts.missing) {
@@ -145,7 +146,7 @@ fn settled_tree(
     tombs: &List<Tombstone>,
 ) -> Result<ReadDoc, DocFail>
     requires meta { is_kept_meta meta.meta ≡ true }
-    requires tree { is_kept_tree 63 (draft_seen draft) ≡ true }
+    requires tree { is_kept_tree 127 (draft_seen draft) ≡ true }
     ensures { Returns read_seen result
         (spec.settled_tree form (map pool_item given.now) (meta_parts meta) (draft_seen draft)
         tombs.now) }
@@ -164,30 +165,60 @@ fn settled_tree(
     }
 }
 
-/// The document that the parts of a text of one form make, with the binaries that its file keeps
-/// apart (which only KDBX 4 has).
+/// The document of what a database says of itself and of its root, or the first refusal after the
+/// end.
+fn settled_root(
+    alloc: Global,
+    form: DocForm,
+    given: &List<PoolItem>,
+    meta: MetaBuilder,
+    root: RootBuilder,
+) -> Result<ReadDoc, DocFail>
+    requires meta { is_kept_meta meta.meta ≡ true }
+    requires root { is_kept_half (Some (root_parts root)) ≡ true }
+    ensures { Returns read_seen result (spec.settled_document form (map pool_item given.now)
+        (Some (record { meta = meta_parts meta; root = Some (root_parts root) }))) }
+{
+    let RootBuilder { tree, tombs } = root;
+    match tree {
+        Some(draft) => settled_tree(alloc, form, given, meta, draft, &tombs),
+        None => Err(DocFail::MissingElement(RequiredElement::Group, 0)),
+    }
+}
+
+/// The document of a whole file, or the first refusal after the end.
+fn settled_file(
+    alloc: Global,
+    form: DocForm,
+    given: &List<PoolItem>,
+    file: FileBuilder,
+) -> Result<ReadDoc, DocFail>
+    requires { are_kept (Some (file_parts file)) ≡ true }
+    ensures { Returns read_seen result (spec.settled_document form (map pool_item given.now)
+        (Some (file_parts file))) }
+{
+    let FileBuilder { meta, root } = file;
+    match root {
+        Some(root) => settled_root(alloc, form, given, meta, root),
+        None => Err(DocFail::MissingElement(RequiredElement::Root, 0)),
+    }
+}
+
+/// The document that the parts of a text make, in the form in which it was read, with the binaries
+/// that its file keeps apart (which only KDBX 4 has).
 ///
 /// # Errors
 ///
 /// [`DocFail::MissingElement`] for a missing `KeePassFile`, `Root` or `Group`, in this order; then
 /// [`DocFail::DuplicateId`], and then [`DocFail::BinaryRef`]. [`DocFail::NoMemory`] where memory
 /// runs out.
-pub fn settle(
-    alloc: Global,
-    form: DocForm,
-    pool: &List<PoolItem>,
-    parts: DocParts,
-) -> Result<ReadDoc, DocFail>
-    ensures { Returns read_seen result (spec.settled_document form (map pool_item pool.now)
+pub fn settle(alloc: Global, pool: &List<PoolItem>, parts: DocParts) -> Result<ReadDoc, DocFail>
+    ensures { Returns read_seen result (spec.settled_document parts.form (map pool_item pool.now)
         (parts_seen parts)) }
 {
-    let FileBuilder { meta, root } = parts
-        .file
-        .ok_or(DocFail::MissingElement(RequiredElement::KeePassFile, 0))?;
-    let RootBuilder { tree, tombs } = root.ok_or(DocFail::MissingElement(
-        RequiredElement::Root,
-        0,
-    ))?;
-    let draft = tree.ok_or(DocFail::MissingElement(RequiredElement::Group, 0))?;
-    settled_tree(alloc, form, pool, meta, draft, &tombs)
+    let DocParts { form, file } = parts;
+    match file {
+        Some(file) => settled_file(alloc, form, pool, file),
+        None => Err(DocFail::MissingElement(RequiredElement::KeePassFile, 0)),
+    }
 }

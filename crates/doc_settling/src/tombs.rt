@@ -4,10 +4,9 @@ ghost use Rattle.doc_forms.specs.Ids as spec;
 ghost use Rattle.std.specs.BTreeSet.{contains};
 ghost use Rattle.std.specs.List.{filter};
 ghost use Rattle.std.specs.Option.{unwrap_or};
-ghost use Rattle.std.specs.Prelude.{◌≡◌, IfOk, map, max, not};
+ghost use Rattle.std.specs.Prelude.{◌≡◌, ◌++◌, [], ◌∷◌, IfOk, OnOk, map, max, not};
 ghost use Rattle.vault_model.specs.Db.{id_cmp};
 
-use crate::pools::push;
 use outside_core::{List, NoMemory};
 use std::alloc::Global;
 use std::collections::{BTreeMap, BTreeSet};
@@ -37,6 +36,13 @@ fn latest_of(alloc: Global, tombs: &[Tombstone]) -> Result<BTreeMap<Uuid, Stamp>
         latest.insert(tomb.id, deleted)?;
     }
     Ok(latest)
+}
+
+/// Puts a tombstone after the others.
+fn push(tombs: &mut List<Tombstone>, tomb: Tombstone) -> Result<(), NoMemory>
+    ensures { OnOk result (tombs.new ≡ tombs.old ++ tomb ∷ []) }
+{
+    tombs.push(tomb).map_err(|_tomb| NoMemory)
 }
 
 /// Tombstones in the order of their ids, of two of one id that of the later time, without those of

@@ -1,3 +1,4 @@
+pub mod Branches
 pub mod ContentPieces
 pub mod Goes
 pub mod Pieces

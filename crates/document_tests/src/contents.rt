@@ -12,8 +12,7 @@ use uuid::Uuid;
 use vault_making::{copy_version, empty_doc};
 use vault_model::{
     Association, Attachment, AutoType, Content, Entry, Field, Group, GroupContent, Item, Meta,
-    Stamp, Stats, Tri, Version, compare_content, compare_group,
-    entry_stamp,
+    Stamp, Stats, Tri, Version, compare_content, compare_group, entry_stamp,
 };
 
 fn made<T>(answer: Result<T, NoMemory>) -> Result<T, &'static str> {
@@ -113,6 +112,7 @@ fn content(alloc: Global, greater: u8) -> Result<Content, NoMemory> {
         url_override: text(alloc, word(greater == 10))?,
         auto_type: auto_type(alloc, word(greater == 11))?,
         items: list_of(alloc, item(alloc, "k", word(greater == 12), 0)?)?,
+        quality: greater == 13,
     })
 }
 
@@ -134,6 +134,7 @@ fn group_content(alloc: Global, greater: u8) -> Result<GroupContent, NoMemory> {
         auto_type: if greater == 8 { Tri::Yes } else { Tri::No },
         searching: if greater == 9 { Tri::No } else { Tri::Inherit },
         items: list_of(alloc, item(alloc, "k", word(greater == 10), 0)?)?,
+        tags: text(alloc, word(greater == 11))?,
     })
 }
 
@@ -148,7 +149,7 @@ fn order_of_groups(alloc: Global, one: u8, other: u8) -> Result<Ordering, NoMemo
 fn version(alloc: Global, modified: u8) -> Result<Version, NoMemory> {
     Ok(Version {
         modified: stamp(modified),
-        content: content(alloc, 13)?,
+        content: content(alloc, 14)?,
         stats: Stats {
             accessed: stamp(7),
             usage: 3,
@@ -160,24 +161,24 @@ fn version(alloc: Global, modified: u8) -> Result<Version, NoMemory> {
 // without such a part.
 #[test]
 fn the_parts_of_a_version_count_in_their_order(rt: HostRuntime) -> Result<(), Fail> {
-    for part in 0u8..13 {
+    for part in 0u8..14 {
         let order = made(order_of_contents(rt.alloc(), part, part + 1))?;
         assert!(rt; order == Ordering::Greater);
     }
-    assert!(rt; made(order_of_contents(rt.alloc(), 13, 13))? == Ordering::Equal);
-    assert!(rt; made(order_of_contents(rt.alloc(), 13, 0))? == Ordering::Less);
+    assert!(rt; made(order_of_contents(rt.alloc(), 14, 14))? == Ordering::Equal);
+    assert!(rt; made(order_of_contents(rt.alloc(), 14, 0))? == Ordering::Less);
     Ok(())
 }
 
 // In the same way.
 #[test]
 fn the_parts_of_a_group_count_in_their_order(rt: HostRuntime) -> Result<(), Fail> {
-    for part in 0u8..11 {
+    for part in 0u8..12 {
         let order = made(order_of_groups(rt.alloc(), part, part + 1))?;
         assert!(rt; order == Ordering::Greater);
     }
-    assert!(rt; made(order_of_groups(rt.alloc(), 11, 11))? == Ordering::Equal);
-    assert!(rt; made(order_of_groups(rt.alloc(), 11, 0))? == Ordering::Less);
+    assert!(rt; made(order_of_groups(rt.alloc(), 12, 12))? == Ordering::Equal);
+    assert!(rt; made(order_of_groups(rt.alloc(), 12, 0))? == Ordering::Less);
     Ok(())
 }
 
@@ -219,6 +220,7 @@ fn newest_of(alloc: Global, current: u8, history: &[u8]) -> Result<Stamp, NoMemo
     let mut entry = Entry {
         id: Uuid::nil(),
         placed: stamp(90),
+        previous: Uuid::nil(),
         current: version(alloc, current)?,
         history: List::new(alloc),
     };
@@ -258,6 +260,7 @@ fn a_copy_is_equal_and_shares_the_bytes_of_attachments(rt: HostRuntime) -> Resul
     let version = made(version(rt.alloc(), 5))?;
     let copy = made(copy_version(rt.alloc(), &version))?;
     assert!(rt; is_copy(&copy, &version));
+    assert!(rt; !copy.content.quality);
     assert_eq!(rt; owners_of_first_attachment(&version), 2);
     Ok(())
 }
@@ -265,10 +268,12 @@ fn a_copy_is_equal_and_shares_the_bytes_of_attachments(rt: HostRuntime) -> Resul
 fn is_new_root(root: &Group, id: Uuid, now: Stamp) -> bool {
     root.id == id
         && root.placed == now
+        && root.previous == Uuid::nil()
         && root.state.modified == now
         && root.state.content.expiry == now
         && root.state.content.name.as_str() == "Root"
         && root.state.content.icon == 48
+        && root.state.content.tags.as_str() == ""
         && root.state.content.auto_type == Tri::Inherit
         && root.view.expanded
         && root.entries.len() == 0

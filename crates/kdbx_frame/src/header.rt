@@ -51,10 +51,12 @@ fn version_of(number: u32) -> Result<FileVersion, FrameFail>
     ensures gives { Returns known (λ x. x) result (version_of number) }
     ensures four { IfOk result IsVersion4 }
 {
-    match number {
-        VERSION_40 => Ok(FileVersion::V40),
-        VERSION_41 => Ok(FileVersion::V41),
-        _ => Err(FrameFail::Version(number)),
+    if number == VERSION_40 {
+        Ok(FileVersion::V40)
+    } else if number == VERSION_41 {
+        Ok(FileVersion::V41)
+    } else {
+        Err(FrameFail::Version(number))
     }
 }
 

@@ -15,7 +15,7 @@ use Rattle.doc_forms.specs.declared.fails.DocFail.TheVariants as document
 use Rattle.kdbx_open.specs.declared.fail.OpenFail.{OpenFail}
 use Rattle.kdbx_open.specs.declared.fail.OpenFail.TheVariants.{Doc, File, Frame}
 use Rattle.kdbx_open.specs.declared.opening.Unsealed.{Unsealed}
-use Rattle.kdbx_open.specs.Causes.{HasOpenCause, MemoryIsOutermost, limit, of_payload, of_read}
+use Rattle.kdbx_open.specs.Causes.{HasOpenCause, MemoryIsOutermost, file_limit, of_payload, of_read}
 use Rattle.kdbx_open.specs.Documents.{document_of, documented}
 use Rattle.kdbx_open.specs.Opening.{Vault, opening, payload_or_refusal}
 use Rattle.outside_core.specs.Results.{◌>>=◌}
@@ -80,11 +80,11 @@ no_read_memory NoSuchFile = record { file = λ e. cc; frame = λ e. cc; document
 no_read_memory FileFault = record { file = λ e. cc; frame = λ e. cc; document = λ e. cc }
 
 pub not_read_cause : (faults faults_now absences absences_now : ℕ) (fail : ReadFail)
-    → HasReadCause faults faults_now absences absences_now limit (Err fail)
+    → HasReadCause faults faults_now absences absences_now file_limit (Err fail)
     → HasOpenCause {X = Unsealed} faults faults_now absences absences_now (Err (of_read fail))
 not_read_cause faults faults_now absences absences_now fail h = by fail h
   where
-    by : (fail : ReadFail) → HasReadCause faults faults_now absences absences_now limit (Err fail)
+    by : (fail : ReadFail) → HasReadCause faults faults_now absences absences_now file_limit (Err fail)
         → HasOpenCause {X = Unsealed} faults faults_now absences absences_now (Err (of_read fail))
     by read.NoMemory h = record { faults_later = h.faults_later; absences_later = h.absences_later; fault = λ e. cc; missing = λ e. cc; large = λ n e. cc; memory = no_read_memory read.NoMemory }
     by (TooLarge n) h = record { faults_later = h.faults_later; absences_later = h.absences_later; fault = λ e. cc; missing = λ e. cc; large = λ m e. h.large m cc; memory = no_read_memory (TooLarge n) }
@@ -93,7 +93,7 @@ not_read_cause faults faults_now absences absences_now fail h = by fail h
 
 -- A file that was read is refused for its bytes alone.
 pub read_cause : (faults faults_now absences absences_now : ℕ) (secret : SecretBuffer) (file composite : List ℕ) (result : Result Unsealed OpenFail)
-    → HasReadCause faults faults_now absences absences_now limit (Ok secret)
+    → HasReadCause faults faults_now absences absences_now file_limit (Ok secret)
     → Returns unsealed_seen result (opening file composite)
     → HasOpenCause faults faults_now absences absences_now result
 read_cause faults faults_now absences absences_now secret file composite result h returns = record {

@@ -14,7 +14,7 @@ use Rattle.kdbx_open.specs.declared.fail.OpenFail.{OpenFail}
 use Rattle.kdbx_open.specs.declared.fail.OpenFail.TheVariants.{File}
 use Rattle.kdbx_open.specs.declared.opening.Opened.{Opened}
 use Rattle.kdbx_open.specs.declared.opening.Unsealed.{Unsealed}
-use Rattle.kdbx_open.specs.Causes.{limit, of_read}
+use Rattle.kdbx_open.specs.Causes.{file_limit, of_read}
 use Rattle.kdbx_open.specs.Files.{ReturnsOfSomeFile, bytes_of, opening_of}
 use Rattle.kdbx_open.specs.Opening.{Vault, opening}
 use Rattle.outside_core.specs.Results.{◌>>=◌}
@@ -26,15 +26,15 @@ use Rattle.kdbx_open.proofs.Steps.{from_store, goes_on}
 
 -- ---- the bytes of a file
 
-too_large : (file : Option (List ℕ)) (n : ℕ) → option_map length file ≡ Some n → limit < n → bytes_of file ≡ Err (File (TooLarge n))
+too_large : (file : Option (List ℕ)) (n : ℕ) → option_map length file ≡ Some n → file_limit < n → bytes_of file ≡ Err (File (TooLarge n))
 too_large None n h large = absurd (none-some n h)
 too_large (Some bytes) n h large =
     let long : length bytes ≡ n = same_Some (length bytes) n h in
-    let past : nat_lt limit (length bytes) ≡ true = lt-ltb limit (length bytes) (omega (arith, long, large)) in
+    let past : nat_lt file_limit (length bytes) ≡ true = lt-ltb file_limit (length bytes) (omega (arith, long, large)) in
     ap (λ b. cond b (Err (File (TooLarge (length bytes)))) (Ok bytes)) past ∙ ap (λ k. Err (File (TooLarge k))) long
 
-bytes_given : (bytes : List ℕ) → length bytes ≤ limit → bytes_of (Some bytes) ≡ Ok bytes
-bytes_given bytes h = ap (λ b. cond b (Err (File (TooLarge (length bytes)))) (Ok bytes)) (le-ltb limit (length bytes) h)
+bytes_given : (bytes : List ℕ) → length bytes ≤ file_limit → bytes_of (Some bytes) ≡ Ok bytes
+bytes_given bytes h = ap (λ b. cond b (Err (File (TooLarge (length bytes)))) (Ok bytes)) (le-ltb file_limit (length bytes) h)
 
 given_by : (b : Bool) (there bytes : List ℕ)
     → ◌≡◌ {A = Result (List ℕ) OpenFail} (cond b (Err (File (TooLarge (length there)))) (Ok there)) (Ok bytes) → there ≡ bytes
@@ -43,7 +43,7 @@ given_by false there bytes h = cc
 
 pub file_is : (file : Option (List ℕ)) (bytes : List ℕ) → bytes_of file ≡ Ok bytes → file ≡ Some bytes
 file_is None bytes h = cc
-file_is (Some there) bytes h = ap Some (given_by (nat_lt limit (length there)) there bytes h)
+file_is (Some there) bytes h = ap Some (given_by (nat_lt file_limit (length there)) there bytes h)
 
 -- ---- a file that is not read, and one that is
 
@@ -52,9 +52,9 @@ unfolding opening_of
 refused_file file composite fail h = ap (λ r. r >>= λ bytes. opening bytes composite) h
 
 abbrev IsLarge : ReadFail → Type 0
-IsLarge fail = (n : ℕ) → ◌≡◌ {A = Result SecretBuffer ReadFail} (Err fail) (Err (TooLarge n)) → limit < n
+IsLarge fail = (n : ℕ) → ◌≡◌ {A = Result SecretBuffer ReadFail} (Err fail) (Err (TooLarge n)) → file_limit < n
 
-not_read_of : (file : Option (List ℕ)) (composite : List ℕ) (fail : ReadFail) → IsRead file limit (Err fail) → IsLarge fail
+not_read_of : (file : Option (List ℕ)) (composite : List ℕ) (fail : ReadFail) → IsRead file file_limit (Err fail) → IsLarge fail
     → ReturnsFromStore unsealed_seen (Err (of_read fail)) (opening_of file composite)
 not_read_of file composite (TooLarge n) h large = refused_file file composite (File (TooLarge n)) (too_large file n h (large n refl))
 not_read_of file composite NoSuchFile h large = refused_file file composite (File NoSuchFile) (ap bytes_of h)
@@ -62,7 +62,7 @@ not_read_of file composite FileFault h large = tt
 not_read_of file composite read.NoMemory h large = tt
 
 pub not_read : (files : Option FileMap) (name composite : List ℕ) (fail : ReadFail)
-    → IfSome files (λ m. IsRead (map.get m name) limit (Err fail)) → IsLarge fail
+    → IfSome files (λ m. IsRead (map.get m name) file_limit (Err fail)) → IsLarge fail
     → IfSome files (λ m. ReturnsFromStore unsealed_seen (Err (of_read fail)) (opening_of (map.get m name) composite))
 not_read None name composite fail h large = tt
 not_read (Some m) name composite fail h large = not_read_of (map.get m name) composite fail h large
@@ -83,14 +83,14 @@ bytes_read file composite bytes result is h =
     (goes_on unsealed_seen result (bytes_of file) (λ bytes. opening bytes composite) bytes is h)
 
 pub was_read : (files : Option FileMap) (name composite : List ℕ) (secret : SecretBuffer) (result : Result Unsealed OpenFail)
-    → IfSome files (λ m. IsRead (map.get m name) limit (Ok secret)) → Returns unsealed_seen result (opening secret.bytes composite)
+    → IfSome files (λ m. IsRead (map.get m name) file_limit (Ok secret)) → Returns unsealed_seen result (opening secret.bytes composite)
     → IfSome files (λ m. ReturnsFromStore unsealed_seen result (opening_of (map.get m name) composite))
 was_read None name composite secret result is h = tt
 was_read (Some m) name composite secret result is h =
     bytes_read (map.get m name) composite secret.bytes result (ap bytes_of is.0 ∙ bytes_given secret.bytes is.1) h
 
 -- some file that was read
-pub some_file_read : (composite bytes : List ℕ) (result : Result Unsealed OpenFail) → length bytes ≤ limit
+pub some_file_read : (composite bytes : List ℕ) (result : Result Unsealed OpenFail) → length bytes ≤ file_limit
     → Returns unsealed_seen result (opening bytes composite) → ReturnsOfSomeFile unsealed_seen composite result
 some_file_read composite bytes result within h =
     (Some bytes, bytes_read (Some bytes) composite bytes result (bytes_given bytes within) h)
@@ -103,7 +103,7 @@ holds_of file composite vault h =
     let b = both (bytes_of file) (λ bytes. opening bytes composite) vault h in
     (b.0, (file_is file b.0 b.1.0, is_sealed b.0 composite vault b.1.1))
 
-pub opened_of_held : (file : Option (List ℕ)) (composite : List ℕ) (vault : Vault) → IfSome file (λ bytes. length bytes ≤ limit)
+pub opened_of_held : (file : Option (List ℕ)) (composite : List ℕ) (vault : Vault) → IfSome file (λ bytes. length bytes ≤ file_limit)
     → Holds file composite vault → opening_of file composite ≡ Ok vault
 unfolding opening_of
 opened_of_held None composite vault within h = absurd (none-some h.0 h.1.0)

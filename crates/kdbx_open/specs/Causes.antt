@@ -13,8 +13,8 @@ use Rattle.kdbx_open.specs.declared.fail.OpenFail.{OpenFail}
 use Rattle.kdbx_open.specs.declared.fail.OpenFail.TheVariants.{File, Frame, KeyOrHeader, Block, BadPadding, StreamUnknown, Doc, NoMemory}
 
 -- How many bytes a file may have.
-abbrev pub limit : ℕ
-limit = 134217728
+abbrev pub file_limit : ℕ
+file_limit = 134217728
 
 -- A refusal to read a file, as one to open it.
 abbrev pub of_read : ReadFail → OpenFail
@@ -49,5 +49,5 @@ pub record HasOpenCause {X : Type 0} (faults_before faults_now absences_before a
   pub absences_later : absences_before ≤ absences_now
   pub fault : IsErrOf result (File read.FileFault) → Increased faults_before faults_now
   pub missing : IsErrOf result (File read.NoSuchFile) → Increased absences_before absences_now
-  pub large : (n : ℕ) → IsErrOf result (File (read.TooLarge n)) → limit < n
+  pub large : (n : ℕ) → IsErrOf result (File (read.TooLarge n)) → file_limit < n
   pub memory : MemoryIsOutermost result

@@ -3,7 +3,7 @@ use Rattle.std.specs.Prelude.{ℕ, List, length, Option, Some, None, Result, Ok,
 use Rattle.secret_core.specs.declared.files.ReadFail.TheVariants.{NoSuchFile, TooLarge}
 use Rattle.kdbx_open.specs.declared.fail.OpenFail.{OpenFail}
 use Rattle.kdbx_open.specs.declared.fail.OpenFail.TheVariants.{File}
-use Rattle.kdbx_open.specs.Causes.{limit}
+use Rattle.kdbx_open.specs.Causes.{file_limit}
 use Rattle.kdbx_open.specs.Opening.{Vault, opening}
 use Rattle.outside_core.specs.Results.{◌>>=◌}
 use Rattle.kdbx_open.specs.Results.{ReturnsFromStore}
@@ -11,8 +11,8 @@ use Rattle.kdbx_open.specs.Results.{ReturnsFromStore}
 -- The bytes of a file that is there and is not too large.
 abbrev pub bytes_of : Option (List ℕ) → Result (List ℕ) OpenFail
 bytes_of None = Err (File NoSuchFile)
-bytes_of (Some bytes) = if nat_lt limit (length bytes) then Err (File (TooLarge (length bytes)))
-    else Ok bytes
+bytes_of (Some bytes) = if nat_lt file_limit (length bytes) then Err
+    (File (TooLarge (length bytes))) else Ok bytes
 
 -- What a file, if there is one, holds under a composite key.
 unfoldable pub opening_of : Option (List ℕ) → List ℕ → Result Vault OpenFail

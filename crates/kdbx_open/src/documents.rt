@@ -36,7 +36,7 @@ fn read_from(
     let (_fields, document) = text.lend(0, text.len()).split_at(from);
     let parts = read_parts(alloc, document, DocForm::V4, stream)?;
     drop(text);
-    settle(alloc, DocForm::V4, pool, parts)
+    settle(alloc, pool, parts)
 }
 
 /// The document of a text from an offset on, read with a stream and the attached files.

@@ -1,7 +1,7 @@
 //! What holds of sealed files and of opening them.
 
 ghost use Rattle.std.specs.Prelude.{◌≡◌, ℕ, ◌≤◌, List, length, Option, IfSome, Ok};
-ghost use Rattle.kdbx_open.specs.Causes.{limit};
+ghost use Rattle.kdbx_open.specs.Causes.{file_limit};
 ghost use Rattle.kdbx_open.specs.Files.{opening_of};
 ghost use Rattle.kdbx_open.specs.Opening.{Vault, opening};
 ghost use Rattle.kdbx_open.specs.Sealed.{Holds, Sealed};
@@ -21,7 +21,7 @@ pub fn opened_is_sealed()
 /// with it, and no other is.
 pub fn held_is_opened()
     ensures held { (file : Option (List ℕ)) (composite : List ℕ) (vault : Vault)
-        → IfSome file (λ bytes. length bytes ≤ limit) → Holds file composite vault
+        → IfSome file (λ bytes. length bytes ≤ file_limit) → Holds file composite vault
         → opening_of file composite ≡ Ok vault }
     ensures only { (file : Option (List ℕ)) (composite : List ℕ) (vault : Vault)
         → opening_of file composite ≡ Ok vault → Holds file composite vault }

@@ -8,4 +8,4 @@ pub mod laws;
 mod opening;
 
 pub use fail::OpenFail;
-pub use opening::{Opened, open_file};
+pub use opening::{FILE_LIMIT, Opened, open_file};

@@ -4,7 +4,7 @@ ghost use Rattle.std.specs.Prelude.{◌≡◌, ◌≤◌, IfOk, IfSome, length};
 ghost use Rattle.std.specs.FinMap as map;
 ghost use Rattle.vault_model.specs.SeenDoc.{doc_seen};
 ghost use Rattle.kdbx_frame.specs.Settings.{IsInOrder};
-ghost use Rattle.kdbx_open.specs.Causes.{HasOpenCause, limit};
+ghost use Rattle.kdbx_open.specs.Causes.{HasOpenCause, file_limit};
 ghost use Rattle.kdbx_open.specs.Files.{ReturnsOfSomeFile, opening_of};
 ghost use Rattle.kdbx_open.specs.Opening.{opening};
 ghost use Rattle.kdbx_open.specs.Results.{Returns, ReturnsFromStore};
@@ -21,7 +21,7 @@ use std::alloc::Global;
 use vault_model::Doc;
 
 /// How many bytes a file may have.
-const LIMIT: u64 = 134_217_728;
+pub const FILE_LIMIT: u64 = 134_217_728;
 
 /// A file that was opened, with the composite key that opened it, which must be spent.
 pub struct Opened {
@@ -44,7 +44,7 @@ struct Unsealed {
 // is derived. The file and the document are never in memory together.
 #[tactic(auto, unfolding(crate::specs::Opening::opening))]
 fn open_bytes(alloc: Global, composite: &Key, file: Secret) -> Result<Unsealed, OpenFail>
-    requires { length file.bytes ≤ limit }
+    requires { length file.bytes ≤ file_limit }
     ensures gives { Returns unsealed_seen result (opening file.bytes composite.now) }
     ensures in_order { IfOk result (λ u. IsInOrder u.settings) }
 {
@@ -78,7 +78,7 @@ fn open_named<F: FileStore>(
     ensures draft_name { F.draft_name files.new ≡ F.draft_name files.old }
     ensures draft_bytes { F.draft_bytes files.new ≡ F.draft_bytes files.old }
 {
-    let file = read_file(alloc, files, name, LIMIT)?;
+    let file = read_file(alloc, files, name, FILE_LIMIT)?;
     open_bytes(alloc, composite, file)
 }
 

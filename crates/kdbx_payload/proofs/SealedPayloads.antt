@@ -12,7 +12,7 @@ use Rattle.kdbx_frame.specs.declared.settings.Cipher.{Cipher}
 use Rattle.kdbx_frame.specs.declared.settings.Cipher.TheVariants.{Aes, Twofish, ChaCha}
 use Rattle.kdbx_frame.specs.declared.settings.Settings.{Settings}
 use Rattle.kdbx_frame.specs.Header.{header_of}
-use Rattle.kdbx_inner.specs.Inner.{Binary, InnerFields, inner_of}
+use Rattle.kdbx_inner.specs.Inner.{InnerFields, inner_of}
 use Rattle.kdbx_parts.specs.declared.fail.FrameFail.{FrameFail}
 use Rattle.mac_core.specs.Blocks.{IsWhole, concatenated}
 use Rattle.mac_core.specs.Contents.{contents_of}

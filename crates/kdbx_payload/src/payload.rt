@@ -130,8 +130,8 @@ fn payload_in(alloc: Global, settings: Settings, text: Secret) -> Result<Payload
 ///
 /// At Ok the file is authentic: all its bytes up to the end block are under right MACs of keys made
 /// from the composite key. Whatever the answer, the keys that were derived were cleared and
-/// released. All faults of the header come before a key is derived. The file and its text are in
-/// memory together only while blocks are read, and the file is dropped after that.
+/// released. All faults of the header come before a key is derived. The file is dropped once its
+/// text is deciphered.
 ///
 /// # Errors
 ///

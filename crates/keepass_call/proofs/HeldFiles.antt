@@ -9,6 +9,7 @@ use Rattle.key_core.specs.declared.key_file.KeyFileFail.{KeyFileFail}
 use Rattle.vault_model.specs.Tree.{BareDoc}
 use Rattle.doc_forms.specs.Documents.{DocumentAndHash}
 use Rattle.doc_forms.specs.declared.fails.DocFail.{DocFail}
+use Rattle.kdbx_open.specs.Causes.{file_limit}
 use Rattle.kdbx_open.specs.Files.{bytes_of, opening_of}
 use Rattle.kdbx_open.specs.Opening.{Vault, opening}
 use Rattle.kdbx_open.specs.Sealed.{Sealed}
@@ -22,7 +23,7 @@ use Rattle.cli_answers.specs.declared.answers.Refusal.{Refusal}
 use Rattle.cli_words.specs.declared.command.Command.{Command}
 use Rattle.cli_words.specs.declared.command.Command.TheVariants.{Ls}
 use Rattle.keepass_call.specs.declared.execute.Output.{Output}
-use Rattle.keepass_call.specs.Databases.{document_or_refusal, database_of, file_limit, held_in, key_in, key_of, key_or_refusal, of_file, document_of_vault, plain_document, plain_of, sealed_in}
+use Rattle.keepass_call.specs.Databases.{document_or_refusal, database_of, held_in, key_in, key_of, key_or_refusal, of_file, document_of_vault, plain_document, plain_of, sealed_in}
 use Rattle.keepass_call.specs.Held.{GivesKey, Holds, HoldsBy, IsCarried, IsPlain, IsSealed, IsThere}
 use Rattle.cli_answers.specs.Messages.{refusal_of}
 use Rattle.keepass_call.specs.Outcome.{answer_of, output_of}

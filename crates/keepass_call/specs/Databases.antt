@@ -16,10 +16,11 @@ use Rattle.vault_model.specs.declared.forms.DocForm.TheVariants.{Plain}
 use Rattle.doc_forms.specs.Documents.{DocumentAndHash, document}
 use Rattle.doc_forms.specs.declared.fails.DocFail.{DocFail}
 use Rattle.doc_forms.specs.declared.fails.DocFail.TheVariants as doc
-use Rattle.kdbx_frame.specs.declared.fail.FrameFail.{FrameFail}
-use Rattle.kdbx_frame.specs.declared.fail.FrameFail.TheVariants as frame
+use Rattle.kdbx_parts.specs.declared.fail.FrameFail.{FrameFail}
+use Rattle.kdbx_parts.specs.declared.fail.FrameFail.TheVariants as frame
 use Rattle.kdbx_open.specs.declared.fail.OpenFail.{OpenFail}
 use Rattle.kdbx_open.specs.declared.fail.OpenFail.TheVariants as sealed
+use Rattle.kdbx_open.specs.Causes.{file_limit}
 use Rattle.kdbx_open.specs.Files.{opening_of}
 use Rattle.kdbx_open.specs.Opening.{Vault}
 use Rattle.cli_answers.specs.declared.answers.Reason.{Reason}
@@ -97,10 +98,6 @@ key_answer (key.KeyFileHash kept found) = answer.KeyFileHash kept found
 key_answer key.NoMemory = OutOfMemory
 
 -- ---- files
-
--- The most bytes of a file that is read: 128 MiB.
-abbrev pub file_limit : ℕ
-file_limit = 134217728
 
 -- What is made of the bytes of the file of this name, which is there and not too large.
 abbrev pub of_file : {A : Type 0} → List ℕ → (List ℕ → Result A Refusal) → Option (List ℕ)

@@ -7,12 +7,13 @@ use Rattle.key_core.specs.KeyFile.{key_file_key}
 use Rattle.key_core.specs.Keys.{composite_key}
 use Rattle.vault_model.specs.Tree.{BareDoc}
 use Rattle.doc_forms.specs.Documents.{DocumentAndHash}
+use Rattle.kdbx_open.specs.Causes.{file_limit}
 use Rattle.kdbx_open.specs.Opening.{Vault}
 use Rattle.kdbx_open.specs.Sealed.{Sealed}
 use Rattle.cli_words.specs.declared.command.Command.{Command}
 use Rattle.cli_words.specs.declared.command.Command.TheVariants.{Ls}
 use Rattle.keepass_call.specs.declared.execute.Output.{Output}
-use Rattle.keepass_call.specs.Databases.{file_limit, plain_document}
+use Rattle.keepass_call.specs.Databases.{plain_document}
 use Rattle.cli_lines.specs.Lines.{password_of}
 use Rattle.cli_lines.specs.Passwords.{HasPassword}
 use Rattle.keepass_call.specs.SomeFiles.{SomeDatabase}

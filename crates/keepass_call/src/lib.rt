@@ -7,6 +7,3 @@ mod run;
 
 pub use execute::Output;
 pub use run::keepass;
-
-/// The longest file that is read, in bytes.
-pub const FILE_LIMIT: u64 = 134_217_728;

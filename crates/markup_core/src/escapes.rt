@@ -54,11 +54,7 @@ pub fn unescape(raw: &str, out: &mut Secret)
 pub fn escaped_len(text: &str) -> usize
     ensures { result ≡ min (length (spec.escaped text.now)) usize.MAX }
 {
-    let mut total: usize = 0;
-    for byte in text.as_bytes() {
-        total = total.saturating_add(written_len(*byte));
-    }
-    total
+    escaped_bytes_len(text.as_bytes())
 }
 
 /// Puts a text as it is written in markup at the end of `out`, which has room for it: `&amp;`,
@@ -69,7 +65,27 @@ pub fn escape(text: &str, out: &mut Secret)
     ensures bytes { out.new.bytes ≡ out.old.bytes ++ spec.escaped text.now }
     ensures spare { out.new.spare + length (spec.escaped text.now) ≡ out.old.spare }
 {
-    for byte in text.as_bytes() {
+    escape_bytes(text.as_bytes(), out);
+}
+
+/// As `escaped_len`, of a text by its bytes.
+pub fn escaped_bytes_len(text: &[u8]) -> usize
+    ensures { result ≡ min (length (spec.escaped text.now)) usize.MAX }
+{
+    let mut total: usize = 0;
+    for byte in text {
+        total = total.saturating_add(written_len(*byte));
+    }
+    total
+}
+
+/// As `escape`, of a text by its bytes.
+pub fn escape_bytes(text: &[u8], out: &mut Secret)
+    requires { length (spec.escaped text.now) ≤ out.old.spare }
+    ensures bytes { out.new.bytes ≡ out.old.bytes ++ spec.escaped text.now }
+    ensures spare { out.new.spare + length (spec.escaped text.now) ≡ out.old.spare }
+{
+    for byte in text {
         escape_byte(*byte, out);
     }
 }

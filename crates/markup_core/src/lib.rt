@@ -16,6 +16,6 @@ mod tag;
 mod token;
 
 pub use attributes::Attrs;
-pub use escapes::{escape, escaped_len, unescape, unescaped_len};
+pub use escapes::{escape, escape_bytes, escaped_bytes_len, escaped_len, unescape, unescaped_len};
 pub use piece::{MarkupFail, Piece};
 pub use reader::Reader;

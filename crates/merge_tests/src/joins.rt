@@ -1,14 +1,15 @@
 //! What is expected is worked out by hand from the rules of a merge: an entry has all versions of
 //! all copies, each version being told apart by its time and by what it says; a node is at its
-//! latest place; a node is deleted where a copy deleted it at or after its newest change in every
-//! copy.
+//! latest place, of one time the one with the greater parent and then the greater previous parent;
+//! a node is deleted where a copy deleted it at or after its newest change in every copy.
 use crate::samples::{
-    BANK, HOME, Lender, ROOT, WORK, id, new_lender, place, stamp, with_bank, with_filled_group,
-    with_groups, with_move, with_tomb,
+    BANK, HOME, Lender, ROOT, WORK, id, new_lender, place, place_after, stamp, with_bank,
+    with_filled_group, with_groups, with_move, with_tomb,
 };
 use outside_core::NoMemory;
-use slow_merge::databases::Database;
-use slow_merge::joins::{is_rooted, join};
+use slow_join::joins::{is_rooted, join};
+use slow_tables::databases::Database;
+use slow_tables::placements::Placement;
 use std::alloc::Global;
 use std::test::Fail;
 
@@ -35,7 +36,7 @@ fn has_versions(copy: &Database, expected: &[(u8, &[u8])]) -> bool {
 /// Whether a node is in this group since this time.
 fn stands(copy: &Database, node: u8, parent: u8, placed: u8) -> bool {
     match copy.places.get(&id(node)) {
-        Some(spot) => spot.parent == id(parent) && spot.placed == stamp(placed),
+        Some(place) => place.parent == id(parent) && place.placed == stamp(placed),
         None => false,
     }
 }
@@ -97,14 +98,14 @@ const TO_WORK: Move = (WORK, 5);
 const TO_HOME: Move = (HOME, 6);
 
 /// Copies in which an entry was moved so.
-fn moved<'a>(
+fn moved_copies<'a>(
     alloc: Global,
     lender: &'a Lender,
     moves: &[Move],
 ) -> Result<Vec<Database<'a>>, NoMemory> {
     let mut copies = Vec::new(alloc);
     for (group, placed) in moves {
-        let copy = with_move(alloc, lender, *group, *placed)?;
+        let copy = with_move(alloc, lender, place(*group, *placed))?;
         copies.push(copy)?;
     }
     Ok(copies)
@@ -112,7 +113,7 @@ fn moved<'a>(
 
 /// Whether an entry that was moved so in three copies is at home in their join, since 6.
 fn ends_at_home(alloc: Global, lender: &Lender, moves: &[Move]) -> Result<bool, NoMemory> {
-    let copies = moved(alloc, lender, moves)?;
+    let copies = moved_copies(alloc, lender, moves)?;
     if copies.len() != 3 {
         return Ok(false);
     }
@@ -136,6 +137,38 @@ fn three_places(rt: HostRuntime) -> Result<(), Fail> {
     ] {
         let ends_at_home = ends_at_home(alloc, &lender, &moves)?;
         assert!(rt; ends_at_home);
+    }
+    Ok(())
+}
+
+/// Copies in which an entry was moved into WORK at 5, out of these groups.
+fn copies_out_of<'a>(
+    alloc: Global,
+    lender: &'a Lender,
+    previous: [u8; 2],
+) -> Result<[Database<'a>; 2], NoMemory> {
+    let one = with_move(alloc, lender, place_after(previous[0], WORK, 5))?;
+    let other = with_move(alloc, lender, place_after(previous[1], WORK, 5))?;
+    Ok([one, other])
+}
+
+/// Where an entry is in a copy.
+fn place_of_bank(copy: &Database) -> Option<Placement> {
+    copy.places.get(&id(BANK)).copied()
+}
+
+/// Of two copies that moved an entry into one group at one time, one out of the root and one out of
+/// no group, the greater previous parent stays, in either order.
+#[test]
+fn places_of_one_time_and_parent(rt: HostRuntime) -> Result<(), Fail> {
+    let alloc = rt.alloc();
+    let lender = new_lender(alloc, 1)?;
+    for previous in [[ROOT, 0], [0, ROOT]] {
+        let copies = copies_out_of(alloc, &lender, previous)?;
+        let joined = join(alloc, &copies)?;
+        let place = place_of_bank(&joined);
+        assert!(rt; stands(&joined, BANK, WORK, 5));
+        assert!(rt; matches!(&place, Some(place) if place.previous == id(ROOT)));
     }
     Ok(())
 }
@@ -219,21 +252,21 @@ fn work_back<'a>(alloc: Global, lender: &'a Lender) -> Result<Database<'a>, NoMe
 
 /// Whether the latest parents lead to the root from both WORK and HOME, from neither, or from one
 /// of them alone.
-fn rooted(alloc: Global, copies: &[Database; 2]) -> Result<(bool, bool), NoMemory> {
+fn are_rooted(alloc: Global, copies: &[Database; 2]) -> Result<(bool, bool), NoMemory> {
     let work = is_rooted(alloc, copies, &id(WORK))?;
     let home = is_rooted(alloc, copies, &id(HOME))?;
     Ok((work, home))
 }
 
 /// Copies in which two groups were each moved into the other.
-fn crossed<'a>(alloc: Global, lender: &'a Lender) -> Result<[Database<'a>; 2], NoMemory> {
+fn crossed_copies<'a>(alloc: Global, lender: &'a Lender) -> Result<[Database<'a>; 2], NoMemory> {
     let one = work_in_home(alloc, lender)?;
     let other = home_in_work(alloc, lender)?;
     Ok([one, other])
 }
 
 /// The same, where one of the groups was moved back under the root later.
-fn settled<'a>(alloc: Global, lender: &'a Lender) -> Result<[Database<'a>; 2], NoMemory> {
+fn settled_copies<'a>(alloc: Global, lender: &'a Lender) -> Result<[Database<'a>; 2], NoMemory> {
     let one = work_back(alloc, lender)?;
     let other = home_in_work(alloc, lender)?;
     Ok([one, other])
@@ -244,8 +277,8 @@ fn settled<'a>(alloc: Global, lender: &'a Lender) -> Result<[Database<'a>; 2], N
 fn crossed_moves(rt: HostRuntime) -> Result<(), Fail> {
     let alloc = rt.alloc();
     let lender = new_lender(alloc, 1)?;
-    let copies = crossed(alloc, &lender)?;
-    assert_eq!(rt; rooted(alloc, &copies)?, (false, false));
+    let copies = crossed_copies(alloc, &lender)?;
+    assert_eq!(rt; are_rooted(alloc, &copies)?, (false, false));
     Ok(())
 }
 
@@ -255,8 +288,8 @@ fn crossed_moves(rt: HostRuntime) -> Result<(), Fail> {
 fn crossed_moves_settled(rt: HostRuntime) -> Result<(), Fail> {
     let alloc = rt.alloc();
     let lender = new_lender(alloc, 1)?;
-    let copies = settled(alloc, &lender)?;
-    assert_eq!(rt; rooted(alloc, &copies)?, (true, true));
+    let copies = settled_copies(alloc, &lender)?;
+    assert_eq!(rt; are_rooted(alloc, &copies)?, (true, true));
     let joined = join(alloc, &copies)?;
     assert!(rt; stands(&joined, WORK, ROOT, 7));
     assert!(rt; stands(&joined, HOME, WORK, 6));
@@ -264,53 +297,56 @@ fn crossed_moves_settled(rt: HostRuntime) -> Result<(), Fail> {
 }
 
 /// A copy in which an entry of 1 was edited at 2.
-fn edited<'a>(alloc: Global, lender: &'a Lender) -> Result<Database<'a>, NoMemory> {
+fn edited_copy<'a>(alloc: Global, lender: &'a Lender) -> Result<Database<'a>, NoMemory> {
     with_bank(alloc, lender, 1, &[(1, &lender.a), (2, &lender.a)])
 }
 
 /// A copy in which the entry was deleted at 3.
-fn deleting<'a>(alloc: Global, lender: &'a Lender) -> Result<Database<'a>, NoMemory> {
+fn deleting_copy<'a>(alloc: Global, lender: &'a Lender) -> Result<Database<'a>, NoMemory> {
     with_tomb(alloc, lender, BANK, 3)
 }
 
 /// A copy in which the entry of 1 was edited at 5, after its deletion.
-fn outliving<'a>(alloc: Global, lender: &'a Lender) -> Result<Database<'a>, NoMemory> {
+fn outliving_copy<'a>(alloc: Global, lender: &'a Lender) -> Result<Database<'a>, NoMemory> {
     with_bank(alloc, lender, 1, &[(1, &lender.a), (5, &lender.a)])
 }
 
 /// The join of the first two.
-fn without<'a>(alloc: Global, lender: &'a Lender) -> Result<Database<'a>, NoMemory> {
-    let edited = edited(alloc, lender)?;
-    let deleting = deleting(alloc, lender)?;
+fn join_without<'a>(alloc: Global, lender: &'a Lender) -> Result<Database<'a>, NoMemory> {
+    let edited = edited_copy(alloc, lender)?;
+    let deleting = deleting_copy(alloc, lender)?;
     join(alloc, &[edited, deleting])
 }
 
 /// The join of the first and the last.
-fn both<'a>(alloc: Global, lender: &'a Lender) -> Result<Database<'a>, NoMemory> {
-    let edited = edited(alloc, lender)?;
-    let outliving = outliving(alloc, lender)?;
+fn join_of_edits<'a>(alloc: Global, lender: &'a Lender) -> Result<Database<'a>, NoMemory> {
+    let edited = edited_copy(alloc, lender)?;
+    let outliving = outliving_copy(alloc, lender)?;
     join(alloc, &[edited, outliving])
 }
 
 /// The join of all three.
-fn all<'a>(alloc: Global, lender: &'a Lender) -> Result<Database<'a>, NoMemory> {
-    let edited = edited(alloc, lender)?;
-    let deleting = deleting(alloc, lender)?;
-    let outliving = outliving(alloc, lender)?;
+fn join_of_all<'a>(alloc: Global, lender: &'a Lender) -> Result<Database<'a>, NoMemory> {
+    let edited = edited_copy(alloc, lender)?;
+    let deleting = deleting_copy(alloc, lender)?;
+    let outliving = outliving_copy(alloc, lender)?;
     join(alloc, &[edited, deleting, outliving])
 }
 
 /// The join of the first two, and the last after them.
-fn late<'a>(alloc: Global, lender: &'a Lender) -> Result<Database<'a>, NoMemory> {
-    let without = without(alloc, lender)?;
-    let outliving = outliving(alloc, lender)?;
+fn join_with_late_edit<'a>(alloc: Global, lender: &'a Lender) -> Result<Database<'a>, NoMemory> {
+    let without = join_without(alloc, lender)?;
+    let outliving = outliving_copy(alloc, lender)?;
     join(alloc, &[without, outliving])
 }
 
 /// The join of the first and the last, and the deletion after them.
-fn deleted_late<'a>(alloc: Global, lender: &'a Lender) -> Result<Database<'a>, NoMemory> {
-    let both = both(alloc, lender)?;
-    let deleting = deleting(alloc, lender)?;
+fn join_with_late_deletion<'a>(
+    alloc: Global,
+    lender: &'a Lender,
+) -> Result<Database<'a>, NoMemory> {
+    let both = join_of_edits(alloc, lender)?;
+    let deleting = deleting_copy(alloc, lender)?;
     join(alloc, &[both, deleting])
 }
 
@@ -319,7 +355,7 @@ fn deleted_late<'a>(alloc: Global, lender: &'a Lender) -> Result<Database<'a>, N
 fn all_joined_at_once(rt: HostRuntime) -> Result<(), Fail> {
     let alloc = rt.alloc();
     let lender = new_lender(alloc, 1)?;
-    let joined = all(alloc, &lender)?;
+    let joined = join_of_all(alloc, &lender)?;
     assert!(rt; has_versions(&joined, &[(1, b"a"), (2, b"a"), (5, b"a")]));
     Ok(())
 }
@@ -330,9 +366,9 @@ fn all_joined_at_once(rt: HostRuntime) -> Result<(), Fail> {
 fn a_tombstone_forgets(rt: HostRuntime) -> Result<(), Fail> {
     let alloc = rt.alloc();
     let lender = new_lender(alloc, 1)?;
-    let without = without(alloc, &lender)?;
+    let without = join_without(alloc, &lender)?;
     assert!(rt; is_deleted(&without, BANK, 3));
-    let joined = late(alloc, &lender)?;
+    let joined = join_with_late_edit(alloc, &lender)?;
     assert!(rt; has_versions(&joined, &[(1, b"a"), (5, b"a")]));
     Ok(())
 }
@@ -342,7 +378,7 @@ fn a_tombstone_forgets(rt: HostRuntime) -> Result<(), Fail> {
 fn a_tombstone_joined_last(rt: HostRuntime) -> Result<(), Fail> {
     let alloc = rt.alloc();
     let lender = new_lender(alloc, 1)?;
-    let joined = deleted_late(alloc, &lender)?;
+    let joined = join_with_late_deletion(alloc, &lender)?;
     assert!(rt; has_versions(&joined, &[(1, b"a"), (2, b"a"), (5, b"a")]));
     Ok(())
 }

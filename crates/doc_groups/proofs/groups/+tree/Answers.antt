@@ -1,79 +1,100 @@
-use Rattle.std.proofs.Common.{◌≡◌, ◌++◌, ◌∙◌, [], sym, arith, ap, length}
+use Rattle.std.proofs.Common.{◌≡◌, ◌++◌, ◌∙◌, sym, Ok, Err}
 use Rattle.markup_grammar.specs.Escapes.{unescaped}
 use Rattle.std.proofs.lemmas.Result.{err_from_is_err_and}
-use Rattle.doc_forms.specs.ElementTexts.{is_protected}
+use Rattle.doc_forms.specs.SeenTexts.{text_seen}
 use Rattle.doc_forms.specs.Groups.{group_child}
-use Rattle.doc_forms.specs.SeenDrafts.{draft_seen, group_parts_seen}
-use Rattle.doc_groups.proofs.GroupWalks.{end_of, any_end_of, group_start}
-use Rattle.doc_groups.proofs.Onward.{on_words, on_shown, on_child, on_refused, on_end, on_form, on_depth}
+use Rattle.doc_forms.specs.SeenDrafts.{group_parts_seen}
+use Rattle.doc_walk.proofs.Goes.{all_words, all_shown, all_child, all_refused, all_end, all_unended, all_form, all_depth}
+use Rattle.doc_groups.proofs.GroupWalks.{begun, whole_group, children_refused, id_refused}
 use Rattle.doc_groups.proofs.groups.+tree.Goals as goal
 
-pub group-pieces-init : goal.group-pieces-init
-group-pieces-init t c =
-    let hides : c.in_ok-hides.hides ≡ is_protected c.args.tag.now.attrs.raw.now = cc c.in_ok-hides.ensures in
-    let text : c.in_ok-text.text.bytes ≡ [] = cc c.in_ok-text.ensures in
-    record {
-      hides = hides;
-      goes = group_start c.args.levels c.args.fits c.args.tag.now c.args.walk.now c.in_ok-text.text.bytes (group_parts_seen c.no_group-known.result) text c.no_group-known.ensures;
-    }
-
-pub group-pieces-preserved-in-Continue-branch-3 : goal.group-pieces-preserved-in-Continue-branch-3
-group-pieces-preserved-in-Continue-branch-3 t c =
+pub group_children-pieces-preserved-in-Continue-branch-3 : goal.group_children-pieces-preserved-in-Continue-branch-3
+group_children-pieces-preserved-in-Continue-branch-3 t c =
     let e = rw c.in-Ok-Start.field-0-is at c.in-Ok-Start.ensures.answers in
     record {
       hides = c.pieces.invariant.hides;
-      goes = on_child (λ s. group_child s c.args.levels) (end_of c.args.fits c.args.tag.now) c.pieces.text.bytes (group_parts_seen c.pieces.known) (group_parts_seen c.group_child.new.known)
+      goes = all_child (λ s. group_child s c.args.levels) c.args.tag.now.offset c.args.tag.now.attrs.raw.now c.pieces.text.bytes (group_parts_seen c.pieces.known) (group_parts_seen c.group_child.new.known)
           c.args.walk.now c.pieces.walk c.next_piece.new.self c.group_child.new.walk _ c.in-Ok-Start.offset c.in-Ok-Start.name.now c.in-Ok-Start.attrs.raw.now c.in_ok-group_child-in-Ok-Start.field-0
           c.pieces.invariant.goes (record { answers = e; setting = c.next_piece.ensures.setting; cursor = c.next_piece.ensures.cursor }) c.in_ok-group_child-in-Ok-Start.ensures;
     }
 
-pub group-returns-in_err-group_child-in-Ok-Start : goal.group-returns-in_err-group_child-in-Ok-Start
-group-returns-in_err-group_child-in-Ok-Start t c =
+pub group_children-returns-in_err-group_child-in-Ok-Start : goal.group_children-returns-in_err-group_child-in-Ok-Start
+group_children-returns-in_err-group_child-in-Ok-Start t c =
     let e = rw c.in-Ok-Start.field-0-is at c.in-Ok-Start.ensures.answers in
     let p = err_from_is_err_and c.from_residual-in_err-group_child-in-Ok-Start.result c.from_residual-in_err-group_child-in-Ok-Start.ensures.1 in
     rw (p.1, p.2)
-    (on_refused (λ s. group_child s c.args.levels) (end_of c.args.fits c.args.tag.now) c.pieces.text.bytes (group_parts_seen c.pieces.known) (group_parts_seen c.group_child.new.known)
-    c.args.walk.now c.pieces.walk c.next_piece.new.self c.group_child.new.walk _ c.in-Ok-Start.offset c.in-Ok-Start.name.now c.in-Ok-Start.attrs.raw.now draft_seen c.in_err-group_child-in-Ok-Start.field-0.0
+    (all_refused (λ s. group_child s c.args.levels) c.args.tag.now.offset c.args.tag.now.attrs.raw.now c.pieces.text.bytes (group_parts_seen c.pieces.known) (group_parts_seen c.group_child.new.known) _
+    c.args.walk.now c.pieces.walk c.next_piece.new.self c.group_child.new.walk _ c.in-Ok-Start.offset c.in-Ok-Start.name.now c.in-Ok-Start.attrs.raw.now c.in_err-group_child-in-Ok-Start.field-0.0
     c.pieces.invariant.goes (record { answers = e; setting = c.next_piece.ensures.setting; cursor = c.next_piece.ensures.cursor }) c.in_err-group_child-in-Ok-Start.ensures)
 
-pub group-pieces-preserved-then-hides : goal.group-pieces-preserved-then-hides
-group-pieces-preserved-then-hides t c =
+pub group_children-pieces-preserved-then-hides : goal.group_children-pieces-preserved-then-hides
+group_children-pieces-preserved-then-hides t c =
     let e = rw c.in-Ok-Words.field-0-is at c.in-Ok-Words.ensures.answers in
     let bytes : c.in_ok-text-in-Ok-Words.text.bytes ≡ c.pieces.text.bytes ++ unescaped c.in-Ok-Words.raw.now = cc c.in_ok-text-in-Ok-Words.ensures in
     rw bytes
     (record {
       hides = c.pieces.invariant.hides;
-      goes = on_words (λ s. group_child s c.args.levels) (end_of c.args.fits c.args.tag.now) c.pieces.text.bytes (group_parts_seen c.pieces.known)
+      goes = all_words (λ s. group_child s c.args.levels) c.args.tag.now.offset c.args.tag.now.attrs.raw.now c.pieces.text.bytes (group_parts_seen c.pieces.known)
           c.args.walk.now c.pieces.walk c.next_piece.new.self _ c.in-Ok-Words.field-0-1 c.in-Ok-Words.raw.now
           c.pieces.invariant.goes (record { answers = e; setting = c.next_piece.ensures.setting; cursor = c.next_piece.ensures.cursor });
     })
 
-pub group-pieces-preserved : goal.group-pieces-preserved
-group-pieces-preserved t c =
+pub group_children-pieces-preserved : goal.group_children-pieces-preserved
+group_children-pieces-preserved t c =
     let e = rw c.in-Ok-Words.field-0-is at c.in-Ok-Words.ensures.answers in
     record {
       hides = c.pieces.invariant.hides;
-      goes = on_shown (λ s. group_child s c.args.levels) (end_of c.args.fits c.args.tag.now) c.pieces.text.bytes (group_parts_seen c.pieces.known)
+      goes = all_shown (λ s. group_child s c.args.levels) c.args.tag.now.offset c.args.tag.now.attrs.raw.now c.pieces.text.bytes (group_parts_seen c.pieces.known)
           c.args.walk.now c.pieces.walk c.next_piece.new.self _ c.in-Ok-Words.field-0-1 c.in-Ok-Words.raw.now
           c.pieces.invariant.goes (record { answers = e; setting = c.next_piece.ensures.setting; cursor = c.next_piece.ensures.cursor })
-          (any_end_of c.args.walk.now.setting c.args.fits c.args.tag.now (sym c.pieces.invariant.hides ∙ c.if-hides.false));
+          (sym c.pieces.invariant.hides ∙ c.if-hides.false);
     }
 
-pub group-returns-in-Ok-Stop : goal.group-returns-in-Ok-Stop
-group-returns-in-Ok-Stop t c =
+pub group_children-returns-in_err-own_text-in-Ok-Stop : goal.group_children-returns-in_err-own_text-in-Ok-Stop
+group_children-returns-in_err-own_text-in-Ok-Stop t c =
     let e = rw c.in-Ok-Stop.field-0-is at c.in-Ok-Stop.ensures.answers in
-    on_end (λ s. group_child s c.args.levels) (end_of c.args.fits c.args.tag.now) c.pieces.text.bytes (group_parts_seen c.pieces.known)
-    c.args.walk.now c.pieces.walk c.next_piece.new.self c.group_end.new.walk _ c.in-Ok-Stop.field-0-0 draft_seen c.group_end.result
-    c.pieces.invariant.goes (record { answers = e; setting = c.next_piece.ensures.setting; cursor = c.next_piece.ensures.cursor }) c.group_end.ensures.gives c.group_end.ensures.answers c.group_end.ensures.setting
+    let p = err_from_is_err_and c.from_residual-in_err-own_text-in-Ok-Stop.result c.from_residual-in_err-own_text-in-Ok-Stop.ensures.1 in
+    rw (p.1, p.2)
+    (all_unended (λ s. group_child s c.args.levels) c.args.tag.now.offset c.args.tag.now.attrs.raw.now c.pieces.text.bytes (group_parts_seen c.pieces.known) _
+    c.args.walk.now c.pieces.walk c.next_piece.new.self c.own_text.new.self _ c.in-Ok-Stop.field-0-0 c.in_err-own_text-in-Ok-Stop.field-0.0
+    c.pieces.invariant.goes (record { answers = e; setting = c.next_piece.ensures.setting; cursor = c.next_piece.ensures.cursor }) c.in_err-own_text-in-Ok-Stop.ensures.gives c.own_text.ensures.setting)
 
-pub group-returns-in-Err-Form : goal.group-returns-in-Err-Form
-group-returns-in-Err-Form t c =
+pub group_children-returns-in-Ok-Stop : goal.group_children-returns-in-Ok-Stop
+group_children-returns-in-Ok-Stop t c =
+    let e = rw c.in-Ok-Stop.field-0-is at c.in-Ok-Stop.ensures.answers in
+    all_end (λ s. group_child s c.args.levels) c.args.tag.now.offset c.args.tag.now.attrs.raw.now c.pieces.text.bytes (group_parts_seen c.pieces.known)
+    c.args.walk.now c.pieces.walk c.next_piece.new.self c.own_text.new.self _ c.in-Ok-Stop.field-0-0 text_seen c.in_ok-own_text-in-Ok-Stop.field-0 tt
+    c.pieces.invariant.goes (record { answers = e; setting = c.next_piece.ensures.setting; cursor = c.next_piece.ensures.cursor }) c.in_ok-own_text-in-Ok-Stop.ensures.gives c.own_text.ensures.answers c.own_text.ensures.setting
+
+pub group_children-returns-in-Err-Form : goal.group_children-returns-in-Err-Form
+group_children-returns-in-Err-Form t c =
     let e = rw c.in-Err-Form.field-0-is at c.in-Err-Form.ensures.answers in
-    on_form (λ s. group_child s c.args.levels) (end_of c.args.fits c.args.tag.now) c.pieces.text.bytes (group_parts_seen c.pieces.known)
-    c.args.walk.now c.pieces.walk c.next_piece.new.self _ c.in-Err-Form.at draft_seen c.pieces.invariant.goes (record { answers = e.0; setting = c.next_piece.ensures.setting })
+    all_form (λ s. group_child s c.args.levels) c.args.tag.now.offset c.args.tag.now.attrs.raw.now c.pieces.text.bytes (group_parts_seen c.pieces.known) _
+    c.args.walk.now c.pieces.walk c.next_piece.new.self _ c.in-Err-Form.at c.pieces.invariant.goes (record { answers = e.0; setting = c.next_piece.ensures.setting })
 
-pub group-returns-in-Err-Depth : goal.group-returns-in-Err-Depth
-group-returns-in-Err-Depth t c =
+pub group_children-returns-in-Err-Depth : goal.group_children-returns-in-Err-Depth
+group_children-returns-in-Err-Depth t c =
     let e = rw c.in-Err-Depth.field-0-is at c.in-Err-Depth.ensures.answers in
-    on_depth (λ s. group_child s c.args.levels) (end_of c.args.fits c.args.tag.now) c.pieces.text.bytes (group_parts_seen c.pieces.known)
-    c.args.walk.now c.pieces.walk c.next_piece.new.self _ c.in-Err-Depth.at draft_seen c.pieces.invariant.goes (record { answers = e.0; setting = c.next_piece.ensures.setting })
+    all_depth (λ s. group_child s c.args.levels) c.args.tag.now.offset c.args.tag.now.attrs.raw.now c.pieces.text.bytes (group_parts_seen c.pieces.known) _
+    c.args.walk.now c.pieces.walk c.next_piece.new.self _ c.in-Err-Depth.at c.pieces.invariant.goes (record { answers = e.0; setting = c.next_piece.ensures.setting })
+
+pub group-returns : goal.group-returns
+group-returns t c =
+    whole_group c.args.levels c.args.fits c.args.tag.now c.args.walk.now c.group_children.new.walk c.group_id.new.walk c.in_ok-group_children.field-0 c.in_ok-id.id (group_parts_seen c.group_children.new.known) c.draft_of.result
+    (begun c.args.levels c.args.tag.now c.args.walk.now c.group_children.new.walk (Ok c.in_ok-group_children.field-0) (group_parts_seen c.no_group-known.result) (group_parts_seen c.group_children.new.known) c.no_group-known.ensures c.in_ok-group_children.ensures)
+    c.in_ok-id.ensures.gives c.group_id.ensures.answers c.group_id.ensures.setting c.draft_of.ensures
+
+pub group-returns-in_err-id : goal.group-returns-in_err-id
+group-returns-in_err-id t c =
+    let p = err_from_is_err_and c.from_residual-in_err-id.result c.from_residual-in_err-id.ensures.1 in
+    rw (p.1, p.2)
+    (id_refused c.args.levels c.args.fits c.args.tag.now c.args.walk.now c.group_children.new.walk c.group_id.new.walk c.in_ok-group_children.field-0 (group_parts_seen c.group_children.new.known) c.in_err-id.field-0.0
+    (begun c.args.levels c.args.tag.now c.args.walk.now c.group_children.new.walk (Ok c.in_ok-group_children.field-0) (group_parts_seen c.no_group-known.result) (group_parts_seen c.group_children.new.known) c.no_group-known.ensures c.in_ok-group_children.ensures)
+    c.in_err-id.ensures.gives c.group_id.ensures.setting)
+
+pub group-returns-in_err-group_children : goal.group-returns-in_err-group_children
+group-returns-in_err-group_children t c =
+    let p = err_from_is_err_and c.from_residual.result c.from_residual.ensures.1 in
+    rw (p.1, p.2)
+    (children_refused c.args.levels c.args.fits c.args.tag.now c.args.walk.now c.group_children.new.walk (group_parts_seen c.group_children.new.known) c.in_err-group_children.field-0.0
+    (begun c.args.levels c.args.tag.now c.args.walk.now c.group_children.new.walk (Err c.in_err-group_children.field-0.0) (group_parts_seen c.no_group-known.result) (group_parts_seen c.group_children.new.known) c.no_group-known.ensures c.in_err-group_children.ensures))

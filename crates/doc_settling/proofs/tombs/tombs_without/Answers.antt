@@ -14,5 +14,5 @@ loop-id-preserved c =
 pub loop-id-preserved-in-Continue-branch-2 : goal.loop-id-preserved-in-Continue-branch-2
 loop-id-preserved-in-Continue-branch-2 c =
     one_kept (λ (t : Tombstone). not (contains id_cmp c.args.ids.now t.id)) _ c.loop-id.others (c.in-Some.id.now, c.in-Some.deleted.now)
-    c.loop-id.id-iterator c.next.new.self c.push.new.list c.loop-id.invariant c.in-Some.ensures.steps
+    c.loop-id.id-iterator c.next.new.self c.push.new.tombs c.loop-id.invariant c.in-Some.ensures.steps
     (ap not (sym c.contains.ensures ∙ c.if-not-contains.true)) c.in_ok-push.ensures

@@ -1,0 +1,4 @@
+pub mod FirstMissing
+pub mod GroupTrees
+pub mod Lists
+mod Positions

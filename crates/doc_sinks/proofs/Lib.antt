@@ -1,0 +1,5 @@
+pub mod Base64Groups
+pub mod Fitting
+pub mod Puts
+pub mod Spelling
+pub mod WholeTexts

@@ -1,0 +1,5 @@
+pub mod Attributes
+pub mod Chunks
+pub mod Sinks
+pub mod States
+pub mod StreamOffsets

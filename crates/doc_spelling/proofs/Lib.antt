@@ -1,0 +1,4 @@
+pub mod ByteLists
+mod Examples
+pub mod IsoTexts
+pub mod PlainCodes

@@ -1,0 +1,5 @@
+pub mod Counts
+pub mod GroupPieces
+pub mod PutBinaries
+pub mod PutOptions
+pub mod WrittenTexts

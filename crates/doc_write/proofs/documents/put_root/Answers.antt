@@ -1,0 +1,6 @@
+use Rattle.doc_sinks.proofs.Puts.{boxed, first, one}
+use Rattle.doc_write.proofs.documents.put_root.Goals as goal
+
+pub returns-clause-puts : goal.returns-clause-puts
+returns-clause-puts g c =
+    boxed _ _ _ _ c.open.ensures (first _ _ _ _ c.put_group.ensures.puts (one _ _ _ (rw c.as_slice.ensures at c.put_tombs.ensures.puts))) c.close.ensures

@@ -1,0 +1,6 @@
+use Rattle.doc_sinks.proofs.Puts.{boxed}
+use Rattle.doc_write.proofs.items.put_items.Goals as goal
+
+pub returns-clause-puts : goal.returns-clause-puts
+returns-clause-puts g c =
+    boxed _ _ _ _ c.open.ensures c.put_item_list.ensures.puts c.close.ensures

@@ -1,0 +1,2 @@
+pub mod GroupRecords
+pub mod Written

@@ -1,0 +1,16 @@
+//! Documents, written as texts.
+#![tactic(auto)]
+
+mod attachments;
+mod documents;
+mod entries;
+mod groups;
+mod icons;
+mod items;
+mod lengths;
+mod metas;
+mod versions;
+mod writing;
+
+pub use doc_pool::pool_of;
+pub use writing::{WriteFail, write_doc};

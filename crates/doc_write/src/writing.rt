@@ -1,0 +1,93 @@
+//! Writing a document.
+
+ghost use Rattle.std.specs.Option.{option_copied};
+ghost use Rattle.std.specs.Prelude.{◌≡◌, IfOk};
+ghost use Rattle.doc_spelling.specs.Ranges.{IsWritable};
+ghost use Rattle.doc_write.specs.Written.{Writes, write_outcome};
+ghost use Rattle.stream_core.specs.InnerStream.{IsAt, keystream};
+ghost use Rattle.vault_model.specs.SeenDoc.{doc_seen};
+
+use crate::documents::put_document;
+use crate::lengths::{apart_len, count_nodes};
+use doc_pool::Pool;
+use doc_sinks::{TextCounter, TextFiller};
+use outside_core::NoMemory;
+use secret_core::Secret;
+use std::alloc::Global;
+use std::mem;
+use stream_core::InnerStream;
+use vault_model::{Doc, DocForm};
+
+/// How many nodes a written document has at most.
+const NODES: u64 = 262_144;
+
+/// How many bytes a written document has at most, in KDBX 4 with its pool.
+const BYTES: usize = 134_086_656;
+
+/// Why a document was not written.
+#[derive(Clone, Copy, Debug, PartialEq, Eq)]
+pub enum WriteFail {
+    /// It has more than 262,144 groups, entries and history items: so many.
+    TooMany(u64),
+    /// Its text, in KDBX 4 with its pool, would have more than 134,086,656 bytes: so many.
+    TooLarge(u64),
+    /// Memory ran out.
+    NoMemory,
+}
+
+impl From<NoMemory> for WriteFail {
+    ghost use Rattle.doc_write.specs.declared.writing.WriteFail.TheVariants as fail;
+
+    ghost from_gives = { λ _ e. e ≡ fail.NoMemory };
+
+    fn from(_none: NoMemory) -> WriteFail {
+        WriteFail::NoMemory
+    }
+}
+
+/// Writes a document in one form, with the hash of the header of its file (which only KDBX 3.1 has
+/// in its document) and the stream that hides its values, at its start. The stream is used up: it
+/// must not be used again.
+///
+/// The text is counted before memory for it is taken, once and no more than it needs.
+///
+/// # Errors
+///
+/// The first of [`WriteFail`] that the document earns.
+pub fn write_doc(
+    alloc: Global,
+    doc: &Doc,
+    form: DocForm,
+    header_hash: Option<&[u8; 32]>,
+    stream: &mut InnerStream,
+) -> Result<Secret, WriteFail>
+    requires { IsAt stream.old 0 }
+    ensures text { Writes result (write_outcome form (keystream stream.old)
+        (option_copied header_hash.entry) (doc_seen doc.now)) }
+    ensures spare { IfOk result (λ text. text.spare ≡ 0) }
+    ensures writable { IfOk result (λ _. IsWritable (doc_seen doc.now)) }
+{
+    let nodes = count_nodes(0, &doc.root);
+    if nodes > NODES {
+        return Err(WriteFail::TooMany(nodes));
+    }
+    let pool = Pool::of(alloc, doc)?;
+    let mut counter = TextCounter { len: 0 };
+    put_document(&mut counter, form, header_hash, &pool, doc);
+    let len = counter.len.saturating_add(apart_len(form, &pool));
+    if len > BYTES {
+        return Err(WriteFail::TooLarge(len as u64));
+    }
+    let mut filler = TextFiller {
+        text: Secret::with_room(alloc, counter.len)?,
+        stream: mem::replace(stream, InnerStream::Clear),
+        offset: 0,
+    };
+    put_document(&mut filler, form, header_hash, &pool, doc);
+    let TextFiller {
+        text,
+        stream: _,
+        offset: _,
+    } = filler;
+    Ok(text)
+}

@@ -1,0 +1,4 @@
+mod Appended
+mod MadeFiles
+mod Padded
+mod Pieces

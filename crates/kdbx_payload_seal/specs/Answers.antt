@@ -1,0 +1,36 @@
+-- What an answer of sealing says of the store and of the header.
+use Rattle.std.specs.Prelude.{◌≡◌, ℕ, ◌<◌, ◌≤◌, List, Option, None, option_map, Result, Ok, Err}
+use Rattle.std.specs.FinMap as map
+use Rattle.outside_core.specs.Files.{FileMap}
+use Rattle.outside_core.specs.declared.fails.FileFail.{FileFail}
+use Rattle.outside_core.specs.declared.fails.FileFail.TheVariants as file
+use Rattle.kdbx_frame.specs.Fields.{header_limit}
+use Rattle.kdbx_payload_seal.specs.declared.fail.SealPayloadFail.{SealPayloadFail}
+use Rattle.kdbx_payload_seal.specs.declared.fail.SealPayloadFail.TheVariants.{TooLarge, FileFault, NoMemory}
+
+-- A refusal of the store, as one of sealing.
+abbrev pub of_store : FileFail → SealPayloadFail
+of_store file.NoMemory = NoMemory
+of_store file.Failed = FileFault
+of_store file.NoSuchFile = FileFault
+
+-- The store has these bytes under a name, and all else as it was; after a refusal all is as it was.
+abbrev pub Puts : {E : Type 0} → Result (Unit {0}) E → Option FileMap → Option FileMap → List ℕ
+    → List ℕ → Type 0
+Puts (Ok _) before now name bytes = now ≡ option_map (λ m. map.insert m name bytes) before
+Puts (Err _) before now name bytes = now ≡ before
+
+-- The header, with the 64 bytes of hash and MAC, has its end here. TooLarge comes where that passes
+-- the limit, and there unless memory runs out.
+abbrev pub JudgesEnd : Result (Unit {0}) SealPayloadFail → ℕ → Type 0
+JudgesEnd (Ok _) end = end ≤ header_limit
+JudgesEnd (Err (TooLarge n)) end = (n ≡ end) × (header_limit < end)
+JudgesEnd (Err FileFault) end = end ≤ header_limit
+JudgesEnd (Err NoMemory) end = Unit {0}
+
+-- There is no draft, unless the header is too large.
+abbrev pub LeavesNoDraft : Result (Unit {0}) SealPayloadFail → Option (List ℕ) → Type 0
+LeavesNoDraft (Err (TooLarge n)) draft = Unit {0}
+LeavesNoDraft (Err FileFault) draft = draft ≡ None
+LeavesNoDraft (Err NoMemory) draft = draft ≡ None
+LeavesNoDraft (Ok _) draft = draft ≡ None

@@ -1,0 +1,4 @@
+pub mod Answers
+pub mod Enciphered
+pub mod Made
+pub mod Parts

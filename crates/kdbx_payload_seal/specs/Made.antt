@@ -1,0 +1,60 @@
+-- The bytes of a file of KDBX 4, as a function of all that it is made from.
+use Rattle.std.specs.Prelude.{ℕ, zero, suc, ◌+◌, List, [], ◌∷◌, ◌++◌, length, take, drop}
+use Rattle.sha2.specs.Sha256.{sha256}
+use Rattle.sha2.specs.Sha512.{sha512}
+use Rattle.mac_core.specs.Blocks.{block, blocks}
+use Rattle.stream_core.specs.InnerStream.{ChaChaKeystream, Keystream}
+use Rattle.kdbx_frame.specs.declared.settings.Settings.{Settings}
+use Rattle.kdbx_inner.specs.Inner.{Binary}
+use Rattle.kdbx_spelling.specs.declared.draws.Draws.{Draws}
+use Rattle.kdbx_spelling.specs.Header.{header_with, settings_with, spelled_header}
+use Rattle.kdbx_spelling.specs.Inner.{spelled_inner}
+use Rattle.kdbx_payload.specs.HeaderMacs.{base_of, header_mac, key_of}
+use Rattle.kdbx_payload.specs.Payloads.{Payload}
+use Rattle.kdbx_payload_seal.specs.Enciphered.{enciphered}
+
+-- A content in pieces of n bytes, of which the last may have fewer; there are `most` at most.
+unfoldable pub pieces_of : ℕ → ℕ → List ℕ → List (List ℕ)
+pieces_of zero n content = []
+pieces_of (suc most) n [] = []
+pieces_of (suc most) n (b ∷ content) =
+    take n (b ∷ content) ∷ pieces_of most n (drop n (b ∷ content))
+
+-- A content in pieces of 1,048,576 bytes.
+abbrev pub pieces : List ℕ → List (List ℕ)
+pieces content = pieces_of (length content) 1048576 content
+
+-- Blocks of these contents from block i on, and the end block, under the file's MAC base.
+abbrev pub blocks_to_end : List ℕ → ℕ → List (List ℕ) → List ℕ
+blocks_to_end base i contents = blocks base i contents ++ block base (i + length contents) []
+
+-- The file of a header and a content, under the file's MAC base: the header, its hash, its MAC, and
+-- the content in blocks.
+abbrev pub file_of : List ℕ → List ℕ → List ℕ → List ℕ
+file_of base header content =
+    header ++ sha256 header ++ header_mac base header ++ blocks_to_end base 0 (pieces content)
+
+-- The content of a file under the key of its cipher: inner fields with the attached files, and the
+-- text of the document, enciphered.
+abbrev pub content_of : List ℕ → Settings → Draws → List Binary → List ℕ → List ℕ
+content_of key s d pool text = enciphered s.cipher key d.iv (spelled_inner d.stream pool ++ text)
+
+-- The file of these settings with these draws, under a composite key, that has these attached files
+-- and this text of a document.
+unfoldable pub made : Settings → Draws → List ℕ → List Binary → List ℕ → List ℕ
+made s d composite pool text =
+    file_of (base_of (header_with s d) composite) (spelled_header s d)
+    (content_of (key_of (header_with s d) composite) s d pool text)
+
+-- The keystream of a written file, which hides values in its document: ChaCha20 under a stream key.
+abbrev pub written_keystream : List ℕ → Keystream
+written_keystream key = ChaChaKeystream (take 32 (sha512 key)) (take 12 (drop 32 (sha512 key)))
+
+-- The payload of the file that is made.
+abbrev pub made_payload : Settings → Draws → List Binary → List ℕ → Payload
+made_payload s d pool text = record {
+  settings = settings_with s d;
+  pool = pool;
+  stream = written_keystream d.stream;
+  text = text;
+}

@@ -1,0 +1,11 @@
+mod DrawnParts
+mod FieldReading
+mod HeaderFields
+mod HeaderParts
+pub mod HeaderReading
+pub mod InnerReading
+mod KdfLimits
+mod KdfReading
+mod Readings
+mod SettingsReading
+mod SpelledVectors

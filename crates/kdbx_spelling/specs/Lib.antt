@@ -1,0 +1,5 @@
+pub mod Draws
+pub mod Fields
+pub mod Header
+pub mod Inner
+pub mod Kdf

@@ -1,0 +1,34 @@
+//! What is written is read as what it was written from. Each law is a function whose contract is
+//! the law; it computes nothing.
+
+ghost use Rattle.std.specs.Prelude.{◌≡◌, ℕ, ◌+◌, ◌<◌, ◌≤◌, ◌^◌, List, ◌++◌, length, Ok};
+ghost use Rattle.std.specs.List.{AllByRecursion};
+ghost use Rattle.sha2.specs.Sha256.{sha256};
+ghost use Rattle.kdbx_frame.specs.declared.settings.Settings.{Settings};
+ghost use Rattle.kdbx_frame.specs.Fields.{header_limit};
+ghost use Rattle.kdbx_frame.specs.Header.{header_of};
+ghost use Rattle.kdbx_frame.specs.Settings.{IsInOrder, IsVersion4};
+ghost use Rattle.kdbx_inner.specs.Inner.{Binary, inner_of};
+ghost use Rattle.kdbx_spelling.specs.declared.draws.Draws.{Draws};
+ghost use Rattle.kdbx_spelling.specs.Draws.{AreDrawn};
+ghost use Rattle.kdbx_spelling.specs.Header.{header_with, spelled_header};
+ghost use Rattle.kdbx_spelling.specs.Inner.{FitsField, inner_with, spelled_inner};
+
+/// A file that begins with a written header, its hash and 32 bytes of a MAC has the settings that
+/// the header was written from, with the drawn salt, seed and IV; so long as the header ends within
+/// the limit.
+pub fn headers_read_back()
+    ensures { (s : Settings) (d : Draws) (mac rest : List ℕ)
+        → IsVersion4 s.version → IsInOrder s → AreDrawn s d → length mac ≡ 32
+        → length (spelled_header s d) + 64 ≤ header_limit
+        → header_of (spelled_header s d ++ sha256 (spelled_header s d) ++ mac ++ rest)
+        ≡ Ok (header_with s d) }
+{}
+
+/// A text that begins with written inner fields has the key and the attached files that they were
+/// written from.
+pub fn inner_fields_read_back()
+    ensures { (key text : List ℕ) (pool : List Binary)
+        → length key < 2 ^ 32 → AllByRecursion FitsField pool
+        → inner_of (spelled_inner key pool ++ text) ≡ Ok (inner_with key pool) }
+{}

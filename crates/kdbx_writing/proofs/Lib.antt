@@ -1,0 +1,2 @@
+mod InnerPieces
+mod KdfPieces

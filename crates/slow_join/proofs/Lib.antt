@@ -1,0 +1,4 @@
+mod GatherMembers
+mod JoinKnown
+mod Members
+mod Trails

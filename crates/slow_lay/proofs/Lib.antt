@@ -1,0 +1,2 @@
+mod AppendWanted
+mod RecordRows

@@ -1,3 +1,0 @@
-pub mod InPlace
-pub mod Joining
-pub mod Filling

@@ -1,0 +1,4 @@
+pub mod FillTables
+pub mod ListSteps
+pub mod PutRows
+pub mod UniteMaps
