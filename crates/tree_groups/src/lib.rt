@@ -4,6 +4,8 @@
 mod groups;
 mod levels;
 mod making;
+mod new_groups;
 
 pub use groups::put_group;
-pub use making::{make_group, new_group};
+pub use making::make_group;
+pub use new_groups::{new_bin, new_group};

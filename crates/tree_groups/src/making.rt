@@ -1,60 +1,19 @@
 //! Groups made.
 
-ghost use Rattle.std.specs.Prelude.{◌≡◌, IfOk};
+ghost use Rattle.std.specs.Prelude.{◌≡◌};
 ghost use Rattle.vault_model.specs.SeenDoc.{doc_seen};
-ghost use Rattle.vault_model.specs.SeenNodes.{tree_seen};
 ghost use Rattle.tree_core.specs.Finding as named;
 ghost use Rattle.tree_changes.specs.After.{Changes, after_make_group, after_new_group};
-ghost use Rattle.tree_changes.specs.NewNodes.{empty_group};
 
 use crate::groups::put_group;
 use crate::levels::{LEVELS, levels_below};
-use outside_core::{List, NoMemory, Text};
+use crate::new_groups::new_group;
 use std::alloc::Global;
 use tree_changes::TreeFail;
 use tree_core::{find_group_of, is_group_path};
 use tree_steps::{before_last, is_free, name_after, path_of_new};
 use uuid::Uuid;
-use vault_model::{Doc, Group, GroupContent, GroupState, GroupView, Stamp, Stats, Tri};
-
-/// A new group of this name, with nothing in it, all of whose times are now.
-pub fn new_group(alloc: Global, id: Uuid, name: &str, now: Stamp) -> Result<Group, NoMemory>
-    ensures { IfOk result (λ group. tree_seen group ≡ empty_group id name.now now) }
-{
-    let name = Text::of(alloc, name)?;
-    Ok(Group {
-        id,
-        placed: now,
-        previous: Uuid::nil(),
-        state: GroupState {
-            modified: now,
-            content: GroupContent {
-                created: now,
-                expiry: now,
-                expires: false,
-                name,
-                notes: Text::new(alloc),
-                icon: 48,
-                custom_icon: None,
-                sequence: Text::new(alloc),
-                auto_type: Tri::Inherit,
-                searching: Tri::Inherit,
-                items: List::new(alloc),
-                tags: Text::new(alloc),
-            },
-            stats: Stats {
-                accessed: now,
-                usage: 0,
-            },
-        },
-        view: GroupView {
-            expanded: true,
-            top_entry: Uuid::nil(),
-        },
-        entries: List::new(alloc),
-        groups: List::new(alloc),
-    })
-}
+use vault_model::{Doc, Stamp};
 
 // A path without one slash at its start and one at its end.
 fn without_slashes(path: &str) -> &str

@@ -40,7 +40,7 @@ impl Change for TakeEntry {
 }
 
 /// Takes the entry of this id out of the group of another.
-pub(crate) fn take_entry(root: &mut Group, group: Uuid, id: Uuid) -> Option<Entry>
+pub fn take_entry(root: &mut Group, group: Uuid, id: Uuid) -> Option<Entry>
     ensures { MatchOption result ((entry_at group id (tree_seen root.old) ≡ None)
         × (tree_seen root.new ≡ tree_seen root.old))
         (λ e. (entry_at group id (tree_seen root.old) ≡ Some (entry_row e))

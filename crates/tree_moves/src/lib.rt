@@ -6,4 +6,5 @@ mod entries;
 mod moving;
 
 pub use bins::needs_bin;
-pub use moving::move_entry;
+pub use entries::take_entry;
+pub use moving::{move_entry, move_in, move_to_place, no_entry};

@@ -7,6 +7,7 @@ ghost use Rattle.vault_model.specs.SeenNodes.{tree_seen};
 ghost use Rattle.vault_model.specs.Tree.{is_elsewhere};
 ghost use Rattle.tree_changes.specs.After.{Changes, after_move_entry};
 ghost use Rattle.tree_changes.specs.Changes.{entry_at, entry_moved, has_group};
+ghost use Rattle.tree_moves.specs.Places.{entry_placed};
 
 use crate::entries::{fill_entry, take_entry};
 use outside_core::{List, NoMemory, Text};
@@ -43,8 +44,8 @@ fn no_content(alloc: Global) -> Content {
     }
 }
 
-// An entry without an id, which keeps a place for another. Takes no memory.
-fn no_entry(alloc: Global) -> Entry
+/// An entry without an id, which keeps a place for another. Takes no memory.
+pub fn no_entry(alloc: Global) -> Entry
     ensures { result.id ≡ nil_id }
 {
     let never = Stamp::of(0).unwrap();
@@ -64,9 +65,22 @@ fn no_entry(alloc: Global) -> Entry
     }
 }
 
-// Moves an entry from one group to the end of another's entries: a place is made for it first, which
-// is all that takes memory. A refusal changes nothing.
-fn move_in(
+/// Moves an entry from one group to the place that is kept for it in another. Takes no memory.
+pub fn move_to_place(root: &mut Group, from: Uuid, to: Uuid, id: Uuid, time: Stamp)
+    requires there { IsSome (entry_at from id (tree_seen root.old)) }
+    ensures { IfSome (entry_at from id (tree_seen root.old))
+        (λ e. tree_seen root.new ≡ entry_placed from to time e (tree_seen root.old)) }
+{
+    if let Some(mut entry) = take_entry(root, from, id) {
+        entry.placed = time;
+        entry.previous = from;
+        fill_entry(root, to, entry);
+    }
+}
+
+/// Moves an entry from one group to the end of another's entries: a place is made for it first, which
+/// is all that takes memory. A refusal changes nothing.
+pub fn move_in(
     alloc: Global,
     root: &mut Group,
     from: Uuid,
@@ -83,17 +97,11 @@ fn move_in(
         (λ _. tree_seen root.new ≡ tree_seen root.old) }
 {
     match put_entry(root, to, no_entry(alloc)) {
-        Some(Ok(())) => {}
-        _ => return Err(NoMemory),
-    }
-    match take_entry(root, from, id) {
-        Some(mut entry) => {
-            entry.placed = time;
-            entry.previous = from;
-            fill_entry(root, to, entry);
+        Some(Ok(())) => {
+            move_to_place(root, from, to, id, time);
             Ok(())
         }
-        None => Err(NoMemory),
+        _ => Err(NoMemory),
     }
 }
 
