@@ -2,13 +2,13 @@
 use Rattle.std.proofs.Common.{◌≡◌, ◌≢◌, ◌≤◌, ℕ, Bool, true, false, not, cond, ◌&&◌, ◌||◌, inl, inr, option_and_then, IfSome, IsSome, MatchResult, Result, Ok, Err, List, [], ◌∷◌, ◌++◌, Option, None, Some, refl, sym, ap, subst, ◌∙◌, arith}
 use Rattle.vault_model.specs.Db.{NodeId, nil_id}
 use Rattle.vault_model.specs.Join.{is_id}
-use Rattle.vault_model.specs.Shape.{EntryRecord, GroupRecord}
+use Rattle.vault_model.specs.Shape.{EntryRecord}
 use Rattle.std.specs.List.{list_all}
 use Rattle.vault_model.specs.declared.nodes.Tombstone.{Tombstone}
 use Rattle.vault_model.specs.Tree.{BareDoc, IsDoc, Tree, Trees, beside, entry_rows, entry_rows_all, is_elsewhere, is_proper_entry, node, node_ids, node_ids_all, none}
 use Rattle.vault_model.proofs.Ids.{is_same_id, same_id}
 use Rattle.vault_model.proofs.Tests.{and_both, and_true, apart, decide, is_false, not_false, some_of}
-use Rattle.tree_changes.specs.Changes.{changed_at, changed_in, entry_at, entry_moved, group_among, group_with, has_group, have_group, is_free, moved_entry, on_entries, own_entry, with_entry, without, without_entry}
+use Rattle.tree_changes.specs.Changes.{changed_at, changed_in, entry_at, entry_moved, filled, group_among, group_with, has_group, have_group, is_free, moved_entry, on_entries, own_entry, with_entry, without, without_entry}
 use Rattle.tree_changes.proofs.Added.{added_is_doc}
 use Rattle.tree_changes.proofs.Around.{entries_rows, found_group, found_id, ids_rows, occurs_change, rows_change}
 use Rattle.tree_changes.proofs.Changed.{changed_by}
@@ -20,11 +20,6 @@ use Rattle.tree_changes.proofs.Rows.{keys}
 -- an entry as it is in the group that it is moved to
 abbrev pub placed_at : NodeId → ℕ → NodeId × EntryRecord → NodeId × EntryRecord
 placed_at from time e = (e.0, moved_entry from time e.1)
-
--- entries with one in the place of the first without an id
-abbrev pub filled : NodeId × EntryRecord → List (NodeId × EntryRecord) → List (NodeId × EntryRecord)
-filled e [] = []
-filled e (x ∷ xs) = cond (is_id x.0 nil_id) (e ∷ xs) (x ∷ filled e xs)
 
 abbrev Entries : Type 0
 Entries = List (NodeId × EntryRecord)

@@ -6,6 +6,7 @@ pub mod Counted
 pub mod Edited
 pub mod EntriesMoved
 pub mod EntriesRemoved
+pub mod Examples
 pub mod GroupDocs
 pub mod GroupMoves
 pub mod Holders

@@ -1,6 +1,6 @@
 -- Changes of a tree: one group changed, nodes put into it and taken out.
-use Rattle.std.specs.Prelude.{ℕ, suc, max, find, is_some, Bool, false, not, ◌&&◌, ◌||◌, ◌+◌, cond, List, [], ◌∷◌, ◌++◌, Option, None, Some, map}
-use Rattle.std.specs.Option.{option_and_then, option_map}
+use Rattle.std.specs.Prelude.{ℕ, suc, max, find, is_some, Bool, false, not, ◌&&◌, ◌||◌, cond, List, [], ◌∷◌, ◌++◌, Option, None, Some}
+use Rattle.std.specs.Option.{option_and_then}
 use Rattle.std.specs.Ordering.{is_lt}
 use Rattle.std.specs.List.{list_all}
 use Rattle.vault_model.specs.declared.nodes.Tombstone.{Tombstone}
@@ -118,6 +118,12 @@ abbrev pub entry_moved : NodeId → NodeId → ℕ → NodeId × EntryRecord →
 entry_moved from to time e t =
     changed_at to (with_entry (e.0, moved_entry from time e.1))
     (changed_at from (without_entry e.0) t)
+
+-- entries with one in the place of the first without an id, which was kept for it
+abbrev pub filled : NodeId × EntryRecord → List (NodeId × EntryRecord)
+    → List (NodeId × EntryRecord)
+filled e [] = []
+filled e (x ∷ xs) = cond (is_id x.0 nil_id) (e ∷ xs) (x ∷ filled e xs)
 
 -- ---- groups
 

@@ -1,5 +1,5 @@
 -- The history of an entry that is edited: in rising order, and within its limits.
-use Rattle.std.specs.Prelude.{ℕ, ℤ, Bool, true, false, ◌&&◌, ◌+◌, cond, List, [], ◌∷◌, map, length, sum, nat_le, negsuc, pos}
+use Rattle.std.specs.Prelude.{ℕ, ℤ, Bool, true, ◌&&◌, ◌+◌, cond, List, [], ◌∷◌, map, length, sum, nat_le, negsuc, pos}
 use Rattle.std.specs.FinMap.{entries}
 use Rattle.vault_model.specs.Bare.{BareAttachment, BareContent, BareField}
 use Rattle.vault_model.specs.Shape.{BareVersion, EntryRecord, version_of, versions_of}

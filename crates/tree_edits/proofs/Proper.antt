@@ -1,15 +1,14 @@
 -- What a new entry and an edited one say is in order.
-use Rattle.std.proofs.Common.{◌≡◌, ◌&&◌, ℕ, ℤ, length, Bool, true, false, cond, List, [], ◌∷◌, Option, None, Some, IfSome, map, inl, inr, refl, sym, ap, ◌∙◌}
+use Rattle.std.proofs.Common.{◌≡◌, ◌&&◌, ℕ, ℤ, length, Bool, true, false, cond, List, [], ◌∷◌, Option, None, Some, IfSome, inl, inr, refl, sym, ap, ◌∙◌}
 use Rattle.std.specs.Prelude.{codes}
 use Rattle.std.specs.declared.cmp.Ordering.{Ordering}
 use Rattle.std.specs.declared.cmp.Ordering.TheVariants.{Less, Equal, Greater}
 use Rattle.std.specs.Borrow.{Bor}
 use Rattle.std.specs.FinMap.{entries}
 use Rattle.std.specs.List.{list_all}
-use Rattle.std.specs.Option.{option_map, unwrap_or}
+use Rattle.std.specs.Option.{unwrap_or}
 use Rattle.std.specs.Ordering.{is_lt, ordering_reverse}
 use Rattle.std.specs.Str.{chars, is_utf8}
-use Rattle.vault_model.specs.declared.contents.Stats.{Stats}
 use Rattle.vault_model.specs.declared.metas.Meta.{Meta}
 use Rattle.vault_model.specs.declared.metas.Protection.{Protection}
 use Rattle.vault_model.specs.Bare.{BareAttachment, BareContent, BareField}
@@ -26,7 +25,6 @@ use Rattle.join_laws.proofs.SoundDoc.{all_in, version_marks}
 use Rattle.join_laws.proofs.Tables.{entry_get}
 use Rattle.tree_changes.specs.After.{edited_entry}
 use Rattle.tree_changes.specs.Histories.{is_within, rising_versions, versions_size, within_limits}
-use Rattle.tree_changes.specs.InOrder.{put_in_order}
 use Rattle.tree_edits.specs.Texts.{AreTexts, is_text_value}
 use Rattle.tree_changes.specs.NewNodes.{GivenValues, edited_fields, edited_version, field, lent, new_content, new_entry, new_fields, with_given, with_value}
 

@@ -1,6 +1,5 @@
 -- The longest suffix of a history within its limits, found from the longest on.
-use Rattle.std.proofs.Common.{◌≡◌, ◌<◌, ◌≤◌, ◌+◌, ◌-◌, ◌&&◌, ℕ, ℤ, suc, zero, Bool, true, false, cond, List, [], ◌∷◌, length, length-drop, drop, take, remove, get_or, map, refl, sym, ap, ◌∙◌, arith}
-use Rattle.std.proofs.Math.Seq.{drop-cons}
+use Rattle.std.proofs.Common.{◌≡◌, ◌<◌, ◌≤◌, ◌+◌, ◌-◌, ◌&&◌, ℕ, ℤ, suc, zero, Bool, true, false, cond, List, [], ◌∷◌, length, length-drop, drop, take, remove, map, refl, sym, ap, ◌∙◌, arith}
 use Rattle.std.proofs.lemmas.List.{drop-map, drop_all, take_all}
 use Rattle.vault_model.specs.SeenNodes.{bare_version}
 use Rattle.vault_model.specs.Shape.{BareVersion}

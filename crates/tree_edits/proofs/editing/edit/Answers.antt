@@ -1,4 +1,4 @@
-use Rattle.std.proofs.Common.{Some, Ok, sym, ap, map, ◌∙◌}
+use Rattle.std.proofs.Common.{sym, ap, map, ◌∙◌}
 use Rattle.std.specs.Prelude.{option_map}
 use Rattle.vault_model.proofs.DocumentLaws.{is_doc}
 use Rattle.vault_model.specs.SeenDoc.{doc_seen}

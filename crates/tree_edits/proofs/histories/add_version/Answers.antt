@@ -1,4 +1,4 @@
-use Rattle.std.proofs.Common.{List, OnOk, sym, ap, refl, map, ◌∙◌}
+use Rattle.std.proofs.Common.{List, sym, ap, refl, map, ◌∙◌}
 use Rattle.vault_model.specs.Db.{mark_cmp}
 use Rattle.vault_model.specs.Join.{stats_join}
 use Rattle.vault_model.specs.SeenNodes.{bare_version}

@@ -1,4 +1,4 @@
-use Rattle.std.proofs.Common.{sym, refl, ap, ◌∙◌, arith, true, false, w32, w64}
+use Rattle.std.proofs.Common.{sym, ◌∙◌, arith, true, false, w32, w64}
 use Rattle.std.proofs.lemmas.Int.{to_z-of_z}
 use Rattle.tree_edits.proofs.Suffixes.{fits_rest, goes_on, same_limits, stops}
 use Rattle.tree_edits.proofs.limits.excess.Goals as goal

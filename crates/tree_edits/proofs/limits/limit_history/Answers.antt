@@ -1,4 +1,4 @@
-use Rattle.std.proofs.Common.{◌≡◌, ◌≤◌, List, length, length-drop, refl, ap, arith, map, w32, w64, ◌∙◌}
+use Rattle.std.proofs.Common.{List, length, length-drop, refl, ap, arith, map, w32, w64, ◌∙◌}
 use Rattle.std.proofs.lemmas.Int.{to_z-of_z}
 use Rattle.vault_model.specs.SeenNodes.{bare_version}
 use Rattle.tree_changes.specs.Histories.{within_limits}

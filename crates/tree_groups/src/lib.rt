@@ -1,0 +1,11 @@
+//! Groups made and moved.
+#![tactic(auto)]
+
+mod groups;
+mod levels;
+mod making;
+mod new_groups;
+
+pub use groups::put_group;
+pub use making::make_group;
+pub use new_groups::{new_bin, new_group};

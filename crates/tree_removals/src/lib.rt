@@ -1,0 +1,9 @@
+//! Nodes removed: put into the bin, or deleted.
+#![tactic(auto)]
+
+mod deleting;
+mod recycling;
+mod removing;
+mod tombs;
+
+pub use removing::remove_entry;
