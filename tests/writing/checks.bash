@@ -1,0 +1,73 @@
+# What is written of documents, for tests/run: it sources this file, and has `top`, `passed` and `failed`.
+
+# The program that writes documents, as the gate leaves it.
+writer=$(ls -t "$top"/crates/bench_writing/out/bench_writing "$top"/crates/bench_writing/out/bench_writing.by-rattle 2>/dev/null | head -1)
+compare=$top/tests/writing/compare
+
+# The first Python that has pykeepass, which Debian installs for its own.
+with_pykeepass=
+for python in python3 /usr/bin/python3; do
+  if [ -z "$with_pykeepass" ] && "$python" -c 'import pykeepass' 2>/dev/null; then with_pykeepass=$python; fi
+done
+
+# check NAME COMMAND...: the command ends with status 0.
+check() {
+  local name=$1
+  shift
+  if "$@" >report.txt 2>&1 </dev/null; then passed=$((passed + 1)); else
+    failed=$((failed + 1))
+    echo "FAILED: $name"
+    head -20 report.txt
+  fi
+}
+
+# keepassxc_import XML DATABASE: has KeePassXC make a database of a document, in a tenth of a second of key derivation.
+keepassxc_import() {
+  printf 'one two three\none two three\n' | QT_QPA_PLATFORM=offscreen keepassxc-cli import -q -t 100 -p "$1" "$2"
+}
+
+# written NAME FILE: the document of a file is written as others read it.
+written() {
+  local name=$1 document=$2
+  rm -f written.xml again.xml written.kdbx
+  check "$name is written" sh -c '"$1" "$2" >written.xml' sh "$writer" "$document"
+  check "$name, written twice, is the same" sh -c '"$1" written.xml >again.xml && cmp written.xml again.xml' sh "$writer"
+  check "$name, read again by the reader in Python" python3 "$compare" documents "$document" written.xml
+  if [ -n "$xmllint" ]; then check "$name, well formed by xmllint" xmllint --noout written.xml; fi
+  if [ -z "$keepassxc" ]; then return; fi
+  check "$name, imported by KeePassXC" keepassxc_import written.xml written.kdbx
+  check "$name, exported by KeePassXC" python3 "$compare" keepassxc "$document" written.kdbx
+  if [ -n "$with_pykeepass" ]; then
+    check "$name, read by pykeepass in KeePassXC's database" "$with_pykeepass" "$compare" pykeepass "$document" written.kdbx
+  fi
+}
+
+# unwritten NAME FILE: a document that is refused is not written, and one line reports it.
+unwritten() {
+  "$writer" "$2" >out.txt 2>err.txt </dev/null
+  if [ $? != 0 ] && [ ! -s out.txt ] && [ "$(wc -l <err.txt)" = 1 ]; then passed=$((passed + 1)); else
+    failed=$((failed + 1))
+    echo "FAILED: $1 is written"
+  fi
+}
+
+# written_documents DATA: the exports of KeePassXC in a folder, the example, and a document with all that documents hold.
+written_documents() {
+  local xmllint keepassxc
+  if [ -z "$writer" ]; then
+    echo 'skipped: what is written; run `rt run -- FILE` in crates/bench_writing to build its program'
+    return
+  fi
+  xmllint=$(command -v xmllint) || echo 'skipped: written documents by xmllint, which is not installed'
+  keepassxc=$(command -v keepassxc-cli) || echo 'skipped: written documents in KeePassXC and pykeepass; keepassxc-cli is not installed'
+  if [ -n "$keepassxc" ] && [ -z "$with_pykeepass" ]; then echo 'skipped: written documents in pykeepass, which is not installed'; fi
+  written 'an export of KeePassXC' "$1/keepassxc-export.xml"
+  written 'an export of KeePassXC with what KDBX 4.1 added' "$1/keepassxc-4.1-export.xml"
+  written 'the example' "$top/examples/family.xml"
+  written 'a document with everything' "$top/crates/bench_writing/data/document.xml"
+  unwritten 'an export of KeePassXC without its binaries' "$1/keepassxc-attachment.xml"
+  # The same document with the binary that KeePassXC left out.
+  sed 's|^\t\t<SettingsChanged>|\t\t<Binaries><Binary ID="0">YmluYXJ5AAEC/w==</Binary></Binaries>\n&|' "$1/keepassxc-attachment.xml" >attachment.xml
+  written 'an export of KeePassXC with its binary' attachment.xml
+  rm -f attachment.xml written.xml again.xml written.kdbx
+}
