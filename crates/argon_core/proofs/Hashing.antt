@@ -6,7 +6,7 @@ use Rattle.std.proofs.Math.Seq.{take-append-add}
 use borrow.Rule.Slice.PartMut.{put_mid, mid_of, post_of}
 use Rattle.argon_core.specs.Words.{words, bytes_of}
 use Rattle.argon_core.specs.Blake2b.{block_at, blocks_before_last, blake2b, compress, final_state, state_after}
-use Rattle.argon_core.specs.Hasher.{Holds, HoldsFrom}
+use Rattle.argon_core.specs.Hasher.{HasAbsorbed, HasAbsorbedFrom}
 use Rattle.argon_core.specs.declared.blake.Hasher.{Hasher}
 
 -- a whole block reads nothing after it
@@ -43,7 +43,7 @@ block_at_rest m b n rest short =
     ∙ ap (λ (x : List ℕ). b ++ x) (take-replicate (128 - length b) 128 0 (omega arith))
 
 -- the buffer as the block that it begins
-buffer_block : (size : ℕ) (h : Hasher) (m : List ℕ) (n : ℕ) → HoldsFrom size h m n → length h.buffer ≡ 128 → h.filled ≤ 128
+buffer_block : (size : ℕ) (h : Hasher) (m : List ℕ) (n : ℕ) → HasAbsorbedFrom size h m n → length h.buffer ≡ 128 → h.filled ≤ 128
     → block_at m n ≡ take h.filled h.buffer ++ replicate (128 - h.filled) 0
 buffer_block size h m n held len short =
     let filled : length (take h.filled h.buffer) ≡ h.filled = length-take-le h.filled h.buffer (omega arith) in
@@ -52,9 +52,9 @@ buffer_block size h m n held len short =
     ∙ ap (λ (k : ℕ). take h.filled h.buffer ++ replicate (128 - k) 0) filled
 
 -- a full buffer, taken into the state
-pub full_buffer : (size : ℕ) (h n : Hasher) (m : List ℕ) → Holds size h m → length h.buffer ≡ 128 → h.filled ≡ 128
+pub full_buffer : (size : ℕ) (h n : Hasher) (m : List ℕ) → HasAbsorbed size h m → length h.buffer ≡ 128 → h.filled ≡ 128
     → n.absorbed ≡ h.absorbed + 128 → n.filled ≡ 0 → n.state ≡ compress h.state (words 16 h.buffer) n.absorbed false
-    → HoldsFrom size n m (n.absorbed / 128)
+    → HasAbsorbedFrom size n m (n.absorbed / 128)
 full_buffer size h n m held len full absorbed filled state =
     let k : ℕ = blocks_before_last m in
     let counted : h.absorbed ≡ 128 * k = held.counted in
@@ -76,9 +76,9 @@ full_buffer size h n m held len full absorbed filled state =
     }
 
 -- the bytes of one more piece, for which the buffer has room
-pub more_bytes : (size : ℕ) (h n : Hasher) (m d : List ℕ) → HoldsFrom size h m (h.absorbed / 128) → 0 < length d → h.filled + length d ≤ 128
+pub more_bytes : (size : ℕ) (h n : Hasher) (m d : List ℕ) → HasAbsorbedFrom size h m (h.absorbed / 128) → 0 < length d → h.filled + length d ≤ 128
     → n.absorbed ≡ h.absorbed → n.filled ≡ h.filled + length d → n.state ≡ h.state
-    → take n.filled n.buffer ≡ take h.filled h.buffer ++ d → Holds size n (m ++ d)
+    → take n.filled n.buffer ≡ take h.filled h.buffer ++ d → HasAbsorbed size n (m ++ d)
 more_bytes size h n m d held some fits absorbed filled state buffer =
     let k : ℕ = h.absorbed / 128 in
     let counted : h.absorbed ≡ 128 * k = held.counted in
@@ -94,7 +94,7 @@ more_bytes size h n m d held some fits absorbed filled state buffer =
     }
 
 -- the state after the last block, which the zeros after the message's bytes fill up
-pub last_state : (size : ℕ) (h : Hasher) (m buffer state : List ℕ) → Holds size h m → length h.buffer ≡ 128 → h.filled ≤ 128
+pub last_state : (size : ℕ) (h : Hasher) (m buffer state : List ℕ) → HasAbsorbed size h m → length h.buffer ≡ 128 → h.filled ≤ 128
     → buffer ≡ take h.filled h.buffer ++ replicate (128 - h.filled) 0
     → state ≡ compress h.state (words 16 buffer) (h.absorbed + h.filled) true → state ≡ final_state size m
 last_state size h m buffer state held len short same e =

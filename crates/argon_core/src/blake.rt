@@ -235,12 +235,12 @@ pub(crate) struct Hasher {
 }
 
 impl Hasher {
-    ghost use Rattle.argon_core.specs.Hasher.{Holds, HoldsFrom};
+    ghost use Rattle.argon_core.specs.Hasher.{HasAbsorbed, HasAbsorbedFrom};
 
     // A hasher of the empty message, for a digest of `size` bytes.
     pub(crate) fn new(size: usize) -> Hasher
         requires { size ≤ 64 }
-        ensures holds { Holds size result [] }
+        ensures holds { HasAbsorbed size result [] }
         ensures empty { result.absorbed + result.filled ≡ 0 }
     {
         let [i0, i1, i2, i3, i4, i5, i6, i7] = INITIALIZATION_VECTOR;
@@ -257,8 +257,8 @@ impl Hasher {
         requires { self.old.absorbed + 128 < 2 ^ 128 }
         ensures some { self.new.filled < 128 }
         ensures total { self.new.absorbed + self.new.filled ≡ self.old.absorbed + self.old.filled }
-        ensures holds { (size : ℕ) (message : List ℕ) → Holds size self.old message
-            → HoldsFrom size self.new message (self.new.absorbed / 128) }
+        ensures holds { (size : ℕ) (message : List ℕ) → HasAbsorbed size self.old message
+            → HasAbsorbedFrom size self.new message (self.new.absorbed / 128) }
     {
         if self.filled == BLOCK_LEN {
             self.absorbed += 128;
@@ -274,8 +274,8 @@ impl Hasher {
         ensures progress { (0 < result) × (result ≤ length piece.now) }
         ensures total { self.new.absorbed + self.new.filled
             ≡ self.old.absorbed + self.old.filled + result }
-        ensures holds { (size : ℕ) (message : List ℕ) → Holds size self.old message
-            → Holds size self.new (message ++ take result piece.now) }
+        ensures holds { (size : ℕ) (message : List ℕ) → HasAbsorbed size self.old message
+            → HasAbsorbed size self.new (message ++ take result piece.now) }
     {
         self.make_room();
         let count = piece.len().min(BLOCK_LEN - self.filled);
@@ -290,8 +290,8 @@ impl Hasher {
         requires { self.old.absorbed + self.old.filled + length piece.now < 2 ^ 127 }
         ensures total { self.new.absorbed + self.new.filled
             ≡ self.old.absorbed + self.old.filled + length piece.now }
-        ensures holds { (size : ℕ) (message : List ℕ) → Holds size self.old message
-            → Holds size self.new (message ++ piece.now) }
+        ensures holds { (size : ℕ) (message : List ℕ) → HasAbsorbed size self.old message
+            → HasAbsorbed size self.new (message ++ piece.now) }
     {
         let mut done = 0;
         'pieces: while done < piece.len() {
@@ -325,7 +325,7 @@ impl Hasher {
     pub(crate) fn finish(mut self, out: &mut [u8])
         requires size { length out.old ≤ 64 }
         requires fits { self.absorbed + self.filled < 2 ^ 128 }
-        ensures { (message : List ℕ) → Holds (length out.old) self message
+        ensures { (message : List ℕ) → HasAbsorbed (length out.old) self message
             → out.new ≡ blake2b (length out.old) message }
     {
         let filled = self.filled;

@@ -2,7 +2,7 @@
 
 ghost use Rattle.std.specs.Prelude.{◌≡◌, ℕ, ◌+◌, ◌*◌, ◌^◌, ◌<◌, ◌≤◌, [], ◌++◌, List, length, take};
 ghost use Rattle.argon_core.specs.Words.{words, bytes_of};
-ghost use Rattle.argon_core.specs.Hasher.{Holds};
+ghost use Rattle.argon_core.specs.Hasher.{HasAbsorbed};
 ghost use Rattle.argon_core.specs.Blake2b.{blake2b};
 ghost use Rattle.argon_core.specs.VariableHash.{le32, chained, first_halves, variable_hash};
 ghost use Rattle.argon_core.specs.Argon2.{first_hash, first_block, type_number, with_len};
@@ -23,8 +23,8 @@ fn update_number(hasher: &mut Hasher, number: u32)
     requires { hasher.old.absorbed + hasher.old.filled < 2 ^ 64 }
     ensures total { hasher.new.absorbed + hasher.new.filled
         ≡ hasher.old.absorbed + hasher.old.filled + 4 }
-    ensures holds { (size : ℕ) (message : List ℕ) → Holds size hasher.old message
-        → Holds size hasher.new (message ++ le32 number) }
+    ensures holds { (size : ℕ) (message : List ℕ) → HasAbsorbed size hasher.old message
+        → HasAbsorbed size hasher.new (message ++ le32 number) }
 {
     hasher.update(&number.to_le_bytes());
 }
@@ -35,8 +35,8 @@ fn update_with_len(hasher: &mut Hasher, piece: &[u8])
     requires short { length piece.now < 2 ^ 32 }
     ensures total { hasher.new.absorbed + hasher.new.filled
         ≡ hasher.old.absorbed + hasher.old.filled + 4 + length piece.now }
-    ensures holds { (size : ℕ) (message : List ℕ) → Holds size hasher.old message
-        → Holds size hasher.new (message ++ with_len piece.now) }
+    ensures holds { (size : ℕ) (message : List ℕ) → HasAbsorbed size hasher.old message
+        → HasAbsorbed size hasher.new (message ++ with_len piece.now) }
 {
     update_number(hasher, piece.len() as u32);
     hasher.update(piece);
@@ -84,7 +84,7 @@ pub(crate) fn first_hash(
 // The digest of a hasher that was begun for 64 bytes.
 fn digest_of(hasher: Hasher) -> Key64
     requires { hasher.absorbed + hasher.filled < 2 ^ 128 }
-    ensures { (message : List ℕ) → Holds 64 hasher message → result ≡ blake2b 64 message }
+    ensures { (message : List ℕ) → HasAbsorbed 64 hasher message → result ≡ blake2b 64 message }
 {
     let mut digest = Key64::of(&[0; 64]);
     hasher.finish(digest.bytes_mut());

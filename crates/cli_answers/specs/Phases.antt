@@ -1,5 +1,7 @@
 -- A call goes through phases. What each of them gives, how it may stop, and what causes the stop.
 use Rattle.std.specs.Prelude.{None, Some, ◌≡◌, ℕ, List, Contains, Option, Result, Ok, Err, Bool, false, option_map}
+use Rattle.outside_core.specs.Results as results
+use Rattle.outside_core.specs.Results.{Meaning, exact, free}
 use Rattle.outside_core.specs.Counts.{Increased}
 use Rattle.cli_answers.specs.declared.answers.Reason.TheVariants.{WrongWords, NoSuchFile}
 use Rattle.cli_answers.specs.declared.answers.Refusal.{Refusal}
@@ -8,18 +10,20 @@ use Rattle.cli_answers.specs.declared.answers.Stop.TheVariants.{Refused, FileFau
 
 -- ---- how the code relates to it
 
--- A phase that stopped was refused as it is defined; a fault and want of memory say nothing of
--- that.
+-- What a stop says of what is defined: its refusal; a fault and want of memory say nothing.
+abbrev pub meaning_of : Stop → Meaning Refusal
+meaning_of (Refused refusal) = exact refusal
+meaning_of (FileFault name) = free
+meaning_of InputFault = free
+meaning_of NoMemory = free
+
+-- A phase that stopped was refused as it is defined.
 abbrev pub Stops : {Y : Type 0} → Stop → Result Y Refusal → Type 0
-Stops (Refused refusal) defined = defined ≡ Err refusal
-Stops (FileFault name) defined = Unit {0}
-Stops InputFault defined = Unit {0}
-Stops NoMemory defined = Unit {0}
+Stops stop defined = results.Fails (meaning_of stop) defined
 
 -- A phase gave what it is defined to give, as it is seen, or stopped.
 abbrev pub Returns : {X Y : Type 0} → (X → Y) → Result X Stop → Result Y Refusal → Type 0
-Returns seen (Ok x) defined = defined ≡ Ok (seen x)
-Returns seen (Err stop) defined = Stops stop defined
+Returns seen result defined = results.Returns meaning_of seen result defined
 
 -- What a phase takes from the input: what it gives, and what is left.
 pub record InputAnswer (A : Type 0) : Type 0 where

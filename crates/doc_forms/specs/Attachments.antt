@@ -146,8 +146,3 @@ resolved_in pool tree = (resolved_tree pool tree, first_missing (missing_in pool
 abbrev pub refuse_missing : Option Missing → Result (Unit {0}) DocFail
 refuse_missing None = Ok tt
 refuse_missing (Some m) = Err (BinaryRef m.1)
-
--- the numbers of some binaries are their positions, from one on
-abbrev pub are_positions : ℕ → List ReadBinary → Bool
-are_positions n [] = true
-are_positions n (b ∷ bs) = b.number == n && are_positions (n + 1) bs

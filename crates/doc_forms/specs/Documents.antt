@@ -114,10 +114,10 @@ DocumentAndHash = BareDoc × Option (List ℕ)
 
 -- what a tree makes with the rest, where the binaries to which attachments refer are known, or the
 -- first refusal
-abbrev pub settled_with :
+abbrev pub resolved_with :
     DocForm → List ReadBinary → MetaParts → ReadTree → List Tombstone
     → Result DocumentAndHash DocFail
-settled_with form pool meta tree tombs = do
+resolved_with form pool meta tree tombs = do
   _ ← refuse_duplicate (least_duplicate (node_ids (resolved_tree pool tree)))
   _ ← refuse_missing (first_missing (missing_in pool tree))
   Ok (
@@ -130,20 +130,20 @@ settled_with form pool meta tree tombs = do
   )
 
 -- the same with the binaries that the file keeps apart, or the document's own
-abbrev pub settled_tree : DocForm → List (List ℕ × Bool) → MetaParts → ReadTree → List Tombstone
+abbrev pub resolved_tree : DocForm → List (List ℕ × Bool) → MetaParts → ReadTree → List Tombstone
     → Result DocumentAndHash DocFail
-settled_tree form given meta tree tombs = settled_with form (pool_from form given meta.binaries)
+resolved_tree form given meta tree tombs = resolved_with form (pool_from form given meta.binaries)
     meta tree tombs
 
 -- what the parts of a text make, or the first refusal after its end
-abbrev pub settled_document :
+abbrev pub resolved_document :
     DocForm → List (List ℕ × Bool) → Option FileParts → Result DocumentAndHash DocFail
-settled_document form given parts = do
+resolved_document form given parts = do
   file ← required_part KeePassFile parts
   root ← required_part Root file.root
   tree ← required_part Group root.tree
-  settled_tree form given file.meta tree root.tombs
+  resolved_tree form given file.meta tree root.tombs
 
 -- what a text says, read with binaries that the file keeps apart, or its first refusal
 abbrev pub document : Setting → List (List ℕ × Bool) → List ℕ → Result DocumentAndHash DocFail
-document s given text = parts_in s text >>= λ parts. settled_document s.form given parts
+document s given text = parts_in s text >>= λ parts. resolved_document s.form given parts

@@ -2,6 +2,7 @@
 use Rattle.std.specs.Prelude.{ℕ, Option, Some, None, Result, Ok, Err}
 use Rattle.markup_grammar.specs.Answers.{Answer, form, depth}
 use Rattle.outside_core.specs.Results as results
+use Rattle.outside_core.specs.Results.{Meaning, exact, free}
 use Rattle.doc_forms.specs.declared.fails.DocFail.{DocFail}
 use Rattle.doc_forms.specs.declared.fails.DocFail.TheVariants.{Form, Depth, BadValue, NoMemory}
 
@@ -16,16 +17,15 @@ markup_refusal (form offset) = Err (Form offset)
 markup_refusal (depth offset) = Err (Depth offset)
 markup_refusal _ = Err NoMemory
 
--- The refusal that a definition has where a function has this one: the same, but want of memory
--- says nothing of what is defined.
-abbrev pub known : DocFail → Option DocFail
-known NoMemory = None
-known e = Some e
+-- What a refusal says of what is defined: that this is its refusal, but want of memory says nothing.
+abbrev pub meaning_of : DocFail → Meaning DocFail
+meaning_of NoMemory = free
+meaning_of e = exact e
 
 -- a refusal is the defined one; want of memory says nothing
 abbrev pub Fails : {Y : Type 0} → DocFail → Result Y DocFail → Type 0
-Fails e defined = results.Fails (known e) defined
+Fails e defined = results.Fails (meaning_of e) defined
 
 -- what a call returns is what is defined, seen without memory
 abbrev pub Returns : {X Y : Type 0} → (X → Y) → Result X DocFail → Result Y DocFail → Type 0
-Returns view result defined = results.Returns known view result defined
+Returns view result defined = results.Returns meaning_of view result defined

@@ -19,7 +19,7 @@ use Rattle.std.specs.Str.{is_utf8, chars}
 use lib.Utf8.{encode}
 use Rattle.doc_forms.specs.Children.{all_children, by_name}
 use Rattle.doc_forms.specs.ElementTexts.{Setting, start}
-use Rattle.doc_forms.specs.Documents.{DocumentAndHash, document_rows, settled_document}
+use Rattle.doc_forms.specs.Documents.{DocumentAndHash, document_rows, resolved_document}
 
 pub bytes : base64_bytes (codes "AAECAwQFBgcICQoLDA0ODw==") ≡ Some (0 ∷ 1 ∷ 2 ∷ 3 ∷ 4 ∷ 5 ∷ 6 ∷ 7 ∷ 8 ∷ 9 ∷ 10 ∷ 11 ∷ 12 ∷ 13 ∷ 14 ∷ 15 ∷ [])
 unfolding base64_bytes groups_error scan_steps groups_bytes
@@ -63,7 +63,7 @@ with_children content =
     also [] (element 0 (codes "KeePassFile") [] (also [] (element 1 (codes "Root") [] (also [] (element 3 (codes "Group") [] content) (last []))) (last []))) (last [])
 
 abbrev read_content : Content → Result DocumentAndHash DocFail
-read_content content = all_children (by_name by_itself (document_rows by_itself)) content None start >>= λ x. settled_document Plain [] x.0
+read_content content = all_children (by_name by_itself (document_rows by_itself)) content None start >>= λ x. resolved_document Plain [] x.0
 
 -- the group's own name counts, a `Name` in an unknown element does not, and white space is no part of an id
 abbrev named : Content

@@ -19,7 +19,7 @@ use Rattle.doc_forms.specs.declared.fails.RequiredElement.{RequiredElement}
 use Rattle.doc_forms.specs.declared.fails.RequiredElement.TheVariants.{Group, KeePassFile, Root}
 use Rattle.doc_forms.specs.Attachments.{Missing, first_missing, missing_in, pool_from, refuse_missing, resolved_tree}
 use Rattle.doc_forms.specs.Children.{all_children, by_name}
-use Rattle.doc_forms.specs.Documents.{DocumentAndHash, FileParts, document, document_rows, parts_at_end, parts_in, required_part, settled_document, settled_with}
+use Rattle.doc_forms.specs.Documents.{DocumentAndHash, FileParts, document, document_rows, parts_at_end, parts_in, required_part, resolved_document, resolved_with}
 use Rattle.doc_forms.specs.ElementTexts.{Setting}
 use Rattle.doc_forms.specs.ElementTexts as texts
 use Rattle.doc_forms.specs.Groups.{ReadTree}
@@ -45,15 +45,15 @@ missing_respects None = tt
 missing_respects (Some m) = tt
 
 with_respects : (f : DocForm) (pool : List ReadBinary) (meta : MetaParts) (tree : ReadTree) (tombs : List Tombstone)
-    → Respects None (settled_with f pool meta tree tombs)
+    → Respects None (resolved_with f pool meta tree tombs)
 with_respects f pool meta tree tombs =
     step_then None (refuse_duplicate (least_duplicate (node_ids (resolved_tree pool tree)))) _
     (duplicate_respects (least_duplicate (node_ids (resolved_tree pool tree))))
     (λ _. step_then None (refuse_missing (first_missing (missing_in pool tree))) _
     (missing_respects (first_missing (missing_in pool tree))) (λ _. tt {0}))
 
-settled_respects : (f : DocForm) (given : List (List ℕ × Bool)) (parts : Option FileParts) → Respects None (settled_document f given parts)
-settled_respects f given parts =
+resolved_respects : (f : DocForm) (given : List (List ℕ × Bool)) (parts : Option FileParts) → Respects None (resolved_document f given parts)
+resolved_respects f given parts =
     step_then None (required_part KeePassFile parts) _ (part_respects KeePassFile parts)
     (λ file. step_then None (required_part Root file.root) _ (part_respects Root file.root)
     (λ root. step_then None (required_part Group root.tree) _ (part_respects Group root.tree)
@@ -69,9 +69,9 @@ end_respects s text =
 document_respects : (s : Setting) (given : List (List ℕ × Bool)) (text : List ℕ) → Respects (refusal_of (answers text)) (document s given text)
 document_respects s given text =
     let refusal = refusal_of (answers text) in
-    step_then refusal (parts_in s text) (λ parts. settled_document s.form given parts)
+    step_then refusal (parts_in s text) (λ parts. resolved_document s.form given parts)
     (step_then refusal (parts_at_end s text) (λ x. Ok x.0) (end_respects s text) (λ x. tt {0}))
-    (λ parts. settled_respects s.form given parts)
+    (λ parts. resolved_respects s.form given parts)
 
 -- ---- the refusal of a text
 
@@ -148,7 +148,7 @@ pub of_text : (s : Setting) (given : List (List ℕ × Bool)) (text : List ℕ) 
 of_text s given text r e =
     let none = not_refused (refusal_of (answers text)) (document s given text) r (refusals_only (answers text)) (document_respects s given text) e in
     let ended = finished_texts text (well_ended (answers text) (verdicts text) none) in
-    let next : Option FileParts → Result DocumentAndHash DocFail = λ parts. settled_document s.form given parts in
+    let next : Option FileParts → Result DocumentAndHash DocFail = λ parts. resolved_document s.form given parts in
     let content : content_of (answers text) ≡ tree_content ended.0 = elements_told text ended.0 ended.1 ended.2 in (
       ended.0,
       ended.1,

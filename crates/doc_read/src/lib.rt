@@ -4,5 +4,5 @@
 mod reading;
 
 pub use doc_forms::{DocFail, DocParts, ReadDoc, RequiredElement};
-pub use doc_settling::settle;
+pub use doc_resolving::resolve;
 pub use reading::{read_doc, read_parts};

@@ -9,7 +9,7 @@ ghost use Rattle.doc_forms.specs.SeenTexts.{setting_of};
 
 use doc_forms::{DocFail, DocParts, ReadDoc};
 use doc_groups::read_document;
-use doc_settling::settle;
+use doc_resolving::resolve;
 use outside_core::List;
 use std::alloc::Global;
 use std::mem;
@@ -17,7 +17,7 @@ use stream_core::InnerStream;
 use vault_model::{DocForm, PoolItem};
 
 /// Reads what a text says in one form, up to its end, with the stream that hides its values, at its
-/// start. The text may be dropped before [`settle`] makes the document, so that the two need not be
+/// start. The text may be dropped before [`resolve`] makes the document, so that the two need not be
 /// in memory together. The stream is used up: it must not be used again.
 ///
 /// # Errors
@@ -62,5 +62,5 @@ pub fn read_doc(
         (spec.document (setting_of form stream.old) (map pool_item pool.now) text.now) }
 {
     let parts = read_parts(alloc, text, form, stream)?;
-    settle(alloc, pool, parts)
+    resolve(alloc, pool, parts)
 }

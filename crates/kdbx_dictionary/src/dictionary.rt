@@ -2,7 +2,7 @@
 
 ghost use Rattle.std.specs.Prelude.{◌≡◌, ◌+◌, ◌≤◌, ◌^◌, ◌<◌, IfOk, length, option_map, true};
 ghost use Rattle.outside_core.specs.Results.{Returns};
-ghost use Rattle.kdbx_parts.specs.Results.{known};
+ghost use Rattle.kdbx_parts.specs.Results.{meaning_of};
 ghost use Rattle.kdbx_dictionary.specs.Dictionary.{bytes_in, description_of, counted_bytes, dictionary_of, length_fits, item_at, item_step, items_of, required_key, required_bytes, u32_in, u64_in, with_item, aes_description, argon_description};
 ghost use Rattle.kdbx_parts.specs.declared.fail.FrameFail.TheVariants.{Dictionary};
 ghost use Rattle.kdbx_dictionary.specs.Seen.{item_seen, items_seen, keys_seen, description_seen};
@@ -118,7 +118,7 @@ pub enum KdfDescription<'a> {
 
 // Four bytes of length, and that many bytes, of the item at this offset; and the bytes after them.
 fn counted_bytes(offset: u64, rest: &[u8]) -> Result<(&[u8], &[u8]), FrameFail>
-    ensures gives { Returns known (λ x. (x.0.now, x.1.now)) result
+    ensures gives { Returns meaning_of (λ x. (x.0.now, x.1.now)) result
         (counted_bytes (Dictionary offset) rest.now) }
     ensures shorter { IfOk result (λ x. length x.1.now + 4 ≤ length rest.now) }
 {
@@ -141,7 +141,7 @@ fn length_fits(kind: u8, len: usize) -> bool
 // The item at this offset: type, key, value.
 #[tactic(auto, unfolding(crate::specs::Dictionary::item_at))]
 fn item_of(offset: u64, rest: &[u8]) -> Result<Item, FrameFail>
-    ensures gives { Returns known item_seen result (item_at (Dictionary offset) rest.now) }
+    ensures gives { Returns meaning_of item_seen result (item_at (Dictionary offset) rest.now) }
     ensures shorter { IfOk result (λ i. length i.rest.now ≤ length rest.now) }
     ensures length_fits { IfOk result (λ i. length_fits i.kind (length i.value.now) ≡ true) }
 {
@@ -226,7 +226,7 @@ fn add_item<'a>(keys: &mut Keys<'a>, item: &Item<'a>)
 #[tactic(auto, unfolding(crate::specs::Dictionary::item_step))]
 fn read_item(whole: usize, read: &mut ItemsRead) -> Result<bool, FrameFail>
     requires { length read.old.rest.now ≤ whole }
-    ensures gives { Returns known (λ ended. (ended, items_seen read.new)) result
+    ensures gives { Returns meaning_of (λ ended. (ended, items_seen read.new)) result
         (item_step whole (items_seen read.old)) }
     ensures shorter { IfOk result (λ _. length read.new.rest.now ≤ length read.old.rest.now) }
 {
@@ -246,7 +246,7 @@ fn read_item(whole: usize, read: &mut ItemsRead) -> Result<bool, FrameFail>
 // the items.
 fn items_of(content: &[u8]) -> Result<ItemsRead, FrameFail>
     requires { 2 ≤ length content.now }
-    ensures { Returns known items_seen result (items_of content.now) }
+    ensures { Returns meaning_of items_seen result (items_of content.now) }
 {
     let mut read = ItemsRead {
         keys: Keys {
@@ -273,7 +273,7 @@ fn items_of(content: &[u8]) -> Result<ItemsRead, FrameFail>
 
 // The value of a key that must occur, in a field of this length.
 fn required_key<T: Drop>(len: u64, value: Option<T>) -> Result<T, FrameFail>
-    ensures { Returns known (λ x. x) result (required_key (Dictionary len) value) }
+    ensures { Returns meaning_of (λ x. x) result (required_key (Dictionary len) value) }
 {
     match value {
         Some(value) => Ok(value),
@@ -283,7 +283,7 @@ fn required_key<T: Drop>(len: u64, value: Option<T>) -> Result<T, FrameFail>
 
 // The value of a key that must occur with N bytes, in a field of this length.
 fn required_bytes<const N: usize>(len: u64, value: Option<&[u8]>) -> Result<[u8; N], FrameFail>
-    ensures { Returns known (λ x. x) result (required_bytes (Dictionary len) N
+    ensures { Returns meaning_of (λ x. x) result (required_bytes (Dictionary len) N
         (option_map (λ x. x.now) value.entry)) }
 {
     match value {
@@ -294,7 +294,7 @@ fn required_bytes<const N: usize>(len: u64, value: Option<&[u8]>) -> Result<[u8;
 
 // AES, as its items describe it.
 fn aes_description<'a>(len: u64, keys: &Keys<'a>) -> Result<KdfDescription<'a>, FrameFail>
-    ensures { Returns known description_seen result
+    ensures { Returns meaning_of description_seen result
         (aes_description (Dictionary len) (keys_seen keys.now)) }
 {
     let rounds = required_key(len, keys.rounds)?;
@@ -308,7 +308,7 @@ fn argon_description<'a>(
     kind: ArgonKind,
     keys: &Keys<'a>,
 ) -> Result<KdfDescription<'a>, FrameFail>
-    ensures { Returns known description_seen result
+    ensures { Returns meaning_of description_seen result
         (argon_description (Dictionary len) kind (keys_seen keys.now)) }
 {
     let salt = match keys.salt {
@@ -333,7 +333,7 @@ fn argon_description<'a>(
 // The key derivation that all items describe: each key derivation needs its keys.
 #[tactic(auto, unfolding(crate::specs::Dictionary::description_of))]
 fn description_of<'a>(len: u64, keys: &Keys<'a>) -> Result<KdfDescription<'a>, FrameFail>
-    ensures { Returns known description_seen result
+    ensures { Returns meaning_of description_seen result
         (description_of (Dictionary len) (keys_seen keys.now)) }
 {
     let uuid = required_bytes(len, keys.uuid)?;
@@ -352,7 +352,7 @@ fn description_of<'a>(len: u64, keys: &Keys<'a>) -> Result<KdfDescription<'a>, F
 /// fault in it.
 #[tactic(auto, unfolding(crate::specs::Dictionary::dictionary_of))]
 pub fn dictionary_of(content: &[u8]) -> Result<KdfDescription, FrameFail>
-    ensures { Returns known description_seen result (dictionary_of content.now) }
+    ensures { Returns meaning_of description_seen result (dictionary_of content.now) }
 {
     let (version, _) = split_bytes(FrameFail::Dictionary(0), 2, content)?;
     if version[1] != 1 {

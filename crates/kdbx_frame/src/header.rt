@@ -2,7 +2,7 @@
 
 ghost use Rattle.std.specs.Prelude.{ℕ, List, ◌≡◌, ◌+◌, ◌≤◌, ◌<◌, ◌^◌, IfOk, Ok, length, take};
 ghost use Rattle.outside_core.specs.Results.{Returns};
-ghost use Rattle.kdbx_parts.specs.Results.{known};
+ghost use Rattle.kdbx_parts.specs.Results.{meaning_of};
 ghost use Rattle.kdbx_frame.specs.Fields.{header_limit};
 ghost use Rattle.kdbx_frame.specs.Header.{check_hash, header_at, header_of, version_and_rest, version_of};
 ghost use Rattle.kdbx_frame.specs.Settings.{IsInOrder, IsVersion4};
@@ -48,7 +48,7 @@ pub struct Header {
 
 // The version of a number.
 fn version_of(number: u32) -> Result<FileVersion, FrameFail>
-    ensures gives { Returns known (λ x. x) result (version_of number) }
+    ensures gives { Returns meaning_of (λ x. x) result (version_of number) }
     ensures four { IfOk result IsVersion4 }
 {
     if number == VERSION_40 {
@@ -62,7 +62,8 @@ fn version_of(number: u32) -> Result<FileVersion, FrameFail>
 
 // The version, which follows the signature, and the bytes after it.
 fn version_and_rest(size: u64, text: &[u8]) -> Result<(FileVersion, &[u8]), FrameFail>
-    ensures gives { Returns known (λ x. (x.0, x.1.now)) result (version_and_rest size text.now) }
+    ensures gives { Returns meaning_of (λ x. (x.0, x.1.now)) result
+        (version_and_rest size text.now) }
     ensures four { IfOk result (λ x. IsVersion4 x.0) }
     ensures shorter { IfOk result (λ x. length x.1.now ≤ length text.now) }
 {
@@ -78,7 +79,7 @@ fn version_and_rest(size: u64, text: &[u8]) -> Result<(FileVersion, &[u8]), Fram
 // Checks that the hash after a header is its SHA-256, and that 32 bytes of an HMAC follow the hash.
 fn check_hash(size: u64, header: &[u8], rest: &[u8]) -> Result<(), FrameFail>
     requires { length header.now < 2 ^ 62 }
-    ensures gives { Returns known (λ x. x) result (check_hash size header.now rest.now) }
+    ensures gives { Returns meaning_of (λ x. x) result (check_hash size header.now rest.now) }
     ensures within { IfOk result (λ _. 64 ≤ length rest.now) }
 {
     let end = header.len() as u64;
@@ -98,7 +99,7 @@ fn check_hash(size: u64, header: &[u8], rest: &[u8]) -> Result<(), FrameFail>
 #[tactic(auto, unfolding(crate::specs::Header::header_at))]
 fn header_at(alloc: Global, size: u64, text: &[u8]) -> Result<Header, FrameFail>
     requires { length text.now ≤ header_limit }
-    ensures gives { Returns known (λ x. x) result (header_at size text.now) }
+    ensures gives { Returns meaning_of (λ x. x) result (header_at size text.now) }
     ensures in_order { IfOk result (λ h. IsInOrder h.settings) }
     ensures within { IfOk result (λ h. h.size + 64 ≤ length text.now) }
 {
@@ -143,10 +144,11 @@ fn prefix(text: &[u8]) -> &[u8]
 /// that the text is a prefix of.
 pub fn read_header(alloc: Global, text: &[u8], file_len: u64) -> Result<Header, FrameFail>
     requires enough { length text.now < header_limit → length text.now ≡ file_len }
-    ensures gives { Returns known (λ x. x) result
+    ensures gives { Returns meaning_of (λ x. x) result
         (header_at file_len (take header_limit text.now)) }
     ensures file { (file : List ℕ) → length file ≡ file_len
-        → text.now ≡ take (length text.now) file → Returns known (λ x. x) result (header_of file) }
+        → text.now ≡ take (length text.now) file
+        → Returns meaning_of (λ x. x) result (header_of file) }
     ensures in_order { IfOk result (λ h. IsInOrder h.settings) }
     ensures within { IfOk result (λ h. h.size + 64 ≤ length text.now) }
     ensures limit { IfOk result (λ h. h.size + 64 ≤ header_limit) }

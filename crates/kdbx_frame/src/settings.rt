@@ -3,7 +3,7 @@
 ghost use Rattle.std.specs.Prelude.{◌≡◌, ◌-◌, ◌≤◌, ◌++◌, IfOk, IfSome, Ok, length, option_map, replicate};
 ghost use Rattle.key_core.specs.Kdf.{IsChecked};
 ghost use Rattle.outside_core.specs.Results.{Returns};
-ghost use Rattle.kdbx_parts.specs.Results.{known};
+ghost use Rattle.kdbx_parts.specs.Results.{meaning_of};
 ghost use Rattle.kdbx_frame.specs.Settings.{IsInOrder, IsVersion4, cipher_of, iv_of, checked_header, kdf_of, settings_and_iv, refuse_compression};
 ghost use Rattle.kdbx_frame.specs.Fields.{header_limit};
 ghost use Rattle.kdbx_frame.specs.Seen.{HasSmall, header_fields_seen, checked_header_seen};
@@ -73,7 +73,7 @@ const ARGON_VERSION: u32 = 0x13;
 
 // The cipher of an id.
 fn cipher_of(id: [u8; 16]) -> Result<Cipher, FrameFail>
-    ensures { Returns known (λ x. x) result (cipher_of id) }
+    ensures { Returns meaning_of (λ x. x) result (cipher_of id) }
 {
     if same(&id, &AES) {
         Ok(Cipher::Aes)
@@ -98,7 +98,7 @@ fn padded_iv(iv: &[u8]) -> [u8; 16]
 
 // The IV of a cipher as it is kept.
 fn iv_of(cipher: Cipher, iv: &[u8]) -> Result<[u8; 16], FrameFail>
-    ensures { Returns known (λ x. x) result (iv_of cipher iv.now) }
+    ensures { Returns meaning_of (λ x. x) result (iv_of cipher iv.now) }
 {
     let len = match cipher {
         Cipher::Aes | Cipher::Twofish => 16,
@@ -112,7 +112,7 @@ fn iv_of(cipher: Cipher, iv: &[u8]) -> Result<[u8; 16], FrameFail>
 
 // Refuses compressed content.
 fn refuse_compression(flag: u32) -> Result<(), FrameFail>
-    ensures { Returns known (λ x. x) result (refuse_compression flag) }
+    ensures { Returns meaning_of (λ x. x) result (refuse_compression flag) }
 {
     if flag != 0 {
         return Err(FrameFail::Compressed(flag));
@@ -122,7 +122,7 @@ fn refuse_compression(flag: u32) -> Result<(), FrameFail>
 
 // The key derivation that a dictionary describes.
 fn kdf_of(alloc: Global, described: KdfDescription) -> Result<Kdf, FrameFail>
-    ensures gives { Returns known (λ x. x) result (kdf_of (description_seen described.entry)) }
+    ensures gives { Returns meaning_of (λ x. x) result (kdf_of (description_seen described.entry)) }
     ensures checked { IfOk result IsChecked }
 {
     let kdf = match described {
@@ -160,7 +160,7 @@ fn kdf_of(alloc: Global, described: KdfDescription) -> Result<Kdf, FrameFail>
 // The public data in memory of its own, if any.
 fn public_of(alloc: Global, public: Option<&[u8]>) -> Result<Option<Bytes>, FrameFail>
     requires { HasSmall public }
-    ensures gives { Returns known (λ x. x) result (Ok (option_map (λ x. x.now) public.entry)) }
+    ensures gives { Returns meaning_of (λ x. x) result (Ok (option_map (λ x. x.now) public.entry)) }
     ensures small { IfOk result (λ x. IfSome x (λ bytes. length bytes ≤ header_limit)) }
 {
     match public {
@@ -182,7 +182,7 @@ fn settings_and_iv(
 ) -> Result<(Settings, [u8; 16]), FrameFail>
     requires version { IsVersion4 version }
     requires public { HasSmall public }
-    ensures gives { Returns known (λ x. (x.0, x.1)) result
+    ensures gives { Returns meaning_of (λ x. (x.0, x.1)) result
         (settings_and_iv version id flag iv.now (description_seen described.entry)
         (option_map (λ x. x.now) public.entry)) }
     ensures in_order { IfOk result (λ x. IsInOrder x.0) }
@@ -212,7 +212,7 @@ pub fn checked_header(
 ) -> Result<CheckedHeader, FrameFail>
     requires version { IsVersion4 version }
     requires public { HasSmall found.public }
-    ensures gives { Returns known checked_header_seen result
+    ensures gives { Returns meaning_of checked_header_seen result
         (checked_header version (header_fields_seen found.entry)) }
     ensures in_order { IfOk result (λ j. IsInOrder j.settings) }
 {

@@ -2,7 +2,7 @@
 
 ghost use Rattle.std.specs.Prelude.{◌≡◌, ◌+◌, ◌≤◌, ◌<◌, ◌^◌, [], ◌∷◌, ◌++◌, IfOk, Ok, length, map};
 ghost use Rattle.outside_core.specs.Results.{Returns};
-ghost use Rattle.kdbx_parts.specs.Results.{known};
+ghost use Rattle.kdbx_parts.specs.Results.{meaning_of};
 ghost use Rattle.kdbx_parts.specs.declared.fail.FrameFail.TheVariants.{Truncated};
 ghost use Rattle.kdbx_parts.specs.Parts.{field_at};
 ghost use Rattle.kdbx_inner.specs.Inner.{binary_of, inner_from, inner_of, inner_step, with_inner_field};
@@ -46,7 +46,7 @@ struct InnerRead<'a> {
 
 // A secret copy of these bytes.
 fn secret_of(alloc: Global, bytes: &[u8]) -> Result<Secret, FrameFail>
-    ensures { Returns known (λ x. x.bytes) result (Ok bytes.now) }
+    ensures { Returns meaning_of (λ x. x.bytes) result (Ok bytes.now) }
 {
     let mut secret = Secret::with_room(alloc, bytes.len())?;
     secret.extend(bytes);
@@ -55,7 +55,7 @@ fn secret_of(alloc: Global, bytes: &[u8]) -> Result<Secret, FrameFail>
 
 // An attached file: a byte of flags, of which bit 0 says that it is hidden, and its bytes.
 fn binary_of(alloc: Global, content: &[u8]) -> Result<PoolItem, FrameFail>
-    ensures { Returns known binary_seen result (binary_of content.now) }
+    ensures { Returns meaning_of binary_seen result (binary_of content.now) }
 {
     match content {
         [] => Err(FrameFail::FieldLength(3, 0)),
@@ -74,7 +74,7 @@ fn binary_of(alloc: Global, content: &[u8]) -> Result<PoolItem, FrameFail>
 
 // Adds an attached file at the end of the pool.
 fn add_item(pool: &mut List<PoolItem>, item: PoolItem) -> Result<(), FrameFail>
-    ensures { Returns known (λ _. map binary_seen pool.new) result
+    ensures { Returns meaning_of (λ _. map binary_seen pool.new) result
         (Ok (map binary_seen pool.old ++ binary_seen item ∷ [])) }
 {
     match pool.push(item) {
@@ -90,7 +90,7 @@ fn add_field<'a>(
     found: &mut PartialInner<'a>,
     field: &Field<'a>,
 ) -> Result<(), FrameFail>
-    ensures { Returns known (λ _. partial_inner_seen found.new) result
+    ensures { Returns meaning_of (λ _. partial_inner_seen found.new) result
         (with_inner_field (partial_inner_seen found.old) (field_seen field.now)) }
 {
     match field.id {
@@ -111,7 +111,8 @@ fn add_field<'a>(
 // The next field of a text of `whole` bytes.
 #[tactic(auto, unfolding(kdbx_parts::specs::Parts::field_at))]
 fn field_of(whole: u64, rest: &[u8]) -> Result<Field, FrameFail>
-    ensures gives { Returns known field_seen result (field_at (λ _. Truncated whole) rest.now) }
+    ensures gives { Returns meaning_of field_seen result
+        (field_at (λ _. Truncated whole) rest.now) }
     ensures shorter { IfOk result (λ f. length f.rest.now ≤ length rest.now) }
 {
     let (head, rest) = split_bytes(FrameFail::Truncated(whole), 5, rest)?;
@@ -127,7 +128,7 @@ fn field_of(whole: u64, rest: &[u8]) -> Result<Field, FrameFail>
 // Reads one field of a text of `whole` bytes, and reports whether it was the last.
 #[tactic(auto, unfolding(crate::specs::Inner::inner_step))]
 fn read_field(alloc: Global, whole: usize, read: &mut InnerRead) -> Result<bool, FrameFail>
-    ensures gives { Returns known (λ ended. (ended, inner_read_seen read.new)) result
+    ensures gives { Returns meaning_of (λ ended. (ended, inner_read_seen read.new)) result
         (inner_step whole (inner_read_seen read.old)) }
     ensures shorter { IfOk result (λ _. length read.new.rest.now ≤ length read.old.rest.now) }
 {
@@ -143,7 +144,7 @@ fn read_field(alloc: Global, whole: usize, read: &mut InnerRead) -> Result<bool,
 
 // All fields up to field 0, and the bytes after them.
 fn inner_from(alloc: Global, text: &[u8]) -> Result<InnerRead, FrameFail>
-    ensures gives { Returns known inner_read_seen result (inner_from text.now) }
+    ensures gives { Returns meaning_of inner_read_seen result (inner_from text.now) }
     ensures shorter { IfOk result (λ r. length r.rest.now ≤ length text.now) }
 {
     let mut read = InnerRead {
@@ -170,7 +171,7 @@ fn inner_from(alloc: Global, text: &[u8]) -> Result<InnerRead, FrameFail>
 /// or 2; and NoMemory.
 #[tactic(auto, unfolding(crate::specs::Inner::inner_of))]
 pub fn read_inner(alloc: Global, text: &[u8]) -> Result<Inner, FrameFail>
-    ensures gives { Returns known inner_seen result (inner_of text.now) }
+    ensures gives { Returns meaning_of inner_seen result (inner_of text.now) }
     ensures within { IfOk result (λ i. i.size ≤ length text.now) }
 {
     let InnerRead { found, rest } = inner_from(alloc, text)?;

@@ -17,7 +17,7 @@ use Rattle.kdbx_open.specs.declared.fail.OpenFail.TheVariants.{Doc, File, Frame}
 use Rattle.kdbx_open.specs.declared.opening.Unsealed.{Unsealed}
 use Rattle.kdbx_open.specs.Causes.{HasOpenCause, MemoryIsOutermost, file_limit, of_payload, of_read}
 use Rattle.kdbx_open.specs.Documents.{document_of, documented}
-use Rattle.kdbx_open.specs.Opening.{Vault, opening, payload_or_refusal}
+use Rattle.kdbx_open.specs.Opening.{FileContents, opening, payload_or_refusal}
 use Rattle.outside_core.specs.Results.{◌>>=◌}
 use Rattle.kdbx_open.specs.Results.{Refuses, Returns}
 use Rattle.kdbx_open.specs.Seen.{unsealed_seen}
@@ -67,10 +67,10 @@ no_file_fail file composite result fail h e =
 
 -- ---- want of memory
 
-no_frame_memory : (defined : Result Vault OpenFail) (result : Result Unsealed OpenFail) → Returns unsealed_seen result defined → result ≡ Err (Frame frame.NoMemory) → ⊥
+no_frame_memory : (defined : Result FileContents OpenFail) (result : Result Unsealed OpenFail) → Returns unsealed_seen result defined → result ≡ Err (Frame frame.NoMemory) → ⊥
 no_frame_memory defined result h e = subst (λ (r : Result Unsealed OpenFail). Returns unsealed_seen r defined) e h
 
-no_document_memory : (defined : Result Vault OpenFail) (result : Result Unsealed OpenFail) → Returns unsealed_seen result defined → result ≡ Err (Doc document.NoMemory) → ⊥
+no_document_memory : (defined : Result FileContents OpenFail) (result : Result Unsealed OpenFail) → Returns unsealed_seen result defined → result ≡ Err (Doc document.NoMemory) → ⊥
 no_document_memory defined result h e = subst (λ (r : Result Unsealed OpenFail). Returns unsealed_seen r defined) e h
 
 no_read_memory : (fail : ReadFail) → MemoryIsOutermost {X = Unsealed} (Err (of_read fail))

@@ -16,7 +16,7 @@ use Rattle.kdbx_open.specs.declared.opening.Opened.{Opened}
 use Rattle.kdbx_open.specs.declared.opening.Unsealed.{Unsealed}
 use Rattle.kdbx_open.specs.Causes.{file_limit, of_read}
 use Rattle.kdbx_open.specs.Files.{ReturnsOfSomeFile, bytes_of, opening_of}
-use Rattle.kdbx_open.specs.Opening.{Vault, opening}
+use Rattle.kdbx_open.specs.Opening.{FileContents, opening}
 use Rattle.outside_core.specs.Results.{◌>>=◌}
 use Rattle.kdbx_open.specs.Results.{Returns, ReturnsFromStore}
 use Rattle.kdbx_open.specs.Sealed.{Holds, IsHeld}
@@ -97,13 +97,13 @@ some_file_read composite bytes result within h =
 
 -- ---- a file that is opened
 
-pub holds_of : (file : Option (List ℕ)) (composite : List ℕ) (vault : Vault) → opening_of file composite ≡ Ok vault → Holds file composite vault
+pub holds_of : (file : Option (List ℕ)) (composite : List ℕ) (vault : FileContents) → opening_of file composite ≡ Ok vault → Holds file composite vault
 unfolding opening_of
 holds_of file composite vault h =
     let b = both (bytes_of file) (λ bytes. opening bytes composite) vault h in
     (b.0, (file_is file b.0 b.1.0, is_sealed b.0 composite vault b.1.1))
 
-pub opened_of_held : (file : Option (List ℕ)) (composite : List ℕ) (vault : Vault) → IfSome file (λ bytes. length bytes ≤ file_limit)
+pub opened_of_held : (file : Option (List ℕ)) (composite : List ℕ) (vault : FileContents) → IfSome file (λ bytes. length bytes ≤ file_limit)
     → Holds file composite vault → opening_of file composite ≡ Ok vault
 unfolding opening_of
 opened_of_held None composite vault within h = absurd (none-some h.0 h.1.0)

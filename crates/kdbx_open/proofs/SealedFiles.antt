@@ -8,29 +8,29 @@ pub use Rattle.kdbx_payload.proofs.Steps.{both, each}
 use Rattle.vault_model.specs.Tree.{BareDoc}
 use Rattle.kdbx_open.specs.declared.fail.OpenFail.{OpenFail}
 use Rattle.kdbx_open.specs.Documents.{document_of}
-use Rattle.kdbx_open.specs.Opening.{Vault, opening, payload_or_refusal}
+use Rattle.kdbx_open.specs.Opening.{FileContents, opening, payload_or_refusal}
 use Rattle.kdbx_open.specs.Sealed.{Sealed}
 
 payload_ok : (r : Result Payload PayloadFail) (x : Payload) → payload_or_refusal r ≡ Ok x → r ≡ Ok x
 payload_ok (Ok y) x h = cc
 payload_ok (Err e) x h = cc
 
-vault_same : (v w : Vault) → ◌≡◌ {A = Result Vault OpenFail} (Ok v) (Ok w) → v ≡ w
+vault_same : (v w : FileContents) → ◌≡◌ {A = Result FileContents OpenFail} (Ok v) (Ok w) → v ≡ w
 vault_same v w h = cc
 
 -- ---- what is opened is sealed
 
-sealed_by : (file composite : List ℕ) (vault : Vault) (payload : Payload) (doc : BareDoc) → payload_of file composite ≡ Ok payload
+sealed_by : (file composite : List ℕ) (vault : FileContents) (payload : Payload) (doc : BareDoc) → payload_of file composite ≡ Ok payload
     → document_of payload.stream payload.pool payload.text ≡ Ok doc → record { settings = payload.settings; doc = doc } ≡ vault
     → Sealed file composite vault
 sealed_by file composite vault payload doc given says same = record {
   payload = payload;
   authentic = payloads.is_sealed file composite payload given;
-  settings = ap (λ (v : Vault). v.settings) same;
-  document = says ∙ ap (λ (v : Vault). Ok v.doc) same;
+  settings = ap (λ (v : FileContents). v.settings) same;
+  document = says ∙ ap (λ (v : FileContents). Ok v.doc) same;
 }
 
-pub is_sealed : (file composite : List ℕ) (vault : Vault) → opening file composite ≡ Ok vault → Sealed file composite vault
+pub is_sealed : (file composite : List ℕ) (vault : FileContents) → opening file composite ≡ Ok vault → Sealed file composite vault
 unfolding opening
 is_sealed file composite vault h =
     let a = both _ _ vault h in
@@ -39,12 +39,12 @@ is_sealed file composite vault h =
 
 -- ---- what is sealed is opened
 
-pub is_opened : (file composite : List ℕ) (vault : Vault) → Sealed file composite vault → opening file composite ≡ Ok vault
+pub is_opened : (file composite : List ℕ) (vault : FileContents) → Sealed file composite vault → opening file composite ≡ Ok vault
 unfolding opening
 is_opened file composite vault s =
     each _ _ s.payload vault (ap payload_or_refusal (payloads.is_given file composite s.payload s.authentic))
     (each _ _ vault.doc vault s.document (λ i. Ok (record { settings = s.settings i; doc = vault.doc })))
 
 -- A file holds no two things under one key.
-pub one_vault : (file composite : List ℕ) (one other : Vault) → Sealed file composite one → Sealed file composite other → one ≡ other
+pub one_vault : (file composite : List ℕ) (one other : FileContents) → Sealed file composite one → Sealed file composite other → one ≡ other
 one_vault file composite one other s t = vault_same one other (sym (is_opened file composite one s) ∙ is_opened file composite other t)

@@ -4,7 +4,7 @@ use Rattle.secret_core.specs.declared.files.ReadFail.TheVariants.{NoSuchFile, To
 use Rattle.kdbx_open.specs.declared.fail.OpenFail.{OpenFail}
 use Rattle.kdbx_open.specs.declared.fail.OpenFail.TheVariants.{File}
 use Rattle.kdbx_open.specs.Causes.{file_limit}
-use Rattle.kdbx_open.specs.Opening.{Vault, opening}
+use Rattle.kdbx_open.specs.Opening.{FileContents, opening}
 use Rattle.outside_core.specs.Results.{◌>>=◌}
 use Rattle.kdbx_open.specs.Results.{ReturnsFromStore}
 
@@ -15,13 +15,14 @@ bytes_of (Some bytes) = if nat_lt file_limit (length bytes) then Err
     (File (TooLarge (length bytes))) else Ok bytes
 
 -- What a file, if there is one, holds under a composite key.
-unfoldable pub opening_of : Option (List ℕ) → List ℕ → Result Vault OpenFail
+unfoldable pub opening_of : Option (List ℕ) → List ℕ → Result FileContents OpenFail
 opening_of file composite = do
   bytes ← bytes_of file
   opening bytes composite
 
 -- Some file answers so: the one that a store handed out, whether or not the store reports its
 -- files.
-abbrev pub ReturnsOfSomeFile : {X : Type 0} → (X → Vault) → List ℕ → Result X OpenFail → Type 0
+abbrev pub ReturnsOfSomeFile : {X : Type 0} → (X → FileContents) → List ℕ → Result X OpenFail
+    → Type 0
 ReturnsOfSomeFile seen composite result = (file : Option (List ℕ))
     × ReturnsFromStore seen result (opening_of file composite)

@@ -10,7 +10,7 @@ use Rattle.kdbx_open.specs.Documents.{document_of}
 use Rattle.outside_core.specs.Results.{◌>>=◌}
 
 -- What a file holds: the settings that its owner chose, and the document.
-pub record Vault : Type 0 where
+pub record FileContents : Type 0 where
   pub settings : Settings
   pub doc : BareDoc
 
@@ -20,7 +20,7 @@ payload_or_refusal (Ok payload) = Ok payload
 payload_or_refusal (Err fail) = Err (of_payload fail)
 
 -- What a file holds under a composite key.
-unfoldable pub opening : List ℕ → List ℕ → Result Vault OpenFail
+unfoldable pub opening : List ℕ → List ℕ → Result FileContents OpenFail
 opening file composite = do
   payload ← payload_or_refusal (payload_of file composite)
   doc ← document_of payload.stream payload.pool payload.text

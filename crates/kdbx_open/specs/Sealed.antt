@@ -3,10 +3,10 @@ use Rattle.std.specs.Prelude.{◌≡◌, ℕ, List, Option, Some, Ok}
 use Rattle.kdbx_payload.specs.Payloads.{Payload}
 use Rattle.kdbx_payload.specs.Sealed.{SealedPayload}
 use Rattle.kdbx_open.specs.Documents.{document_of}
-use Rattle.kdbx_open.specs.Opening.{Vault}
+use Rattle.kdbx_open.specs.Opening.{FileContents}
 
 -- A file holds these settings and this document under a composite key:
-pub record Sealed (file composite : List ℕ) (vault : Vault) : Type 0 where
+pub record Sealed (file composite : List ℕ) (vault : FileContents) : Type 0 where
   -- it has a payload under the key, with header, MACs, padding and inner fields that are right;
   pub payload : Payload
   pub authentic : SealedPayload file composite payload
@@ -16,9 +16,9 @@ pub record Sealed (file composite : List ℕ) (vault : Vault) : Type 0 where
   pub document : document_of payload.stream payload.pool payload.text ≡ Ok vault.doc
 
 -- A file is there and holds this.
-abbrev pub Holds : Option (List ℕ) → List ℕ → Vault → Type 0
+abbrev pub Holds : Option (List ℕ) → List ℕ → FileContents → Type 0
 Holds file composite vault = (bytes : List ℕ) × ((file ≡ Some bytes) × Sealed bytes composite vault)
 
 -- Some bytes hold this.
-abbrev pub IsHeld : List ℕ → Vault → Type 0
+abbrev pub IsHeld : List ℕ → FileContents → Type 0
 IsHeld composite vault = (bytes : List ℕ) × Sealed bytes composite vault

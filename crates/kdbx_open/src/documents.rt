@@ -13,7 +13,7 @@ ghost use Rattle.kdbx_open.specs.Documents.{document_of};
 ghost use Rattle.kdbx_open.specs.Results.{Returns};
 
 use crate::OpenFail;
-use doc_read::{DocFail, ReadDoc, read_parts, settle};
+use doc_read::{DocFail, ReadDoc, read_parts, resolve};
 use outside_core::List;
 use secret_core::Secret;
 use std::alloc::Global;
@@ -36,7 +36,7 @@ fn read_from(
     let (_fields, document) = text.lend(0, text.len()).split_at(from);
     let parts = read_parts(alloc, document, DocForm::V4, stream)?;
     drop(text);
-    settle(alloc, pool, parts)
+    resolve(alloc, pool, parts)
 }
 
 /// The document of a text from an offset on, read with a stream and the attached files.

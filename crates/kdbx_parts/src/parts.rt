@@ -4,7 +4,7 @@ ghost use Rattle.std.specs.Prelude.{◌≡◌, ◌+◌, ◌-◌, ◌≤◌, ◌<
 ghost use Rattle.std.specs.Int.{w32, w64, from_le_bytes};
 ghost use Rattle.std.specs.Prelude.{bytes_eq};
 ghost use Rattle.outside_core.specs.Results.{Returns};
-ghost use Rattle.kdbx_parts.specs.Results.{known};
+ghost use Rattle.kdbx_parts.specs.Results.{meaning_of};
 ghost use Rattle.kdbx_parts.specs.Parts.{field_at, required, unique, out_of_bounds, unique_of_length, split_bytes};
 ghost use Rattle.kdbx_parts.specs.Seen.{field_seen};
 
@@ -25,7 +25,8 @@ pub struct Field<'a> {
 
 /// The next `n` bytes and the bytes after them, or this refusal where there are fewer.
 pub fn split_bytes(fail: FrameFail, n: usize, rest: &[u8]) -> Result<(&[u8], &[u8]), FrameFail>
-    ensures gives { Returns known (λ x. (x.0.now, x.1.now)) result (split_bytes fail n rest.now) }
+    ensures gives { Returns meaning_of (λ x. (x.0.now, x.1.now)) result
+        (split_bytes fail n rest.now) }
     ensures shorter { IfOk result (λ x. length x.1.now + n ≡ length rest.now) }
     ensures len { IfOk result (λ x. length x.0.now ≡ n) }
 {
@@ -51,7 +52,7 @@ pub fn out_of_bounds(size: u64, end: u64) -> FrameFail
 #[tactic(auto, unfolding(crate::specs::Parts::field_at))]
 pub fn field_of(size: u64, offset: usize, rest: &[u8]) -> Result<Field, FrameFail>
     requires { offset + length rest.now < 2 ^ 63 }
-    ensures gives { Returns known field_seen result
+    ensures gives { Returns meaning_of field_seen result
         (field_at (λ n. out_of_bounds size (offset + n)) rest.now) }
     ensures shorter { IfOk result (λ f. length f.rest.now + 5 ≤ length rest.now) }
     ensures content { IfOk result (λ f. length f.content.now ≤ length rest.now) }
@@ -72,7 +73,7 @@ pub fn field_of(size: u64, offset: usize, rest: &[u8]) -> Result<Field, FrameFai
 
 /// The content of a field that may occur once; `occurred` says whether it did before.
 pub fn unique(id: u8, occurred: bool, content: &[u8]) -> Result<&[u8], FrameFail>
-    ensures gives { Returns known (λ x. x.now) result (unique id occurred content.now) }
+    ensures gives { Returns meaning_of (λ x. x.now) result (unique id occurred content.now) }
     ensures same { IfOk result (λ x. x.now ≡ content.now) }
 {
     if occurred {
@@ -88,7 +89,8 @@ pub fn unique_of_length(
     occurred: bool,
     content: &[u8],
 ) -> Result<&[u8], FrameFail>
-    ensures gives { Returns known (λ x. x.now) result (unique_of_length id n occurred content.now) }
+    ensures gives { Returns meaning_of (λ x. x.now) result
+        (unique_of_length id n occurred content.now) }
     ensures len { IfOk result (λ x. length x.now ≡ n) }
 {
     if occurred {
@@ -102,7 +104,7 @@ pub fn unique_of_length(
 
 /// The value of a field that must occur.
 pub fn required<T: Drop>(id: u8, value: Option<T>) -> Result<T, FrameFail>
-    ensures { Returns known (λ x. x) result (required id value) }
+    ensures { Returns meaning_of (λ x. x) result (required id value) }
 {
     match value {
         Some(value) => Ok(value),
@@ -145,7 +147,7 @@ pub fn u64_of(bytes: &[u8]) -> u64
 
 /// A copy in memory of its own.
 pub fn copy_of(alloc: Global, bytes: &[u8]) -> Result<Bytes, FrameFail>
-    ensures { Returns known (λ x. x) result (Ok bytes.now) }
+    ensures { Returns meaning_of (λ x. x) result (Ok bytes.now) }
 {
     let mut copy = Bytes::new(alloc);
     copy.add(bytes)?;

@@ -1,5 +1,7 @@
 -- What a function of the code returns of a part of a file, by its definition.
-use Rattle.std.specs.Prelude.{◌≡◌, Result, Ok, Err}
+use Rattle.std.specs.Prelude.{Result}
+use Rattle.outside_core.specs.Results as results
+use Rattle.outside_core.specs.Results.{Meaning, exact, free, never}
 use Rattle.kdbx_parts.specs.declared.fail.FrameFail.{FrameFail}
 use Rattle.kdbx_parts.specs.declared.fail.FrameFail.TheVariants as frame
 use Rattle.kdbx_payload.specs.declared.fail.PayloadFail.{PayloadFail}
@@ -10,14 +12,17 @@ abbrev pub of_frame : FrameFail → PayloadFail
 of_frame frame.NoMemory = NoMemory
 of_frame fail = Frame fail
 
--- A function refuses as is defined. Want of memory says nothing of what is defined, and is reported
--- as such: it is inside no other refusal.
+-- What a refusal says of what is defined: that this is its refusal; want of memory says nothing, and
+-- is inside no other refusal.
+abbrev pub meaning_of : PayloadFail → Meaning PayloadFail
+meaning_of NoMemory = free
+meaning_of (Frame frame.NoMemory) = never
+meaning_of fail = exact fail
+
+-- A function refuses as is defined.
 abbrev pub Refuses : {Y : Type 0} → PayloadFail → Result Y PayloadFail → Type 0
-Refuses NoMemory defined = Unit {0}
-Refuses (Frame frame.NoMemory) defined = ⊥
-Refuses fail defined = defined ≡ Err fail
+Refuses fail defined = results.Fails (meaning_of fail) defined
 
 -- A function returns what is defined, seen without memory, or refuses as is defined.
 abbrev pub Returns : {X Y : Type 0} → (X → Y) → Result X PayloadFail → Result Y PayloadFail → Type 0
-Returns seen (Ok x) defined = defined ≡ Ok (seen x)
-Returns seen (Err fail) defined = Refuses fail defined
+Returns seen result defined = results.Returns meaning_of seen result defined

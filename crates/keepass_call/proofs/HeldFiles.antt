@@ -11,7 +11,7 @@ use Rattle.doc_forms.specs.Documents.{DocumentAndHash}
 use Rattle.doc_forms.specs.declared.fails.DocFail.{DocFail}
 use Rattle.kdbx_open.specs.Causes.{file_limit}
 use Rattle.kdbx_open.specs.Files.{bytes_of, opening_of}
-use Rattle.kdbx_open.specs.Opening.{Vault, opening}
+use Rattle.kdbx_open.specs.Opening.{FileContents, opening}
 use Rattle.kdbx_open.specs.Sealed.{Sealed}
 use Rattle.kdbx_open.specs.declared.fail.OpenFail.{OpenFail}
 use Rattle.kdbx_open.specs.declared.fail.OpenFail.TheVariants.{File}
@@ -112,19 +112,19 @@ bytes_there (Some b) bytes h =
     (ap Some w.1, subst (λ (x : List ℕ). length x ≤ file_limit) w.1 (ltb-false file_limit (length b) w.0))
 
 -- what a file holds that was opened
-opening_held : (file : Option (List ℕ)) (composite : List ℕ) (vault : Vault) → opening_of file composite ≡ Ok vault
+opening_held : (file : Option (List ℕ)) (composite : List ℕ) (vault : FileContents) → opening_of file composite ≡ Ok vault
     → (bytes : List ℕ) × (((file ≡ Some bytes) × (length bytes ≤ file_limit)) × Sealed bytes composite vault)
 unfolding opening_of
 opening_held file composite vault h =
     let b = both (bytes_of file) (λ bytes. opening bytes composite) vault h in
     (b.0, (bytes_there file b.0 b.1.0, is_sealed b.0 composite vault b.1.1))
 
-opening_given : (file : Option (List ℕ)) (composite : List ℕ) (vault : Vault) (bytes : List ℕ)
+opening_given : (file : Option (List ℕ)) (composite : List ℕ) (vault : FileContents) (bytes : List ℕ)
     → file ≡ Some bytes → length bytes ≤ file_limit → Sealed bytes composite vault → opening_of file composite ≡ Ok vault
 opening_given file composite vault bytes is within sealed =
     opened_of_held file composite vault (subst (λ (f : Option (List ℕ)). IfSome f (λ b. length b ≤ file_limit)) (sym is) within) (bytes, (is, sealed))
 
-opened_by : (name : List ℕ) (r : Result Vault OpenFail) (doc : BareDoc) → document_of_vault name r ≡ Ok doc → (vault : Vault) × ((r ≡ Ok vault) × (vault.doc ≡ doc))
+opened_by : (name : List ℕ) (r : Result FileContents OpenFail) (doc : BareDoc) → document_of_vault name r ≡ Ok doc → (vault : FileContents) × ((r ≡ Ok vault) × (vault.doc ≡ doc))
 opened_by name (Ok vault) doc h = (vault, (refl, cc))
 opened_by name (Err fail) doc h = cc
 
@@ -134,7 +134,7 @@ in_turn (Ok x) next y h = (x, (refl, h))
 in_turn (Err refusal) next y h = cc
 
 sealed_by : (file : List ℕ) (files : FileMap) (password key : Option (List ℕ)) (doc : BareDoc) → sealed_in file files password key ≡ Ok doc
-    → (vault : Vault) × ((opening_of (map.get files file) (composite_key password key) ≡ Ok vault) × (vault.doc ≡ doc))
+    → (vault : FileContents) × ((opening_of (map.get files file) (composite_key password key) ≡ Ok vault) × (vault.doc ≡ doc))
 unfolding sealed_in
 sealed_by file files password key doc h = opened_by file (opening_of (map.get files file) (composite_key password key)) doc h
 
@@ -154,7 +154,7 @@ sealed_held key_file file password files doc h =
       is = v.1.1;
     }
 
-sealed_again : (file : List ℕ) (files : FileMap) (password key : Option (List ℕ)) (vault : Vault) → opening_of (map.get files file) (composite_key password key) ≡ Ok vault
+sealed_again : (file : List ℕ) (files : FileMap) (password key : Option (List ℕ)) (vault : FileContents) → opening_of (map.get files file) (composite_key password key) ≡ Ok vault
     → sealed_in file files password key ≡ Ok vault.doc
 unfolding sealed_in
 sealed_again file files password key vault h = ap (document_of_vault file) h

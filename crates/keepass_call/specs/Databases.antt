@@ -22,7 +22,7 @@ use Rattle.kdbx_open.specs.declared.fail.OpenFail.{OpenFail}
 use Rattle.kdbx_open.specs.declared.fail.OpenFail.TheVariants as sealed
 use Rattle.kdbx_open.specs.Causes.{file_limit}
 use Rattle.kdbx_open.specs.Files.{opening_of}
-use Rattle.kdbx_open.specs.Opening.{Vault}
+use Rattle.kdbx_open.specs.Opening.{FileContents}
 use Rattle.cli_answers.specs.declared.answers.Reason.{Reason}
 use Rattle.cli_answers.specs.declared.answers.Reason.TheVariants as answer
 use Rattle.cli_answers.specs.declared.answers.Reason.TheVariants.{NoSuchFile, TooLarge, OutOfMemory}
@@ -134,7 +134,7 @@ key_of None files = Ok None
 key_of (Some name) files = key_in name (map.get files name) >>= λ key. Ok (Some key)
 
 -- What is held by the file of this name, by what opening it answers.
-abbrev pub document_of_vault : List ℕ → Result Vault OpenFail → Result BareDoc Refusal
+abbrev pub document_of_vault : List ℕ → Result FileContents OpenFail → Result BareDoc Refusal
 document_of_vault name (Ok vault) = Ok vault.doc
 document_of_vault name (Err fail) = Err (refusal_of (open_answer fail) name)
 

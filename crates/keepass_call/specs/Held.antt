@@ -8,7 +8,7 @@ use Rattle.key_core.specs.Keys.{composite_key}
 use Rattle.vault_model.specs.Tree.{BareDoc}
 use Rattle.doc_forms.specs.Documents.{DocumentAndHash}
 use Rattle.kdbx_open.specs.Causes.{file_limit}
-use Rattle.kdbx_open.specs.Opening.{Vault}
+use Rattle.kdbx_open.specs.Opening.{FileContents}
 use Rattle.kdbx_open.specs.Sealed.{Sealed}
 use Rattle.cli_words.specs.declared.command.Command.{Command}
 use Rattle.cli_words.specs.declared.command.Command.TheVariants.{Ls}
@@ -52,7 +52,7 @@ pub record IsSealed (key_file : Option (List ℕ)) (file : List ℕ) (password :
   pub gives_key : GivesKey key_file files key
   pub bytes : List ℕ
   pub there : IsThere files file bytes
-  pub vault : Vault
+  pub vault : FileContents
   pub sealed : Sealed bytes (composite_key password key) vault
   pub is : vault.doc ≡ doc
 

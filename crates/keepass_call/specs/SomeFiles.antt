@@ -4,7 +4,7 @@ use Rattle.key_core.specs.KeyFile.{key_file_key}
 use Rattle.key_core.specs.Keys.{composite_key}
 use Rattle.vault_model.specs.Tree.{BareDoc}
 use Rattle.doc_forms.specs.Documents.{DocumentAndHash}
-use Rattle.kdbx_open.specs.Opening.{Vault}
+use Rattle.kdbx_open.specs.Opening.{FileContents}
 use Rattle.kdbx_open.specs.Sealed.{IsHeld}
 use Rattle.cli_words.specs.declared.command.Command.{Command}
 use Rattle.cli_words.specs.declared.command.Command.TheVariants.{Ls}
@@ -28,7 +28,7 @@ SomeKey (Some name) key = (k : List ℕ) × (IsSomeKey k × (key ≡ Some k))
 
 -- Some bytes hold the document sealed under a composite key.
 abbrev pub IsSealedUnder : List ℕ → BareDoc → Type 0
-IsSealedUnder composite doc = (vault : Vault) × (IsHeld composite vault × (vault.doc ≡ doc))
+IsSealedUnder composite doc = (vault : FileContents) × (IsHeld composite vault × (vault.doc ≡ doc))
 
 -- Some bytes hold the document sealed under the composite key of the password and of some key
 -- file's key.

@@ -16,7 +16,7 @@ ghost use Rattle.cli_words.specs.Words.{files_of, key_files};
 
 use cli_answers::{Reason, Stop, refused};
 use cli_words::{Access, Command};
-use doc_read::{DocFail, ReadDoc, read_parts, settle};
+use doc_read::{DocFail, ReadDoc, read_parts, resolve};
 use kdbx_frame::FrameFail;
 use kdbx_open::{FILE_LIMIT, OpenFail, Opened, open_file};
 use key_core::{KeyFileFail, composite, read_key_file};
@@ -135,7 +135,7 @@ fn read_plain(alloc: Global, text: Secret) -> Result<ReadDoc, DocFail>
     let mut stream = InnerStream::Clear;
     let parts = read_parts(alloc, text.lend(0, text.len()), DocForm::Plain, &mut stream)?;
     drop(text);
-    settle(alloc, &List::new(alloc), parts)
+    resolve(alloc, &List::new(alloc), parts)
 }
 
 // The plain document in these bytes of a file.

@@ -1,7 +1,7 @@
 -- What the answers of a reader say of one another.
 use Rattle.std.proofs.Common.{◌≡◌, ◌≢◌, ℕ, List, [], ◌++◌, length, drop, refl, sym, ◌∙◌, ap, subst, arith, All, Bool, true, false, Result, Ok, Err, OnOk}
 use Rattle.std.proofs.lemmas.List.{append_assoc}
-use Rattle.mac_core.specs.Answers.{Answers, AtEnd, Start}
+use Rattle.mac_core.specs.Answers.{FeedReturns, AtEnd, Start}
 use Rattle.mac_core.specs.Blocks.{IsContent, block, blocks, concatenated, mac_of, length_prefixed}
 use Rattle.mac_core.specs.declared.fail.BlockFail.{BlockFail}
 use Rattle.mac_core.specs.declared.fail.BlockFail.TheVariants.{BlockMac, Truncated}
@@ -15,7 +15,7 @@ record Told (base bytes : List ℕ) (x : Result Bool BlockFail) : Type 0 where
   is : bytes ≡ blocks base 0 contents ++ rest
   stop : Stop base (length contents) rest x
 
-told : (start : Start) (out bytes : List ℕ) (x : Result Bool BlockFail) → Answers start out bytes x → Told start.base bytes x
+told : (start : Start) (out bytes : List ℕ) (x : Result Bool BlockFail) → FeedReturns start out bytes x → Told start.base bytes x
 told start out bytes (Ok true) a = record {
   contents = a.contents;
   rest = block start.base (length a.contents) [] ++ a.whole.tail;
@@ -53,12 +53,12 @@ one_telling base bytes x y a b =
     a.each b.each a.is b.is (omega arith) (omega arith) a.stop b.stop
 
 pub same_answer : (start : Start) (out other bytes : List ℕ) (x y : Result Bool BlockFail)
-    → Answers start out bytes x → Answers start other bytes y → x ≡ y
+    → FeedReturns start out bytes x → FeedReturns start other bytes y → x ≡ y
 same_answer start out other bytes x y a b =
     (one_telling start.base bytes x y (told start out bytes x a) (told start other bytes y b)).0
 
 pub same_output : (start : Start) (out other bytes : List ℕ) (x : Result Bool BlockFail)
-    → Answers start out bytes x → Answers start other bytes x → OnOk x (out ≡ other)
+    → FeedReturns start out bytes x → FeedReturns start other bytes x → OnOk x (out ≡ other)
 unfolding told
 same_output start out other bytes (Ok true) a b =
     let one = one_telling start.base bytes (Ok true) (Ok true) (told start out bytes (Ok true) a) (told start other bytes (Ok true) b) in
@@ -71,7 +71,7 @@ same_output start out other bytes (Err e) a b = tt
 
 -- more bytes change no refusal
 pub still_refused : (start : Start) (out other bytes more : List ℕ) (e : BlockFail)
-    → Answers start out bytes (Err e) → Answers start other (bytes ++ more) (Err e)
+    → FeedReturns start out bytes (Err e) → FeedReturns start other (bytes ++ more) (Err e)
 still_refused start out other bytes more (BlockMac i) a = record {
   contents = a.contents;
   mac = a.mac;
@@ -101,12 +101,12 @@ still_ended start out bytes more a = record {
 
 -- right blocks and a right end block are read as such, whatever the pieces were
 pub written_is_read : (start : Start) (contents : List (List ℕ)) (tail out : List ℕ) (x : Result Bool BlockFail) → All IsContent contents
-    → Answers start out (blocks start.base 0 contents ++ block start.base (length contents) [] ++ tail) x
+    → FeedReturns start out (blocks start.base 0 contents ++ block start.base (length contents) [] ++ tail) x
     → (x ≡ Ok true) × (out ≡ start.before ++ concatenated contents)
 written_is_read start contents tail out x each a =
     let bytes = blocks start.base 0 contents ++ block start.base (length contents) [] ++ tail in
     let whole = start.before ++ concatenated contents in
-    let end : Answers start whole bytes (Ok true) =
+    let end : FeedReturns start whole bytes (Ok true) =
     record { contents = contents; whole = record { tail = tail; each = each; is = refl }; given = refl } in
     let same : x ≡ Ok true = same_answer start out whole bytes x (Ok true) a end in
-    (same, same_output start out whole bytes (Ok true) (subst (Answers start out bytes) same a) end)
+    (same, same_output start out whole bytes (Ok true) (subst (FeedReturns start out bytes) same a) end)

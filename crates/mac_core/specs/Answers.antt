@@ -26,16 +26,16 @@ pub record AtPart (start : Start) (out bytes : List ℕ) : Type 0 where
   pub given : out ≡ start.before ++ concatenated contents ++ drop 36 rest
 
 -- what an answer of `feed` says of all bytes fed since the start and of the output
-abbrev pub Answers : Start → List ℕ → List ℕ → Result Bool BlockFail → Type 0
-Answers start out bytes (Ok true) = AtEnd start out bytes
-Answers start out bytes (Ok false) = AtPart start out bytes
-Answers start out bytes (Err (BlockMac i)) = IsDamaged start.base bytes i
-Answers start out bytes (Err (Truncated place)) = ⊥
+abbrev pub FeedReturns : Start → List ℕ → List ℕ → Result Bool BlockFail → Type 0
+FeedReturns start out bytes (Ok true) = AtEnd start out bytes
+FeedReturns start out bytes (Ok false) = AtPart start out bytes
+FeedReturns start out bytes (Err (BlockMac i)) = IsDamaged start.base bytes i
+FeedReturns start out bytes (Err (Truncated place)) = ⊥
 
 -- what an answer of `end` says: Truncated carries the place after the last byte, and no end block
 -- was read
-abbrev pub EndAnswers : Start → List ℕ → List ℕ → Result (Unit {0}) BlockFail → Type 0
-EndAnswers start out bytes (Ok _) = AtEnd start out bytes
-EndAnswers start out bytes (Err (Truncated place)) =
+abbrev pub EndReturns : Start → List ℕ → List ℕ → Result (Unit {0}) BlockFail → Type 0
+EndReturns start out bytes (Ok _) = AtEnd start out bytes
+EndReturns start out bytes (Err (Truncated place)) =
     (place ≡ start.place + length bytes) × ((other : List ℕ) → AtEnd start other bytes → ⊥)
-EndAnswers start out bytes (Err (BlockMac i)) = ⊥
+EndReturns start out bytes (Err (BlockMac i)) = ⊥

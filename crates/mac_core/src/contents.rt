@@ -1,8 +1,8 @@
 //! The contents of the blocks at the end of a file, read at once.
 
-ghost use Rattle.std.specs.Prelude.{◌≡◌, ◌+◌, ◌<◌, ◌≤◌, ◌^◌, [], Some, length};
+ghost use Rattle.std.specs.Prelude.{◌≡◌, ◌+◌, ◌<◌, ◌≤◌, ◌^◌, [], length};
 ghost use Rattle.mac_core.specs.Contents.{contents_of};
-ghost use Rattle.outside_core.specs.Results.{Returns};
+ghost use Rattle.outside_core.specs.Results.{Returns, exact};
 
 use crate::{BlockFail, BlockReader};
 use secret_core::{Key64, Secret};
@@ -22,7 +22,7 @@ pub fn read_contents(
     requires empty { out.old.bytes ≡ [] }
     requires spare { length bytes.now ≤ out.old.spare }
     requires offset { offset + length bytes.now < 2 ^ 64 }
-    ensures { Returns Some (λ _. out.new.bytes) result
+    ensures { Returns exact (λ _. out.new.bytes) result
         (contents_of base.now (offset + length bytes.now) bytes.now) }
 {
     let mut reader = BlockReader::new(base, offset);

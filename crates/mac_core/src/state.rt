@@ -49,14 +49,14 @@ fn is_same(found: &[u8], kept: &[u8]) -> bool
 }
 
 impl<'a> State<'a> {
-    ghost use Rattle.mac_core.specs.Answers.{Answers, EndAnswers, Start};
-    ghost use Rattle.mac_core.specs.State.{AtContent, AtHead, Holds, IsPast, IsState, Stands};
+    ghost use Rattle.mac_core.specs.Answers.{FeedReturns, EndReturns, Start};
+    ghost use Rattle.mac_core.specs.State.{AtContent, AtHead, HasRead, IsPast, IsState, Stands};
 
     /// Before block 0, which is at this place of the file.
     pub fn new(base: &'a [u8; 64], place: u64) -> State<'a>
         ensures state { IsState result }
         ensures place { result.place ≡ place }
-        ensures holds { (before : List ℕ) → Holds
+        ensures holds { (before : List ℕ) → HasRead
             (record { base = base.now; place = place; before = before }) result before [] }
     {
         State {
@@ -79,8 +79,9 @@ impl<'a> State<'a> {
         ensures state { IsState self.new }
         ensures place { self.new.place ≡ self.old.place + length piece.now }
         ensures spare { out.old.spare ≤ out.new.spare + length piece.now }
-        ensures holds { (start : Start) (bytes : List ℕ) → Holds start self.old out.old.bytes bytes
-            → Holds start self.new out.new.bytes (bytes ++ piece.now) }
+        ensures holds { (start : Start) (bytes : List ℕ)
+            → HasRead start self.old out.old.bytes bytes
+            → HasRead start self.new out.new.bytes (bytes ++ piece.now) }
     {
         let mut at = 0;
         'pieces: while at < piece.len() {
@@ -91,8 +92,8 @@ impl<'a> State<'a> {
     /// What the bytes so far are.
     pub fn answer(&self) -> Result<bool, BlockFail>
         requires { IsState self.now }
-        ensures { (start : Start) (out bytes : List ℕ) → Holds start self.now out bytes
-            → Answers start out bytes result }
+        ensures { (start : Start) (out bytes : List ℕ) → HasRead start self.now out bytes
+            → FeedReturns start out bytes result }
     {
         match self.phase {
             Phase::Head => Ok(false),
@@ -113,8 +114,9 @@ impl<'a> State<'a> {
         ensures within { result ≤ length piece.now }
         ensures place { self.new.place ≡ self.old.place + result }
         ensures spare { out.old.spare ≤ out.new.spare + result }
-        ensures holds { (start : Start) (bytes : List ℕ) → Holds start self.old out.old.bytes bytes
-            → Holds start self.new out.new.bytes (bytes ++ take result piece.now) }
+        ensures holds { (start : Start) (bytes : List ℕ)
+            → HasRead start self.old out.old.bytes bytes
+            → HasRead start self.new out.new.bytes (bytes ++ take result piece.now) }
     {
         match self.phase {
             Phase::Head => self.take_head(piece),
@@ -134,8 +136,8 @@ impl<'a> State<'a> {
         ensures some { 0 < result }
         ensures within { result ≤ length piece.now }
         ensures place { self.new.place ≡ self.old.place + result }
-        ensures holds { (start : Start) (out bytes : List ℕ) → Holds start self.old out bytes
-            → Holds start self.new out (bytes ++ take result piece.now) }
+        ensures holds { (start : Start) (out bytes : List ℕ) → HasRead start self.old out bytes
+            → HasRead start self.new out (bytes ++ take result piece.now) }
     {
         let count = piece.len().min(HEAD - self.had);
         let end = self.had + count;
@@ -144,7 +146,7 @@ impl<'a> State<'a> {
         self.place += count as u64;
         if end == HEAD {
             self.begin();
-            self.settle();
+            self.end_block();
         }
         count
     }
@@ -157,8 +159,8 @@ impl<'a> State<'a> {
         ensures state { IsState self.new }
         ensures all { result ≡ length piece.now }
         ensures place { self.new.place ≡ self.old.place + result }
-        ensures holds { (start : Start) (out bytes : List ℕ) → Holds start self.old out bytes
-            → Holds start self.new out (bytes ++ piece.now) }
+        ensures holds { (start : Start) (out bytes : List ℕ) → HasRead start self.old out bytes
+            → HasRead start self.new out (bytes ++ piece.now) }
     {
         self.place += piece.len() as u64;
         piece.len()
@@ -176,8 +178,9 @@ impl<'a> State<'a> {
         ensures within { result ≤ length piece.now }
         ensures place { self.new.place ≡ self.old.place + result }
         ensures spare { out.old.spare ≤ out.new.spare + result }
-        ensures holds { (start : Start) (bytes : List ℕ) → Holds start self.old out.old.bytes bytes
-            → Holds start self.new out.new.bytes (bytes ++ take result piece.now) }
+        ensures holds { (start : Start) (bytes : List ℕ)
+            → HasRead start self.old out.old.bytes bytes
+            → HasRead start self.new out.new.bytes (bytes ++ take result piece.now) }
     {
         let count = piece.len().min(self.left as usize);
         let part = &piece[..count];
@@ -185,7 +188,7 @@ impl<'a> State<'a> {
         self.running.update(part);
         self.left -= count as u32;
         self.place += count as u64;
-        self.settle();
+        self.end_block();
         count
     }
 
@@ -206,7 +209,7 @@ impl<'a> State<'a> {
 
     // Where the whole content has come, goes by the MAC to the next block, to the end or to the
     // refusal.
-    fn settle(&mut self)
+    fn end_block(&mut self)
         requires phase { self.old.phase ≡ Phase.Content }
         requires head { length self.old.head ≡ 36 }
         requires index { self.old.index * 36 + 36 ≤ self.old.place }

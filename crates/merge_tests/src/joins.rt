@@ -7,9 +7,9 @@ use crate::samples::{
     with_filled_group, with_groups, with_move, with_tomb,
 };
 use outside_core::NoMemory;
-use slow_join::joins::{is_rooted, join};
-use slow_tables::databases::Database;
-use slow_tables::placements::Placement;
+use reference_join::joins::{is_rooted, join};
+use reference_tables::databases::Database;
+use reference_tables::placements::Placement;
 use std::alloc::Global;
 use std::test::Fail;
 

@@ -1,20 +1,22 @@
 -- How a function goes through computations one after another, and a loop through a repeated one: what each way out
 -- says of the whole.
-use Rattle.std.proofs.Common.{◌≡◌, ℕ, suc, ◌+◌, ◌-◌, ◌<◌, ◌≤◌, Bool, true, false, Option, None, Some, Result, Ok, Err, refl, sym, ◌∙◌, subst, cond, arith}
-use Rattle.outside_core.specs.Results.{◌>>=◌, Fails, repeated}
+use Rattle.std.proofs.Common.{◌≡◌, ℕ, suc, ◌+◌, ◌-◌, ◌<◌, ◌≤◌, Bool, true, false, Result, Ok, Err, refl, sym, ◌∙◌, subst, cond, arith}
+use Rattle.outside_core.specs.Results.{◌>>=◌, Fails, Meaning, exact, free, never, repeated}
 
 -- Where the first computation fails, both do.
-pub fails_at_first : {A B E : Type 0} (e : Option E) (first : Result A E) (next : A → Result B E) → Fails e first → Fails e (first >>= next)
-fails_at_first None first next h = tt
-fails_at_first (Some e) first next h = rw h refl
+pub fails_at_first : {A B E : Type 0} (e : Meaning E) (first : Result A E) (next : A → Result B E) → Fails e first → Fails e (first >>= next)
+fails_at_first (exact e) first next h = rw h refl
+fails_at_first free first next h = tt
+fails_at_first never first next h = h
 
 -- Where the first computation has a value, the next answers for both.
-pub fails_after : {A B E : Type 0} (e : Option E) (first : Result A E) (next : A → Result B E) (a : A) → first ≡ Ok a → Fails e (next a) → Fails e (first >>= next)
-fails_after None first next a is h = tt
-fails_after (Some e) first next a is h = rw is h
+pub fails_after : {A B E : Type 0} (e : Meaning E) (first : Result A E) (next : A → Result B E) (a : A) → first ≡ Ok a → Fails e (next a) → Fails e (first >>= next)
+fails_after (exact e) first next a is h = rw is h
+fails_after free first next a is h = tt
+fails_after never first next a is h = h
 
 -- An error that is defined for one of two equal computations is defined for the other.
-pub fails_same : {A E : Type 0} (e : Option E) (one other : Result A E) → one ≡ other → Fails e one → Fails e other
+pub fails_same : {A E : Type 0} (e : Meaning E) (one other : Result A E) → one ≡ other → Fails e one → Fails e other
 fails_same e one other same = subst (Fails e) same
 
 -- What is left of n steps at step i is one step and what is left after it.
@@ -30,7 +32,7 @@ module _ {S E : Type 0} (step : S → Result (Bool × S) E) (out : S → E) (n i
       let left : ℕ → Type 0 = λ k. repeated step out k s ≡ total in subst left (one_less n i h) so_far
 
   -- A step that fails.
-  pub step_fails : (s : S) (total : Result S E) (e : Option E) → i < n →
+  pub step_fails : (s : S) (total : Result S E) (e : Meaning E) → i < n →
       repeated step out (n - i) s ≡ total → Fails e (step s) → Fails e total
   step_fails s total e h so_far fails =
       fails_same e _ total (at_step s total h so_far) (fails_at_first e (step s) _ fails)

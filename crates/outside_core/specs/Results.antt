@@ -1,6 +1,6 @@
 -- Computations that may fail, over any type of errors: one after another, how a function of the
 -- code relates to its definition, and like steps repeated.
-use Rattle.std.specs.Prelude.{◌≡◌, ℕ, zero, suc, Bool, Option, None, Some, Result, Ok, Err, if◌then◌else◌}
+use Rattle.std.specs.Prelude.{◌≡◌, ℕ, zero, suc, Bool, Result, Ok, Err, if◌then◌else◌}
 
 infixl 10 ◌>>=◌
 -- One computation, and then the next with its value. The first error is the error of both.
@@ -8,20 +8,25 @@ abbrev pub ◌>>=◌ : {A B E : Type 0} → Result A E → (A → Result B E) �
 Ok a >>= next = next a
 Err e >>= next = Err e
 
--- The definition has this error. `None` is an error that no definition has, such as want of memory:
--- it says nothing.
-abbrev pub Fails : {Y F : Type 0} → Option F → Result Y F → Type 0
-Fails None defined = Unit {0}
-Fails (Some error) defined = defined ≡ Err error
+-- What an error of the code says of a definition: that this is its error; nothing, as want of memory
+-- does; or it is an error that no function returns, such as want of memory inside another error.
+pub data Meaning (F : Type 0) : Type 0 where
+  exact : F → Meaning F
+  free : Meaning F
+  never : Meaning F
 
--- A function returned what is defined: the value as `view` shows it, or the error that `error_of`
--- gives for its own. The errors for which `error_of` gives `None` are free: they may come in the
--- place of any result. A crate names this once for its own errors, as in `Gives = Returns known`
--- with `known NoMemory = None` and `known e = Some e`.
-abbrev pub Returns : {X Y E F : Type 0} → (E → Option F) → (X → Y) → Result X E → Result Y F
+-- The definition is as an error of this meaning says.
+abbrev pub Fails : {Y F : Type 0} → Meaning F → Result Y F → Type 0
+Fails (exact error) defined = defined ≡ Err error
+Fails free defined = Unit {0}
+Fails never defined = ⊥
+
+-- A function returned what is defined: the value as `view` shows it, or an error by its meaning. A
+-- crate names this once for its own errors.
+abbrev pub Returns : {X Y E F : Type 0} → (E → Meaning F) → (X → Y) → Result X E → Result Y F
     → Type 0
-Returns error_of view (Ok x) defined = defined ≡ Ok (view x)
-Returns error_of view (Err e) defined = Fails (error_of e) defined
+Returns meaning view (Ok x) defined = defined ≡ Ok (view x)
+Returns meaning view (Err e) defined = Fails (meaning e) defined
 
 -- Steps from a state until one says that it was the last, `n` steps at most; `out` is the error
 -- after them.

@@ -38,7 +38,7 @@ use Rattle.writing_laws.proofs.ReadEntries.{GoodContent, GoodVersion, GoodEntry}
 use Rattle.writing_laws.proofs.ReadFields.{GoodItem, GoodField, GoodPair, GoodTyping}
 use Rattle.writing_laws.proofs.ReadGroups.{GoodGroup, GoodTree, GoodTrees}
 use Rattle.writing_laws.proofs.ReadMetas.{GoodBinary, GoodIcon, GoodMeta}
-use Rattle.writing_laws.proofs.SettledAgain.{GoodDoc}
+use Rattle.writing_laws.proofs.ResolvedAgain.{GoodDoc}
 
 -- ---- each of some things
 

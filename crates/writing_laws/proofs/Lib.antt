@@ -18,7 +18,7 @@ pub mod ReadMetas
 pub mod ReadOptions
 pub mod ReadTimes
 pub mod ReadsBack
-pub mod SettledAgain
+pub mod ResolvedAgain
 pub mod SoundPieces
 pub mod TimeTexts
 pub mod ValueTexts

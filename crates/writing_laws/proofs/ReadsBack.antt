@@ -14,7 +14,7 @@ use Rattle.vault_model.proofs.Tests.{and_true}
 use Rattle.vault_model.specs.Tree.{BareDoc}
 use Rattle.doc_forms.specs.declared.cursor.Cursor.{Cursor}
 use Rattle.doc_forms.specs.declared.fails.DocFail.{DocFail}
-use Rattle.doc_forms.specs.Documents.{FileParts, DocumentAndHash, document_rows, settled_document, document}
+use Rattle.doc_forms.specs.Documents.{FileParts, DocumentAndHash, document_rows, resolved_document, document}
 use Rattle.doc_forms.specs.Attachments.{binaries_from}
 use Rattle.doc_forms.specs.ElementTexts.{Setting, start}
 use Rattle.doc_forms.specs.Children.{by_name, all_children}
@@ -26,7 +26,7 @@ use Rattle.doc_spelling.specs.Documents.{file_piece, written_tree, spelled_docum
 use Rattle.writing_laws.proofs.FittingPieces.{document_fits}
 use Rattle.writing_laws.proofs.Goods.{If, IsHash}
 use Rattle.writing_laws.proofs.ReadDocuments.{document_texts}
-use Rattle.writing_laws.proofs.SettledAgain.{GoodDoc, said_again}
+use Rattle.writing_laws.proofs.ResolvedAgain.{GoodDoc, said_again}
 use Rattle.writing_laws.proofs.SoundPieces.{Sound, sound}
 use Rattle.writing_laws.proofs.ValueTexts.{literal}
 
@@ -80,6 +80,6 @@ module _ (form : DocForm) (k : Keystream) (hash : Option (List ℕ)) (good_hash 
       let s : Setting = record { form = form; keystream = k } in
       let text = spelled_document form k hash d in
       let tree = written_tree form k hash d in
-      let rest = λ (x : Option FileParts). settled_document form (pool_apart form d) x in
+      let rest = λ (x : Option FileParts). resolved_document form (pool_apart form d) x in
       ap (λ (content : told.Content). ◌>>=◌ {B = DocumentAndHash} (◌>>=◌ {B = Option FileParts} (all_children (by_name s (document_rows s)) content None start) (λ x. Ok x.0)) rest) (elements_told text tree is_written (omega (arith, is_sound.low)))
       ∙ (regrouped (all_children (by_name s (document_rows s)) (tree_content tree) None start) rest ∙ said_again s form refl hash good_hash d good (length (spelled_front tree)))

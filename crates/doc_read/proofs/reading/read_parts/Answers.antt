@@ -1,4 +1,4 @@
--- What was read of the text is kept, as settling it requires; the stream is the one that was given.
+-- What was read of the text is kept, as resolving it requires; the stream is the one that was given.
 use Rattle.std.proofs.lemmas.Result.{err_from_is_err_and}
 use Rattle.doc_laws.proofs.KeptDocuments.{parts_kept}
 use Rattle.doc_read.proofs.reading.read_parts.Goals as goal

@@ -1,0 +1,7 @@
+mod Burials
+mod ResolvedTrees
+mod RisingTombs
+mod ResolvedDocuments
+mod SoundTrees
+pub mod IdSets
+pub mod NodeIds

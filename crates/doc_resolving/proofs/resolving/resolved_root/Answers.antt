@@ -1,0 +1,5 @@
+use Rattle.doc_resolving.proofs.ResolvedDocuments.{tree_is_kept}
+use Rattle.doc_resolving.proofs.resolving.resolved_root.Goals as goal
+
+pub resolved_tree-requires-clause-tree : goal.resolved_tree-requires-clause-tree
+resolved_tree-requires-clause-tree c = tree_is_kept c.args.root c.in-Some.draft c.requires.root c.in-Some.is

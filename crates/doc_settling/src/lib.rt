@@ -1,9 +1,0 @@
-//! Settling: the document that the parts of a text make at its end, or the first refusal that comes
-//! then.
-#![tactic(auto)]
-
-mod ids;
-mod settling;
-mod tombs;
-
-pub use settling::settle;

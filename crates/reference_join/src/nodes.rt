@@ -1,0 +1,170 @@
+//! Which nodes stay, and where each is, all members looked at together.
+ghost use Rattle.std.specs.Prelude.{◌≡◌, ◌<◌, length, IfOk, OnOk, ◌++◌};
+ghost use Rattle.std.specs.FinMap as table;
+ghost use Rattle.std.specs.List.{list_any};
+ghost use Rattle.vault_model.specs.Db.{holds, stamp_in, place_cmp};
+ghost use Rattle.vault_model.specs.Join.{is_id, latest, above, path, stamp, is_from, is_held, buried, own, ids, trail, kept};
+ghost use Rattle.vault_model.specs.Unite.{gather, greater, merged};
+ghost use Rattle.reference_tables.specs.Databases.{database, databases};
+ghost use Rattle.reference_join.specs.KnownIds.{known_ids};
+
+use outside_core::NoMemory;
+use reference_tables::databases::Database;
+use reference_tables::ids::{is_same, push_both};
+use reference_tables::placements::{Placement, later_placement};
+use std::alloc::Global;
+use uuid::Uuid;
+
+/// Whether a database holds a node.
+fn holds(member: &Database, id: &Uuid) -> bool
+    ensures { result ≡ holds (database member.now) id.now }
+{
+    member.entries.get(id).is_some() || member.groups.get(id).is_some()
+}
+
+/// The greatest modification time that a database has of a node, in seconds.
+#[tactic(auto, unfolding(vault_model::specs::Db::stamp_in))]
+fn stamp_in(member: &Database, id: &Uuid) -> u64
+    ensures { result ≡ stamp_in (database member.now) id.now }
+{
+    let entry = match member.entries.get(id) {
+        Some(versions) => versions.newest(),
+        None => 0,
+    };
+    let group = match member.groups.get(id) {
+        Some(state) => state.modified().seconds(),
+        None => 0,
+    };
+    entry.max(group)
+}
+
+/// The greatest place of a node among the members that hold it.
+pub fn latest(members: &[Database], id: &Uuid) -> Option<Placement>
+    ensures { result ≡ latest (databases members.now) id.now }
+{
+    let mut best = None;
+    for member in members {
+        best = later_placement(member.places.get(id).copied(), best);
+    }
+    best
+}
+
+/// The latest parent of a node; the root has no place, and stays.
+fn above(members: &[Database], id: &Uuid) -> Uuid
+    ensures { result ≡ above (databases members.now) id.now }
+{
+    match latest(members, id) {
+        Some(place) => place.parent,
+        None => *id,
+    }
+}
+
+/// The greatest modification time of a node over the members and all their versions, in seconds.
+pub fn stamp(members: &[Database], id: &Uuid) -> u64
+    ensures { result ≡ stamp (databases members.now) id.now }
+{
+    let mut greatest = 0;
+    for member in members {
+        greatest = stamp_in(member, id).max(greatest);
+    }
+    greatest
+}
+
+/// Whether some member holds the node.
+fn is_held(members: &[Database], id: &Uuid) -> bool
+    ensures { result ≡ is_held (databases members.now) id.now }
+{
+    for member in members {
+        if holds(member, id) {
+            return true;
+        }
+    }
+    false
+}
+
+/// Whether a database has a tombstone of the node at or after a time.
+fn is_deleted_from(member: &Database, id: &Uuid, time: u64) -> bool
+    ensures { result ≡ is_from time (table.get member.now.tombs id.now) }
+{
+    match member.tombs.get(id) {
+        Some(deleted) => deleted.seconds() >= time,
+        None => false,
+    }
+}
+
+/// Whether some member has a tombstone of the node at or after its stamp.
+fn is_buried(members: &[Database], id: &Uuid) -> bool
+    ensures { result ≡ buried (databases members.now) id.now }
+{
+    let time = stamp(members, id);
+    for member in members {
+        if is_deleted_from(member, id, time) {
+            return true;
+        }
+    }
+    false
+}
+
+/// Whether a node is own: it is the root, or a member holds it and none has a tombstone of it at or
+/// after its stamp.
+#[tactic(auto, unfolding(vault_model::specs::Join::own))]
+pub fn is_own(members: &[Database], id: &Uuid) -> bool
+    requires { 0 < length members.now }
+    ensures { result ≡ own (databases members.now) id.now }
+{
+    is_same(id, &members[0].root) || is_held(members, id) && !is_buried(members, id)
+}
+
+/// All ids that a member holds, those of entries before those of groups, member by member.
+pub(crate) fn all_ids(alloc: Global, members: &[Database]) -> Result<Vec<Uuid>, NoMemory>
+    ensures { IfOk result (λ us. us.items ≡ ids (databases members.now)) }
+{
+    let mut held = Vec::new(alloc);
+    for member in members {
+        push_both(&mut held, &member.entries, &member.groups)?;
+    }
+    Ok(held)
+}
+
+/// All ids that a member knows of, those of nodes, of places and of tombstones.
+pub(crate) fn known_ids(alloc: Global, members: &[Database]) -> Result<Vec<Uuid>, NoMemory>
+    ensures { IfOk result (λ us. us.items ≡ known_ids (databases members.now)) }
+{
+    let mut known = Vec::new(alloc);
+    for member in members {
+        push_both(&mut known, &member.entries, &member.groups)?;
+        push_both(&mut known, &member.places, &member.tombs)?;
+    }
+    Ok(known)
+}
+
+/// Whether a node is among another one and those that so many steps up lead to.
+pub(crate) fn is_on_trail(members: &[Database], steps: usize, from: Uuid, id: &Uuid) -> bool
+    ensures { result ≡ list_any (is_id id.now) (trail (databases members.now) steps from) }
+{
+    let mut left = steps;
+    let mut at = from;
+    while left > 0 {
+        if is_same(id, &at) {
+            return true;
+        }
+        at = above(members, &at);
+        left -= 1;
+    }
+    is_same(id, &at)
+}
+
+/// Whether a node is kept: it is on the path of an own node.
+#[tactic(auto, unfolding(vault_model::specs::Join::kept))]
+pub(crate) fn is_kept(members: &[Database], held: &[Uuid], id: &Uuid) -> bool
+    requires some { 0 < length members.now }
+    requires held { held.now ≡ ids (databases members.now) }
+    ensures { result ≡ kept (databases members.now) id.now }
+{
+    for own in held {
+        if is_own(members, own) && is_on_trail(members, held.len(), *own, id) {
+            return true;
+        }
+    }
+    false
+}

@@ -1,7 +1,0 @@
-use Rattle.std.proofs.Common.{◌≡◌, ◌++◌, drop}
-use Rattle.vault_model.specs.Join.{ids}
-use Rattle.slow_tables.specs.Databases.{databases}
-use Rattle.slow_join.proofs.nodes.all_ids.Given as goal
-
-abbrev pub invariant-loop-member : goal.invariant-loop-member
-invariant-loop-member l = ids (databases l.members) ≡ l.held.items ++ ids (databases (drop l.member-index l.members))
