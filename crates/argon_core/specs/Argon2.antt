@@ -14,22 +14,39 @@ use Rattle.argon_core.specs.declared.params.ArgonFail.TheVariants.{Passes, Lanes
 use Rattle.argon_core.specs.declared.params.ArgonParams.{ArgonParams}
 use Rattle.argon_core.specs.declared.params.Instance.{Instance}
 
+-- the limits of this implementation: the most lanes, the least memory of a lane and the most in all
+-- (in units of 1,024 bytes), the fewest and the most bytes of a salt
+abbrev pub max_lanes : ℕ
+max_lanes = 1024
+
+abbrev pub min_lane_kib : ℕ
+min_lane_kib = 8
+
+abbrev pub max_kib : ℕ
+max_kib = 1048576
+
+abbrev pub min_salt : ℕ
+min_salt = 8
+
+abbrev pub max_salt : ℕ
+max_salt = 1024
+
 -- the limits of the parameters: each costs at least the smallest amount, and at most what this
 -- implementation allows
 pub record IsWithinLimits (p : ArgonParams) : Type 0 where
   pub some_passes : 0 < p.passes
   pub some_lanes : 1 ≤ p.lanes
-  pub few_lanes : p.lanes ≤ 1024
-  pub enough_memory : 8 * p.lanes ≤ p.kib
-  pub little_memory : p.kib ≤ 1048576
+  pub few_lanes : p.lanes ≤ max_lanes
+  pub enough_memory : min_lane_kib * p.lanes ≤ p.kib
+  pub little_memory : p.kib ≤ max_kib
 
 -- the first limit that the parameters or a salt of this many bytes do not keep, if there is one
 abbrev pub first_unmet : ArgonParams → ℕ → Option ArgonFail
 first_unmet p salt_len =
     if p.passes == 0 then Some (Passes p.passes)
-    else if (p.lanes == 0) || nat_lt 1024 p.lanes then Some (Lanes p.lanes)
-    else if nat_lt p.kib (8 * p.lanes) || nat_lt 1048576 p.kib then Some (Kib p.kib)
-    else if nat_lt salt_len 8 || nat_lt 1024 salt_len then Some (Salt salt_len)
+    else if (p.lanes == 0) || nat_lt max_lanes p.lanes then Some (Lanes p.lanes)
+    else if nat_lt p.kib (min_lane_kib * p.lanes) || nat_lt max_kib p.kib then Some (Kib p.kib)
+    else if nat_lt salt_len min_salt || nat_lt max_salt salt_len then Some (Salt salt_len)
     else None
 
 -- the number of a type (3.1)

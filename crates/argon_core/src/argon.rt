@@ -6,6 +6,7 @@ ghost use Rattle.argon_core.specs.Argon2.{IsWithinLimits, argon2, first_unmet, t
 use crate::hashes::{first_hash, tag};
 use crate::memory::Memory;
 use crate::params::{ArgonFail, ArgonKind, ArgonParams, Instance};
+use crate::params::{MAX_KIB, MAX_LANES, MAX_SALT, MIN_LANE_KIB, MIN_SALT};
 use secret_core::Key;
 use std::alloc::Global;
 
@@ -17,11 +18,11 @@ fn first_unmet(params: &ArgonParams, salt_len: usize) -> Option<ArgonFail>
     let ArgonParams { passes, kib, lanes } = *params;
     if passes == 0 {
         Some(ArgonFail::Passes(passes))
-    } else if lanes == 0 || lanes > 1024 {
+    } else if lanes == 0 || lanes > MAX_LANES {
         Some(ArgonFail::Lanes(lanes))
-    } else if kib < 8 * lanes || kib > 1_048_576 {
+    } else if kib < MIN_LANE_KIB * lanes || kib > MAX_KIB {
         Some(ArgonFail::Kib(kib))
-    } else if salt_len < 8 || salt_len > 1024 {
+    } else if salt_len < MIN_SALT || salt_len > MAX_SALT {
         Some(ArgonFail::Salt(salt_len))
     } else {
         None

@@ -2,6 +2,21 @@
 
 use secret_core::Key64;
 
+/// The most lanes of Argon2 that are allowed.
+pub const MAX_LANES: u32 = 1024;
+
+/// The least memory of a lane, in units of 1,024 bytes.
+pub const MIN_LANE_KIB: u32 = 8;
+
+/// The most memory that is allowed, in units of 1,024 bytes.
+pub const MAX_KIB: u32 = 1_048_576;
+
+/// The fewest bytes of a salt.
+pub const MIN_SALT: usize = 8;
+
+/// The most bytes of a salt that are allowed.
+pub const MAX_SALT: usize = 1024;
+
 /// A type of Argon2: how the blocks to mix in are chosen.
 #[derive(Clone, Copy, Debug, PartialEq, Eq)]
 pub enum ArgonKind {

@@ -1,5 +1,6 @@
 -- Which costs of a key derivation function are allowed.
 use Rattle.std.specs.Prelude.{◌≡◌, ℕ, ◌*◌, length, Result, Ok, Err, if◌then◌else◌, ◌||◌, nat_lt}
+use Rattle.argon_core.specs.Argon2.{max_kib, max_lanes, max_salt, min_lane_kib, min_salt}
 use Rattle.key_core.specs.declared.kdf.Kdf.{Kdf}
 use Rattle.key_core.specs.declared.kdf.Kdf.TheVariants.{Aes, Argon}
 use Rattle.key_core.specs.declared.kdf.KdfField.{KdfField}
@@ -16,9 +17,9 @@ within field least most n next = if nat_lt n least
 abbrev pub checked_argon : ℕ → ℕ → ℕ → ℕ → Result Unit KdfFail
 checked_argon passes bytes lanes salt_len =
     within Passes 1 4294967295 passes (
-    within Memory (8192 * lanes) 1073741824 bytes (
-    within Lanes 1 1024 lanes (
-    within Salt 8 1024 salt_len (Ok tt))))
+    within Memory (1024 * min_lane_kib * lanes) (1024 * max_kib) bytes (
+    within Lanes 1 max_lanes lanes (
+    within Salt min_salt max_salt salt_len (Ok tt))))
 
 -- whether all numbers are within their limits, or the first that is not
 abbrev pub checked_kdf : Kdf → Result Unit KdfFail

@@ -4,7 +4,7 @@
 ghost use Rattle.std.specs.Prelude.{◌≡◌};
 ghost use Rattle.key_core.specs.Kdf.{checked_argon, checked_kdf};
 
-use argon_core::ArgonKind;
+use argon_core::{ArgonKind, MAX_KIB, MAX_LANES, MAX_SALT, MIN_LANE_KIB, MIN_SALT};
 use outside_core::Bytes;
 
 /// The most rounds of AES.
@@ -14,19 +14,10 @@ const MAX_ROUNDS: u64 = 4_294_967_296;
 const MAX_PASSES: u64 = 4_294_967_295;
 
 /// The least memory of Argon2 for a lane, in bytes.
-const MIN_LANE_BYTES: u64 = 8192;
+const MIN_LANE_BYTES: u64 = 1024 * MIN_LANE_KIB as u64;
 
 /// The most memory of Argon2, in bytes.
-const MAX_BYTES: u64 = 1_073_741_824;
-
-/// The most lanes of Argon2.
-const MAX_LANES: u32 = 1024;
-
-/// The shortest salt of Argon2, in bytes.
-const MIN_SALT: usize = 8;
-
-/// The longest salt of Argon2, in bytes.
-const MAX_SALT: usize = 1024;
+const MAX_BYTES: u64 = 1024 * MAX_KIB as u64;
 
 /// A key derivation function with its costs, as a vault file names it.
 #[derive(Debug, Drop)]
