@@ -16,7 +16,7 @@ use std::alloc::Global;
 use vault_model::FileVersion;
 
 /// How many bytes of a file its header may reach into, with its hash and its HMAC.
-const LIMIT: usize = 65_536;
+pub const HEADER_LIMIT: usize = 65_536;
 
 /// The bytes that a file begins with.
 const SIGNATURE: [u8; 8] = [0x03, 0xD9, 0xA2, 0x9A, 0x67, 0xFB, 0x4B, 0xB5];
@@ -125,10 +125,10 @@ fn prefix(text: &[u8]) -> &[u8]
     ensures limit { length result.now ≤ header_limit }
     ensures within { length result.now ≤ length text.now }
 {
-    if text.len() < LIMIT {
+    if text.len() < HEADER_LIMIT {
         text
     } else {
-        &text[..LIMIT]
+        &text[..HEADER_LIMIT]
     }
 }
 

@@ -17,7 +17,7 @@ ghost use Rattle.kdbx_payload_seal.specs.Parts.{AreSmall, IsUndone, parts_base, 
 use crate::SealPayloadFail;
 use crate::blocks::append_blocks;
 use crate::ciphering::encipher;
-use kdbx_frame::Settings;
+use kdbx_frame::{HEADER_LIMIT, Settings};
 use kdbx_payload::header_mac;
 use kdbx_writing::{Draws, inner_len, with_salt, write_header, write_inner};
 use key_core::{FileKeys, file_keys, transform};
@@ -28,7 +28,7 @@ use std::alloc::Global;
 use vault_model::PoolItem;
 
 /// How many bytes of a file its header may reach into, with its hash and its MAC.
-const LIMIT: u64 = 65_536;
+const LIMIT: u64 = HEADER_LIMIT as u64;
 
 // Appends a header with its hash and its MAC, and a content in blocks, to the draft.
 fn append_file<F: FileStore>(
