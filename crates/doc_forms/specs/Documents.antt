@@ -130,9 +130,9 @@ resolved_with form pool meta tree tombs = do
   )
 
 -- the same with the binaries that the file keeps apart, or the document's own
-abbrev pub resolved_tree : DocForm → List (List ℕ × Bool) → MetaParts → ReadTree → List Tombstone
+abbrev pub resolved_parts : DocForm → List (List ℕ × Bool) → MetaParts → ReadTree → List Tombstone
     → Result DocumentAndHash DocFail
-resolved_tree form given meta tree tombs = resolved_with form (pool_from form given meta.binaries)
+resolved_parts form given meta tree tombs = resolved_with form (pool_from form given meta.binaries)
     meta tree tombs
 
 -- what the parts of a text make, or the first refusal after its end
@@ -142,7 +142,7 @@ resolved_document form given parts = do
   file ← required_part KeePassFile parts
   root ← required_part Root file.root
   tree ← required_part Group root.tree
-  resolved_tree form given file.meta tree root.tombs
+  resolved_parts form given file.meta tree root.tombs
 
 -- what a text says, read with binaries that the file keeps apart, or its first refusal
 abbrev pub document : Setting → List (List ℕ × Bool) → List ℕ → Result DocumentAndHash DocFail

@@ -148,7 +148,7 @@ fn resolved_tree(
     requires meta { is_kept_meta meta.meta ≡ true }
     requires tree { is_kept_tree 127 (draft_seen draft) ≡ true }
     ensures { Returns read_seen result
-        (spec.resolved_tree form (map pool_item given.now) (meta_parts meta) (draft_seen draft)
+        (spec.resolved_parts form (map pool_item given.now) (meta_parts meta) (draft_seen draft)
         tombs.now) }
 {
     let header_hash = hash_of(form, &meta);
