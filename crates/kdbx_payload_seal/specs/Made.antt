@@ -11,7 +11,7 @@ use Rattle.kdbx_spelling.specs.Header.{header_with, settings_with, spelled_heade
 use Rattle.kdbx_spelling.specs.Inner.{spelled_inner}
 use Rattle.kdbx_payload.specs.HeaderMacs.{base_of, header_mac, key_of}
 use Rattle.kdbx_payload.specs.Payloads.{Payload}
-use Rattle.kdbx_payload_seal.specs.Enciphered.{enciphered}
+use Rattle.kdbx_payload_seal.specs.Enciphered.{enciphered_text}
 
 -- A content in pieces of n bytes, of which the last may have fewer; there are `most` at most.
 unfoldable pub pieces_of : ℕ → ℕ → List ℕ → List (List ℕ)
@@ -41,7 +41,7 @@ plain_content d pool text = spelled_inner d.stream pool ++ text
 
 -- A content enciphered under the key of its file's cipher.
 abbrev pub content_of : List ℕ → Settings → Draws → List ℕ → List ℕ
-content_of key s d plain = enciphered s.cipher key d.iv plain
+content_of key s d plain = enciphered_text s.cipher key d.iv plain
 
 -- The file of these settings with these draws, under a composite key, that has this content.
 unfoldable pub made_with : Settings → Draws → List ℕ → List ℕ → List ℕ

@@ -1,6 +1,6 @@
 -- What a file is made from, as the code lends it.
 use Rattle.std.specs.Prelude.{◌≡◌, ℕ, List, Some}
-use Rattle.kdbx_payload.specs.Ciphers.{deciphered}
+use Rattle.kdbx_payload.specs.Ciphers.{deciphered_text}
 use Rattle.kdbx_payload.specs.HeaderMacs.{base_of, key_of}
 use Rattle.kdbx_spelling.specs.Header.{header_with}
 use Rattle.kdbx_payload_seal.specs.declared.sealing.Parts.{Parts}
@@ -25,4 +25,5 @@ parts_key p composite = key_of (header_with p.settings.now p.draws.now) composit
 -- A content that was enciphered is deciphered again.
 abbrev pub IsUndone : List ℕ → Parts → List ℕ → Type 0
 IsUndone key p plain =
-    deciphered p.settings.now.cipher key p.draws.now.iv (parts_content key p plain) ≡ Some plain
+    deciphered_text p.settings.now.cipher key p.draws.now.iv (parts_content key p plain) ≡ Some
+    plain
