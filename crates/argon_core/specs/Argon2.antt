@@ -14,20 +14,23 @@ use Rattle.argon_core.specs.declared.params.ArgonFail.TheVariants.{Passes, Lanes
 use Rattle.argon_core.specs.declared.params.ArgonParams.{ArgonParams}
 use Rattle.argon_core.specs.declared.params.Instance.{Instance}
 
--- the limits of this implementation: the most lanes, the least memory of a lane and the most in all
--- (in units of 1,024 bytes), the fewest and the most bytes of a salt
+-- the most lanes that this implementation allows
 abbrev pub max_lanes : ℕ
 max_lanes = 1024
 
+-- the least memory of a lane, in units of 1,024 bytes
 abbrev pub min_lane_kib : ℕ
 min_lane_kib = 8
 
+-- the most memory that this implementation allows, in units of 1,024 bytes
 abbrev pub max_kib : ℕ
 max_kib = 1048576
 
+-- the fewest bytes of a salt
 abbrev pub min_salt : ℕ
 min_salt = 8
 
+-- the most bytes of a salt that this implementation allows
 abbrev pub max_salt : ℕ
 max_salt = 1024
 
