@@ -1,5 +1,5 @@
 -- Steps of a definition that may be refused: the first refusal, or the next step.
-use Rattle.std.proofs.Common.{◌≡◌, Bool, true, false, Option, None, Some, Result, Ok, Err, refl, sym, ap, ◌∙◌}
+use Rattle.std.proofs.Common.{◌≡◌, Bool, true, false, Option, None, Some, Result, Ok, Err, ap}
 use Rattle.outside_core.specs.Results.{◌>>=◌}
 use Rattle.tree_changes.specs.declared.fails.TreeFail.{TreeFail}
 use Rattle.tree_changes.specs.declared.fails.TreeFail.TheVariants.{NoSuchPath}
