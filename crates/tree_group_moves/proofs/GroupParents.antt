@@ -28,7 +28,7 @@ root_has u (node v r es ts) p = or_left (is_id v u) (have_group u ts) p
 with_root : (u : NodeId) (t : Tree) → is_id (id_of t) u ≡ true → group_with u t ≡ Some t
 with_root u (node v r es ts) p = ap (λ c. cond c (Some (node v r es ts)) (group_among u ts)) p
 
-own_has : (u : NodeId) (c : Tree) (ts : Trees) → own_group u ts ≡ Some c → have_group u ts ≡ true
+pub own_has : (u : NodeId) (c : Tree) (ts : Trees) → own_group u ts ≡ Some c → have_group u ts ≡ true
 own_has u c none h = never c h
 own_has u c (beside t ts) h =
     elim (decide (is_id (id_of t) u)) [
@@ -36,7 +36,7 @@ own_has u c (beside t ts) h =
       | inr p ↦ or_right (has_group u t) (have_group u ts) (own_has u c ts (ap (λ b. cond b (Some t) (own_group u ts)) (sym p) ∙ h))
     ]
 
-flipped : (u v : NodeId) → is_id u v ≡ true → is_id v u ≡ true
+pub flipped : (u v : NodeId) → is_id u v ≡ true → is_id v u ≡ true
 flipped u v p = is_same_id v u (sym (same_id u v p))
 
 -- what later groups have, the first does not
