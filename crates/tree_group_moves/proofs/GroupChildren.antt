@@ -229,7 +229,7 @@ module _ (from to u : NodeId) (time : ℕ) (old hole g : Tree) (other : from ≢
   no_nil_left =
       let f = found_child from u old g there in
       let change = occurs_change nil_id old rest f.0 (without_group u f.0)
-          (rows_change node_ids node_ids_all ids_rows from (without_group u) old f.0 f.1.0 (take_root u f.0 ∙ found_id from old f.0 f.1.0)) in
+      (rows_change node_ids node_ids_all ids_rows from (without_group u) old f.0 f.1.0 (take_root u f.0 ∙ found_id from old f.0 f.1.0)) in
       let less = take_counts nil_id u g f.0 f.1.1 in
       let zero = elsewhere_occurs old nil_id no_nil in
       omega (arith, change, less, zero)

@@ -64,12 +64,7 @@ fn move_group_in(
 }
 
 /// Since when a group is in a group of this tree that it is moved to; or why it is not moved there.
-pub fn time_of_move(
-    root: &Group,
-    to: Uuid,
-    moving: &Group,
-    now: Stamp,
-) -> Result<Stamp, TreeFail>
+pub fn time_of_move(root: &Group, to: Uuid, moving: &Group, now: Stamp) -> Result<Stamp, TreeFail>
     ensures { result ≡ places.time_of_move to (tree_seen moving.now) now (tree_seen root.now) }
 {
     if has_group(moving, to) {

@@ -144,7 +144,7 @@ module _ (from u bin : NodeId) (now : ℕ) (old : Tree) (there : IsSome (group_a
   moved_counts g at x =
       let f = found_child from u old g at in
       let change = occurs_change x old (changed_at from (without_group u) old) f.0 (without_group u f.0)
-          (rows_change node_ids _ ids_rows from (without_group u) old f.0 f.1.0 (take_root u f.0 ∙ found_id from old f.0 f.1.0)) in
+      (rows_change node_ids _ ids_rows from (without_group u) old f.0 f.1.0 (take_root u f.0 ∙ found_id from old f.0 f.1.0)) in
       let less = take_counts x u g f.0 f.1.1 in
       omega (arith, change, less)
 

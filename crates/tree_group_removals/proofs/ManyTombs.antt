@@ -85,7 +85,7 @@ mutual
 tombs_count : (now : ℕ) (x : NodeId) (t : Tree) → occurs x (ids (tombs_of now t)) ≡ occurs x (node_ids t)
 tombs_count now x t =
     let both = ap (occurs x) (map_append (λ (y : Tombstone). y.id) (map (entry_tomb now) (entry_rows t)) (map (group_tomb now) (group_rows t)))
-        ∙ occurs-append x (ids (map (entry_tomb now) (entry_rows t))) (ids (map (group_tomb now) (group_rows t))) in
+    ∙ occurs-append x (ids (map (entry_tomb now) (entry_rows t))) (ids (map (group_tomb now) (group_rows t))) in
     let es = ap (occurs x) (entry_ids now (entry_rows t)) in
     let gs = ap (occurs x) (group_ids now (group_rows t)) in
     let all = rows_count x t in

@@ -22,11 +22,7 @@ fn copy_tombs(alloc: Global, tombs: &[Tombstone]) -> Result<List<Tombstone>, NoM
 }
 
 // Puts the tombstones of a group and of all groups below it among others, those of the last first.
-fn bury_groups(
-    tombs: &mut List<Tombstone>,
-    group: &Group,
-    now: Stamp,
-) -> Result<(), NoMemory>
+fn bury_groups(tombs: &mut List<Tombstone>, group: &Group, now: Stamp) -> Result<(), NoMemory>
     ensures { OnOk result (tombs.new
         ≡ groups_buried now (group_rows (tree_seen group.now)) tombs.old) }
 {
@@ -66,11 +62,7 @@ fn bury_own_entries(
 }
 
 // Puts the tombstones of all entries in a group and below it among others, those of the last first.
-fn bury_entries(
-    tombs: &mut List<Tombstone>,
-    group: &Group,
-    now: Stamp,
-) -> Result<(), NoMemory>
+fn bury_entries(tombs: &mut List<Tombstone>, group: &Group, now: Stamp) -> Result<(), NoMemory>
     ensures { OnOk result (tombs.new
         ≡ entries_buried now (entry_rows (tree_seen group.now)) tombs.old) }
 {

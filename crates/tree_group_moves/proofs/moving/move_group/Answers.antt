@@ -19,9 +19,11 @@ returns-in_default-parent_of c =
     let found = sym c.find_group.ensures ∙ c.in-Some.is in
     let goal = sym c.find_group-2.ensures ∙ c.in-Some-find_group.is in
     let g = found_group c.in-Some.id d.tree (named_group d c.args.path.now c.in-Some.id found) in
-    let off = sym c.parent_of.ensures ∙ c.in_default-parent_of.is in
-    (refl, inl (fixed c.args.path.now c.args.group.now c.args.now d c.in-Some.id g.0 found g.1 c.in-Some-find_group.to goal (ap (is_parent c.in-Some-find_group.to) off)
-    (no_parent_fixed d (is_doc c.args.doc.now) c.in-Some.id g.0 off g.1)))
+    let off = sym c.parent_of.ensures ∙ c.in_default-parent_of.is in (
+      refl,
+      inl (fixed c.args.path.now c.args.group.now c.args.now d c.in-Some.id g.0 found g.1 c.in-Some-find_group.to goal (ap (is_parent c.in-Some-find_group.to) off)
+          (no_parent_fixed d (is_doc c.args.doc.now) c.in-Some.id g.0 off g.1)),
+    )
 
 pub returns-then-is_same : goal.returns-then-is_same
 returns-then-is_same c =
@@ -29,9 +31,11 @@ returns-then-is_same c =
     let found = sym c.find_group.ensures ∙ c.in-Some.is in
     let goal = sym c.find_group-2.ensures ∙ c.in-Some-find_group.is in
     let g = found_group c.in-Some.id d.tree (named_group d c.args.path.now c.in-Some.id found) in
-    let has = sym c.parent_of.ensures ∙ c.in-Some-parent_of.is in
-    (refl, inl (already c.args.path.now c.args.group.now c.args.now d c.in-Some.id g.0 found g.1 c.in-Some-find_group.to goal
-    (ap (is_parent c.in-Some-find_group.to) has ∙ sym c.is_same.ensures ∙ c.if-is_same.true)))
+    let has = sym c.parent_of.ensures ∙ c.in-Some-parent_of.is in (
+      refl,
+      inl (already c.args.path.now c.args.group.now c.args.now d c.in-Some.id g.0 found g.1 c.in-Some-find_group.to goal
+          (ap (is_parent c.in-Some-find_group.to) has ∙ sym c.is_same.ensures ∙ c.if-is_same.true)),
+    )
 
 pub move_found-requires-clause-other : goal.move_found-requires-clause-other
 move_found-requires-clause-other c =
@@ -49,6 +53,6 @@ returns c =
     let g = found_group c.in-Some.id d.tree (named_group d c.args.path.now c.in-Some.id found) in
     let has = sym c.parent_of.ensures ∙ c.in-Some-parent_of.is in
     let done = moves_on c.args.path.now c.args.group.now c.args.now d c.in-Some.id g.0 found g.1 c.in-Some-find_group.to goal
-        (ap (is_parent c.in-Some-find_group.to) has ∙ sym c.is_same.ensures ∙ c.if-is_same.false) (parent_moves d (is_doc c.args.doc.now) c.in-Some.id c.in-Some-parent_of.from has) in
+    (ap (is_parent c.in-Some-find_group.to) has ∙ sym c.is_same.ensures ∙ c.if-is_same.false) (parent_moves d (is_doc c.args.doc.now) c.in-Some.id c.in-Some-parent_of.from has) in
     subst (λ (a : Result BareDoc TreeFail). Changes a c.move_found.result d (doc_seen c.move_found.new.doc)) (sym done)
     (subst (λ (o : Option Tree). IfSome o (λ x. Changes (group_moved_to c.in-Some-find_group.to x c.args.now d) c.move_found.result d (doc_seen c.move_found.new.doc))) g.1 c.move_found.ensures)

@@ -15,7 +15,7 @@ invariant_of-doc c =
     let d = doc_seen c.args.doc.now in
     let g = some_of (group_with c.args.id d.tree) c.requires.there in
     let h = bury_is_doc d (is_doc c.args.doc.now) c.args.parent c.args.id c.args.now g.0 (tree_seen c.bury_group.new.root) c.bury_group.new.tombs c.bury_group.result g.1
-        (parent_child d (is_doc c.args.doc.now) c.args.id c.args.parent g.0 c.requires.parent g.1) c.bury_group.ensures in
+    (parent_child d (is_doc c.args.doc.now) c.args.id c.args.parent g.0 c.requires.parent g.1) c.bury_group.ensures in
     record {
       distinct = h.distinct;
       no_nil = h.no_nil;

@@ -77,8 +77,8 @@ invariant_of-doc-2 c =
     let there = sym c.group_of.ensures ∙ ap (option_map (λ found. tree_seen found.now)) c.in-Some.is in
     let at = parent_child d (is_doc c.args.doc.now) c.args.id c.args.from g c.requires.parent there in
     let h = into_bin_is_doc d (is_doc c.args.doc.now) c.args.from c.args.id c.args.bin c.args.now c.in_ok-time.time g (tree_seen c.move_to_new_bin.new.root) (sym c.is_free.ensures ∙ c.if-not-is_free.false) at
-        (fits d g c.args.now c.args.bin c.requires.absent (absent_inside c.args.id (bin_of d) d.tree g there c.requires.absent) (sym c.fits.ensures ∙ c.if-not-fits.false))
-        c.in_ok-move_to_new_bin.ensures in
+    (fits d g c.args.now c.args.bin c.requires.absent (absent_inside c.args.id (bin_of d) d.tree g there c.requires.absent) (sym c.fits.ensures ∙ c.if-not-fits.false))
+    c.in_ok-move_to_new_bin.ensures in
     record {
       distinct = h.distinct;
       no_nil = h.no_nil;
@@ -104,10 +104,10 @@ returns c =
     let off = free_elsewhere bin d free in
     let parent = parent_of_last c.args.id (empty_bin bin c.args.now) d.tree (u_off_bin c.args.from c.args.id bin c.args.now d.tree (ap is_some at) off) ∙ c.requires.parent in
     let made = subst (λ (o : Option Tree). IfSome o (λ x. tree_seen c.move_to_new_bin.new.root ≡ group_moved c.args.from bin c.in_ok-time.time x (with_bin_in bin c.args.now d.tree))) at
-        c.in_ok-move_to_new_bin.ensures in
+    c.in_ok-move_to_new_bin.ensures in
     let done = new_done d g c.args.now bin c.requires.absent outside (sym c.fits.ensures ∙ c.if-not-fits.false) free c.in_ok-since.since (sym c.time_after.ensures ∙ c.in_ok-since.was)
-        (absent_inside c.args.id bin d.tree g there (free_absent bin d free)) (level_of_last bin (empty_bin bin c.args.now) d.tree refl (free_absent bin d free)) c.args.id c.args.from c.in_ok-time.time
-        (ap (time_after c.args.now) (ap placed_of (seen_group c.in-Some.moving.now)) ∙ sym c.time_after-2.ensures ∙ c.in_ok-time.was) (found_id c.args.id d.tree g there) parent in
+    (absent_inside c.args.id bin d.tree g there (free_absent bin d free)) (level_of_last bin (empty_bin bin c.args.now) d.tree refl (free_absent bin d free)) c.args.id c.args.from c.in_ok-time.time
+    (ap (time_after c.args.now) (ap placed_of (seen_group c.in-Some.moving.now)) ∙ sym c.time_after-2.ensures ∙ c.in_ok-time.was) (found_id c.args.id d.tree g there) parent in
     subst (λ (o : Option Tree). IfSome o (λ x. Removes (group_recycled (Some bin) x c.args.now d) (Ok Recycled) d
     (record (ready d g c.args.now bin c.requires.absent outside c.in_ok-since.since) { tree = tree_seen c.move_to_new_bin.new.root }))) (sym there)
     (done ∙ ap (λ t. Ok (record { removed = Recycled; doc = record (ready d g c.args.now bin c.requires.absent outside c.in_ok-since.since) { tree = t } })) (sym made))

@@ -31,7 +31,7 @@ returns-then-not-is_recycled c =
     let g = found_group c.in-Some.id d.tree (named_group d c.args.path.now c.in-Some.id found) in
     let has = sym c.parent_of.ensures ∙ c.in-Some-parent_of.is in
     let done = is_deleted c.args.path.now c.args.bin c.args.now d c.in-Some.id g.0 found g.1 (parent_moves d (is_doc c.args.doc.now) c.in-Some.id c.in-Some-parent_of.from has)
-        (sym c.is_recycled.ensures ∙ c.if-not-is_recycled.true) in
+    (sym c.is_recycled.ensures ∙ c.if-not-is_recycled.true) in
     subst (λ (a : Result AfterRemoval TreeFail). Removes a c.delete_group.result d (doc_seen c.delete_group.new.doc)) (sym done)
     (subst (λ (o : Option Tree). IfSome o (λ x. Removes (Ok (group_deleted x c.args.now d)) c.delete_group.result d (doc_seen c.delete_group.new.doc))) g.1 c.delete_group.ensures)
 
@@ -49,7 +49,7 @@ returns-in-Some-bin c =
     let g = found_group c.in-Some.id d.tree (named_group d c.args.path.now c.in-Some.id found) in
     let has = sym c.parent_of.ensures ∙ c.in-Some-parent_of.is in
     let done = goes_into_bin c.args.path.now c.args.bin c.args.now d c.in-Some.id g.0 found g.1 (parent_moves d (is_doc c.args.doc.now) c.in-Some.id c.in-Some-parent_of.from has)
-        (sym c.is_recycled.ensures ∙ c.if-not-is_recycled.false) ∙ ap (λ b. group_recycled b g.0 c.args.now d) c.in-Some-bin.is in
+    (sym c.is_recycled.ensures ∙ c.if-not-is_recycled.false) ∙ ap (λ b. group_recycled b g.0 c.args.now d) c.in-Some-bin.is in
     subst (λ (a : Result AfterRemoval TreeFail). Removes a c.recycle_with_new_bin.result d (doc_seen c.recycle_with_new_bin.new.doc)) (sym done)
     (subst (λ (o : Option Tree). IfSome o (λ x. Removes (group_recycled (Some c.in-Some-bin.bin) x c.args.now d) c.recycle_with_new_bin.result d (doc_seen c.recycle_with_new_bin.new.doc))) g.1
     c.recycle_with_new_bin.ensures)
@@ -61,6 +61,6 @@ returns-in-None c =
     let g = found_group c.in-Some.id d.tree (named_group d c.args.path.now c.in-Some.id found) in
     let has = sym c.parent_of.ensures ∙ c.in-Some-parent_of.is in
     let done = goes_into_bin c.args.path.now c.args.bin c.args.now d c.in-Some.id g.0 found g.1 (parent_moves d (is_doc c.args.doc.now) c.in-Some.id c.in-Some-parent_of.from has)
-        (sym c.is_recycled.ensures ∙ c.if-not-is_recycled.false) ∙ ap (λ b. group_recycled b g.0 c.args.now d) c.in-None.is in
+    (sym c.is_recycled.ensures ∙ c.if-not-is_recycled.false) ∙ ap (λ b. group_recycled b g.0 c.args.now d) c.in-None.is in
     subst (λ (a : Result AfterRemoval TreeFail). Removes a c.recycle_group.result d (doc_seen c.recycle_group.new.doc)) (sym done)
     (subst (λ (o : Option Tree). IfSome o (λ x. Removes (group_recycled None x c.args.now d) c.recycle_group.result d (doc_seen c.recycle_group.new.doc))) g.1 c.recycle_group.ensures)
