@@ -35,7 +35,7 @@ def bad_value(place):
 
 
 def whole_characters(text):
-    """The length of the longest front of the bytes that begins some text in UTF-8."""
+    """The length of the longest prefix of the bytes that begins some text in UTF-8."""
     try:
         text.decode("utf-8")
         return len(text)
@@ -119,7 +119,7 @@ class Markup:
             self.until(b"-->")
 
     def reference(self):
-        """The character that a reference behind its `&` stands for."""
+        """The character that a reference means, by what follows its `&`."""
         if self.look() != ord("#"):
             names = {b"amp;": "&", b"lt;": "<", b"gt;": ">", b"quot;": '"', b"apos;": "'"}
             read = b""
@@ -194,7 +194,7 @@ class Markup:
             self.at += 1
 
     def round_the_element(self):
-        """What may stand before and behind the one element, up to a tag's `<` or the end."""
+        """What may come before and after the one element, up to a tag's `<` or the end."""
         while True:
             self.skip_space()
             if self.at >= len(self.text):
@@ -223,7 +223,7 @@ class Markup:
             raise form(self.front)
 
     def element(self, place):
-        """The pieces of an element behind its `<`; elements within it stand on a list, not on Python's stack."""
+        """The pieces of an element after its `<`; elements within it are on a list, not on Python's stack."""
         names = []
         while True:
             name = self.name()
@@ -321,8 +321,8 @@ def node_uuid(text):
 
 node_uuid.needed = True
 
-# ---- containers: for each child its rule, or the table of its own children; ONE that may stand once, MANY that may
-# stand often, and LAST of which the last stands
+# ---- containers: for each child its rule, or the table of its own children; ONE that may occur once, MANY that may
+# occur often, and LAST of which the last counts
 
 
 def last(rule):
@@ -464,11 +464,11 @@ class Reader:
         return element.value is not None
 
 
-# ---- what is tried behind the end of the text
+# ---- what is tried after the end of the text
 
 
 def field(version, key):
-    """The value of a field, of which the last stands; empty without one."""
+    """The value of a field, of which the last counts; empty without one."""
     value = ""
     for string in version.all("String"):
         name = string.one("Key").text if string.one("Key") else ""
@@ -478,7 +478,7 @@ def field(version, key):
 
 
 def references(version):
-    """The numbers to which the attachments that stand refer, with their places."""
+    """The numbers to which the attachments that count refer, with their places."""
     standing = {}
     for attachment in version.all("Binary"):
         key = attachment.one("Key")

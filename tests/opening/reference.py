@@ -6,7 +6,7 @@
     reference.py --rows      answers each row of the tables, and prints the rows that say something else
 
 Documents are read by tests/damaged/reference.py. The ciphers and Argon2 are those of Debian's python3-pycryptodome,
-python3-argon2 and, for Twofish, python3-pykeepass; all else stands here."""
+python3-argon2 and, for Twofish, python3-pykeepass; all else is here."""
 import base64, hashlib, hmac, importlib.util, os, re, struct, sys, uuid
 
 sys.dont_write_bytecode = True
@@ -47,7 +47,7 @@ def kept_and_found(kept, computed):
 
 
 class Header:
-    """The fields of a header, where it ends, and the two numbers behind it."""
+    """The fields of a header, where it ends, and the two numbers after it."""
 
     def __init__(self, data):
         if data[:8] != SIGNATURE:
@@ -82,7 +82,7 @@ class Header:
         return number
 
     def settle(self):
-        """What is tried once the header stands whole, in its order."""
+        """What is tried once the header is whole, in its order."""
         computed = sha256(self.data[: self.size])
         if computed != self.hash:
             raise kept_and_found(self.hash, computed)
@@ -134,7 +134,7 @@ def dictionary(content):
 
 
 def needed(items, refusal):
-    """A key that is missing, or stands with another type or, for an id and a seed, another length."""
+    """A key that is missing, or has another type or, for an id and a seed, another length."""
     def stands(key, kind, size=None):
         found = items.get(key, (None, b""))
         return found[0] == kind and size in (None, len(found[1]))
@@ -533,7 +533,7 @@ def unescaped(text):
 
 
 def spelled(text):
-    """Like unescaped, for a text whose characters past ASCII stand as themselves."""
+    """Like unescaped, for a text whose characters past ASCII are written as themselves."""
     return re.sub(rb"\\(x[0-9A-Fa-f]{2}|[nrt\\])", lambda found: unescaped(found[0].decode()), text.encode())
 
 
@@ -558,7 +558,7 @@ def table(name):
 
 
 def input_of(line):
-    """The input of a row: none for `-`, and {N} stands for so many letters a."""
+    """The input of a row: none for `-`, and {N} means so many letters a."""
     return b"" if line == "-" else re.sub(rb"\{(\d+)\}", lambda found: b"a" * int(found[1]), spelled(line))
 
 

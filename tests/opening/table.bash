@@ -15,9 +15,9 @@ changed() {
   esac
 }
 
-# told NAME STATUS WORD...: calls the program with the input that stands in input.txt, and compares its status with STATUS, and
+# called NAME STATUS WORD...: calls the program with the input in input.txt, and compares its status with STATUS, and
 # what it prints with want-out.txt and want-err.txt. FILE, if it is there, must stay as it is.
-told() {
+called() {
   local name=$1 status=$2 got
   shift 2
   rm -f before
@@ -67,7 +67,7 @@ calls() {
     : >want-err.txt
     if [ "$said" = - ]; then said=; fi
     if [ "$status" = 0 ]; then printf '%b' "$said" >want-out.txt; else printf 'keepass: %s\n' "$said" >want-err.txt; fi
-    told "$name" "$status" "${words[@]/#\'\'/}"
+    called "$name" "$status" "${words[@]/#\'\'/}"
   done <"$1"
   rm -f FILE
 }
@@ -80,7 +80,7 @@ listing() {
   if [ -n "$key_file" ]; then credentials+=(-k "$key_file"); fi
   if [ -n "$password" ]; then printf '%s\n' "$password" >input.txt; else credentials+=(--no-password); : >input.txt; fi
   : >want-err.txt
-  told "$name $*" 0 ls "${credentials[@]}" "${@:1:$#-1}" FILE ${group:+"$group"}
+  called "$name $*" 0 ls "${credentials[@]}" "${@:1:$#-1}" FILE ${group:+"$group"}
 }
 
 # listings DATA: each database on the list of a folder, as other programs list it. A file of listings has lines `$ ls` with the

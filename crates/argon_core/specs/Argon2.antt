@@ -6,7 +6,7 @@ use Rattle.std.specs.Prelude.{ℕ, ◌<◌, ◌≤◌, zero, suc, ◌+◌, ◌-�
 use Rattle.argon_core.specs.Words.{words, bytes_of}
 use Rattle.argon_core.specs.Blake2b.{blake2b}
 use Rattle.argon_core.specs.VariableHash.{le32, variable_hash}
-use Rattle.argon_core.specs.Compression.{compressed, xor_blocks}
+use Rattle.argon_core.specs.Compression.{compression, xor_blocks}
 use Rattle.argon_core.specs.declared.params.ArgonKind.{ArgonKind}
 use Rattle.argon_core.specs.declared.params.ArgonKind.TheVariants.{D, Id}
 use Rattle.argon_core.specs.declared.params.ArgonFail.{ArgonFail}
@@ -14,20 +14,23 @@ use Rattle.argon_core.specs.declared.params.ArgonFail.TheVariants.{Passes, Lanes
 use Rattle.argon_core.specs.declared.params.ArgonParams.{ArgonParams}
 use Rattle.argon_core.specs.declared.params.Instance.{Instance}
 
--- the limits of this implementation: the most lanes, the least memory of a lane and the most in all
--- (in units of 1,024 bytes), the fewest and the most bytes of a salt
+-- the most lanes that this implementation allows
 abbrev pub max_lanes : ℕ
 max_lanes = 1024
 
+-- the least memory of a lane, in units of 1,024 bytes
 abbrev pub min_lane_kib : ℕ
 min_lane_kib = 8
 
+-- the most memory that this implementation allows, in units of 1,024 bytes
 abbrev pub max_kib : ℕ
 max_kib = 1048576
 
+-- the fewest bytes of a salt
 abbrev pub min_salt : ℕ
 min_salt = 8
 
+-- the most bytes of a salt that this implementation allows
 abbrev pub max_salt : ℕ
 max_salt = 1024
 
@@ -96,7 +99,7 @@ address_input i pass lane slice counter =
 unfoldable pub address_block : Instance → ℕ → ℕ → ℕ → ℕ → List ℕ
 address_block i pass lane slice counter =
     let zeros = replicate 128 0 in
-    compressed zeros (compressed zeros (address_input i pass lane slice counter))
+    compression zeros (compression zeros (address_input i pass lane slice counter))
 
 -- the lane of the other block, from the value that chooses it: J 2 chooses, but in the first slice
 -- of the first pass it is the own lane (3.4.2)
@@ -149,7 +152,7 @@ mixed_from i seen pass slice lane place =
     let before = seen lane (column_before p column) in
     let chooser = chooser_of i before pass slice lane place in
     let l = other_lane p pass slice lane chooser in
-    let fresh = compressed before (seen l (other_column p pass slice place (l == lane) chooser)) in
+    let fresh = compression before (seen l (other_column p pass slice place (l == lane) chooser)) in
     if pass == 0 then fresh else xor_blocks fresh (seen lane column)
 
 -- the block that is filled in next, at a place of a segment (3.2, steps 3 to 6)

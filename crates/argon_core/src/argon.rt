@@ -5,8 +5,10 @@ ghost use Rattle.argon_core.specs.Argon2.{IsWithinLimits, argon2, first_unmet, t
 
 use crate::hashes::{first_hash, tag};
 use crate::memory::Memory;
-use crate::params::{ArgonFail, ArgonKind, ArgonParams, Instance};
-use crate::params::{MAX_KIB, MAX_LANES, MAX_SALT, MIN_LANE_KIB, MIN_SALT};
+use crate::params::{
+    ArgonFail, ArgonKind, ArgonParams, Instance, MAX_KIB, MAX_LANES, MAX_SALT, MIN_LANE_KIB,
+    MIN_SALT,
+};
 use secret_core::Key;
 use std::alloc::Global;
 

@@ -12,5 +12,6 @@ mod words;
 
 pub use argon::argon2;
 pub use blake::blake2b;
-pub use params::{ArgonFail, ArgonKind, ArgonParams};
-pub use params::{MAX_KIB, MAX_LANES, MAX_SALT, MIN_LANE_KIB, MIN_SALT};
+pub use params::{
+    ArgonFail, ArgonKind, ArgonParams, MAX_KIB, MAX_LANES, MAX_SALT, MIN_LANE_KIB, MIN_SALT,
+};

@@ -30,6 +30,8 @@ Returns meaning view (Err e) defined = Fails (meaning e) defined
 
 -- Steps from a state until one says that it was the last, `n` steps at most; `out` is the error
 -- after them.
-unfoldable pub repeated : {S E : Type 0} → (S → Result (Bool × S) E) → (S → E) → ℕ → S → Result S E
-repeated step out zero s = Err (out s)
-repeated step out (suc n) s = step s >>= λ x. if x.0 then Ok x.1 else repeated step out n x.1
+unfoldable pub repeat_steps : {S E : Type 0} → (S → Result (Bool × S) E) → (S → E) → ℕ → S → Result
+    S E
+repeat_steps step out zero s = Err (out s)
+repeat_steps step out (suc n) s = step s >>= λ x. if x.0 then Ok x.1 else repeat_steps step out n
+    x.1
