@@ -1,5 +1,5 @@
 -- What writing a document gives: its text, or why it is not written.
-use Rattle.std.specs.Prelude.{◌≡◌, ℕ, ◌+◌, nat_lt, if◌then◌else◌, Bool, Option, List, [], length, codes, min, Result, Ok, Err}
+use Rattle.std.specs.Prelude.{◌≡◌, ℕ, ◌+◌, ◌≤◌, nat_lt, if◌then◌else◌, Bool, Option, List, [], length, codes, min, Result, Ok, Err}
 use Rattle.stream_core.specs.InnerStream.{Keystream}
 use Rattle.secret_core.specs.Secret.{SecretBuffer}
 use Rattle.vault_model.specs.Tree.{BareDoc}
@@ -53,3 +53,15 @@ abbrev pub Writes : Result SecretBuffer WriteFail → Result (List ℕ) WriteFai
 Writes (Ok text) defined = defined ≡ Ok text.bytes
 Writes (Err NoMemory) defined = Unit {0}
 Writes (Err e) defined = defined ≡ Err e
+
+-- A document is written, and its text has this length; with the pool it is within the limit.
+pub record IsMeasured (form : DocForm) (k : Keystream) (hash : Option (List ℕ)) (d : BareDoc)
+    (len : ℕ) : Type 0 where
+  pub outcome : write_outcome form k hash d ≡ Ok (spelled_document form k hash d)
+  pub text : len ≡ length (spelled_document form k hash d)
+  pub limit : len + pool_len form (pool_of d) ≤ 134086656
+
+-- The length of the text that is written of a document, or why it is not written.
+abbrev pub Measures : DocForm → Keystream → Option (List ℕ) → BareDoc → Result ℕ WriteFail → Type 0
+Measures form k hash d (Ok len) = IsMeasured form k hash d len
+Measures form k hash d (Err e) = write_outcome form k hash d ≡ Err e

@@ -1,6 +1,6 @@
 //! How many nodes a document has, and how much room its pool takes.
 
-ghost use Rattle.std.specs.Prelude.{◌≡◌, ◌+◌, map, min};
+ghost use Rattle.std.specs.Prelude.{◌≡◌, ◌+◌, ◌≤◌, length, map, min};
 ghost use Rattle.doc_forms.specs.SeenDocuments.{pool_item};
 ghost use Rattle.doc_spelling.specs.Ranges.{count_all, entry_nodes, tree_nodes};
 ghost use Rattle.doc_write.specs.Written.{binary_len, pool_len};
@@ -52,10 +52,12 @@ fn binaries_len(items: &[PoolItem]) -> usize
 
 /// How many bytes the pool takes that the file of a document in this form keeps apart from it.
 pub(crate) fn apart_len(form: DocForm, pool: &Pool<'_>) -> usize
-    ensures { result ≡ min (pool_len form pool.now) usize.MAX }
+    ensures len { result ≡ min (pool_len form pool.now) usize.MAX }
+    ensures few { length pool.now ≤ usize.MAX }
 {
+    let items = pool.items();
     match form {
         DocForm::Plain | DocForm::V3 => 0,
-        DocForm::V4 => binaries_len(pool.items()),
+        DocForm::V4 => binaries_len(items),
     }
 }
