@@ -29,7 +29,7 @@ pool_len _ pool = 0
 abbrev pub written_len : DocForm → Keystream → Option (List ℕ) → BareDoc → ℕ
 written_len form k hash d = length (spelled_document form k hash d) + pool_len form (pool_of d)
 
--- a number, of which the last one of 64 bits stands for every larger one
+-- a number; the last one of 64 bits is given for every larger one
 abbrev pub up_to_u64 : ℕ → ℕ
 up_to_u64 n = min n 18446744073709551615
 
@@ -48,7 +48,7 @@ write_outcome form k hash d =
     then Err (TooMany (up_to_u64 (tree_nodes d.tree)))
     else text_or form k hash d
 
--- a call returns what is defined; want of memory says nothing
+-- a call returns what is defined; running out of memory says nothing
 abbrev pub Writes : Result SecretBuffer WriteFail → Result (List ℕ) WriteFail → Type 0
 Writes (Ok text) defined = defined ≡ Ok text.bytes
 Writes (Err NoMemory) defined = Unit {0}
