@@ -1,0 +1,155 @@
+//! What is chosen for a file, as words write it.
+
+ghost use Rattle.std.specs.Prelude.{◌≡◌, ◌≤◌, IfOk, IfSome, length};
+ghost use Rattle.key_core.specs.Kdf.{IsChecked};
+ghost use Rattle.kdbx_frame.specs.Settings.{IsInOrder, IsVersion4};
+
+use crate::fault::Fault;
+use kdbx_frame::{Cipher, FileVersion, Settings};
+use key_core::{ArgonKind, Kdf, check_kdf};
+use outside_core::Bytes;
+use std::alloc::Global;
+
+/// What is chosen for a file: a version, a cipher, a key derivation with its costs, and how many
+/// bytes of public data the header has, `-` if it has none.
+#[derive(Clone, Copy)]
+pub struct Choices<'a> {
+    pub version: &'a str,
+    pub cipher: &'a str,
+    pub kdf: &'a str,
+    pub public: &'a str,
+}
+
+// The version of a word.
+fn version_of(word: &str) -> Result<FileVersion, Fault>
+    ensures { IfOk result IsVersion4 }
+{
+    match word {
+        "4.0" => Ok(FileVersion::V40),
+        "4.1" => Ok(FileVersion::V41),
+        _ => Err(Fault::BadWord),
+    }
+}
+
+// The cipher of a word.
+fn cipher_of(word: &str) -> Result<Cipher, Fault> {
+    match word {
+        "aes" => Ok(Cipher::Aes),
+        "twofish" => Ok(Cipher::Twofish),
+        "chacha20" => Ok(Cipher::ChaCha),
+        _ => Err(Fault::BadWord),
+    }
+}
+
+// The number of a word.
+fn number_of(word: &str) -> Result<u64, Fault> {
+    match word.parse::<u64>() {
+        Ok(number) => Ok(number),
+        Err(_) => Err(Fault::BadWord),
+    }
+}
+
+// The lanes of a word.
+fn lanes_of(word: &str) -> Result<u32, Fault> {
+    match word.parse::<u32>() {
+        Ok(number) => Ok(number),
+        Err(_) => Err(Fault::BadWord),
+    }
+}
+
+// As many zeros.
+fn zeros(alloc: Global, count: u64) -> Result<Bytes, Fault> {
+    let mut bytes = Bytes::new(alloc);
+    for _ in 0..count {
+        if bytes.push(0).is_err() {
+            return Err(Fault::NoMemory);
+        }
+    }
+    Ok(bytes)
+}
+
+// Argon2 with costs: passes, bytes of memory and lanes, with `/` between them. Its salt is drawn
+// when a file is sealed.
+fn argon_of(alloc: Global, kind: ArgonKind, costs: &str) -> Result<Kdf, Fault> {
+    let Some((passes, rest)) = costs.split_once('/') else {
+        return Err(Fault::BadWord);
+    };
+    let Some((bytes, lanes)) = rest.split_once('/') else {
+        return Err(Fault::BadWord);
+    };
+    Ok(Kdf::Argon {
+        kind,
+        passes: number_of(passes)?,
+        bytes: number_of(bytes)?,
+        lanes: lanes_of(lanes)?,
+        salt: zeros(alloc, 32)?,
+    })
+}
+
+// The key derivation of a name and costs.
+fn named_kdf(alloc: Global, name: &str, costs: &str) -> Result<Kdf, Fault> {
+    match name {
+        "aes" => Ok(Kdf::Aes {
+            rounds: number_of(costs)?,
+            seed: [0; 32],
+        }),
+        "argon2d" => argon_of(alloc, ArgonKind::D, costs),
+        "argon2id" => argon_of(alloc, ArgonKind::Id, costs),
+        _ => Err(Fault::BadWord),
+    }
+}
+
+// The key derivation of a word: its name, and its costs after a `/`.
+fn kdf_of(alloc: Global, word: &str) -> Result<Kdf, Fault>
+    ensures { IfOk result IsChecked }
+{
+    let Some((name, costs)) = word.split_once('/') else {
+        return Err(Fault::BadWord);
+    };
+    let kdf = named_kdf(alloc, name, costs)?;
+    match check_kdf(&kdf) {
+        Ok(()) => Ok(kdf),
+        Err(_) => Err(Fault::BadWord),
+    }
+}
+
+// The public data of a word.
+fn public_of(alloc: Global, word: &str) -> Result<Option<Bytes>, Fault> {
+    if word == "-" {
+        return Ok(None);
+    }
+    let bytes = zeros(alloc, number_of(word)?)?;
+    Ok(Some(bytes))
+}
+
+// Public data that are not longer than a header.
+fn checked_public(public: Option<Bytes>) -> Result<Option<Bytes>, Fault>
+    ensures { IfOk result (λ public. IfSome public (λ bytes. length bytes ≤ 65536)) }
+{
+    match public {
+        Some(bytes) => {
+            if bytes.len() > 65_536 {
+                return Err(Fault::BadWord);
+            }
+            Ok(Some(bytes))
+        }
+        None => Ok(None),
+    }
+}
+
+/// The settings that are chosen.
+pub fn settings_of(alloc: Global, choices: &Choices<'_>) -> Result<Settings, Fault>
+    ensures in_order { IfOk result IsInOrder }
+    ensures version { IfOk result (λ settings. IsVersion4 settings.version) }
+{
+    let version = version_of(choices.version)?;
+    let cipher = cipher_of(choices.cipher)?;
+    let kdf = kdf_of(alloc, choices.kdf)?;
+    let public = checked_public(public_of(alloc, choices.public)?)?;
+    Ok(Settings {
+        version,
+        cipher,
+        kdf,
+        public,
+    })
+}
