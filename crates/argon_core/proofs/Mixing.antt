@@ -1,7 +1,7 @@
 -- How one place of the memory is filled.
 use Rattle.std.proofs.Common.{◌≡◌, ℕ, ◌+◌, ◌*◌, ◌<◌, ◌≤◌, ◌==◌, ◌&&◌, nat_lt, if◌then◌else◌, List, [], slice_index_or, slice_set, refl, ◌∙◌, arith}
 use Rattle.std.proofs.lemmas.Bool.Decides.{nat_tests}
-use Rattle.argon_core.specs.Compression.{compressed, xor_blocks}
+use Rattle.argon_core.specs.Compression.{compression, xor_blocks}
 use Rattle.argon_core.specs.Argon2.{chooser_of, column_before, first_block, mixed_from, next_from, other_column, other_lane, segment_len}
 use Rattle.argon_core.specs.Memory.{place_in, seen_in}
 use Rattle.argon_core.specs.declared.params.Instance.{Instance}
@@ -34,8 +34,8 @@ pub mixed_place : (i : Instance) (memory after : List (List ℕ)) (pass slice la
     → other ≡ place_in i.params (other_lane i.params pass slice lane chooser) (other_column i.params pass slice place (other_lane i.params pass slice lane chooser == lane) chooser)
     → after ≡ slice_set memory here
     (if pass == 0
-    then compressed (slice_index_or memory before []) (slice_index_or memory other [])
-    else xor_blocks (compressed (slice_index_or memory before []) (slice_index_or memory other [])) (slice_index_or memory here []))
+    then compression (slice_index_or memory before []) (slice_index_or memory other [])
+    else xor_blocks (compression (slice_index_or memory before []) (slice_index_or memory other [])) (slice_index_or memory here []))
     → after ≡ slice_set memory (place_in i.params lane (slice * segment_len i.params + place)) (mixed_from i (seen_in i.params memory) pass slice lane place)
 unfolding mixed_from
 mixed_place i memory after pass slice lane place segment here column before chooser other a b c d e f g =

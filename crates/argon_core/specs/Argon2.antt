@@ -6,7 +6,7 @@ use Rattle.std.specs.Prelude.{ℕ, ◌<◌, ◌≤◌, zero, suc, ◌+◌, ◌-�
 use Rattle.argon_core.specs.Words.{words, bytes_of}
 use Rattle.argon_core.specs.Blake2b.{blake2b}
 use Rattle.argon_core.specs.VariableHash.{le32, variable_hash}
-use Rattle.argon_core.specs.Compression.{compressed, xor_blocks}
+use Rattle.argon_core.specs.Compression.{compression, xor_blocks}
 use Rattle.argon_core.specs.declared.params.ArgonKind.{ArgonKind}
 use Rattle.argon_core.specs.declared.params.ArgonKind.TheVariants.{D, Id}
 use Rattle.argon_core.specs.declared.params.ArgonFail.{ArgonFail}
@@ -99,7 +99,7 @@ address_input i pass lane slice counter =
 unfoldable pub address_block : Instance → ℕ → ℕ → ℕ → ℕ → List ℕ
 address_block i pass lane slice counter =
     let zeros = replicate 128 0 in
-    compressed zeros (compressed zeros (address_input i pass lane slice counter))
+    compression zeros (compression zeros (address_input i pass lane slice counter))
 
 -- the lane of the other block, from the value that chooses it: J 2 chooses, but in the first slice
 -- of the first pass it is the own lane (3.4.2)
@@ -152,7 +152,7 @@ mixed_from i seen pass slice lane place =
     let before = seen lane (column_before p column) in
     let chooser = chooser_of i before pass slice lane place in
     let l = other_lane p pass slice lane chooser in
-    let fresh = compressed before (seen l (other_column p pass slice place (l == lane) chooser)) in
+    let fresh = compression before (seen l (other_column p pass slice place (l == lane) chooser)) in
     if pass == 0 then fresh else xor_blocks fresh (seen lane column)
 
 -- the block that is filled in next, at a place of a segment (3.2, steps 3 to 6)

@@ -87,15 +87,15 @@ local_vector h t is_last =
     ∷ 0x5be0cd19137e2179 ∷ []
 
 -- word i of the state h with both halves of the local vector v in it (3.2)
-abbrev pub folded : List ℕ → List ℕ → ℕ → ℕ
-folded h v i = bit_xor (bit_xor (slice_index h i) (slice_index v i)) (slice_index v (i + 8))
+abbrev pub folded_word : List ℕ → List ℕ → ℕ → ℕ
+folded_word h v i = bit_xor (bit_xor (slice_index h i) (slice_index v i)) (slice_index v (i + 8))
 
 -- the compression function F: the state h after the message words m (3.2)
 unfoldable pub compress : List ℕ → List ℕ → ℕ → Bool → List ℕ
 compress h m t is_last =
     let v = rounds m 12 (local_vector h t is_last) in
-    folded h v 0 ∷ folded h v 1 ∷ folded h v 2 ∷ folded h v 3
-    ∷ folded h v 4 ∷ folded h v 5 ∷ folded h v 6 ∷ folded h v 7 ∷ []
+    folded_word h v 0 ∷ folded_word h v 1 ∷ folded_word h v 2 ∷ folded_word h v 3
+    ∷ folded_word h v 4 ∷ folded_word h v 5 ∷ folded_word h v 6 ∷ folded_word h v 7 ∷ []
 
 -- the state before the first block, for a digest of this many bytes and no key (3.3)
 abbrev pub initial_state : ℕ → List ℕ

@@ -56,8 +56,8 @@ mixed_diagonals v =
     ∷ q1.3 ∷ q2.3 ∷ q3.3 ∷ q0.3 ∷ []
 
 -- the permutation P of sixteen words (3.6)
-unfoldable pub permuted : List ℕ → List ℕ
-permuted v = mixed_diagonals (mixed_columns v)
+unfoldable pub permutation : List ℕ → List ℕ
+permutation v = mixed_diagonals (mixed_columns v)
 
 -- the words of row r of a block
 abbrev pub row : List ℕ → ℕ → List ℕ
@@ -85,11 +85,11 @@ column block j =
 
 -- P on each row of a block (3.5)
 unfoldable pub permuted_rows : List ℕ → List ℕ
-permuted_rows block = block_of (λ i. slice_index (permuted (row block (i / 16))) (i % 16))
+permuted_rows block = block_of (λ i. slice_index (permutation (row block (i / 16))) (i % 16))
 
 -- P on each column of a block (3.5)
 unfoldable pub permuted_columns : List ℕ → List ℕ
-permuted_columns block = block_of (λ i. slice_index (permuted (column block (i % 16 / 2)))
+permuted_columns block = block_of (λ i. slice_index (permutation (column block (i % 16 / 2)))
     (2 * (i / 16) + i % 2))
 
 -- the exclusive or of two blocks
@@ -97,5 +97,5 @@ unfoldable pub xor_blocks : List ℕ → List ℕ → List ℕ
 xor_blocks x y = block_of (λ i. bit_xor (slice_index x i) (slice_index y i))
 
 -- G of two blocks (3.5)
-abbrev pub compressed : List ℕ → List ℕ → List ℕ
-compressed x y = let r = xor_blocks x y in xor_blocks (permuted_columns (permuted_rows r)) r
+abbrev pub compression : List ℕ → List ℕ → List ℕ
+compression x y = let r = xor_blocks x y in xor_blocks (permuted_columns (permuted_rows r)) r

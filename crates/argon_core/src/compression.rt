@@ -1,7 +1,7 @@
 //! The compression function G of Argon2 (RFC 9106, 3.5 and 3.6).
 
 ghost use Rattle.std.specs.Prelude.{◌≡◌, ◌≢◌, ℕ, ◌+◌, ◌*◌, ◌/◌, ◌%◌, ◌<◌, slice_index};
-ghost use Rattle.argon_core.specs.Compression.{multiply_add, mix_product, mixed_columns, mixed_diagonals, permuted, row, column, permuted_rows, permuted_columns, xor_blocks, compressed};
+ghost use Rattle.argon_core.specs.Compression.{multiply_add, mix_product, mixed_columns, mixed_diagonals, permutation, row, column, permuted_rows, permuted_columns, xor_blocks, compression};
 
 /// A block of 1,024 bytes, as words.
 pub(crate) type Block = [u64; 128];
@@ -97,9 +97,9 @@ fn mix_diagonals(v: [u64; 16]) -> [u64; 16]
 
 // The permutation P.
 #[inline(always)]
-#[tactic(auto, unfolding(crate::specs::Compression::permuted))]
+#[tactic(auto, unfolding(crate::specs::Compression::permutation))]
 fn permute(v: [u64; 16]) -> [u64; 16]
-    ensures { result ≡ permuted v }
+    ensures { result ≡ permutation v }
 {
     mix_diagonals(mix_columns(v))
 }
@@ -206,7 +206,7 @@ pub(crate) fn xor_into(block: &mut Block, other: &Block)
 
 /// The function G of two blocks.
 pub(crate) fn compress(x: &Block, y: &Block) -> Block
-    ensures { result ≡ compressed x.now y.now }
+    ensures { result ≡ compression x.now y.now }
 {
     let mut mixed = *x;
     xor_into(&mut mixed, y);

@@ -1,7 +1,7 @@
 //! The filling of the memory (RFC 9106, 3.2 and 3.4).
 
 ghost use Rattle.std.specs.Prelude.{◌≡◌, ℕ, ◌+◌, ◌-◌, ◌*◌, ◌/◌, ◌%◌, ◌^◌, ◌<◌, ◌≤◌, ◌==◌, true, List, [], length, slice_index, slice_index_or, slice_set, if◌then◌else◌};
-ghost use Rattle.argon_core.specs.Compression.{compressed, xor_blocks};
+ghost use Rattle.argon_core.specs.Compression.{compression, xor_blocks};
 ghost use Rattle.argon_core.specs.Argon2.{IsWithinLimits, address_block, chooser_of, chosen_place, column_before, is_independent, lane_len, last_blocks, memory_len, mixed_from, next_from, other_column, other_lane, segment_len, window_len, window_start};
 ghost use Rattle.argon_core.specs.Memory.{HoldsBlocks, place_in, seen_in, segment_time};
 
@@ -20,7 +20,7 @@ fn refill(memory: &mut [Block], before: usize, other: usize, at: usize, is_first
     requires other { other < length memory.old }
     requires at { at < length memory.old }
     ensures { memory.new ≡ slice_set memory.old at
-        (let fresh = compressed (slice_index_or memory.old before [])
+        (let fresh = compression (slice_index_or memory.old before [])
         (slice_index_or memory.old other []) in
         if is_first then fresh else xor_blocks fresh (slice_index_or memory.old at [])) }
 {

@@ -4,7 +4,7 @@ ghost use Rattle.std.specs.Prelude.{◌≡◌, ℕ, ◌+◌, ◌*◌, ◌^◌, �
 ghost use Rattle.argon_core.specs.Words.{words, bytes_of};
 ghost use Rattle.argon_core.specs.Hasher.{HasAbsorbed};
 ghost use Rattle.argon_core.specs.Blake2b.{blake2b};
-ghost use Rattle.argon_core.specs.VariableHash.{le32, chained, first_halves, variable_hash};
+ghost use Rattle.argon_core.specs.VariableHash.{le32, hash_chain, first_halves, variable_hash};
 ghost use Rattle.argon_core.specs.Argon2.{first_hash, first_block, type_number, with_len};
 
 use crate::blake::{Hasher, blake2b};
@@ -118,7 +118,7 @@ fn put_last(out: &mut [u8; 1024], hash: &[u8; 64])
 
 // The 1,024 bytes of H' after the first hash V 1: the first halves of V 1 to V 30, and V 31.
 fn lengthen(first: Key64) -> BlockBytes
-    ensures { result.bytes ≡ first_halves first 30 ++ blake2b 64 (chained first 29) }
+    ensures { result.bytes ≡ first_halves first 30 ++ blake2b 64 (hash_chain first 29) }
 {
     let mut out = BlockBytes::zeros();
     let mut hash = first;

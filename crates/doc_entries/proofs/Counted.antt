@@ -1,7 +1,7 @@
 -- An element that has ended and is counted.
 use Rattle.std.proofs.Common.{◌≡◌, ℕ, ◌<◌, length, ap, sym, ◌∙◌, arith, Result, Ok, Err}
 use Rattle.outside_core.specs.Results.{◌>>=◌}
-use Rattle.markup_grammar.specs.Elements.{left}
+use Rattle.markup_grammar.specs.Elements.{open_contents}
 use Rattle.doc_forms.specs.declared.cursor.Cursor.{Cursor}
 use Rattle.doc_forms.specs.declared.fails.DocFail.{DocFail}
 use Rattle.doc_forms.specs.Children.{count_node}
@@ -25,7 +25,7 @@ pub counted_in : {X P Q Z : Type 0} {view : X → Q} {old mid new : Course} {r :
 counted_in {view = view} {new = new} {r = r} {known = known} finish steps counts made = record {
   gives = given_same (λ y. (view y, new.cursor)) r _ _
       (sym (ap (λ d. d >>= λ x. count_node x.1 >>= λ after. finish x.0 after) steps.gives ∙ ap (λ d. d >>= λ after. finish known after) counts.cursor)) made;
-  left = on_ok r (ap left counts.answers ∙ steps.left);
+  left = on_ok r (ap open_contents counts.answers ∙ steps.left);
   shorter = on_ok r (omega (arith, ap length counts.answers, steps.shorter));
   setting = counts.setting ∙ steps.setting;
 }

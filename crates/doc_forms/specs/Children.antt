@@ -1,6 +1,6 @@
 -- The children of an element: each is read by the row of its name, in their order.
 use Rattle.std.specs.Prelude.{ℕ, ◌+◌, Bool, if◌then◌else◌, Option, List, [], ◌∷◌, ◌++◌, nat_lt, bytes_eq, Result, Ok, Err}
-use Rattle.markup_grammar.specs.Elements.{Element, Content, element, last, also, cut, joined}
+use Rattle.markup_grammar.specs.Elements.{Element, Content, element, last, also, cut, own_text}
 use Rattle.doc_forms.specs.declared.cursor.Cursor.{Cursor}
 use Rattle.doc_forms.specs.declared.fails.DocFail.{DocFail}
 use Rattle.doc_forms.specs.declared.fails.DocFail.TheVariants.{TooMany}
@@ -69,7 +69,7 @@ abbrev pub children_and_end : {P : Type 0}
     → Setting → Child P → ℕ → List ℕ → List ℕ → Content → P → Cursor → Result (P × Cursor) DocFail
 children_and_end s child offset raw text content parts cursor = do
   x ← all_children child content parts cursor
-  y ← text_at_end s offset raw (text ++ joined content) x.1
+  y ← text_at_end s offset raw (text ++ own_text content) x.1
   Ok (x.0, y.1)
 
 -- a container: the rows of its children, what is known of it at first, and how it is kept

@@ -3,9 +3,9 @@
 use Rattle.std.specs.Prelude.{ℕ, ◌+◌, Bool, true, false, ◌||◌, if◌then◌else◌, Option, Some, None, List, ◌++◌, length, codes, Result, Ok, Err}
 use Rattle.std.specs.Str.{str_eq_ignore_ascii_case}
 use Rattle.markup_grammar.specs.Attributes.{attribute_text}
-use Rattle.markup_grammar.specs.Elements.{Element, Content, element, last, also, cut, joined}
+use Rattle.markup_grammar.specs.Elements.{Element, Content, element, last, also, cut, own_text}
 use Rattle.stream_core.specs.InnerStream.{Keystream, keystream_byte}
-use Rattle.stream_core.specs.Stream.{xored}
+use Rattle.stream_core.specs.Stream.{xor_stream}
 use Rattle.text_core.specs.Texts.{trim, base64_bytes}
 use Rattle.vault_model.specs.declared.forms.DocForm.{DocForm}
 use Rattle.vault_model.specs.declared.forms.DocForm.TheVariants.{Plain, V3, V4}
@@ -58,7 +58,7 @@ is_hidden raw = is_protected raw || is_marked (codes "ProtectInMemory") raw
 -- hidden bytes in the clear, which follow those that the keystream has hidden before
 abbrev pub revealed_text : Keystream → List ℕ → Cursor → ElementText × Cursor
 revealed_text keystream bytes cursor = (
-  hidden_bytes (xored (keystream_byte keystream) cursor.offset bytes),
+  hidden_bytes (xor_stream (keystream_byte keystream) cursor.offset bytes),
   record cursor { offset = cursor.offset + length bytes },
 )
 
@@ -83,7 +83,7 @@ text_at_end s offset raw text cursor =
 -- the same of an element with this content
 abbrev pub element_text : Setting → ℕ → List ℕ → Content → Cursor
     → Result (ElementText × Cursor) DocFail
-element_text s offset raw content cursor = text_at_end s offset raw (joined content) cursor
+element_text s offset raw content cursor = text_at_end s offset raw (own_text content) cursor
 
 abbrev mutual
   -- an element whose children are passed over: what it says
@@ -101,4 +101,5 @@ abbrev mutual
 abbrev pub read_rest : Setting → ℕ → List ℕ → List ℕ → Content → Cursor
     → Result (ElementText × Cursor) DocFail
 read_rest s offset raw text content cursor =
-    pass_over s content cursor >>= λ after. text_at_end s offset raw (text ++ joined content) after
+    pass_over s content cursor >>= λ after. text_at_end s offset raw (text ++ own_text content)
+    after

@@ -1,6 +1,6 @@
 -- Groups: what their elements say, and the tree that they make.
 use Rattle.std.specs.Prelude.{ℕ, ◌-◌, ◌==◌, Bool, true, false, if◌then◌else◌, Option, Some, None, List, [], ◌∷◌, ◌++◌, codes, bytes_eq, Result, Ok, Err}
-use Rattle.markup_grammar.specs.Elements.{Element, Content, element, last, also, cut, joined}
+use Rattle.markup_grammar.specs.Elements.{Element, Content, element, last, also, cut, own_text}
 use Rattle.vault_model.specs.Db.{NodeId, nil_id}
 use Rattle.vault_model.specs.Shape.{GroupRecord}
 use Rattle.vault_model.specs.declared.contents.GroupContent.{GroupContent}
@@ -154,7 +154,7 @@ abbrev mutual
   pub group : Setting → ℕ → Bool → Element → Cursor → Result (ReadTree × Cursor) DocFail
   group s levels fits (element offset name raw content) cursor =
       group_parts s levels content no_group cursor
-      >>= λ x. group_end s fits offset raw (joined content) x.0 x.1
+      >>= λ x. group_end s fits offset raw (own_text content) x.0 x.1
 
   -- the children of a group
   pub group_parts : Setting → ℕ → Content → GroupParts → Cursor

@@ -1,7 +1,7 @@
 -- Groups: what one is when its children and its end have been read.
 use Rattle.std.specs.Prelude.{if◌then◌else◌}
 use Rattle.std.proofs.Common.{◌≡◌, ℕ, Bool, List, [], ◌∷◌, ◌++◌, length, map, refl, ap, sym, ◌∙◌, subst, arith, Result, Ok, Err}
-use Rattle.markup_grammar.specs.Elements.{Content, last, also, cut, element, joined, inner, left}
+use Rattle.markup_grammar.specs.Elements.{Content, last, also, cut, element, own_text, innermost, open_contents}
 use Rattle.vault_model.specs.Db.{NodeId}
 use Rattle.doc_forms.specs.declared.cursor.Cursor.{Cursor}
 use Rattle.doc_forms.specs.declared.drafts.GroupDraft.{GroupDraft}
@@ -64,9 +64,9 @@ group_as : (s : Setting) (levels : ℕ) (fits : Bool) (offset : ℕ) (name raw :
     → (children_and_end s (group_child s levels) offset raw [] content no_group at >>= closed fits offset) ≡ group s levels fits (element offset name raw content) at
 group_as s levels fits offset name raw content at =
     let all = all_children (group_child s levels) content no_group at in
-    regrouped all (λ x. text_at_end s offset raw (joined content) x.1 >>= λ y. Ok (x.0, y.1)) (closed fits offset)
-    ∙ (bound_same all _ _ (λ x. at_end fits offset x.0 (text_at_end s offset raw (joined content) x.1))
-    ∙ ap (λ r. r >>= λ x. text_at_end s offset raw (joined content) x.1 >>= λ y. (if fits then count_node y.1 else Err (BadValue offset)) >>= λ a. node_id offset x.0.id >>= λ u. Ok (node u (record_of x.0) x.0.entries x.0.groups, a))
+    regrouped all (λ x. text_at_end s offset raw (own_text content) x.1 >>= λ y. Ok (x.0, y.1)) (closed fits offset)
+    ∙ (bound_same all _ _ (λ x. at_end fits offset x.0 (text_at_end s offset raw (own_text content) x.1))
+    ∙ ap (λ r. r >>= λ x. text_at_end s offset raw (own_text content) x.1 >>= λ y. (if fits then count_node y.1 else Err (BadValue offset)) >>= λ a. node_id offset x.0.id >>= λ u. Ok (node u (record_of x.0) x.0.entries x.0.groups, a))
     (sym (parts_all s levels content no_group at)))
 
 -- the children and the end of a group
@@ -74,9 +74,9 @@ abbrev pub children_step : ℕ → Tag → Rest GroupParts
 children_step levels tag = contents_step (λ s. group_child s levels) no_group tag
 
 abbrev as_group : (levels : ℕ) (fits : Bool) (tag : Tag) (old : Course)
-    → (children_step levels tag old.setting (inner (left old.answers)) old.cursor >>= closed fits tag.offset)
-    ≡ group_step levels fits tag old.setting (inner (left old.answers)) old.cursor
-as_group levels fits tag old = group_as old.setting levels fits tag.offset tag.name.now tag.attrs.raw.now (inner (left old.answers)) old.cursor
+    → (children_step levels tag old.setting (innermost (open_contents old.answers)) old.cursor >>= closed fits tag.offset)
+    ≡ group_step levels fits tag old.setting (innermost (open_contents old.answers)) old.cursor
+as_group levels fits tag old = group_as old.setting levels fits tag.offset tag.name.now tag.attrs.raw.now (innermost (open_contents old.answers)) old.cursor
 
 -- they are read where nothing is known of the group
 pub begun : {X : Type 0} (levels : ℕ) (tag : Tag) (old mid : Course) (r : Result X DocFail) (first p : GroupParts) → first ≡ no_group
@@ -91,7 +91,7 @@ pub whole_group : {X : Type 0} (levels : ℕ) (fits : Bool) (tag : Tag) (old mid
     → Steps draft_seen old new (Ok draft) (group_step levels fits tag)
 whole_group levels fits tag old mid new x id p draft steps ids answers setting made = record {
   gives = sym (as_group levels fits tag old) ∙ (ap (λ d. d >>= closed fits tag.offset) steps.gives ∙ (ap (λ d. d >>= tree_of p) ids ∙ ap (λ (t : ReadTree). let r : Result (ReadTree × Cursor) DocFail = Ok (t, new.cursor) in r) (sym made)));
-  left = ap left answers ∙ steps.left;
+  left = ap open_contents answers ∙ steps.left;
   shorter = omega (arith, ap length answers, steps.shorter);
   setting = setting ∙ steps.setting;
 }
@@ -101,7 +101,7 @@ pub children_refused : {X : Type 0} (levels : ℕ) (fits : Bool) (tag : Tag) (ol
     → Steps {X = X} (λ _. p) old mid (Err e) (children_step levels tag)
     → Steps draft_seen old mid (Err e) (group_step levels fits tag)
 children_refused levels fits tag old mid p e steps = record {
-  gives = subst (Fails e) (as_group levels fits tag old) (carried e (children_step levels tag old.setting (inner (left old.answers)) old.cursor) _ (λ same. ap (λ d. d >>= closed fits tag.offset) same) steps.gives);
+  gives = subst (Fails e) (as_group levels fits tag old) (carried e (children_step levels tag old.setting (innermost (open_contents old.answers)) old.cursor) _ (λ same. ap (λ d. d >>= closed fits tag.offset) same) steps.gives);
   left = tt;
   shorter = tt;
   setting = steps.setting;

@@ -3,7 +3,7 @@ use Rattle.std.specs.Prelude.{is_some, not, if◌then◌else◌, option_map}
 use Rattle.std.specs.Result.{result_map_both}
 use Rattle.std.proofs.Common.{◌≡◌, ℕ, Bool, true, false, Option, None, Some, List, [], ◌∷◌, ◌++◌, map, refl, ap, subst, ◌∙◌, Result, Ok, Err}
 use Rattle.outside_core.specs.Results.{◌>>=◌}
-use Rattle.markup_grammar.specs.Elements.{inner, left}
+use Rattle.markup_grammar.specs.Elements.{innermost, open_contents}
 use Rattle.doc_forms.specs.declared.cursor.Cursor.{Cursor}
 use Rattle.doc_forms.specs.declared.fails.DocFail.{DocFail}
 use Rattle.doc_forms.specs.declared.fails.DocFail.TheVariants.{BadValue}
@@ -67,7 +67,7 @@ second_one {view = view} {new = new} {x = x} known offset keep there steps = rec
 pub refused_one : {X Z P Q : Type 0} {view : X → Q} {any : Z → P} {old new : Course} {rest : Rest Q} {e : DocFail} (known : Bool) (offset : ℕ) (keep : Q → P)
     → Steps view old new (Err e) rest → Steps any old new (Err e) (once_rest known offset keep rest)
 refused_one {old = old} {rest = rest} {e = e} known offset keep steps = record {
-  gives = carried e (rest old.setting (inner (left old.answers)) old.cursor) _ (λ same. ap (λ d. d >>= once known offset keep) same) steps.gives;
+  gives = carried e (rest old.setting (innermost (open_contents old.answers)) old.cursor) _ (λ same. ap (λ d. d >>= once known offset keep) same) steps.gives;
   left = tt;
   shorter = tt;
   setting = steps.setting;

@@ -1,7 +1,7 @@
 //! A whole text, up to its end.
 
 ghost use Rattle.std.specs.Prelude.{option_map};
-ghost use Rattle.markup_grammar.specs.Elements.{inner, left};
+ghost use Rattle.markup_grammar.specs.Elements.{innermost, open_contents};
 ghost use Rattle.stream_core.specs.InnerStream.{IsAt};
 ghost use Rattle.doc_forms.specs.Children.{by_name};
 ghost use Rattle.doc_forms.specs.Documents as spec;
@@ -44,7 +44,7 @@ fn document_child(
 /// Reads what is left of a text.
 fn read_rest(known: &mut Option<FileBuilder>, walk: &mut Walk<'_>) -> Result<(), DocFail>
     ensures { Returns (λ _. option_map file_parts known.new) result
-        (parts_left walk.old.setting (inner (left walk.old.answers))
+        (parts_left walk.old.setting (innermost (open_contents walk.old.answers))
         (option_map file_parts known.old) walk.old.cursor) }
 {
     'pieces: loop {

@@ -3,7 +3,7 @@
 use Rattle.std.proofs.Common.{ℕ, ◌+◌, nat_lt, if◌then◌else◌, Bool, true, false, cond, Option, Some, None, List, [], ◌∷◌, ◌++◌, Result, Ok, Err, bytes_eq}
 use Rattle.std.specs.Option.{option_or}
 use Rattle.markup_grammar.specs.Answers.{Answer, start, words, stop, finish, form, depth}
-use Rattle.markup_grammar.specs.Elements.{Element, Content, element, last, also, cut, first_cut, first_cut_in, joined}
+use Rattle.markup_grammar.specs.Elements.{Element, Content, element, last, also, cut, first_cut, first_cut_in, own_text}
 use Rattle.text_core.specs.Texts.{base64_bytes, trim}
 use Rattle.doc_forms.specs.Children.{Child, all_children, by_name, children_and_end, container, count_node, hidden_value, name_of, value, value_by}
 use Rattle.doc_forms.specs.ElementTexts.{ElementText, Setting, element_text, is_hidden, is_protected, may_hide, pass_over, plain_text, read_element, read_rest, revealed_text, text_at_end}
@@ -106,7 +106,7 @@ mutual
   pub element_respects : (s : Setting) (e : Element) (cursor : Cursor) → Respects (first_cut_in e) (read_element s e cursor)
   element_respects s (element offset name raw content) cursor =
       step_then (first_cut content) (pass_over s content cursor) (λ later. element_text s offset raw content later)
-      (content_respects s content cursor) (λ later. end_respects s offset raw (joined content) later)
+      (content_respects s content cursor) (λ later. end_respects s offset raw (own_text content) later)
 
   content_respects : (s : Setting) (content : Content) (cursor : Cursor) → Respects (first_cut content) (pass_over s content cursor)
   content_respects s (last text) cursor = tt
@@ -118,8 +118,8 @@ mutual
 rest_respects : (s : Setting) (offset : ℕ) (raw text : List ℕ) (content : Content) (cursor : Cursor)
     → Respects (first_cut content) (read_rest s offset raw text content cursor)
 rest_respects s offset raw text content cursor =
-    step_then (first_cut content) (pass_over s content cursor) (λ later. text_at_end s offset raw (text ++ joined content) later)
-    (content_respects s content cursor) (λ later. end_respects s offset raw (text ++ joined content) later)
+    step_then (first_cut content) (pass_over s content cursor) (λ later. text_at_end s offset raw (text ++ own_text content) later)
+    (content_respects s content cursor) (λ later. end_respects s offset raw (text ++ own_text content) later)
 
 -- ---- children
 
@@ -153,8 +153,8 @@ pub within_respects : {P : Type 0} (s : Setting) (rows : List (List ℕ × Child
 within_respects s rows h offset raw text content p cursor =
     step_then (first_cut content) (all_children (by_name s rows) content p cursor) _
     (all_respect (by_name s rows) (names_sound s rows h) content p cursor)
-    (λ x. step_then None (text_at_end s offset raw (text ++ joined content) x.1) (λ y. Ok (x.0, y.1))
-    (end_respects s offset raw (text ++ joined content) x.1) (λ y. tt))
+    (λ x. step_then None (text_at_end s offset raw (text ++ own_text content) x.1) (λ y. Ok (x.0, y.1))
+    (end_respects s offset raw (text ++ own_text content) x.1) (λ y. tt))
 
 pub container_sound : {P Q : Type 0} (s : Setting) (rows : List (List ℕ × Child Q)) (first : Q) (keep : P → Q → P) → AreSound rows
     → IsSound (container s rows first keep)

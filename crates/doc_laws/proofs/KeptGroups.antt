@@ -4,7 +4,7 @@ use Rattle.std.proofs.lemmas.Bool.Decides.{nat_tests}
 use lib.Utf8.{encode}
 use Rattle.std.specs.List.{list_all}
 use Rattle.std.specs.Str.{is_utf8, chars}
-use Rattle.markup_grammar.specs.Elements.{Element, Content, element, last, also, cut, joined}
+use Rattle.markup_grammar.specs.Elements.{Element, Content, element, last, also, cut, own_text}
 use Rattle.vault_model.specs.Db.{NodeId, nil_id}
 use Rattle.vault_model.specs.Proper.{is_proper_group_content}
 use Rattle.vault_model.specs.declared.contents.GroupContent.{GroupContent}
@@ -99,7 +99,7 @@ mutual
   group_kept s levels fits (element offset name raw content) cursor =
       step_and_next (λ x. KeptGroup levels x.0) (λ x. is_kept_tree levels x.0 ≡ true) (group_parts s levels content no_group cursor) _
       (parts_kept s levels content no_group cursor (no_group_kept levels))
-      (λ x g. end_kept s levels fits offset raw (joined content) x.0 x.1 g)
+      (λ x g. end_kept s levels fits offset raw (own_text content) x.0 x.1 g)
 
   parts_kept : (s : Setting) (levels : ℕ) (content : Content) (p : GroupParts) (cursor : Cursor) → KeptGroup levels p
       → IfOk (group_parts s levels content p cursor) (λ x. KeptGroup levels x.0)

@@ -1,7 +1,7 @@
 -- Each row of a document respects the first cut in its element.
 use Rattle.std.proofs.Common.{ℕ, ◌-◌, ◌==◌, Bool, true, Option, None, Some, List, [], ◌∷◌, ◌++◌, codes, Ok, Err, bytes_eq, if◌then◌else◌, is_some, not, option_and_then}
 use Rattle.markup_grammar.specs.Attributes.{attribute_text}
-use Rattle.markup_grammar.specs.Elements.{Element, Content, element, last, also, cut, first_cut, first_cut_in, joined}
+use Rattle.markup_grammar.specs.Elements.{Element, Content, element, last, also, cut, first_cut, first_cut_in, own_text}
 use Rattle.vault_model.specs.Bare.{BareField}
 use Rattle.vault_model.specs.Db.{NodeId, nil_id}
 use Rattle.vault_model.specs.declared.contents.Item.{Item}
@@ -137,8 +137,8 @@ mutual
   group_respects : (s : Setting) (levels : ℕ) (fits : Bool) (e : Element) (cursor : Cursor)
       → Respects (first_cut_in e) (group s levels fits e cursor)
   group_respects s levels fits (element offset name raw content) cursor =
-      step_then (first_cut content) (group_parts s levels content no_group cursor) (λ x. group_end s fits offset raw (joined content) x.0 x.1)
-      (parts_respect s levels content no_group cursor) (λ x. group_end_respects s fits offset raw (joined content) x.0 x.1)
+      step_then (first_cut content) (group_parts s levels content no_group cursor) (λ x. group_end s fits offset raw (own_text content) x.0 x.1)
+      (parts_respect s levels content no_group cursor) (λ x. group_end_respects s fits offset raw (own_text content) x.0 x.1)
 
   parts_respect : (s : Setting) (levels : ℕ) (content : Content) (p : GroupParts) (cursor : Cursor)
       → Respects (first_cut content) (group_parts s levels content p cursor)

@@ -6,7 +6,7 @@ use Rattle.base64.proofs.EngineFacts.{encode_of-append, encode_of-nil}
 use Rattle.base64.proofs.RoundTrip.{length-encode_symbols}
 use Rattle.base64.specs.Engines.{standard}
 use Rattle.stream_core.proofs.StreamLemmas.{length-xored, xored-append}
-use Rattle.stream_core.specs.Stream.{xored}
+use Rattle.stream_core.specs.Stream.{xor_stream}
 use Rattle.doc_sinks.specs.Chunks.{base64}
 use Rattle.doc_sinks.specs.Sinks.{coded_len}
 
@@ -32,14 +32,14 @@ pub coded_cut_len_min : (n m : ℕ) → m ≡ min n 48 → coded_len n ≡ coded
 coded_cut_len_min n m e = elim (cases_lt 48 n) [ inl more ↦ omega arith | inr all ↦ omega arith ]
 
 pub hidden_cut : (f : ℕ → ℕ) (p : ℕ) (rest : List ℕ) (m : ℕ) → m ≡ min (length rest) 48
-    → base64 (xored f p rest) ≡ base64 (xored f p (take m rest)) ++ base64 (xored f (p + length (take m rest)) (drop m rest))
+    → base64 (xor_stream f p rest) ≡ base64 (xor_stream f p (take m rest)) ++ base64 (xor_stream f (p + length (take m rest)) (drop m rest))
 hidden_cut f p rest m e = elim (cases_lt 48 (length rest)) [
   | inl more ↦
       let len : length (take m rest) ≡ 48 = rw length-take (omega arith) in
-      let whole : length (xored f p (take m rest)) % 3 ≡ 0 = rw (length-xored, len) refl in
-      ap (λ b. base64 (xored f p b)) (sym (take-append-drop m rest))
+      let whole : length (xor_stream f p (take m rest)) % 3 ≡ 0 = rw (length-xored, len) refl in
+      ap (λ b. base64 (xor_stream f p b)) (sym (take-append-drop m rest))
       ∙ ap base64 (xored-append f p (take m rest) (drop m rest))
-      ∙ encode_of-append standard (xored f p (take m rest)) (xored f (p + length (take m rest)) (drop m rest)) whole
+      ∙ encode_of-append standard (xor_stream f p (take m rest)) (xor_stream f (p + length (take m rest)) (drop m rest)) whole
   | inr all ↦
       let past : length rest ≤ m = omega arith in
       rw (take_all m rest past, drop_all m rest past, encode_of-nil standard, append-nil) refl
@@ -64,10 +64,10 @@ coded_end (x ∷ rest) text whole none e = absurd (omega arith)
 
 -- the same of bytes that are hidden
 pub hidden_step : (f : ℕ → ℕ) (p : ℕ) (rest group more : List ℕ) (m : ℕ) → m ≡ min (length rest) 48 → group ≡ take m rest → more ≡ drop m rest
-    → base64 (xored f p rest) ≡ base64 (xored f p group) ++ base64 (xored f (p + length group) more)
+    → base64 (xor_stream f p rest) ≡ base64 (xor_stream f p group) ++ base64 (xor_stream f (p + length group) more)
 hidden_step f p rest group more m e front back = rw (front, back) (hidden_cut f p rest m e)
 
-pub hidden_end : (f : ℕ → ℕ) (p : ℕ) (rest text whole : List ℕ) → length rest ≡ 0 → text ++ base64 (xored f p rest) ≡ whole → text ≡ whole
+pub hidden_end : (f : ℕ → ℕ) (p : ℕ) (rest text whole : List ℕ) → length rest ≡ 0 → text ++ base64 (xor_stream f p rest) ≡ whole → text ≡ whole
 hidden_end f p [] text whole none e = coded_end [] text whole refl e
 hidden_end f p (x ∷ rest) text whole none e = absurd (omega arith)
 

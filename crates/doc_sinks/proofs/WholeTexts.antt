@@ -5,7 +5,7 @@ use Rattle.std.proofs.lemmas.Bool.Decides.{nat_tests}
 use Rattle.std.specs.Prelude.{nat_le}
 use Rattle.stream_core.proofs.StreamLemmas.{length-xored}
 use Rattle.stream_core.specs.InnerStream.{Keystream, keystream_byte}
-use Rattle.stream_core.specs.Stream.{xored}
+use Rattle.stream_core.specs.Stream.{xor_stream}
 use Rattle.doc_spelling.specs.Pieces.{Piece, element_of, hidden_text}
 use Rattle.doc_sinks.proofs.Base64Groups.{coded_length}
 use Rattle.doc_sinks.proofs.Spelling.{spelled_is}
@@ -21,7 +21,7 @@ len_of (c ∷ cs) = chunk_len c + len_of cs
 
 pub length_chunk : (k : Keystream) (p : ℕ) (c : Chunk) → length (chunk_bytes k p c) ≡ chunk_len c
 length_chunk k p (plain bytes) = refl
-length_chunk k p (hidden bytes) = coded_length (xored (keystream_byte k) p bytes) ∙ ap coded_len (length-xored (keystream_byte k) p bytes)
+length_chunk k p (hidden bytes) = coded_length (xor_stream (keystream_byte k) p bytes) ∙ ap coded_len (length-xored (keystream_byte k) p bytes)
 
 pub length_bytes : (k : Keystream) (p : ℕ) (cs : List Chunk) → length (bytes_of k p cs) ≡ len_of cs
 length_bytes k p [] = refl

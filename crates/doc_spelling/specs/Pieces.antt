@@ -7,7 +7,7 @@ use Rattle.markup_grammar.specs.Escapes.{escaped}
 use Rattle.markup_grammar.specs.Tags.{Attribute, spelled_attributes}
 use Rattle.markup_grammar.specs.Tree.{Element, element, Content, text_only, element_after}
 use Rattle.stream_core.specs.InnerStream.{Keystream, keystream_byte}
-use Rattle.stream_core.specs.Stream.{xored}
+use Rattle.stream_core.specs.Stream.{xor_stream}
 use Rattle.vault_model.specs.Db.{NodeId, nil_id}
 
 mutual
@@ -102,7 +102,7 @@ attributes_text attributes = spelled_attributes (map attribute_of attributes) []
 
 -- hidden bytes, the first at this offset of the keystream, in base64, which needs no escapes
 abbrev pub hidden_text : Keystream → ℕ → List ℕ → List ℕ
-hidden_text k offset bytes = encode_of standard (xored (keystream_byte k) offset bytes)
+hidden_text k offset bytes = encode_of standard (xor_stream (keystream_byte k) offset bytes)
 
 abbrev mutual
   -- how many bytes of the keystream an element uses

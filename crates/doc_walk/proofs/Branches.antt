@@ -1,7 +1,7 @@
 -- A branch of a match on names: the element of that name, as its row reads it.
 use Rattle.std.proofs.Common.{◌≡◌, ℕ, Option, List, [], ◌++◌, refl, ap, ◌∙◌, append-nil, Result, Ok, Err}
 use Rattle.outside_core.specs.Results.{◌>>=◌}
-use Rattle.markup_grammar.specs.Elements.{element, inner, left}
+use Rattle.markup_grammar.specs.Elements.{element, innermost, open_contents}
 use Rattle.doc_forms.specs.declared.cursor.Cursor.{Cursor}
 use Rattle.doc_forms.specs.declared.fails.DocFail.{DocFail}
 use Rattle.doc_forms.specs.ElementTexts.{ElementText, Setting}
@@ -71,7 +71,7 @@ put_in {view = view} {x = x} {r = Err e} keep steps puts = record {
 pub refused_in : {X Y P Z : Type 0} {view : X → Y} {any : Z → P} {old new : Course} {rest : Rest Y} {e : DocFail} (keep : Y → P)
     → Steps view old new (Err e) rest → Steps any old new (Err e) (map_rest keep rest)
 refused_in {old = old} {rest = rest} {e = e} keep steps = record {
-  gives = carried e (rest old.setting (inner (left old.answers)) old.cursor) _ (λ same. ap (λ d. d >>= λ y. Ok (keep y.0, y.1)) same) steps.gives;
+  gives = carried e (rest old.setting (innermost (open_contents old.answers)) old.cursor) _ (λ same. ap (λ d. d >>= λ y. Ok (keep y.0, y.1)) same) steps.gives;
   left = tt;
   shorter = tt;
   setting = steps.setting;

@@ -1,7 +1,7 @@
 -- A walk inside an element: what is left says what the whole says.
 use Rattle.std.proofs.Common.{◌≡◌, ℕ, ◌<◌, ◌≤◌, List, [], ◌∷◌, ◌++◌, length, refl, ap, sym, ◌∙◌, subst, arith, false, Result, Ok, Err, OnOk}
 use Rattle.markup_grammar.specs.Answers.{Answer, start, words, stop, form, depth}
-use Rattle.markup_grammar.specs.Elements.{element, inner, outer, left}
+use Rattle.markup_grammar.specs.Elements.{element, innermost, outer_contents, open_contents}
 use Rattle.markup_grammar.specs.Escapes.{unescaped}
 use Rattle.doc_forms.specs.declared.cursor.Cursor.{Cursor}
 use Rattle.doc_forms.specs.declared.fails.DocFail.{DocFail}
@@ -17,8 +17,8 @@ use Rattle.doc_walk.specs.Steps.{Course, Rest, Steps}
 
 -- what is left of a walk says what the whole said
 pub record Goes {Y : Type 0} (old now : Course) (first rest : Rest Y) : Type 0 where
-  pub gives : rest old.setting (inner (left now.answers)) now.cursor ≡ first old.setting (inner (left old.answers)) old.cursor
-  pub outer : outer (left now.answers) ≡ outer (left old.answers)
+  pub gives : rest old.setting (innermost (open_contents now.answers)) now.cursor ≡ first old.setting (innermost (open_contents old.answers)) old.cursor
+  pub outer : outer_contents (open_contents now.answers) ≡ outer_contents (open_contents old.answers)
   pub shorter : length now.answers ≤ length old.answers
   pub setting : now.setting ≡ old.setting
 
@@ -38,7 +38,7 @@ at_start old first = record { gives = refl; outer = refl; shorter = omega arith;
 
 -- a refusal
 pub refused : {X Y : Type 0} (view : X → Y) (old new : Course) (first : Rest Y) (e : DocFail)
-    → Fails e (first old.setting (inner (left old.answers)) old.cursor) → new.setting ≡ old.setting → Steps view old new (Err e) first
+    → Fails e (first old.setting (innermost (open_contents old.answers)) old.cursor) → new.setting ≡ old.setting → Steps view old new (Err e) first
 refused view old new first e fails same = record { gives = fails; left = tt; shorter = tt; setting = same }
 
 -- ---- an element that is passed over
@@ -90,7 +90,7 @@ text_end place raw text old now mid next first p view r goes next_answer gives a
     let ended = rw (next_answer.cursor, same) at gives in
     record {
       gives = pieces.given_same (λ x. (view x, next.cursor)) r _ _ (sym (pieces.at_stop old.setting place raw text now.answers mid.answers now.cursor p next_answer.answers) ∙ goes.gives) ended;
-      left = pieces.on_ok r (ap left answers ∙ (pieces.stop_outer now.answers mid.answers p next_answer.answers ∙ goes.outer));
+      left = pieces.on_ok r (ap open_contents answers ∙ (pieces.stop_outer now.answers mid.answers p next_answer.answers ∙ goes.outer));
       shorter = pieces.on_ok r (omega (arith, ap length answers, ap length next_answer.answers, goes.shorter));
       setting = setting ∙ same;
     }
@@ -170,7 +170,7 @@ all_end child place raw text parts old now mid next first p view x z goes next_a
     let ended = rw (next_answer.cursor, same) at gives in
     record {
       gives = sym goes.gives ∙ (containers.at_end old.setting (child old.setting) place raw text now.answers mid.answers parts now.cursor p next_answer.answers ∙ ap (λ r. r >>= λ y. Ok (parts, y.1)) ended);
-      left = ap left answers ∙ (pieces.stop_outer now.answers mid.answers p next_answer.answers ∙ goes.outer);
+      left = ap open_contents answers ∙ (pieces.stop_outer now.answers mid.answers p next_answer.answers ∙ goes.outer);
       shorter = omega (arith, ap length answers, ap length next_answer.answers, goes.shorter);
       setting = setting ∙ same;
     }

@@ -1,7 +1,7 @@
 -- The same step, by another definition of the rest.
 use Rattle.std.proofs.Common.{◌≡◌, ℕ, List, ◌++◌, take, drop, ◌∙◌, ap, Result, Ok, Err}
 use Rattle.outside_core.specs.Results.{◌>>=◌}
-use Rattle.markup_grammar.specs.Elements.{Content, element, inner, left}
+use Rattle.markup_grammar.specs.Elements.{Content, element, innermost, open_contents}
 use Rattle.doc_forms.specs.declared.cursor.Cursor.{Cursor}
 use Rattle.doc_forms.specs.declared.fails.DocFail.{DocFail}
 use Rattle.doc_forms.specs.ElementTexts.{Setting}
@@ -16,7 +16,7 @@ pub same_rest : {X Y : Type 0} (view : X → Y) (old new : Course) (r : Result X
     → ((s : Setting) (content : Content) (cursor : Cursor) → rest s content cursor ≡ other s content cursor)
     → Steps view old new r rest → Steps view old new r other
 same_rest view old new r rest other same steps = record {
-  gives = given_same (λ x. (view x, new.cursor)) r _ _ (same old.setting (inner (left old.answers)) old.cursor) steps.gives;
+  gives = given_same (λ x. (view x, new.cursor)) r _ _ (same old.setting (innermost (open_contents old.answers)) old.cursor) steps.gives;
   left = steps.left;
   shorter = steps.shorter;
   setting = steps.setting;
@@ -45,7 +45,7 @@ kept_step keep v old new (Ok x) rest steps = record {
   setting = steps.setting;
 }
 kept_step keep v old new (Err e) rest steps = record {
-  gives = carried e (rest old.setting (inner (left old.answers)) old.cursor) _ (λ same. ap (λ d. d >>= λ y. Ok (keep y.0, y.1)) same) steps.gives;
+  gives = carried e (rest old.setting (innermost (open_contents old.answers)) old.cursor) _ (λ same. ap (λ d. d >>= λ y. Ok (keep y.0, y.1)) same) steps.gives;
   left = tt;
   shorter = tt;
   setting = steps.setting;
@@ -62,7 +62,7 @@ pub same_rows : {X P : Type 0} (view : X → P) (old new : Course) (r : Result X
     → Steps view old new r (child_step (λ s. by_name s (rows s)) parts tag)
     → Steps view old new r (child_step (λ s. by_name s (other s)) parts tag)
 same_rows view old new r rows other parts tag same steps = record {
-  gives = given_same (λ x. (view x, new.cursor)) r _ _ (ap (λ l. by_name old.setting l parts (element tag.offset tag.name.now tag.attrs.raw.now (inner (left old.answers))) old.cursor) same) steps.gives;
+  gives = given_same (λ x. (view x, new.cursor)) r _ _ (ap (λ l. by_name old.setting l parts (element tag.offset tag.name.now tag.attrs.raw.now (innermost (open_contents old.answers))) old.cursor) same) steps.gives;
   left = steps.left;
   shorter = steps.shorter;
   setting = steps.setting;

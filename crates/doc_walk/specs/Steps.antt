@@ -1,7 +1,7 @@
 -- A walk over a document, and what one step of it does.
 use Rattle.std.specs.Prelude.{◌≡◌, ◌<◌, List, length, Result, Ok, OnOk}
 use Rattle.markup_grammar.specs.Answers.{Answer}
-use Rattle.markup_grammar.specs.Elements.{Content, inner, outer, left}
+use Rattle.markup_grammar.specs.Elements.{Content, innermost, outer_contents, open_contents}
 use Rattle.doc_forms.specs.declared.cursor.Cursor.{Cursor}
 use Rattle.doc_forms.specs.declared.fails.DocFail.{DocFail}
 use Rattle.doc_forms.specs.ElementTexts.{Setting}
@@ -23,8 +23,8 @@ Rest Y = Setting → Content → Cursor → Result (Y × Cursor) DocFail
 pub record Steps {X Y : Type 0} (view : X → Y) (old new : Course) (result : Result X DocFail)
     (rest : Rest Y) : Type 0 where
   pub gives : Returns (λ x. (view x, new.cursor)) result
-      (rest old.setting (inner (left old.answers)) old.cursor)
-  pub left : OnOk result (left new.answers ≡ outer (left old.answers))
+      (rest old.setting (innermost (open_contents old.answers)) old.cursor)
+  pub left : OnOk result (open_contents new.answers ≡ outer_contents (open_contents old.answers))
   pub shorter : OnOk result (length new.answers < length old.answers)
   pub setting : new.setting ≡ old.setting
 

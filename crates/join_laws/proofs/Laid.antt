@@ -12,8 +12,8 @@ use Rattle.vault_model.specs.declared.metas.Icon.{Icon}
 use Rattle.vault_model.specs.declared.nodes.GroupState.{GroupState}
 use Rattle.vault_model.specs.Db.{NodeId, id_cmp, Mark, Versions, Place, Db, Sound}
 use Rattle.vault_model.specs.Join.{is_id, stats_join, IsIn}
-use Rattle.vault_model.specs.Shape.{BareVersion, GroupRecord, Children, Shape, versions_of, no_children, Stay, stay_or, stay_of, place_at, place_rows, shared_of, db_of, in_order, last_of, but_last, version_of, record_of, stay_at, stay_in, stands_in, standing, kids, laid_children, new_view, laid_stay, laid_group, laid_meta, versions_in, lay}
-use Rattle.vault_model.specs.Unite.{merged, gather, unite_all, tabulate}
+use Rattle.vault_model.specs.Shape.{BareVersion, GroupRecord, Children, Shape, versions_of, no_children, Stay, stay_or, stay_of, place_at, place_rows, shared_of, db_of, in_order, last_of, but_last, version_of, record_of, stay_at, stay_in, stands_in, ids_in_group, kids, laid_children, new_view, laid_stay, laid_group, laid_meta, versions_in, lay}
+use Rattle.vault_model.specs.Unite.{join_options, gather, unite_all, tabulate}
 use Rattle.vault_model.proofs.Ids.{same_id, id_itself}
 use Rattle.join_laws.proofs.Facts.{placed_held}
 use Rattle.join_laws.proofs.Joins.{stats_joins}
@@ -82,7 +82,7 @@ turned : {A : Type 0} (g : A → Option Stats) (x : A) (xs : List A)
     → gather stats_join (map g (last_of x xs ∷ but_last x xs)) ≡ gather stats_join (map g (x ∷ xs))
 turned g x xs =
     (merged_join stats_joins).comm (g (last_of x xs)) (gather stats_join (map g (but_last x xs)))
-    ∙ ap (merged stats_join (gather stats_join (map g (but_last x xs)))) (sym (merged_none stats_joins (g (last_of x xs))))
+    ∙ ap (join_options stats_join (gather stats_join (map g (but_last x xs)))) (sym (merged_none stats_joins (g (last_of x xs))))
     ∙ sym (gather-append stats_joins (map g (but_last x xs)) (g (last_of x xs) ∷ []))
     ∙ ap (gather stats_join) (sym (map_append g (but_last x xs) (last_of x xs ∷ [])) ∙ ap (map g) (rejoin x xs))
 
@@ -159,10 +159,10 @@ pub stands : (g : NodeId) (o : Option Place) → stands_in g o ≡ true → (p :
 stands g None e = apart false e refl
 stands g (Some p) e = (p, (refl, same_id g p.parent e))
 
-pub into_standing : (m : Db) (us : List NodeId) (u : NodeId) (p : Place) → IsIn u us → get m.places u ≡ Some p → IsIn u (standing m p.parent us)
+pub into_standing : (m : Db) (us : List NodeId) (u : NodeId) (p : Place) → IsIn u us → get m.places u ≡ Some p → IsIn u (ids_in_group m p.parent us)
 into_standing m us u p h e = in_filter (λ v. stands_in p.parent (get m.places v)) us u h (ap (stands_in p.parent) e ∙ id_itself p.parent)
 
-pub from_standing : (m : Db) (g : NodeId) (us : List NodeId) (u : NodeId) → IsIn u (standing m g us) → IsIn u us × ((p : Place) × ((get m.places u ≡ Some p) × (g ≡ p.parent)))
+pub from_standing : (m : Db) (g : NodeId) (us : List NodeId) (u : NodeId) → IsIn u (ids_in_group m g us) → IsIn u us × ((p : Place) × ((get m.places u ≡ Some p) × (g ≡ p.parent)))
 from_standing m g us u h = let f = from_filter (λ v. stands_in g (get m.places v)) us u h in (f.0, stands g (get m.places u) f.1)
 
 -- ---- the database of a laid document
@@ -211,18 +211,18 @@ module _ (m : Db) (t : Shape) (s : Sound m) where
   pub kid_place : (g u : NodeId) → IsIn u ((laid_children m t g).entries ++ (laid_children m t g).groups) → (p : Place) × ((get m.places u ≡ Some p) × (g ≡ p.parent))
   kid_place g u h =
       elim (in_either (laid_children m t g).entries (laid_children m t g).groups u h) [
-        | inl k ↦ (from_standing m g (keys m.entries) u (from_order (kids t g).entries (standing m g (keys m.entries)) u k)).1
-        | inr k ↦ (from_standing m g (keys m.groups) u (from_order (kids t g).groups (standing m g (keys m.groups)) u k)).1
+        | inl k ↦ (from_standing m g (keys m.entries) u (from_order (kids t g).entries (ids_in_group m g (keys m.entries)) u k)).1
+        | inr k ↦ (from_standing m g (keys m.groups) u (from_order (kids t g).groups (ids_in_group m g (keys m.groups)) u k)).1
       ]
 
   pub place_kid : (u : NodeId) (p : Place) → get m.places u ≡ Some p → IsIn u ((laid_children m t p.parent).entries ++ (laid_children m t p.parent).groups)
   place_kid u p h =
       elim (or_cases (contains_key m.entries u) (contains_key m.groups u) (placed_held m u p s h).1) [
         | inl e ↦
-            in_front _ _ u (into_order (kids t p.parent).entries (standing m p.parent (keys m.entries)) u
+            in_front _ _ u (into_order (kids t p.parent).entries (ids_in_group m p.parent (keys m.entries)) u
             (into_standing m (keys m.entries) u p (in_keys id_order.total id_order.same m.entries u e) h))
         | inr e ↦
-            in_back (laid_children m t p.parent).entries _ u (into_order (kids t p.parent).groups (standing m p.parent (keys m.groups)) u
+            in_back (laid_children m t p.parent).entries _ u (into_order (kids t p.parent).groups (ids_in_group m p.parent (keys m.groups)) u
             (into_standing m (keys m.groups) u p (in_keys id_order.total id_order.same m.groups u e) h))
       ]
 
@@ -345,8 +345,8 @@ module _ (m : Db) (t : Shape) (s : Sound m) where
   children_again g true e =
       let k = kids_again g e in
       λ i. Some (record {
-        entries = (ap (λ (c : Children). in_order c.entries (standing m g (keys m.entries))) k ∙ ordered_again (kids t g).entries (standing m g (keys m.entries))) i;
-        groups = (ap (λ (c : Children). in_order c.groups (standing m g (keys m.groups))) k ∙ ordered_again (kids t g).groups (standing m g (keys m.groups))) i;
+        entries = (ap (λ (c : Children). in_order c.entries (ids_in_group m g (keys m.entries))) k ∙ ordered_again (kids t g).entries (ids_in_group m g (keys m.entries))) i;
+        groups = (ap (λ (c : Children). in_order c.groups (ids_in_group m g (keys m.groups))) k ∙ ordered_again (kids t g).groups (ids_in_group m g (keys m.groups))) i;
       })
 
   -- a laid document that is laid over again stays as it is

@@ -6,7 +6,7 @@ use Rattle.std.specs.Cmp.{IsTotalOrder, tied_itself}
 use Rattle.std.specs.FinMap.{IsAntisymmetric}
 use Rattle.std.specs.Ordering.{ordering_reverse}
 use Rattle.vault_model.specs.Join.{IsIn, IsWithin}
-use Rattle.vault_model.specs.Unite.{by_order, greater, by_key, merged, gather}
+use Rattle.vault_model.specs.Unite.{by_order, greater, by_key, join_options, gather}
 
 -- A join of two values for which grouping, order and repeats do not matter.
 pub record IsJoin {A : Type 0} (f : A → A → A) : Type 0 where
@@ -15,47 +15,47 @@ pub record IsJoin {A : Type 0} (f : A → A → A) : Type 0 where
   pub idem : (x : A) → f x x ≡ x
 
 module _ {A : Type 0} {f : A → A → A} (j : IsJoin f) where
-  merged_assoc : (x y z : Option A) → merged f (merged f x y) z ≡ merged f x (merged f y z)
+  merged_assoc : (x y z : Option A) → join_options f (join_options f x y) z ≡ join_options f x (join_options f y z)
   merged_assoc None y z = refl
   merged_assoc (Some x) None z = refl
   merged_assoc (Some x) (Some y) None = refl
   merged_assoc (Some x) (Some y) (Some z) = ap Some (j.assoc x y z)
 
-  merged_comm : (x y : Option A) → merged f x y ≡ merged f y x
+  merged_comm : (x y : Option A) → join_options f x y ≡ join_options f y x
   merged_comm None None = refl
   merged_comm None (Some y) = refl
   merged_comm (Some x) None = refl
   merged_comm (Some x) (Some y) = ap Some (j.comm x y)
 
-  merged_idem : (x : Option A) → merged f x x ≡ x
+  merged_idem : (x : Option A) → join_options f x x ≡ x
   merged_idem None = refl
   merged_idem (Some x) = ap Some (j.idem x)
 
-  pub merged_join : IsJoin (merged f)
+  pub merged_join : IsJoin (join_options f)
   merged_join = record { assoc = merged_assoc; comm = merged_comm; idem = merged_idem }
 
-  pub merged_none : (x : Option A) → merged f x None ≡ x
+  pub merged_none : (x : Option A) → join_options f x None ≡ x
   merged_none None = refl
   merged_none (Some x) = refl
 
-  pub gather-append : (xs ys : List (Option A)) → gather f (xs ++ ys) ≡ merged f (gather f xs) (gather f ys)
+  pub gather-append : (xs ys : List (Option A)) → gather f (xs ++ ys) ≡ join_options f (gather f xs) (gather f ys)
   gather-append [] ys = refl
-  gather-append (x ∷ xs) ys = ap (merged f x) (gather-append xs ys) ∙ sym (merged_assoc x (gather f xs) (gather f ys))
+  gather-append (x ∷ xs) ys = ap (join_options f x) (gather-append xs ys) ∙ sym (merged_assoc x (gather f xs) (gather f ys))
 
   -- a member adds nothing
-  pub gather-absorbs : (xs : List (Option A)) (x : Option A) → IsIn x xs → merged f x (gather f xs) ≡ gather f xs
+  pub gather-absorbs : (xs : List (Option A)) (x : Option A) → IsIn x xs → join_options f x (gather f xs) ≡ gather f xs
   gather-absorbs [] x h = absurd h
   gather-absorbs (y ∷ ys) x (inl p) =
-      ap (λ w. merged f w (gather f (y ∷ ys))) (sym p) ∙ sym (merged_assoc y y (gather f ys))
-      ∙ ap (λ w. merged f w (gather f ys)) (merged_idem y)
+      ap (λ w. join_options f w (gather f (y ∷ ys))) (sym p) ∙ sym (merged_assoc y y (gather f ys))
+      ∙ ap (λ w. join_options f w (gather f ys)) (merged_idem y)
   gather-absorbs (y ∷ ys) x (inr h) =
-      sym (merged_assoc x y (gather f ys)) ∙ ap (λ w. merged f w (gather f ys)) (merged_comm x y)
-      ∙ merged_assoc y x (gather f ys) ∙ ap (merged f y) (gather-absorbs ys x h)
+      sym (merged_assoc x y (gather f ys)) ∙ ap (λ w. join_options f w (gather f ys)) (merged_comm x y)
+      ∙ merged_assoc y x (gather f ys) ∙ ap (join_options f y) (gather-absorbs ys x h)
 
-  pub gather-within : (xs ys : List (Option A)) → IsWithin xs ys → merged f (gather f xs) (gather f ys) ≡ gather f ys
+  pub gather-within : (xs ys : List (Option A)) → IsWithin xs ys → join_options f (gather f xs) (gather f ys) ≡ gather f ys
   gather-within [] ys h = refl
   gather-within (x ∷ xs) ys h =
-      merged_assoc x (gather f xs) (gather f ys) ∙ ap (merged f x) (gather-within xs ys (λ y k. h y (inr k)))
+      merged_assoc x (gather f xs) (gather f ys) ∙ ap (join_options f x) (gather-within xs ys (λ y k. h y (inr k)))
       ∙ gather-absorbs ys x (h x (inl refl))
 
   -- lists with the same members come to the same
@@ -63,7 +63,7 @@ module _ {A : Type 0} {f : A → A → A} (j : IsJoin f) where
   gather-same xs ys h k = sym (gather-within ys xs k) ∙ merged_comm (gather f ys) (gather f xs) ∙ gather-within xs ys h
 
 module _ {A : Type 0} (f : A → A → A) (one : (x y : A) → (f x y ≡ x) ⊎ (f x y ≡ y)) where
-  select : (y : A) (r : Option A) (x : A) → merged f (Some y) r ≡ Some x → (Some y ≡ Some x) ⊎ (r ≡ Some x)
+  select : (y : A) (r : Option A) (x : A) → join_options f (Some y) r ≡ Some x → (Some y ≡ Some x) ⊎ (r ≡ Some x)
   select y None x e = inl e
   select y (Some z) x e =
       elim (one y z) [ inl p ↦ inl (ap Some (sym p) ∙ e) | inr p ↦ inr (ap Some (sym p) ∙ e) ]
@@ -78,16 +78,16 @@ module _ {A : Type 0} (f : A → A → A) (one : (x y : A) → (f x y ≡ x) ⊎
 module _ {A : Type 0} (f : A → A → A) where
   pub none-gather : (xs : List (Option A)) → ((o : Option A) → IsIn o xs → o ≡ None) → gather f xs ≡ None
   none-gather [] h = refl
-  none-gather (x ∷ xs) h = ap (λ o. merged f o (gather f xs)) (h x (inl refl)) ∙ none-gather xs (λ o k. h o (inr k))
+  none-gather (x ∷ xs) h = ap (λ o. join_options f o (gather f xs)) (h x (inl refl)) ∙ none-gather xs (λ o k. h o (inr k))
 
-  merged_some : (x : A) (r : Option A) → (y : A) × (merged f (Some x) r ≡ Some y)
+  merged_some : (x : A) (r : Option A) → (y : A) × (join_options f (Some x) r ≡ Some y)
   merged_some x None = (x, refl)
   merged_some x (Some z) = (f x z, refl)
 
   -- where a member has something, so has what is gathered
   pub some-gather : (xs : List (Option A)) (x : A) → IsIn (Some x) xs → (y : A) × (gather f xs ≡ Some y)
   some-gather [] x h = absurd h
-  some-gather (o ∷ os) x (inl p) = let m = merged_some x (gather f os) in (m.0, ap (λ w. merged f w (gather f os)) p ∙ m.1)
+  some-gather (o ∷ os) x (inl p) = let m = merged_some x (gather f os) in (m.0, ap (λ w. join_options f w (gather f os)) p ∙ m.1)
   some-gather (None ∷ os) x (inr h) = some-gather os x h
   some-gather (Some y ∷ os) x (inr h) = merged_some y (gather f os)
 

@@ -67,7 +67,7 @@ abbrev entry_ids : List (NodeId × EntryRecord) → List NodeId
 entry_ids es = map (λ (e : NodeId × EntryRecord). e.0) es
 
 -- all ids but the root's
-abbrev below_ids : Tree → List NodeId
+abbrev pub below_ids : Tree → List NodeId
 below_ids (node v r es ts) = entry_ids es ++ node_ids_all ts
 
 abbrev all_below : Trees → List NodeId
@@ -78,7 +78,7 @@ all_below (beside t ts) = below_ids t ++ all_below ts
 abbrev pub IsKid : List (NodeId × Children) → NodeId → NodeId → Type 0
 IsKid rows g u = (c : Children) × (IsIn (g, c) rows × IsIn u (c.entries ++ c.groups))
 
-below_node : (t : Tree) (u : NodeId) → IsIn u (below_ids t) → IsIn u (node_ids t)
+pub below_node : (t : Tree) (u : NodeId) → IsIn u (below_ids t) → IsIn u (node_ids t)
 below_node (node v r es ts) u h = inr h
 
 head_node : (t : Tree) → IsIn (id_of t) (node_ids t)
@@ -122,7 +122,7 @@ heads_apart (beside t ts) u d h k =
 -- ---- rows and ids
 
 mutual
-  kid_below : (t : Tree) (g u : NodeId) → IsKid (child_rows t) g u → IsIn u (below_ids t)
+  pub kid_below : (t : Tree) (g u : NodeId) → IsKid (child_rows t) g u → IsIn u (below_ids t)
   kid_below (node v r es ts) g u (c, (inl p, h)) =
       let here : IsIn u (entry_ids es ++ ids_of ts) = subst (λ (x : NodeId × Children). IsIn u (x.1.entries ++ x.1.groups)) (sym p) h in
       elim (in_either (entry_ids es) (ids_of ts) u here) [
@@ -212,7 +212,7 @@ mutual
       ]
 
 mutual
-  entry_node : (t : Tree) (u : NodeId) (e : EntryRecord) → IsIn (u, e) (entry_rows t) → IsIn u (below_ids t)
+  pub entry_node : (t : Tree) (u : NodeId) (e : EntryRecord) → IsIn (u, e) (entry_rows t) → IsIn u (below_ids t)
   entry_node (node v r es ts) u e h =
       elim (in_either es (entry_rows_all ts) (u, e) h) [
         | inl i ↦ in_front (entry_ids es) (node_ids_all ts) u (in_map (λ (x : NodeId × EntryRecord). x.0) es (u, e) i)
@@ -228,7 +228,7 @@ mutual
       ]
 
 mutual
-  group_node : (t : Tree) (u : NodeId) (g : GroupRecord) → IsIn (u, g) (group_rows t) → IsIn u (node_ids t)
+  pub group_node : (t : Tree) (u : NodeId) (g : GroupRecord) → IsIn (u, g) (group_rows t) → IsIn u (node_ids t)
   group_node (node v r es ts) u g (inl p) = inl (ap (λ (x : NodeId × GroupRecord). x.0) p)
   group_node (node v r es ts) u g (inr h) = inr (in_back (entry_ids es) (node_ids_all ts) u (groups_nodes ts u g h))
 
@@ -266,11 +266,11 @@ mutual
       ]
 
 -- each node is an entry or a group, and each group has a row of children
-abbrev IsNode : List (NodeId × EntryRecord) → List (NodeId × GroupRecord) → NodeId → Type 0
+abbrev pub IsNode : List (NodeId × EntryRecord) → List (NodeId × GroupRecord) → NodeId → Type 0
 IsNode es gs u = ((e : EntryRecord) × IsIn (u, e) es) ⊎ ((g : GroupRecord) × IsIn (u, g) gs)
 
 mutual
-  is_node : (t : Tree) (u : NodeId) → IsIn u (node_ids t) → IsNode (entry_rows t) (group_rows t) u
+  pub is_node : (t : Tree) (u : NodeId) → IsIn u (node_ids t) → IsNode (entry_rows t) (group_rows t) u
   is_node (node v r es ts) u (inl p) = inr (r, inl (λ i. (p i, r)))
   is_node (node v r es ts) u (inr h) =
       elim (in_either (entry_ids es) (node_ids_all ts) u h) [
@@ -342,7 +342,7 @@ module _ (up : NodeId → NodeId) where
 
 -- each node but the root is a child
 mutual
-  is_kid : (t : Tree) (u : NodeId) → IsIn u (below_ids t) → (g : NodeId) × IsKid (child_rows t) g u
+  pub is_kid : (t : Tree) (u : NodeId) → IsIn u (below_ids t) → (g : NodeId) × IsKid (child_rows t) g u
   is_kid (node v r es ts) u h =
       elim (in_either (entry_ids es) (node_ids_all ts) u h) [
         | inl i ↦ (v, (record { entries = entry_ids es; groups = ids_of ts }, (inl refl, in_front (entry_ids es) (ids_of ts) u i)))
@@ -375,7 +375,7 @@ one_mark v k s e =
       | inr t ↦ never s (sym (get_single mark_order.total mark_order.same (v.mark, v.stats) k ∙ ap (λ b. cond b (Some v.stats) None) t) ∙ e)
     ]
 
-abbrev as_map : BareVersion → Versions
+abbrev pub as_map : BareVersion → Versions
 as_map v = insert empty v.mark v.stats
 
 pub version_marks : (e : EntryRecord) (k : Mark) (s : Stats) → get (versions_of e) k ≡ Some s → (v : BareVersion) × (IsIn v (e.current ∷ e.history) × (k ≡ v.mark))
@@ -406,11 +406,11 @@ module _ (d : BareDoc) (is : IsDoc d) where
   abbrev pub db : Db
   db = db_of s
 
-  shape_entry : (u : NodeId) → get s.entries u ≡ find id_cmp u (entry_rows d.tree)
+  pub shape_entry : (u : NodeId) → get s.entries u ≡ find id_cmp u (entry_rows d.tree)
   unfolding shape_of
   shape_entry u = get-from_entries id_order.total (entry_rows d.tree) u
 
-  shape_group : (u : NodeId) → get s.groups u ≡ find id_cmp u (group_rows d.tree)
+  pub shape_group : (u : NodeId) → get s.groups u ≡ find id_cmp u (group_rows d.tree)
   unfolding shape_of
   shape_group u = get-from_entries id_order.total (group_rows d.tree) u
 
@@ -418,7 +418,7 @@ module _ (d : BareDoc) (is : IsDoc d) where
   unfolding shape_of
   shape_kids u = get-from_entries id_order.total (child_rows d.tree) u
 
-  db_place : (u : NodeId) → get db.places u ≡ find id_cmp u (place_rows s)
+  pub db_place : (u : NodeId) → get db.places u ≡ find id_cmp u (place_rows s)
   unfolding db_of
   db_place u = get-from_entries id_order.total (place_rows s) u
 
@@ -430,7 +430,7 @@ module _ (d : BareDoc) (is : IsDoc d) where
   unfolding db_of shape_of
   db_root = refl
 
-  db_shared : db.meta ≡ shared_of d.meta
+  pub db_shared : db.meta ≡ shared_of d.meta
   unfolding db_of shape_of
   db_shared = refl
 
@@ -470,7 +470,7 @@ module _ (d : BareDoc) (is : IsDoc d) where
       let same_p : f.0.0 ≡ p.parent = ap (λ (x : NodeId × Place). x.1.parent) g.1.1 in
       (f.0.1, (subst (λ (x : NodeId). IsIn (x, f.0.1) (child_rows d.tree)) same_p here, subst (λ (x : NodeId). IsIn x (f.0.1.entries ++ f.0.1.groups)) same_u g.1.0))
 
-  kid_place : (g u : NodeId) → IsKid (child_rows d.tree) g u → (p : Place) × ((get db.places u ≡ Some p) × (p.parent ≡ g))
+  pub kid_place : (g u : NodeId) → IsKid (child_rows d.tree) g u → (p : Place) × ((get db.places u ≡ Some p) × (p.parent ≡ g))
   kid_place g u k =
       let there = some_find id_order.total id_order.same (child_rows d.tree) g k.0 k.1.0 in
       let same = one_row d.tree g there.0 k.0 distinct (find_in id_order.total id_order.same (child_rows d.tree) g there.0 there.1) k.1.0 in
@@ -485,14 +485,14 @@ module _ (d : BareDoc) (is : IsDoc d) where
   parent_is : (g u : NodeId) → IsKid (child_rows d.tree) g u → parent_in db u ≡ g
   parent_is g u k = let p = kid_place g u k in ap (parent_or u) p.1.0 ∙ p.1.1
 
-  holds_node : (u : NodeId) → holds db u ≡ true → IsIn u (node_ids d.tree)
+  pub holds_node : (u : NodeId) → holds db u ≡ true → IsIn u (node_ids d.tree)
   holds_node u e =
       elim (or_cases (contains_key db.entries u) (contains_key db.groups u) e) [
         | inl h ↦ let v = some_of (get db.entries u) h in let x = entry_at u v.0 v.1 in below_node d.tree u (entry_node d.tree u x.0 x.1.0)
         | inr h ↦ let g = some_of (get db.groups u) h in let x = group_at u g.0 g.1 in group_node d.tree u x.0 x.1.0
       ]
 
-  node_holds : (u : NodeId) → IsIn u (node_ids d.tree) → holds db u ≡ true
+  pub node_holds : (u : NodeId) → IsIn u (node_ids d.tree) → holds db u ≡ true
   node_holds u h =
       elim (is_node d.tree u h) [
         | inl e ↦ or_left (contains_key db.entries u) (contains_key db.groups u) (entry_there u e.0 e.1)

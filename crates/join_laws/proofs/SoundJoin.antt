@@ -13,7 +13,7 @@ use Rattle.vault_model.specs.Db.{NodeId, id_cmp, nil_id, Mark, Versions, GroupMa
 use Rattle.vault_model.specs.Join.{stats_join, state_join, timed_join, meta_join, no_meta, root_of, latest, above, kept, join, IsIn, IsNotEmpty, Allowed}
 use Rattle.vault_model.specs.Orders.{bytes_cmp, icon_cmp, later_item_cmp}
 use Rattle.vault_model.specs.Proper.{is_proper_content, is_proper_group_content}
-use Rattle.vault_model.specs.Unite.{greater, merged, gather, unite}
+use Rattle.vault_model.specs.Unite.{greater, join_options, gather, unite}
 use Rattle.join_laws.proofs.Allowed.{root_latest, kept_held, kept_root, kept_above, kept_reaches}
 use Rattle.join_laws.proofs.Facts.{join_entries, join_groups, join_places, join_tombs, join_root, latest_found}
 use Rattle.vault_model.proofs.Orders.{IsOrder, bytes_order, id_order, icon_order, later_item_order, settings_order, timed_order}
@@ -58,7 +58,7 @@ module _ {A : Type 0} (f : A → A → A) (field : Db → FinMap id_cmp A) (S : 
 
 -- ---- shared values
 
-merged_from : {A : Type 0} (f : A → A → A) → ((x y : A) → (f x y ≡ x) ⊎ (f x y ≡ y)) → (a b : Option A) (x : A) → merged f a b ≡ Some x → (a ≡ Some x) ⊎ (b ≡ Some x)
+merged_from : {A : Type 0} (f : A → A → A) → ((x y : A) → (f x y ≡ x) ⊎ (f x y ≡ y)) → (a b : Option A) (x : A) → join_options f a b ≡ Some x → (a ≡ Some x) ⊎ (b ≡ Some x)
 merged_from f one None b x e = inr e
 merged_from f one (Some y) None x e = inl e
 merged_from f one (Some y) (Some z) x e = elim (one y z) [ inl p ↦ inl (ap Some (sym p) ∙ e) | inr p ↦ inr (ap Some (sym p) ∙ e) ]
@@ -95,7 +95,7 @@ abbrev IsProperOr : Option SharedMeta → Type 0
 IsProperOr None = Unit {0}
 IsProperOr (Some m) = IsProperMeta m
 
-merged_proper : (a b : Option SharedMeta) → IsProperOr a → IsProperOr b → IsProperOr (merged meta_join a b)
+merged_proper : (a b : Option SharedMeta) → IsProperOr a → IsProperOr b → IsProperOr (join_options meta_join a b)
 merged_proper None b p q = q
 merged_proper (Some m) None p q = p
 merged_proper (Some m) (Some n) p q = meta_proper m n p q

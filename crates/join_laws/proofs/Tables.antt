@@ -9,7 +9,7 @@ use Rattle.std.specs.FinMap.{FinMap, IsAntisymmetric, empty, get, insert, entrie
 use Rattle.std.specs.FinMap.Entries.{below_all}
 use Rattle.std.specs.Ordering.{eq_by_cmp, is_eq, is_lt, ordering_reverse}
 use Rattle.vault_model.specs.Join.{IsIn}
-use Rattle.vault_model.specs.Unite.{gather, merged}
+use Rattle.vault_model.specs.Unite.{gather, join_options}
 use Rattle.join_laws.proofs.Semilattice.{none-gather}
 use Rattle.vault_model.proofs.Tests.{decide, apart, some_of, none_of, is_false, from_map}
 use Rattle.join_laws.proofs.Unite.{tie, ties}
@@ -99,8 +99,8 @@ module _ {K X : Type 0} {R : K → K → Ordering} (o : IsTotalOrder R) (same : 
       let g = from_map (λ (e : K × X). get (single e) q) es r h in
       sym g.1.1 ∙ get_single g.0 q ∙ ap (λ b. cond b (Some g.0.1) None) (off g.0 g.1.0))
 
-  some_alone : (f : X → X → X) (x : X) (r : Option X) → r ≡ None → merged f (Some x) r ≡ Some x
-  some_alone f x r e = ap (merged f (Some x)) e
+  some_alone : (f : X → X → X) (x : X) (r : Option X) → r ≡ None → join_options f (Some x) r ≡ Some x
+  some_alone f x r e = ap (join_options f (Some x)) e
 
   -- the entries of a map, each a map of its own, come to that map again
   pub gathered_singles : (f : X → X → X) (es : List (K × X)) → T (is_sorted R es) → (q : K)
@@ -112,10 +112,10 @@ module _ {K X : Type 0} {R : K → K → Ordering} (o : IsTotalOrder R) (same : 
       elim (decide (eq_by_cmp R q d.0)) [
         | inl t ↦
             let off = none_below f ds q (λ e i. ap (λ k. eq_by_cmp R k e.0) (tie o same q d.0 t) ∙ ap is_eq (below_in d.0 ds e parts.0 i)) in
-            ap (λ w. merged f w (gather f (map (λ (e : K × X). get (single e) q) ds))) (get_single d q ∙ ap (λ b. cond b (Some d.1) None) t)
+            ap (λ w. join_options f w (gather f (map (λ (e : K × X). get (single e) q) ds))) (get_single d q ∙ ap (λ b. cond b (Some d.1) None) t)
             ∙ some_alone f d.1 (gather f (map (λ (e : K × X). get (single e) q) ds)) off
             ∙ sym (ap (λ b. cond b (Some d.1) (find R q ds)) t)
         | inr t ↦
-            ap (λ w. merged f w (gather f (map (λ (e : K × X). get (single e) q) ds))) (get_single d q ∙ ap (λ b. cond b (Some d.1) None) t)
+            ap (λ w. join_options f w (gather f (map (λ (e : K × X). get (single e) q) ds))) (get_single d q ∙ ap (λ b. cond b (Some d.1) None) t)
             ∙ rest ∙ sym (ap (λ b. cond b (Some d.1) (find R q ds)) t)
       ]

@@ -7,7 +7,7 @@ use Rattle.vault_model.specs.declared.nodes.GroupState.{GroupState}
 use Rattle.vault_model.specs.declared.nodes.Tombstone.{Tombstone}
 use Rattle.vault_model.specs.Db.{NodeId, id_cmp, Mark, Versions, Place, Db, holds, parent_or, parent_in, steps, Sound}
 use Rattle.vault_model.specs.Join.{is_id, IsIn}
-use Rattle.vault_model.specs.Shape.{EntryRecord, GroupRecord, Children, Shape, kids, laid_children, laid_group, stay_in, record_of, versions_in, standing, no_children, lay, db_of}
+use Rattle.vault_model.specs.Shape.{EntryRecord, GroupRecord, Children, Shape, kids, laid_children, laid_group, stay_in, record_of, versions_in, ids_in_group, no_children, lay, db_of}
 use Rattle.vault_model.specs.Tree.{Tree, BareDoc, id_of, ids_of, entry_rows, entry_rows_all, group_rows, group_rows_all, child_rows, child_rows_all, shape_of, with_record, with_records, all_trees, tree_of, no_group, doc_of, lay_doc, IsSettled, db_in, IsDeep, FitsLevels}
 use Rattle.vault_model.proofs.Ids.{same_id, id_itself}
 use Rattle.join_laws.proofs.Laid.{lay_entries, lay_groups, lay_children, lay_root, into_order, from_order, into_standing, from_standing, laid_db, laid_again}
@@ -230,13 +230,13 @@ module _ (n : ℕ) (m : Db) (t : Shape) (s : Sound m) (fits : FitsLevels n m) wh
   -- a group of the list of groups of a laid group is one, and stands in it
   kid_group : (g u : NodeId) → contains_key m.groups g ≡ true → IsIn u (kids laid g).groups → (contains_key m.groups u ≡ true) × ((p : Place) × ((get m.places u ≡ Some p) × (g ≡ p.parent)))
   kid_group g u e h =
-      let k = from_standing m g (keys m.groups) u (from_order (kids t g).groups (standing m g (keys m.groups)) u (subst (λ (c : Children). IsIn u c.groups) (laid_kids g e) h)) in
+      let k = from_standing m g (keys m.groups) u (from_order (kids t g).groups (ids_in_group m g (keys m.groups)) u (subst (λ (c : Children). IsIn u c.groups) (laid_kids g e) h)) in
       (from_keys id_order.total id_order.same m.groups u k.0, k.1)
 
   kid_entry : (g u : NodeId) → contains_key m.groups g ≡ true → IsIn u (kids laid g).entries → contains_key m.entries u ≡ true
   kid_entry g u e h =
       from_keys id_order.total id_order.same m.entries u
-      (from_standing m g (keys m.entries) u (from_order (kids t g).entries (standing m g (keys m.entries)) u (subst (λ (c : Children). IsIn u c.entries) (laid_kids g e) h))).0
+      (from_standing m g (keys m.entries) u (from_order (kids t g).entries (ids_in_group m g (keys m.entries)) u (subst (λ (c : Children). IsIn u c.entries) (laid_kids g e) h))).0
 
   entry_is : (u : NodeId) (o : Option Versions) → get m.entries u ≡ o → contains_key m.entries u ≡ true → contains_key laid.entries u ≡ true
   entry_is u None q e = apart (contains_key m.entries u) e (ap is_some q)
@@ -285,7 +285,7 @@ module _ (n : ℕ) (m : Db) (t : Shape) (s : Sound m) (fits : FitsLevels n m) wh
       let sum' : d + suc k ≡ n = omega (arith, sum) in
       let in_groups : IsIn g (kids laid p.parent).groups =
       subst (λ (c : Children). IsIn g c.groups) (sym (laid_kids p.parent parent))
-      (into_order (kids t p.parent).groups (standing m p.parent (keys m.groups)) g (into_standing m (keys m.groups) g p (in_keys id_order.total id_order.same m.groups g is) deep.1)) in
+      (into_order (kids t p.parent).groups (ids_in_group m p.parent (keys m.groups)) g (into_standing m (keys m.groups) g p (in_keys id_order.total id_order.same m.groups g is) deep.1)) in
       inside_through (tree_of laid k g (rec g)) (tree_of laid (suc k) p.parent (rec p.parent)) whole
       (child_inside laid k p.parent (rec p.parent) (g, rec g) (records_there laid.groups (kids laid p.parent).groups g (rec g) in_groups (group_is g is)))
       (sub_tree d (suc k) p.parent deep.2 sum' parent)
@@ -309,7 +309,7 @@ module _ (n : ℕ) (m : Db) (t : Shape) (s : Sound m) (fits : FitsLevels n m) wh
       let i = group_inside place.0.parent parent in
       let in_entries : IsIn u (kids laid place.0.parent).entries =
       subst (λ (c : Children). IsIn u c.entries) (sym (laid_kids place.0.parent parent))
-      (into_order (kids t place.0.parent).entries (standing m place.0.parent (keys m.entries)) u (into_standing m (keys m.entries) u place.0 (in_keys id_order.total id_order.same m.entries u is) place.1)) in
+      (into_order (kids t place.0.parent).entries (ids_in_group m place.0.parent (keys m.entries)) u (into_standing m (keys m.entries) u place.0 (in_keys id_order.total id_order.same m.entries u is) place.1)) in
       (x, i.1.entries (u, x) (own_entry laid i.0 place.0.parent (rec place.0.parent) (u, x) (records_there laid.entries (kids laid place.0.parent).entries u x in_entries e)))
 
   groups_there : (u : NodeId) (x : GroupRecord) → get laid.groups u ≡ Some x → (y : GroupRecord) × IsIn (u, y) (group_rows whole)

@@ -7,7 +7,7 @@ use Rattle.std.specs.FinMap.{FinMap, IsAntisymmetric, get, contains_key, keys, g
 use Rattle.std.specs.List.{list_any}
 use Rattle.std.specs.Ordering.{eq_by_cmp, is_eq}
 use Rattle.vault_model.specs.Join.{IsIn}
-use Rattle.vault_model.specs.Unite.{merged, gather, put_some, tabulate, unite, unite_all}
+use Rattle.vault_model.specs.Unite.{join_options, gather, put_some, tabulate, unite, unite_all}
 use Rattle.join_laws.proofs.Semilattice.{IsJoin, merged_join}
 use Rattle.vault_model.proofs.Tests.{decide, any_true, any_found}
 
@@ -15,7 +15,7 @@ cond_same : {A : Type 0} (b : Bool) (x : A) → cond b x x ≡ x
 cond_same true x = refl
 cond_same false x = refl
 
-some_either : {A : Type 0} (f : A → A → A) (a b : Option A) → cond (is_some a || is_some b) (merged f a b) None ≡ merged f a b
+some_either : {A : Type 0} (f : A → A → A) (a b : Option A) → cond (is_some a || is_some b) (join_options f a b) None ≡ join_options f a b
 some_either f None None = refl
 some_either f None (Some y) = refl
 some_either f (Some x) None = refl
@@ -49,27 +49,27 @@ module _ {K : Type 0} {R : K → K → Ordering} (o : IsTotalOrder R) (same : Is
               off_key (value k) (tabulate ks value) q k t ∙ get-tabulate ks value q ∙ sym (ap (λ b. cond (b || among) (value q) None) t)
         ]
 
-    pub get-unite : (f : A → A → A) (m n : FinMap R A) (q : K) → get (unite f m n) q ≡ merged f (get m q) (get n q)
+    pub get-unite : (f : A → A → A) (m n : FinMap R A) (q : K) → get (unite f m n) q ≡ join_options f (get m q) (get n q)
     unfolding unite
     get-unite f m n q =
-        get-tabulate (keys m ++ keys n) (λ k. merged f (get m k) (get n k)) q
-        ∙ ap (λ b. cond b (merged f (get m q) (get n q)) None)
+        get-tabulate (keys m ++ keys n) (λ k. join_options f (get m k) (get n k)) q
+        ∙ ap (λ b. cond b (join_options f (get m q) (get n q)) None)
         (list_any-append (eq_by_cmp R q) (keys m) (keys n)
         ∙ (λ i. sym (contains_key-keys m q) i || sym (contains_key-keys n q) i))
         ∙ some_either f (get m q) (get n q)
 
     pub get-unite_all : (f : A → A → A) (ms : List (FinMap R A)) (q : K) → get (unite_all f ms) q ≡ gather f (map (λ (m : FinMap R A). get m q) ms)
     get-unite_all f [] q = get-empty R q
-    get-unite_all f (m ∷ ms) q = get-unite f m (unite_all f ms) q ∙ ap (merged f (get m q)) (get-unite_all f ms q)
+    get-unite_all f (m ∷ ms) q = get-unite f m (unite_all f ms) q ∙ ap (join_options f (get m q)) (get-unite_all f ms q)
 
     pub unite_join : {f : A → A → A} → IsJoin f → IsJoin (unite {R = R} f)
     unite_join {f} j =
         let w = merged_join j in
         record {
           assoc = λ x y z. same_map o same _ _ (λ q.
-              get-unite f (unite f x y) z q ∙ ap (λ p. merged f p (get z q)) (get-unite f x y q)
+              get-unite f (unite f x y) z q ∙ ap (λ p. join_options f p (get z q)) (get-unite f x y q)
               ∙ w.assoc (get x q) (get y q) (get z q)
-              ∙ sym (get-unite f x (unite f y z) q ∙ ap (merged f (get x q)) (get-unite f y z q)));
+              ∙ sym (get-unite f x (unite f y z) q ∙ ap (join_options f (get x q)) (get-unite f y z q)));
           comm = λ x y. same_map o same _ _ (λ q. get-unite f x y q ∙ w.comm (get x q) (get y q) ∙ sym (get-unite f y x q));
           idem = λ x. same_map o same _ _ (λ q. get-unite f x x q ∙ w.idem (get x q));
         }

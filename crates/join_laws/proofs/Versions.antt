@@ -8,7 +8,7 @@ use Rattle.vault_model.specs.declared.contents.Stats.{Stats}
 use Rattle.vault_model.specs.declared.nodes.GroupState.{GroupState}
 use Rattle.vault_model.specs.Db.{Mark, Versions, GroupMark, group_mark_cmp, mark_of, newest, state_time}
 use Rattle.vault_model.specs.Join.{stats_join, state_join, IsIn}
-use Rattle.vault_model.specs.Unite.{by_order, merged, gather, unite}
+use Rattle.vault_model.specs.Unite.{by_order, join_options, gather, unite}
 use Rattle.join_laws.proofs.Joins.{stats_joins}
 use Rattle.vault_model.proofs.Orders.{mark_order}
 use Rattle.join_laws.proofs.Semilattice.{gather-absorbs}
@@ -29,11 +29,11 @@ abbrev pub at_mark : Mark → Option Versions → Option Stats
 at_mark k None = None
 at_mark k (Some w) = get w k
 
-at_merged : (k : Mark) (o r : Option Versions) → at_mark k (merged (unite stats_join) o r) ≡ merged stats_join (at_mark k o) (at_mark k r)
+at_merged : (k : Mark) (o r : Option Versions) → at_mark k (join_options (unite stats_join) o r) ≡ join_options stats_join (at_mark k o) (at_mark k r)
 at_merged k None r = refl
 at_merged k (Some x) None = none_after (get x k)
   where
-    none_after : (s : Option Stats) → s ≡ merged stats_join s None
+    none_after : (s : Option Stats) → s ≡ join_options stats_join s None
     none_after None = refl
     none_after (Some s) = refl
 at_merged k (Some x) (Some z) = get-unite mark_order.total mark_order.same stats_join x z k
@@ -41,7 +41,7 @@ at_merged k (Some x) (Some z) = get-unite mark_order.total mark_order.same stats
 -- a joined entry has at a mark what the members' versions there make
 pub at_gathered : (k : Mark) (os : List (Option Versions)) → at_mark k (gather (unite stats_join) os) ≡ gather stats_join (map (at_mark k) os)
 at_gathered k [] = refl
-at_gathered k (o ∷ os) = at_merged k o (gather (unite stats_join) os) ∙ ap (merged stats_join (at_mark k o)) (at_gathered k os)
+at_gathered k (o ∷ os) = at_merged k o (gather (unite stats_join) os) ∙ ap (join_options stats_join (at_mark k o)) (at_gathered k os)
 
 marked : (k : Mark) (o : Option Versions) (s : Stats) → at_mark k o ≡ Some s → (w : Versions) × ((o ≡ Some w) × (get w k ≡ Some s))
 marked k None s e = never s e
@@ -66,7 +66,7 @@ version_stays os v w k s e h g =
     let absorbed = gather-absorbs stats_joins (map (at_mark k) os) (Some s) member in
     found (gather stats_join (map (at_mark k) os)) all absorbed
   where
-    found : (o : Option Stats) → get v k ≡ o → merged stats_join (Some s) o ≡ o
+    found : (o : Option Stats) → get v k ≡ o → join_options stats_join (Some s) o ≡ o
         → (t : Stats) × ((get v k ≡ Some t) × ((s.accessed ≤ t.accessed) × (s.usage ≤ t.usage)))
     found None a b = never s (sym b)
     found (Some t) a b =
@@ -129,7 +129,7 @@ state_from [] g e = never g e
 state_from (None ∷ os) g e = let f = state_from os g e in (f.0, (inr f.1.0, f.1.1))
 state_from (Some x ∷ os) g e = pick (gather state_join os) refl e (λ y q. state_from os y q)
   where
-    pick : (o : Option GroupState) → gather state_join os ≡ o → merged state_join (Some x) o ≡ Some g
+    pick : (o : Option GroupState) → gather state_join os ≡ o → join_options state_join (Some x) o ≡ Some g
         → ((y : GroupState) → gather state_join os ≡ Some y → (h : GroupState) × (IsIn (Some h) os × (mark_of y ≡ mark_of h)))
         → (h : GroupState) × (IsIn (Some h) (Some x ∷ os) × (mark_of g ≡ mark_of h))
     pick None q p more = (x, (inl refl, ap mark_of (sym (same_Some _ _ p))))

@@ -4,7 +4,7 @@ use Rattle.std.specs.Prelude.{ℕ, ◌-◌, List, [], ◌∷◌, length, drop, B
 use Rattle.std.specs.Int.{w16, w32, w64, from_le_bytes}
 use Rattle.argon_core.specs.declared.params.ArgonKind.{ArgonKind}
 use Rattle.argon_core.specs.declared.params.ArgonKind.TheVariants.{D, Id}
-use Rattle.outside_core.specs.Results.{◌>>=◌, repeated}
+use Rattle.outside_core.specs.Results.{◌>>=◌, repeat_steps}
 use Rattle.kdbx_parts.specs.declared.fail.FrameFail.{FrameFail}
 use Rattle.kdbx_parts.specs.declared.fail.FrameFail.TheVariants.{Dictionary}
 use Rattle.kdbx_parts.specs.Parts.{split_bytes}
@@ -115,7 +115,7 @@ item_step whole read = do
 -- All items of a field, whose first two bytes are its version.
 abbrev pub items_of : List ℕ → Result ItemsRead FrameFail
 items_of content =
-    repeated (item_step (length content)) (item_refusal (length content)) (length content)
+    repeat_steps (item_step (length content)) (item_refusal (length content)) (length content)
     (record { keys = no_keys; rest = drop 2 content })
 
 -- The key derivation that a dictionary describes: a version that is not read; the id of a key

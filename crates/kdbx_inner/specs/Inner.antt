@@ -2,7 +2,7 @@
 -- attached files.
 use Rattle.std.specs.Prelude.{ℕ, ◌-◌, List, [], ◌∷◌, ◌++◌, length, Bool, true, false, Option, Some, None, is_some, Result, Ok, Err, ◌==◌, bit_and, if◌then◌else◌}
 use Rattle.std.specs.Int.{w32, from_le_bytes}
-use Rattle.outside_core.specs.Results.{◌>>=◌, repeated}
+use Rattle.outside_core.specs.Results.{◌>>=◌, repeat_steps}
 use Rattle.kdbx_parts.specs.declared.fail.FrameFail.{FrameFail}
 use Rattle.kdbx_parts.specs.declared.fail.FrameFail.TheVariants.{FieldLength, Truncated}
 use Rattle.kdbx_parts.specs.Parts.{Field, field_at, required, unique, unique_of_length}
@@ -67,7 +67,7 @@ pub record InnerFields : Type 0 where
 -- All fields up to field 0.
 abbrev pub inner_from : List ℕ → Result InnerRead FrameFail
 inner_from text =
-    repeated (inner_step (length text)) (inner_end_missing (length text)) (length text)
+    repeat_steps (inner_step (length text)) (inner_end_missing (length text)) (length text)
     (record { fields = no_inner_fields; rest = text })
 
 -- The inner fields at the start of a text: all up to field 0, among them the stream and its key.

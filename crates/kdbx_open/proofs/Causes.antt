@@ -16,7 +16,7 @@ use Rattle.kdbx_open.specs.declared.fail.OpenFail.{OpenFail}
 use Rattle.kdbx_open.specs.declared.fail.OpenFail.TheVariants.{Doc, File, Frame}
 use Rattle.kdbx_open.specs.declared.opening.Unsealed.{Unsealed}
 use Rattle.kdbx_open.specs.Causes.{HasOpenCause, MemoryIsOutermost, file_limit, of_payload, of_read}
-use Rattle.kdbx_open.specs.Documents.{document_of, documented}
+use Rattle.kdbx_open.specs.Documents.{document_of, document_or_refusal}
 use Rattle.kdbx_open.specs.Opening.{FileContents, opening, payload_or_refusal}
 use Rattle.outside_core.specs.Results.{◌>>=◌}
 use Rattle.kdbx_open.specs.Results.{Refuses, Returns}
@@ -46,7 +46,7 @@ of_payloads (Err fail) = of_fail fail
     of_fail (payload.StreamUnknown id) = tt
     of_fail payload.NoMemory = tt
 
-of_documents : (r : Result DocumentAndHash DocFail) → NoFileFail (documented r)
+of_documents : (r : Result DocumentAndHash DocFail) → NoFileFail (document_or_refusal r)
 of_documents (Ok x) = tt
 of_documents (Err fail) = tt
 

@@ -10,7 +10,7 @@ use Rattle.doc_forms.specs.Refusals as documents
 use Rattle.doc_forms.specs.SeenDocuments.{pool_item}
 use Rattle.doc_forms.specs.declared.fails.DocFail.{DocFail}
 use Rattle.kdbx_open.specs.Causes.{of_document}
-use Rattle.kdbx_open.specs.Documents.{attachment, document_of, documented}
+use Rattle.kdbx_open.specs.Documents.{attachment, document_of, document_or_refusal}
 use Rattle.kdbx_open.specs.Results.{Refuses}
 use Rattle.kdbx_open.proofs.Steps.{document_refused}
 
@@ -28,12 +28,12 @@ pub document_read : (stream : Keystream) (pool : List PoolItem) (text : List ℕ
     → document (setting stream) (map pool_item pool) text ≡ Ok read
     → document_of stream (map binary_seen pool) text ≡ Ok read.0
 document_read stream pool text read h =
-    ap (λ items. documented (document (setting stream) items text)) (same_pool pool) ∙ ap documented h
+    ap (λ items. document_or_refusal (document (setting stream) items text)) (same_pool pool) ∙ ap document_or_refusal h
 
 -- A document that was refused.
 pub document_not_read : (stream : Keystream) (pool : List PoolItem) (text : List ℕ) (fail : DocFail)
     → documents.Fails fail (document (setting stream) (map pool_item pool) text)
     → Refuses (of_document fail) (document_of stream (map binary_seen pool) text)
 document_not_read stream pool text fail h =
-    let at : List (List ℕ × Bool) → Type 0 = λ items. Refuses (of_document fail) (documented (document (setting stream) items text)) in
+    let at : List (List ℕ × Bool) → Type 0 = λ items. Refuses (of_document fail) (document_or_refusal (document (setting stream) items text)) in
     subst at (sym (same_pool pool)) (document_refused fail (document (setting stream) (map pool_item pool) text) h)

@@ -14,7 +14,7 @@ use Rattle.doc_forms.specs.Documents.{DocumentAndHash}
 use Rattle.kdbx_open.specs.declared.fail.OpenFail.{OpenFail}
 use Rattle.kdbx_open.specs.declared.fail.OpenFail.TheVariants.{Doc, File, Frame, NoMemory}
 use Rattle.kdbx_open.specs.Causes.{of_document, of_payload}
-use Rattle.kdbx_open.specs.Documents.{documented}
+use Rattle.kdbx_open.specs.Documents.{document_or_refusal}
 use Rattle.kdbx_open.specs.Opening.{payload_or_refusal}
 use Rattle.outside_core.specs.Results.{◌>>=◌}
 use Rattle.kdbx_open.specs.Results.{Refuses, Returns, ReturnsFromStore}
@@ -43,9 +43,9 @@ payload_refused fail defined h = ap payload_or_refusal h
 
 -- A refusal of the document, as it is passed on.
 pub document_refused : (fail : DocFail) (defined : Result DocumentAndHash DocFail)
-    → documents.Fails fail defined → Refuses (of_document fail) (documented defined)
+    → documents.Fails fail defined → Refuses (of_document fail) (document_or_refusal defined)
 document_refused document.NoMemory defined h = tt
-document_refused fail defined h = ap documented h
+document_refused fail defined h = ap document_or_refusal h
 
 -- What is returned of a file's bytes is returned of the store.
 pub from_store : {A X : Type 0} (seen : X → A) (result : Result X OpenFail) (defined : Result A OpenFail)

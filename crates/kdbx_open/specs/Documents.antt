@@ -15,11 +15,11 @@ attachment b = (b.bytes, b.hidden)
 
 -- A document, or its refusal; what it says of a header's hash counts in a file of version 3.1
 -- alone.
-abbrev pub documented : Result DocumentAndHash DocFail → Result BareDoc OpenFail
-documented (Ok read) = Ok read.0
-documented (Err fail) = Err (Doc fail)
+abbrev pub document_or_refusal : Result DocumentAndHash DocFail → Result BareDoc OpenFail
+document_or_refusal (Ok read) = Ok read.0
+document_or_refusal (Err fail) = Err (Doc fail)
 
 -- The document of a text, read with a keystream and the attached files.
 abbrev pub document_of : Keystream → List Binary → List ℕ → Result BareDoc OpenFail
-document_of stream pool text = documented (document (record { form = V4; keystream = stream })
-    (map attachment pool) text)
+document_of stream pool text = document_or_refusal
+    (document (record { form = V4; keystream = stream }) (map attachment pool) text)

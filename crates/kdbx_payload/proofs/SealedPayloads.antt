@@ -14,21 +14,21 @@ use Rattle.kdbx_frame.specs.declared.settings.Settings.{Settings}
 use Rattle.kdbx_frame.specs.Header.{header_of}
 use Rattle.kdbx_inner.specs.Inner.{InnerFields, inner_of}
 use Rattle.kdbx_parts.specs.declared.fail.FrameFail.{FrameFail}
-use Rattle.mac_core.specs.Blocks.{IsWhole, concatenated}
+use Rattle.mac_core.specs.Blocks.{IsWhole, concat_contents}
 use Rattle.mac_core.specs.Contents.{contents_of}
 use Rattle.mac_core.specs.declared.fail.BlockFail.{BlockFail}
 use Rattle.mac_core.proofs.ContentSteps as contents
 use Rattle.stream_core.specs.InnerStream.{Keystream, keystream_of}
 use Rattle.kdbx_payload.specs.declared.fail.PayloadFail.{PayloadFail}
-use Rattle.kdbx_payload.specs.Ciphers.{Chained, Hides, deciphered, unchained}
+use Rattle.kdbx_payload.specs.Ciphers.{Hides, HidesByCbc, cbc_text, deciphered_text}
 use Rattle.kdbx_payload.specs.HeaderMacs.{base_of, header_mac, key_of}
-use Rattle.kdbx_payload.specs.Parts.{after_header, framed, header_check, known_stream, of_blocks, right_padding, stored_mac}
+use Rattle.kdbx_payload.specs.Parts.{after_header, frame_or_refusal, header_check, known_stream, of_blocks, right_padding, stored_mac}
 use Rattle.kdbx_payload.specs.Payloads.{Payload, hidden_text, payload_in, payload_of}
 use Rattle.kdbx_payload.specs.Sealed.{SealedPayload}
 use Rattle.kdbx_payload.proofs.Macs.{compared, compared_again}
 use Rattle.kdbx_payload.proofs.Steps.{both, each}
 
-framed_ok : {A : Type 0} (r : Result A FrameFail) (x : A) → framed r ≡ Ok x → r ≡ Ok x
+framed_ok : {A : Type 0} (r : Result A FrameFail) (x : A) → frame_or_refusal r ≡ Ok x → r ≡ Ok x
 framed_ok (Ok y) x h = cc
 framed_ok (Err e) x h = cc
 
@@ -47,14 +47,14 @@ known_ok id (Some r) s h = cc
 -- ---- the text of a content
 
 chained_by : (decipher : List ℕ → List ℕ) (iv content text : List ℕ) (b : Bool) → (length content % 16 == 0) ≡ b
-    → cond b (unpadded (cbc_deciphered decipher iv content)) None ≡ Some text → Chained decipher iv content text
+    → cond b (unpadded (cbc_deciphered decipher iv content)) None ≡ Some text → HidesByCbc decipher iv content text
 chained_by decipher iv content text true e h =
     let s = subst (IsBeforePadding (cbc_deciphered decipher iv content)) h (unpadded_is (cbc_deciphered decipher iv content)) in
     record { whole = eqb-true (length content % 16) 0 e; len = s.0; padding = s.1.0; is = s.1.1 }
 chained_by decipher iv content text false e h = cc
 
-chained_again : (decipher : List ℕ → List ℕ) (iv content text : List ℕ) → Chained decipher iv content text
-    → unchained decipher iv content ≡ Some text
+chained_again : (decipher : List ℕ → List ℕ) (iv content text : List ℕ) → HidesByCbc decipher iv content text
+    → cbc_text decipher iv content ≡ Some text
 chained_again decipher iv content text c =
     ap (λ b. cond b (unpadded (cbc_deciphered decipher iv content)) None) (eq-eqb (length content % 16) 0 c.whole)
     ∙ unpadded-IsPadded (cbc_deciphered decipher iv content) c.len c.padding ∙ ap Some (sym c.is)
@@ -62,12 +62,12 @@ chained_again decipher iv content text c =
 some_same : (one other : List ℕ) → ◌≡◌ {A = Option (List ℕ)} (Some one) (Some other) → other ≡ one
 some_same one other h = cc
 
-hides : (cipher : Cipher) (key iv content text : List ℕ) → deciphered cipher key iv content ≡ Some text → Hides cipher key iv content text
+hides : (cipher : Cipher) (key iv content text : List ℕ) → deciphered_text cipher key iv content ≡ Some text → Hides cipher key iv content text
 hides Aes key iv content text h = chained_by (aes256_decipher key) iv content text (length content % 16 == 0) refl h
 hides Twofish key iv content text h = chained_by (twofish256_decipher key) iv content text (length content % 16 == 0) refl h
 hides ChaCha key iv content text h = some_same _ text h
 
-hidden_again : (cipher : Cipher) (key iv content text : List ℕ) → Hides cipher key iv content text → deciphered cipher key iv content ≡ Some text
+hidden_again : (cipher : Cipher) (key iv content text : List ℕ) → Hides cipher key iv content text → deciphered_text cipher key iv content ≡ Some text
 hidden_again Aes key iv content text h = chained_again (aes256_decipher key) iv content text h
 hidden_again Twofish key iv content text h = chained_again (twofish256_decipher key) iv content text h
 hidden_again ChaCha key iv content text h = ap Some (sym h)
@@ -111,12 +111,12 @@ record AfterHeader (base key : List ℕ) (header : Header) (file text : List ℕ
   authentic : stored_mac header.size file ≡ header_mac base (take header.size file)
   parts : List (List ℕ)
   blocks : IsWhole base (after_header header.size file) parts
-  hides : Hides header.settings.cipher key header.iv (concatenated parts) text
+  hides : Hides header.settings.cipher key header.iv (concat_contents parts) text
 
 parts_of : (base key : List ℕ) (header : Header) (file : List ℕ) (u : Unit {0}) (content text : List ℕ)
     → header_check base (take header.size file) (stored_mac header.size file) ≡ Ok u
     → contents_of base (length file) (after_header header.size file) ≡ Ok content
-    → deciphered header.settings.cipher key header.iv content ≡ Some text
+    → deciphered_text header.settings.cipher key header.iv content ≡ Some text
     → AfterHeader base key header file text
 parts_of base key header file u content text a b c =
     let w = contents.IsWhole-contents_of base (length file) (after_header header.size file) content b in
@@ -168,7 +168,7 @@ payload_again : (file composite : List ℕ) (payload : Payload) (s : SealedPaylo
     → payload_in s.header.settings s.hidden ≡ Ok payload
 unfolding payload_in
 payload_again file composite payload s =
-    each _ _ s.inner payload (ap framed s.fields)
+    each _ _ s.inner payload (ap frame_or_refusal s.fields)
     (each _ _ payload.stream payload (ap (known_stream s.inner.stream_id) s.stream)
     (λ i. Ok (record { settings = s.settings i; pool = s.pool i; stream = payload.stream; text = s.text i })))
 
@@ -177,14 +177,14 @@ text_again : (file composite : List ℕ) (payload : Payload) (s : SealedPayload 
 unfolding hidden_text
 text_again file composite payload s =
     each _ _ tt s.hidden (compared_again _ _ s.authentic)
-    (each _ _ (concatenated s.parts) s.hidden
-    (ap of_blocks (contents.contents_of-AreContents (base_of s.header composite) (length file) (after_header s.header.size file) (Ok (concatenated s.parts)) (s.parts, (s.blocks, refl))))
-    (ap right_padding (hidden_again s.header.settings.cipher (key_of s.header composite) s.header.iv (concatenated s.parts) s.hidden s.hides)))
+    (each _ _ (concat_contents s.parts) s.hidden
+    (ap of_blocks (contents.contents_of-AreContents (base_of s.header composite) (length file) (after_header s.header.size file) (Ok (concat_contents s.parts)) (s.parts, (s.blocks, refl))))
+    (ap right_padding (hidden_again s.header.settings.cipher (key_of s.header composite) s.header.iv (concat_contents s.parts) s.hidden s.hides)))
 
 pub is_given : (file composite : List ℕ) (payload : Payload) → SealedPayload file composite payload → payload_of file composite ≡ Ok payload
 unfolding payload_of
 is_given file composite payload s =
-    each _ _ s.header payload (ap framed s.begins)
+    each _ _ s.header payload (ap frame_or_refusal s.begins)
     (each _ _ s.hidden payload (text_again file composite payload s) (payload_again file composite payload s))
 
 -- A file has no two payloads under one key.

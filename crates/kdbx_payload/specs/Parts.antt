@@ -9,9 +9,9 @@ use Rattle.kdbx_payload.specs.declared.fail.PayloadFail.{PayloadFail}
 use Rattle.kdbx_payload.specs.declared.fail.PayloadFail.TheVariants.{Frame, KeyOrHeader, Block, BadPadding, StreamUnknown}
 
 -- What a header or inner fields say, or their refusal.
-abbrev pub framed : {A : Type 0} → Result A FrameFail → Result A PayloadFail
-framed (Ok x) = Ok x
-framed (Err fail) = Err (Frame fail)
+abbrev pub frame_or_refusal : {A : Type 0} → Result A FrameFail → Result A PayloadFail
+frame_or_refusal (Ok x) = Ok x
+frame_or_refusal (Err fail) = Err (Frame fail)
 
 -- The MAC that a file stores of a header of so many bytes: the 32 bytes after the header and its
 -- hash of 32 bytes.

@@ -3,7 +3,7 @@ use Rattle.std.specs.Prelude.{◌≡◌, ℕ, List, take, drop, Some, Ok}
 use Rattle.kdbx_frame.specs.Header.{header_of}
 use Rattle.kdbx_frame.specs.declared.header.Header.{Header}
 use Rattle.kdbx_inner.specs.Inner.{InnerFields, inner_of}
-use Rattle.mac_core.specs.Blocks.{IsWhole, concatenated}
+use Rattle.mac_core.specs.Blocks.{IsWhole, concat_contents}
 use Rattle.stream_core.specs.InnerStream.{keystream_of}
 use Rattle.kdbx_payload.specs.Ciphers.{Hides}
 use Rattle.kdbx_payload.specs.HeaderMacs.{base_of, header_mac, key_of}
@@ -25,8 +25,8 @@ pub record SealedPayload (file composite : List ℕ) (payload : Payload) : Type 
   -- their joined contents hide a text, with whole blocks and right padding where blocks are
   -- chained;
   pub hidden : List ℕ
-  pub hides : Hides header.settings.cipher (key_of header composite) header.iv (concatenated parts)
-      hidden
+  pub hides : Hides header.settings.cipher (key_of header composite) header.iv
+      (concat_contents parts) hidden
   -- the text begins with inner fields, which ask for a stream that is known;
   pub inner : InnerFields
   pub fields : inner_of hidden ≡ Ok inner

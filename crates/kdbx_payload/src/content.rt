@@ -5,8 +5,8 @@ ghost use Rattle.block_core.specs.Cbc.{cbc_deciphered};
 ghost use Rattle.block_core.specs.Padding.{unpadded};
 ghost use Rattle.mac_core.specs.Contents.{contents_of};
 ghost use Rattle.stream_core.specs.ChaCha20.{chacha_byte};
-ghost use Rattle.stream_core.specs.Stream.{xored};
-ghost use Rattle.kdbx_payload.specs.Ciphers.{deciphered, unchained};
+ghost use Rattle.stream_core.specs.Stream.{xor_stream};
+ghost use Rattle.kdbx_payload.specs.Ciphers.{cbc_text, deciphered_text};
 ghost use Rattle.kdbx_payload.specs.Parts.{of_blocks, right_padding};
 ghost use Rattle.kdbx_payload.specs.Results.{Returns};
 
@@ -65,7 +65,7 @@ fn decipher_chained<B: Block16>(
     content: Secret,
 ) -> Result<Secret, PayloadFail>
     ensures { Returns (λ s. s.bytes) result
-        (right_padding (unchained (B.deciphered cipher.now) iv.now content.bytes)) }
+        (right_padding (cbc_text (B.deciphered cipher.now) iv.now content.bytes)) }
 {
     if content.len() % 16 != 0 {
         return Err(PayloadFail::BadPadding);
@@ -76,7 +76,7 @@ fn decipher_chained<B: Block16>(
 // Deciphers in place by ChaCha20, whose nonce is the first 12 bytes of the IV.
 fn decipher_stream(key: &Key, iv: &[u8; 16], mut content: Secret) -> Secret
     requires { length content.bytes ≤ 2 ^ 38 }
-    ensures { result.bytes ≡ xored (chacha_byte key.now (take 12 iv.now)) 0 content.bytes }
+    ensures { result.bytes ≡ xor_stream (chacha_byte key.now (take 12 iv.now)) 0 content.bytes }
 {
     let mut nonce = [0; 12];
     nonce.copy_from_slice(&iv[..12]);
@@ -94,7 +94,7 @@ pub fn decipher(
 ) -> Result<Secret, PayloadFail>
     requires { length content.bytes ≤ 2 ^ 38 }
     ensures { Returns (λ s. s.bytes) result
-        (right_padding (deciphered cipher key.now iv.now content.bytes)) }
+        (right_padding (deciphered_text cipher key.now iv.now content.bytes)) }
 {
     match cipher {
         Cipher::Aes => decipher_chained(&Aes256::new(key), iv, content),

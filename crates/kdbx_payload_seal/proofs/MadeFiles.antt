@@ -5,7 +5,7 @@ use Rattle.std.proofs.lemmas.List.Elements.{All-from_recursion}
 use Rattle.std.proofs.lemmas.Slice.Eq.{bytes_eq-Decides}
 use Rattle.sha2.specs.Sha256.{sha256}
 use Rattle.sha2.proofs.Facts256.{length-sha256}
-use Rattle.mac_core.specs.Blocks.{IsContent, IsWhole, block, blocks, concatenated}
+use Rattle.mac_core.specs.Blocks.{IsContent, IsWhole, block, blocks, concat_contents}
 use Rattle.mac_core.specs.Contents.{contents_of}
 use Rattle.mac_core.specs.Hmac.{hmac}
 use Rattle.mac_core.proofs.ContentSteps as contents
@@ -13,9 +13,9 @@ use Rattle.kdbx_frame.specs.declared.settings.Settings.{Settings}
 use Rattle.kdbx_frame.specs.Fields.{header_limit}
 use Rattle.kdbx_frame.specs.Settings.{IsInOrder, IsVersion4}
 use Rattle.kdbx_inner.specs.Inner.{Binary}
-use Rattle.kdbx_payload.specs.Ciphers.{deciphered}
+use Rattle.kdbx_payload.specs.Ciphers.{deciphered_text}
 use Rattle.kdbx_payload.specs.HeaderMacs.{base_of, header_mac, key_of}
-use Rattle.kdbx_payload.specs.Parts.{after_header, framed, header_check, of_blocks, right_padding, stored_mac}
+use Rattle.kdbx_payload.specs.Parts.{after_header, frame_or_refusal, header_check, of_blocks, right_padding, stored_mac}
 use Rattle.kdbx_payload.specs.Payloads.{hidden_text, payload_in, payload_of}
 use Rattle.kdbx_payload.specs.Sealed.{SealedPayload}
 use Rattle.kdbx_payload.specs.declared.fail.PayloadFail.TheVariants.{KeyOrHeader}
@@ -30,7 +30,7 @@ use Rattle.kdbx_spelling.proofs.InnerReading.{inner_again}
 use Rattle.kdbx_payload_seal.specs.Made.{blocks_to_end, content_of, file_of, made, made_payload, pieces, pieces_of, written_keystream}
 
 -- The pieces put end to end are the content.
-pieces_joined : (f n : ℕ) (xs : List ℕ) → 0 < n → length xs ≤ f → concatenated (pieces_of f n xs) ≡ xs
+pieces_joined : (f n : ℕ) (xs : List ℕ) → 0 < n → length xs ≤ f → concat_contents (pieces_of f n xs) ≡ xs
 unfolding pieces_of
 pieces_joined zero n [] some within = refl
 pieces_joined zero n (x ∷ xs) some within = absurd (omega (arith, within))
@@ -97,7 +97,7 @@ mac_again base header stored h =
 
 -- ---- the whole file
 
-hidden_again : (s : Settings) (d : Draws) (base key content text : List ℕ) → deciphered s.cipher key d.iv content ≡ Some text
+hidden_again : (s : Settings) (d : Draws) (base key content text : List ℕ) → deciphered_text s.cipher key d.iv content ≡ Some text
     → hidden_text base key (header_with s d) (file_of base (spelled_header s d) content) ≡ Ok text
 unfolding hidden_text
 hidden_again s d base key content text undone =
@@ -112,7 +112,7 @@ payload_again : (s : Settings) (d : Draws) (pool : List Binary) (text : List ℕ
 unfolding payload_in
 payload_again s d pool text len small =
     let inner = spelled_inner d.stream pool in
-    each _ _ (inner_with d.stream pool) (made_payload s d pool text) (ap framed (inner_again d.stream text pool (omega (arith, len)) small))
+    each _ _ (inner_with d.stream pool) (made_payload s d pool text) (ap frame_or_refusal (inner_again d.stream text pool (omega (arith, len)) small))
     (each _ (λ stream. Ok (record { settings = settings_with s d; pool = pool; stream = stream; text = drop (length inner) (inner ++ text) }))
     (written_keystream d.stream) (made_payload s d pool text) refl
     (ap (λ (t : List ℕ). Ok (record { settings = settings_with s d; pool = pool; stream = written_keystream d.stream; text = t }))
@@ -120,7 +120,7 @@ payload_again s d pool text len small =
 
 pub made_is_sealed : (s : Settings) (d : Draws) (composite : List ℕ) (pool : List Binary) (text : List ℕ)
     → IsVersion4 s.version → IsInOrder s → AreDrawn s d → AllByRecursion FitsField pool → length (spelled_header s d) + 64 ≤ header_limit
-    → deciphered s.cipher (key_of (header_with s d) composite) d.iv (content_of (key_of (header_with s d) composite) s d pool text)
+    → deciphered_text s.cipher (key_of (header_with s d) composite) d.iv (content_of (key_of (header_with s d) composite) s d pool text)
     ≡ Some (spelled_inner d.stream pool ++ text)
     → SealedPayload (made s d composite pool text) composite (made_payload s d pool text)
 unfolding made payload_of
@@ -133,5 +133,5 @@ made_is_sealed s d composite pool text is order drawn small within undone =
     let payload = made_payload s d pool text in
     let body = blocks_to_end base 0 (pieces content) in
     is_sealed (file_of base header content) composite payload
-    (each _ _ (header_with s d) payload (ap framed (header_again s d (header_mac base header) body is order drawn (mac_len base header) within))
+    (each _ _ (header_with s d) payload (ap frame_or_refusal (header_again s d (header_mac base header) body is order drawn (mac_len base header) within))
     (each _ _ plain payload (hidden_again s d base key content plain undone) (payload_again s d pool text drawn.stream.len small)))

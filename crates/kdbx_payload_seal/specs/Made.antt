@@ -11,7 +11,7 @@ use Rattle.kdbx_spelling.specs.Header.{header_with, settings_with, spelled_heade
 use Rattle.kdbx_spelling.specs.Inner.{spelled_inner}
 use Rattle.kdbx_payload.specs.HeaderMacs.{base_of, header_mac, key_of}
 use Rattle.kdbx_payload.specs.Payloads.{Payload}
-use Rattle.kdbx_payload_seal.specs.Enciphered.{enciphered}
+use Rattle.kdbx_payload_seal.specs.Enciphered.{enciphered_text}
 
 -- A content in pieces of n bytes, of which the last may have fewer; there are `most` at most.
 unfoldable pub pieces_of : ℕ → ℕ → List ℕ → List (List ℕ)
@@ -37,7 +37,8 @@ file_of base header content =
 -- The content of a file under the key of its cipher: inner fields with the attached files, and the
 -- text of the document, enciphered.
 abbrev pub content_of : List ℕ → Settings → Draws → List Binary → List ℕ → List ℕ
-content_of key s d pool text = enciphered s.cipher key d.iv (spelled_inner d.stream pool ++ text)
+content_of key s d pool text = enciphered_text s.cipher key d.iv
+    (spelled_inner d.stream pool ++ text)
 
 -- The file of these settings with these draws, under a composite key, that has these attached files
 -- and this text of a document.

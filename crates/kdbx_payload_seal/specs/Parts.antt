@@ -2,7 +2,7 @@
 use Rattle.std.specs.Prelude.{◌≡◌, ℕ, ◌+◌, ◌≤◌, ◌^◌, List, ◌++◌, length, map, Some}
 use Rattle.std.specs.List.{AllByRecursion}
 use Rattle.kdbx_inner.specs.Seen.{binary_seen}
-use Rattle.kdbx_payload.specs.Ciphers.{deciphered}
+use Rattle.kdbx_payload.specs.Ciphers.{deciphered_text}
 use Rattle.kdbx_payload.specs.HeaderMacs.{base_of, key_of}
 use Rattle.kdbx_spelling.specs.Header.{header_with}
 use Rattle.kdbx_spelling.specs.Inner.{FitsField, spelled_inner}
@@ -39,4 +39,4 @@ pub record AreSmall (p : Parts) (text : List ℕ) : Type 0 where
 -- A content is deciphered to the inner fields and the text.
 abbrev pub IsUndone : List ℕ → Parts → List ℕ → List ℕ → Type 0
 IsUndone key p text content =
-    deciphered p.settings.now.cipher key p.draws.now.iv content ≡ Some (plain_text p text)
+    deciphered_text p.settings.now.cipher key p.draws.now.iv content ≡ Some (plain_text p text)

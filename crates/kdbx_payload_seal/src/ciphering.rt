@@ -4,9 +4,9 @@ ghost use Rattle.std.specs.Prelude.{◌≡◌, ◌≤◌, ◌%◌, ◌^◌, Some
 ghost use Rattle.block_core.specs.Cbc.{cbc_deciphered, cbc_enciphered};
 ghost use Rattle.block_core.specs.Padding.{padded};
 ghost use Rattle.stream_core.specs.ChaCha20.{chacha_byte};
-ghost use Rattle.stream_core.specs.Stream.{xored};
-ghost use Rattle.kdbx_payload.specs.Ciphers.{deciphered, unchained};
-ghost use Rattle.kdbx_payload_seal.specs.Enciphered.{enciphered};
+ghost use Rattle.stream_core.specs.Stream.{xor_stream};
+ghost use Rattle.kdbx_payload.specs.Ciphers.{cbc_text, deciphered_text};
+ghost use Rattle.kdbx_payload_seal.specs.Enciphered.{enciphered_text};
 
 use block_core::{Aes256, Block16, Twofish256, cbc_encrypt, pad_len};
 use kdbx_frame::Cipher;
@@ -39,7 +39,7 @@ fn encipher_chained<B: Block16>(cipher: &B, iv: &[u8; 16], mut text: Secret) -> 
     requires { 16 ≤ text.spare }
     ensures bytes { result.bytes
         ≡ cbc_enciphered (B.enciphered cipher.now) iv.now (padded text.bytes) }
-    ensures undone { unchained (B.deciphered cipher.now) iv.now result.bytes ≡ Some text.bytes }
+    ensures undone { cbc_text (B.deciphered cipher.now) iv.now result.bytes ≡ Some text.bytes }
 {
     pad(&mut text);
     encipher_blocks(cipher, iv, text)
@@ -48,8 +48,8 @@ fn encipher_chained<B: Block16>(cipher: &B, iv: &[u8; 16], mut text: Secret) -> 
 // Enciphers by ChaCha20, whose nonce is the first 12 bytes of the IV.
 fn encipher_stream(key: &Key, iv: &[u8; 16], mut text: Secret) -> Secret
     requires { length text.bytes ≤ 2 ^ 38 }
-    ensures bytes { result.bytes ≡ xored (chacha_byte key.now (take 12 iv.now)) 0 text.bytes }
-    ensures undone { xored (chacha_byte key.now (take 12 iv.now)) 0 result.bytes ≡ text.bytes }
+    ensures bytes { result.bytes ≡ xor_stream (chacha_byte key.now (take 12 iv.now)) 0 text.bytes }
+    ensures undone { xor_stream (chacha_byte key.now (take 12 iv.now)) 0 result.bytes ≡ text.bytes }
 {
     laws::twice();
     let mut nonce = [0; 12];
@@ -63,8 +63,8 @@ fn encipher_stream(key: &Key, iv: &[u8; 16], mut text: Secret) -> Secret
 pub fn encipher(cipher: Cipher, key: &Key, iv: &[u8; 16], text: Secret) -> Secret
     requires spare { 16 ≤ text.spare }
     requires limit { length text.bytes ≤ 2 ^ 38 }
-    ensures bytes { result.bytes ≡ enciphered cipher key.now iv.now text.bytes }
-    ensures undone { deciphered cipher key.now iv.now result.bytes ≡ Some text.bytes }
+    ensures bytes { result.bytes ≡ enciphered_text cipher key.now iv.now text.bytes }
+    ensures undone { deciphered_text cipher key.now iv.now result.bytes ≡ Some text.bytes }
 {
     match cipher {
         Cipher::Aes => encipher_chained(&Aes256::new(key), iv, text),

@@ -2,7 +2,7 @@
 use Rattle.std.proofs.Common.{◌≡◌, ℕ, ◌+◌, ◌-◌, ◌<◌, ◌^◌, Bool, true, false, List, [], ◌∷◌, ◌++◌, length, map, Some, Result, Ok, refl, sym, ◌∙◌, ap, arith, append_assoc, append-nil, length-append}
 use Rattle.std.specs.Prelude.{◌==◌, bit_and, if◌then◌else◌}
 use Rattle.std.specs.List.{flat_map, AllByRecursion}
-use Rattle.outside_core.specs.Results.{◌>>=◌, repeated}
+use Rattle.outside_core.specs.Results.{◌>>=◌, repeat_steps}
 use Rattle.kdbx_parts.specs.declared.fail.FrameFail.{FrameFail}
 use Rattle.kdbx_parts.specs.declared.fail.FrameFail.TheVariants.{Truncated}
 use Rattle.kdbx_inner.specs.Inner.{Binary, InnerRead, PartialInner, inner_end_missing, inner_from, inner_of, inner_step, no_inner_fields, with_inner_field}
@@ -64,7 +64,7 @@ inner_again key text pool key_fits pool_small =
     let enough : length fields < whole = omega (arith, fewer_fields fields, len, length-append body end) in
     let found : PartialInner = record { stream_id = Some 3; stream_key = Some key; pool = pool } in
     let read : inner_from (body ++ end ++ text) ≡ Ok (at found text) =
-    ap (λ (t : List ℕ). repeated (inner_step whole) (inner_end_missing whole) whole (at no_inner_fields t)) (append_assoc body end text)
+    ap (λ (t : List ℕ). repeat_steps (inner_step whole) (inner_end_missing whole) whole (at no_inner_fields t)) (append_assoc body end text)
     ∙ spelled_steps (inner_step whole) (inner_end_missing whole) at (spelled_field) add_inner end CanBeWritten
     (inner_step_again whole) (end_step_again whole) whole fields no_inner_fields text
     ((refl, omega arith), ((refl, key_fits), pool_fits pool pool_small)) enough

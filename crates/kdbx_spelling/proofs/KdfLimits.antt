@@ -4,7 +4,7 @@ use Rattle.std.specs.Prelude.{◌||◌, nat_lt}
 use Rattle.std.proofs.lemmas.Bool.{le-ltb, ltb-false}
 use Rattle.key_core.specs.declared.kdf.Kdf.{Kdf}
 use Rattle.key_core.specs.declared.kdf.Kdf.TheVariants.{Aes, Argon}
-use Rattle.key_core.specs.Kdf.{IsChecked, checked_argon, within}
+use Rattle.key_core.specs.Kdf.{IsChecked, check_range, checked_argon}
 use Rattle.key_core.specs.declared.kdf.KdfField.{KdfField}
 use Rattle.key_core.specs.declared.kdf.KdfField.TheVariants.{Rounds, Passes, Memory, Lanes}
 use Rattle.key_core.specs.declared.kdf.KdfFail.{KdfFail}
@@ -18,7 +18,7 @@ within_parts_by field least most n next false false low high h = (ltb-false n le
 within_parts_by field least most n next false true low high h = cc
 within_parts_by field least most n next true b low high h = cc
 
-within_parts : (field : KdfField) (least most n : ℕ) (next : Result Unit KdfFail) → within field least most n next ≡ Ok tt → (least ≤ n) × (n ≤ most) × (next ≡ Ok tt)
+within_parts : (field : KdfField) (least most n : ℕ) (next : Result Unit KdfFail) → check_range field least most n next ≡ Ok tt → (least ≤ n) × (n ≤ most) × (next ≡ Ok tt)
 within_parts field least most n next h = within_parts_by field least most n next (nat_lt n least) (nat_lt most n) refl refl h
 
 pub fits_again : (kdf : Kdf) (salt : List ℕ) → IsChecked kdf → length salt ≡ 32 → Fits (with_salt kdf salt)

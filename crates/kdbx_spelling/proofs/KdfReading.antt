@@ -9,7 +9,7 @@ use Rattle.argon_core.specs.declared.params.ArgonKind.{ArgonKind}
 use Rattle.argon_core.specs.declared.params.ArgonKind.TheVariants.{D, Id}
 use Rattle.key_core.specs.declared.kdf.Kdf.{Kdf}
 use Rattle.key_core.specs.declared.kdf.Kdf.TheVariants.{Aes, Argon}
-use Rattle.outside_core.specs.Results.{◌>>=◌, repeated}
+use Rattle.outside_core.specs.Results.{◌>>=◌, repeat_steps}
 use Rattle.kdbx_parts.specs.declared.fail.FrameFail.{FrameFail}
 use Rattle.kdbx_parts.specs.declared.fail.FrameFail.TheVariants.{Dictionary}
 use Rattle.kdbx_dictionary.specs.Dictionary.{ItemsRead, KdfDescription, Keys, aes, aes_kdf, argon, counted_bytes, description_of, dictionary_of, item_at, item_refusal, item_step, length_fits, no_keys, with_item}
@@ -139,7 +139,7 @@ dictionary_again kdf h =
     let items = flat_map spelled_item (kdf_items kdf) ++ 0 ∷ [] in
     let whole = length (spelled_kdf kdf) in
     let enough : length (kdf_items kdf) < whole = omega (arith, fewer_items (kdf_items kdf), length-append (flat_map spelled_item (kdf_items kdf)) (0 ∷ [])) in
-    let read : repeated (item_step whole) (item_refusal whole) whole (at no_keys items) ≡ Ok (at (keys_of kdf) []) =
+    let read : repeat_steps (item_step whole) (item_refusal whole) whole (at no_keys items) ≡ Ok (at (keys_of kdf) []) =
     spelled_steps (item_step whole) (item_refusal whole) at spelled_item add_item (0 ∷ []) IsItem (item_step_again whole) (end_step_again whole)
     whole (kdf_items kdf) no_keys [] (items_fit kdf h) enough
     ∙ then_ok _ _ _ (all_added kdf h) in

@@ -4,7 +4,7 @@ use Rattle.std.specs.Prelude.{nat_lt, bytes_eq}
 use Rattle.std.specs.List.{flat_map, AllByRecursion}
 use Rattle.std.proofs.lemmas.Bool.{le-ltb, eq-eqb}
 use Rattle.std.proofs.lemmas.List.{take_at, drop_at}
-use Rattle.outside_core.specs.Results.{◌>>=◌, repeated}
+use Rattle.outside_core.specs.Results.{◌>>=◌, repeat_steps}
 use Rattle.kdbx_parts.specs.declared.fail.FrameFail.{FrameFail}
 use Rattle.kdbx_parts.specs.Parts.{split_bytes}
 
@@ -30,9 +30,9 @@ folded add p (a ∷ more) = add p a >>= λ q. folded add q more
 
 -- One step of a reading that is not the last.
 one_more : {P S : Type 0} (step : S → Result (Bool × S) FrameFail) (out : S → FrameFail) (at : P → S) (n : ℕ) (s : S) (rest : P → Result S FrameFail) (r : Result P FrameFail)
-    → step s ≡ (r >>= λ q. Ok (false, at q)) → ((q : P) → repeated step out n (at q) ≡ rest q)
-    → repeated step out (suc n) s ≡ (r >>= rest)
-unfolding repeated
+    → step s ≡ (r >>= λ q. Ok (false, at q)) → ((q : P) → repeat_steps step out n (at q) ≡ rest q)
+    → repeat_steps step out (suc n) s ≡ (r >>= rest)
+unfolding repeat_steps
 one_more step out at n s rest (Ok q) h more = then_ok (step s) (false, at q) _ h ∙ more q
 one_more step out at n s rest (Err e) h more = rw h refl
 
@@ -48,13 +48,13 @@ pub spelled_steps : {A P S : Type 0} (step : S → Result (Bool × S) FrameFail)
     → ((p : P) (a : A) (rest : List ℕ) → Fits a → step (at p (spell a ++ rest)) ≡ (add p a >>= λ q. Ok (false, at q rest)))
     → ((p : P) (rest : List ℕ) → step (at p (end ++ rest)) ≡ Ok (true, at p rest))
     → (n : ℕ) (list : List A) (p : P) (rest : List ℕ) → AllByRecursion Fits list → length list < n
-    → repeated step out n (at p (flat_map spell list ++ (end ++ rest))) ≡ (folded add p list >>= λ q. Ok (at q rest))
-unfolding repeated folded
+    → repeat_steps step out n (at p (flat_map spell list ++ (end ++ rest))) ≡ (folded add p list >>= λ q. Ok (at q rest))
+unfolding repeat_steps folded
 spelled_steps step out at spell add end Fits reads ends zero list p rest fits less = absurd (omega (arith, less))
 spelled_steps step out at spell add end Fits reads ends (suc n) [] p rest fits less = then_ok (step (at p (end ++ rest))) (true, at p rest) _ (ends p rest)
 spelled_steps {A} {P} {S} step out at spell add end Fits reads ends (suc n) (a ∷ list) p rest fits less =
     let tail = flat_map spell list ++ (end ++ rest) in
-    let text : List ℕ → Result S FrameFail = λ t. repeated step out (suc n) (at p t) in
+    let text : List ℕ → Result S FrameFail = λ t. repeat_steps step out (suc n) (at p t) in
     ap text (append_assoc (spell a) (flat_map spell list) (end ++ rest))
     ∙ one_more step out (λ q. at q tail) n (at p (spell a ++ tail)) (λ q. folded add q list >>= λ t. Ok (at t rest)) (add p a)
     (reads p a tail fits.0)

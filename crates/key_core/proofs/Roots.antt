@@ -2,7 +2,7 @@
 use Rattle.std.proofs.Common.{ℕ, ◌≡◌, ◌∙◌, sym, ap, true, false, ◌&&◌, Option, Some, None, List, [], ◌∷◌}
 use Rattle.std.specs.Prelude.{codes, option_map, Result, Ok, Err}
 use Rattle.markup_grammar.specs.Answers.{Answer, start, words, stop, finish}
-use Rattle.markup_grammar.specs.Elements.{Content, inner, outer, left}
+use Rattle.markup_grammar.specs.Elements.{Content, innermost, outer_contents, open_contents}
 use Rattle.markup_grammar.specs.Escapes.{unescaped}
 use Rattle.markup_grammar.specs.Reading.{answers}
 use Rattle.markup_core.specs.Next.{Answers}
@@ -27,20 +27,20 @@ says_further says content = (
 -- what stands behind the root is whole as long as its pieces come
 pub start_behind : {A : Type 0} (place : ℕ) (name raw : List ℕ) (value says : A) (old mid new : List Answer)
     → old ≡ start place name raw ∷ mid → IsRead value says mid new
-    → is_whole (inner (left new)) ≡ is_whole (inner (left old))
+    → is_whole (innermost (open_contents new)) ≡ is_whole (innermost (open_contents old))
 start_behind place name raw value says old mid new h r =
     let came = start_came place name raw old mid h in
-    ap (λ cs. is_whole (inner cs)) r.rest ∙ sym (ap (λ b. b && is_whole (inner (outer (left mid)))) r.whole)
+    ap (λ cs. is_whole (innermost cs)) r.rest ∙ sym (ap (λ b. b && is_whole (innermost (outer_contents (open_contents mid)))) r.whole)
     ∙ sym (ap is_whole came.0)
 
 start_cut : (place : ℕ) (name raw : List ℕ) (old mid : List Answer)
-    → old ≡ start place name raw ∷ mid → are_whole mid ≡ false → is_whole (inner (left old)) ≡ false
+    → old ≡ start place name raw ∷ mid → are_whole mid ≡ false → is_whole (innermost (open_contents old)) ≡ false
 start_cut place name raw old mid h broken =
     let came = start_came place name raw old mid h in ap is_whole came.0 ∙ broken
 
 -- where the reading of an element is stopped, so is this
 pub ends_stopped : (stopped : Stopped) (place : ℕ) (name raw : List ℕ)
-    (first old mid new : List Answer) → is_whole (inner (left old)) ≡ is_whole (inner (left first))
+    (first old mid new : List Answer) → is_whole (innermost (open_contents old)) ≡ is_whole (innermost (open_contents first))
     → old ≡ start place name raw ∷ mid → Reads {A = Unit {0}} {B = Unit {0}} (λ x. x) tt mid (Err stopped) new
     → Ends first (Err stopped)
 ends_stopped Cut place name raw first old mid new same h broken =
@@ -48,22 +48,22 @@ ends_stopped Cut place name raw first old mid new same h broken =
 ends_stopped NoMemory place name raw first old mid new same h broken = tt
 
 pub words_behind : (place : ℕ) (raw : List ℕ) (old new : List Answer) → old ≡ words place raw ∷ new
-    → is_whole (inner (left new)) ≡ is_whole (inner (left old))
+    → is_whole (innermost (open_contents new)) ≡ is_whole (innermost (open_contents old))
 words_behind place raw old new h =
     let came = words_came place raw old new h in
-    sym (ap is_whole came.0 ∙ prepended_whole (unescaped raw) (inner (left new)))
+    sym (ap is_whole came.0 ∙ prepended_whole (unescaped raw) (innermost (open_contents new)))
 
-pub stop_behind : (place : ℕ) (old new : List Answer) → old ≡ stop place ∷ new → is_whole (inner (left old)) ≡ true
+pub stop_behind : (place : ℕ) (old new : List Answer) → old ≡ stop place ∷ new → is_whole (innermost (open_contents old)) ≡ true
 stop_behind place old new h = let came = stop_came place old new h in ap is_whole came.0
 
-pub finish_behind : (old : List Answer) → old ≡ finish ∷ [] → is_whole (inner (left old)) ≡ true
-unfolding left
-finish_behind old h = ap (λ a. is_whole (inner (left a))) h
+pub finish_behind : (old : List Answer) → old ≡ finish ∷ [] → is_whole (innermost (open_contents old)) ≡ true
+unfolding open_contents
+finish_behind old h = ap (λ a. is_whole (innermost (open_contents a))) h
 
-pub refusal_behind : (fail : MarkupFail) (old new : List Answer) → Answers old (Err fail) new → is_whole (inner (left old)) ≡ false
-unfolding left
-refusal_behind (Form place) old new h = ap (λ a. is_whole (inner (left a))) h.0
-refusal_behind (Depth place) old new h = ap (λ a. is_whole (inner (left a))) h.0
+pub refusal_behind : (fail : MarkupFail) (old new : List Answer) → Answers old (Err fail) new → is_whole (innermost (open_contents old)) ≡ false
+unfolding open_contents
+refusal_behind (Form place) old new h = ap (λ a. is_whole (innermost (open_contents a))) h.0
+refusal_behind (Depth place) old new h = ap (λ a. is_whole (innermost (open_contents a))) h.0
 
 -- the key of a file is told by what its root tells
 abbrev keyed : Option Says → Result (List ℕ) KeyFileFail

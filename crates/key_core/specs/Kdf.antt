@@ -9,21 +9,21 @@ use Rattle.key_core.specs.declared.kdf.KdfFail.{KdfFail}
 use Rattle.key_core.specs.declared.kdf.KdfFail.TheVariants.{KdfLimit}
 
 -- a number that must be from `least` to `most`, and what follows where it is
-abbrev pub within : KdfField → ℕ → ℕ → ℕ → Result Unit KdfFail → Result Unit KdfFail
-within field least most n next = if nat_lt n least
+abbrev pub check_range : KdfField → ℕ → ℕ → ℕ → Result Unit KdfFail → Result Unit KdfFail
+check_range field least most n next = if nat_lt n least
     || nat_lt most n then Err (KdfLimit field n) else next
 
 -- the passes, memory, lanes and length of salt of Argon2, or the first that is out of its limits
 abbrev pub checked_argon : ℕ → ℕ → ℕ → ℕ → Result Unit KdfFail
 checked_argon passes bytes lanes salt_len =
-    within Passes 1 4294967295 passes (
-    within Memory (1024 * min_lane_kib * lanes) (1024 * max_kib) bytes (
-    within Lanes 1 max_lanes lanes (
-    within Salt min_salt max_salt salt_len (Ok tt))))
+    check_range Passes 1 4294967295 passes (
+    check_range Memory (1024 * min_lane_kib * lanes) (1024 * max_kib) bytes (
+    check_range Lanes 1 max_lanes lanes (
+    check_range Salt min_salt max_salt salt_len (Ok tt))))
 
 -- whether all numbers are within their limits, or the first that is not
 abbrev pub checked_kdf : Kdf → Result Unit KdfFail
-checked_kdf (Aes rounds seed) = within Rounds 0 4294967296 rounds (Ok tt)
+checked_kdf (Aes rounds seed) = check_range Rounds 0 4294967296 rounds (Ok tt)
 checked_kdf (Argon kind passes bytes lanes salt) = checked_argon passes bytes lanes (length salt)
 
 -- all numbers are within their limits

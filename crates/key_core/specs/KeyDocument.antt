@@ -3,10 +3,10 @@
 use Rattle.std.specs.Prelude.{ℕ, Bool, true, false, ◌&&◌, if◌then◌else◌, Option, Some, None, List, ◌∷◌, take, bytes_eq, codes, Result, Ok, Err}
 use Rattle.sha2.specs.Sha256.{sha256}
 use Rattle.markup_grammar.specs.Answers.{Answer, start}
-use Rattle.markup_grammar.specs.Elements.{Element, element, Content, last, also, cut, inner, outer, left, joined}
+use Rattle.markup_grammar.specs.Elements.{Element, element, Content, last, also, cut, innermost, outer_contents, open_contents, own_text}
 use Rattle.markup_grammar.specs.Attributes.{attribute_text}
 use Rattle.text_core.specs.Texts.{trim}
-use Rattle.key_core.specs.KeyTexts.{dense, base64_key, hexadecimal_key, hexadecimal_hash}
+use Rattle.key_core.specs.KeyTexts.{without_spaces, base64_key, hexadecimal_key, hexadecimal_hash}
 use Rattle.key_core.specs.declared.key_document.Version.{Version}
 use Rattle.key_core.specs.declared.key_document.Version.TheVariants.{First, Second, Other}
 use Rattle.key_core.specs.declared.key_file.KeyFileFail.{KeyFileFail}
@@ -47,7 +47,7 @@ version_by place text =
 
 -- what a Version says
 abbrev pub version_in : Element → Option Version
-version_in (element place name raw content) = Some (version_by place (joined content))
+version_in (element place name raw content) = Some (version_by place (own_text content))
 
 -- the version that a Meta gives
 abbrev pub version_of_meta : Content → Option Version
@@ -67,7 +67,11 @@ pub record Told : Type 0 where
 -- what a Data says
 abbrev pub told_in : Element → Option Told
 told_in (element place name raw content) =
-    Some (record { place = place; hash = attribute_text raw (codes "Hash"); text = joined content })
+    Some (record {
+      place = place;
+      hash = attribute_text raw (codes "Hash");
+      text = own_text content;
+    })
 
 -- the key that a Key gives
 abbrev pub told_of_key : Content → Option Told
@@ -78,29 +82,29 @@ abbrev pub told_of : Content → Option Told
 told_of root = last_says (codes "Key") (λ key. told_of_key (held_by key)) None root
 
 -- what is found, or the refusal of a key that is not in its form
-abbrev pub formed : {A : Type 0} → ℕ → Option A → Result A KeyFileFail
-formed place None = Err (KeyFileForm place)
-formed place (Some x) = Ok x
+abbrev pub form_or_refusal : {A : Type 0} → ℕ → Option A → Result A KeyFileFail
+form_or_refusal place None = Err (KeyFileForm place)
+form_or_refusal place (Some x) = Ok x
 
 -- the hash that is reported with a key, where one is: the first four bytes of the key's SHA-256
-abbrev pub compared : List ℕ → List ℕ → Result (List ℕ) KeyFileFail
-compared key kept =
+abbrev pub key_or_hash_refusal : List ℕ → List ℕ → Result (List ℕ) KeyFileFail
+key_or_hash_refusal key kept =
     if bytes_eq kept (take 4 (sha256 key)) then Ok key else Err
     (KeyFileHash kept (take 4 (sha256 key)))
 
 -- a key that is checked against its hash, where one is stored with it
 abbrev pub proved_by : ℕ → Option (List ℕ) → List ℕ → Result (List ℕ) KeyFileFail
 proved_by place None key = Ok key
-proved_by place (Some digits) key = elim (formed place (hexadecimal_hash digits))
-    [ Ok kept ↦ compared key kept | Err fail ↦ Err fail ]
+proved_by place (Some digits) key = elim (form_or_refusal place (hexadecimal_hash digits))
+    [ Ok kept ↦ key_or_hash_refusal key kept | Err fail ↦ Err fail ]
 
 -- the key of the first version: base64
 abbrev pub first_key : Told → Result (List ℕ) KeyFileFail
-first_key told = formed told.place (base64_key (trim told.text))
+first_key told = form_or_refusal told.place (base64_key (trim told.text))
 
 -- the key of the second version: hexadecimal digits, with white space between them, and their hash
 abbrev pub second_key : Told → Result (List ℕ) KeyFileFail
-second_key told = elim (formed told.place (hexadecimal_key (dense told.text)))
+second_key told = elim (form_or_refusal told.place (hexadecimal_key (without_spaces told.text)))
     [ Ok key ↦ proved_by told.place told.hash key | Err fail ↦ Err fail ]
 
 -- the key of a document with this version and this key, or the first of what is missing or in no
@@ -117,7 +121,7 @@ document_key (Some Second) (Some told) = second_key told
 -- KeyFile
 abbrev pub root_of : List Answer → Option Content
 root_of (start place name raw ∷ more) =
-    if bytes_eq name (codes "KeyFile") && (is_whole (inner (left more))
-    && is_whole (inner (outer (left more))))
-    then Some (inner (left more)) else None
+    if bytes_eq name (codes "KeyFile") && (is_whole (innermost (open_contents more))
+    && is_whole (innermost (outer_contents (open_contents more))))
+    then Some (innermost (open_contents more)) else None
 root_of _ = None

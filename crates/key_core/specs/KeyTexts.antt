@@ -9,8 +9,8 @@ use Rattle.hex.specs.Hex.{decode_sized}
 use Rattle.markup_grammar.specs.Bytes.{is_space}
 
 -- a text without any white space
-abbrev pub dense : List ℕ → List ℕ
-dense text = filter (λ b. not (is_space b)) text
+abbrev pub without_spaces : List ℕ → List ℕ
+without_spaces text = filter (λ b. not (is_space b)) text
 
 -- the bytes, where they are 32
 abbrev pub whole_key : List ℕ → Option (List ℕ)

@@ -2,7 +2,7 @@
 use Rattle.std.specs.Prelude.{ℕ, ◌≡◌, ◌<◌, Bool, true, false, ◌&&◌, if◌then◌else◌, bytes_eq, codes, Option, Some, None, option_map, List, [], length, Result, Ok, Err}
 use Rattle.secret_core.specs.Secret.{SecretBuffer}
 use Rattle.markup_grammar.specs.Answers.{Answer}
-use Rattle.markup_grammar.specs.Elements.{element, Content, last, also, inner, outer, left, prepended, joined}
+use Rattle.markup_grammar.specs.Elements.{element, Content, last, also, innermost, outer_contents, open_contents, with_text_before, own_text}
 use Rattle.markup_grammar.specs.Escapes.{unescaped}
 use Rattle.key_core.specs.KeyDocument.{is_whole, version_by, version_of, version_of_meta, Told, told_of, told_of_key, root_of}
 use Rattle.key_core.specs.declared.key_document.Version.{Version}
@@ -15,18 +15,24 @@ use Rattle.key_core.specs.declared.reading.Item.TheVariants.{Child, Words, End}
 
 -- what is left of the innermost open element and of the one round it is whole
 abbrev pub are_whole : List Answer → Bool
-are_whole answers = is_whole (inner (left answers)) && is_whole (inner (outer (left answers)))
+are_whole answers = is_whole (innermost (open_contents answers)) && is_whole
+    (innermost (outer_contents (open_contents answers)))
 
 -- the next item of the innermost open element
 abbrev pub Comes : List Answer → Result Item Stopped → List Answer → Type 0
 Comes old (Ok (Child name attrs place)) new =
-    (inner (left old) ≡ also [] (element place name.now attrs.raw.now (inner (left new)))
-    (inner (outer (left new))))
-    × (outer (left old) ≡ outer (outer (left new))) × (length new < length old)
+    (innermost (open_contents old) ≡ also []
+    (element place name.now attrs.raw.now (innermost (open_contents new)))
+    (innermost (outer_contents (open_contents new))))
+    × (outer_contents (open_contents old) ≡ outer_contents (outer_contents (open_contents new)))
+    × (length new < length old)
 Comes old (Ok (Words raw)) new =
-    (inner (left old) ≡ prepended (unescaped raw.now) (inner (left new)))
-    × (outer (left old) ≡ outer (left new)) × (length new < length old)
-Comes old (Ok End) new = (inner (left old) ≡ last []) × (outer (left old) ≡ left new)
+    (innermost (open_contents old) ≡ with_text_before (unescaped raw.now)
+    (innermost (open_contents new)))
+    × (outer_contents (open_contents old) ≡ outer_contents (open_contents new))
+    × (length new < length old)
+Comes old (Ok End) new = (innermost (open_contents old) ≡ last [])
+    × (outer_contents (open_contents old) ≡ open_contents new)
     × (length new < length old)
 Comes old (Err Cut) new = are_whole old ≡ false
 Comes old (Err NoMemory) new = ⊥
@@ -34,8 +40,8 @@ Comes old (Err NoMemory) new = ⊥
 -- it was read up to its end, and says this
 pub record IsRead {A : Type 0} (value says : A) (old new : List Answer) : Type 0 where
   pub said : value ≡ says
-  pub whole : is_whole (inner (left old)) ≡ true
-  pub rest : left new ≡ outer (left old)
+  pub whole : is_whole (innermost (open_contents old)) ≡ true
+  pub rest : open_contents new ≡ outer_contents (open_contents old)
   pub shorter : length new < length old
 
 -- it was read and says this, or it or what is around it is cut
@@ -57,7 +63,7 @@ told_by d = record {
 -- the version past an element of a Meta, of this name, at this place and with this content
 abbrev pub version_or : List ℕ → ℕ → Option Version → Content → Option Version
 version_or name place version content =
-    if bytes_eq name (codes "Version") then Some (version_by place (joined content)) else version
+    if bytes_eq name (codes "Version") then Some (version_by place (own_text content)) else version
 
 -- the key that a Data at this place gives, with this raw hash and this content
 abbrev pub told_here : ℕ → Option (List ℕ) → Content → Told
@@ -65,7 +71,7 @@ told_here place hash content = record {
   place = place;
   hash = option_map unescaped hash;
   text =
-      joined content;
+      own_text content;
 }
 
 -- the key past an element of a Key, of this name
@@ -94,7 +100,7 @@ says_or name says content = (
 
 -- what the root holds, whose start tag was read
 abbrev pub root_in : List Answer → Option Content
-root_in answers = if are_whole answers then Some (inner (left answers)) else None
+root_in answers = if are_whole answers then Some (innermost (open_contents answers)) else None
 
 -- whether the start tag of the root of a key document is next, which is read
 abbrev pub Begins : List Answer → Bool → List Answer → Type 0
@@ -103,8 +109,8 @@ Begins old false new = root_of old ≡ None
 
 -- whether what is left of the innermost open element is whole
 abbrev pub Ends : List Answer → Result Unit Stopped → Type 0
-Ends old (Ok x) = is_whole (inner (left old)) ≡ true
-Ends old (Err Cut) = is_whole (inner (left old)) ≡ false
+Ends old (Ok x) = is_whole (innermost (open_contents old)) ≡ true
+Ends old (Err Cut) = is_whole (innermost (open_contents old)) ≡ false
 Ends old (Err NoMemory) = Unit {0}
 
 -- a document is read exactly where there is a root

@@ -1,7 +1,7 @@
 //! Key files that are markup.
 
 ghost use Rattle.std.specs.Prelude.{◌≡◌, IfOk, option_map, option_copied};
-ghost use Rattle.markup_grammar.specs.Elements.{inner, left};
+ghost use Rattle.markup_grammar.specs.Elements.{innermost, open_contents};
 ghost use Rattle.markup_grammar.specs.Escapes.{unescaped};
 ghost use Rattle.markup_grammar.specs.Reading.{answers};
 ghost use Rattle.key_core.specs.KeyDocument as spec;
@@ -63,7 +63,8 @@ fn read_in_meta(
     place: usize,
     version: Option<Version>,
 ) -> Result<Option<Version>, Stopped>
-    ensures { Reads (λ v. v) (version_or name.now place version (inner (left reader.old)))
+    ensures { Reads (λ v. v)
+        (version_or name.now place version (innermost (open_contents reader.old)))
         reader.old result reader.new }
 {
     if name != "Version" {
@@ -76,8 +77,8 @@ fn read_in_meta(
 
 // Reads a Meta up to its end: the version that its last Version gives.
 fn read_meta(alloc: Global, reader: &mut Reader<'_>) -> Result<Option<Version>, Stopped>
-    ensures { Reads (λ v. v) (spec.version_of_meta (inner (left reader.old))) reader.old result
-        reader.new }
+    ensures { Reads (λ v. v) (spec.version_of_meta (innermost (open_contents reader.old)))
+        reader.old result reader.new }
 {
     let mut version = None;
     'items: loop {
@@ -109,7 +110,8 @@ fn read_data(
     hash: Option<&str>,
     place: usize,
 ) -> Result<Data, Stopped>
-    ensures { Reads told_by (told_here place (option_copied hash.entry) (inner (left reader.old)))
+    ensures { Reads told_by
+        (told_here place (option_copied hash.entry) (innermost (open_contents reader.old)))
         reader.old result reader.new }
 {
     let hash = attribute_text(alloc, hash)?;
@@ -127,7 +129,8 @@ fn read_in_key(
     told: Option<Data>,
 ) -> Result<Option<Data>, Stopped>
     ensures { Reads (option_map told_by) (told_or name.now place (option_copied hash.entry)
-        (option_map told_by told) (inner (left reader.old))) reader.old result reader.new }
+        (option_map told_by told) (innermost (open_contents reader.old))) reader.old result
+        reader.new }
 {
     if name != "Data" {
         skip(reader)?;
@@ -138,8 +141,8 @@ fn read_in_key(
 
 // Reads a Key up to its end: the key that its last Data gives.
 fn read_key(alloc: Global, reader: &mut Reader<'_>) -> Result<Option<Data>, Stopped>
-    ensures { Reads (option_map told_by) (spec.told_of_key (inner (left reader.old))) reader.old
-        result reader.new }
+    ensures { Reads (option_map told_by) (spec.told_of_key (innermost (open_contents reader.old)))
+        reader.old result reader.new }
 {
     let mut data = None;
     'items: loop {
@@ -160,7 +163,8 @@ fn read_in_root(
     name: &str,
     mut document: Document,
 ) -> Result<Document, Stopped>
-    ensures { Reads says_by (says_or name.now (says_by document) (inner (left reader.old)))
+    ensures { Reads says_by
+        (says_or name.now (says_by document) (innermost (open_contents reader.old)))
         reader.old result reader.new }
 {
     if name == "Meta" {
@@ -177,7 +181,8 @@ fn read_in_root(
 
 // Reads the root up to its end.
 fn read_root(alloc: Global, reader: &mut Reader<'_>) -> Result<Document, Stopped>
-    ensures { Reads says_by (says_of (inner (left reader.old))) reader.old result reader.new }
+    ensures { Reads says_by (says_of (innermost (open_contents reader.old))) reader.old result
+        reader.new }
 {
     let mut document = Document {
         version: None,

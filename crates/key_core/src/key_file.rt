@@ -120,7 +120,7 @@ fn proved(mut key: Key, place: usize, digits: &[u8]) -> Result<Key, KeyFileFail>
 
 // The key, where this is its hash.
 fn compared(mut key: Key, kept: [u8; 4]) -> Result<Key, KeyFileFail>
-    ensures { result ≡ spec.compared key kept }
+    ensures { result ≡ spec.key_or_hash_refusal key kept }
 {
     let mut digest = digest_of(key.bytes());
     let mut found = [0; 4];

@@ -11,7 +11,7 @@ use text_core::is_space;
 
 /// The text without any white space.
 pub(crate) fn dense(alloc: Global, text: &[u8]) -> Result<Secret, NoMemory>
-    ensures { IfOk result (λ secret. secret.bytes ≡ texts.dense text.now) }
+    ensures { IfOk result (λ secret. secret.bytes ≡ texts.without_spaces text.now) }
 {
     let mut dense = Secret::with_room(alloc, text.len())?;
     'bytes: for byte in text {

@@ -1,7 +1,7 @@
 //! Reading the elements of a text, one item of the innermost open element at a time.
 
 ghost use Rattle.std.specs.Prelude.{◌≡◌, ◌↔◌, true};
-ghost use Rattle.markup_grammar.specs.Elements.{inner, left, joined};
+ghost use Rattle.markup_grammar.specs.Elements.{innermost, open_contents, own_text};
 ghost use Rattle.key_core.specs.KeyDocument.{is_whole};
 ghost use Rattle.key_core.specs.Reading.{Comes, Reads};
 
@@ -69,7 +69,8 @@ pub(crate) fn skip(reader: &mut Reader<'_>) -> Result<(), Stopped>
 
 /// The text of the innermost open element's own, joined across the elements in it.
 pub(crate) fn read_text(alloc: Global, reader: &mut Reader<'_>) -> Result<Secret, Stopped>
-    ensures { Reads (λ s. s.bytes) (joined (inner (left reader.old))) reader.old result reader.new }
+    ensures { Reads (λ s. s.bytes) (own_text (innermost (open_contents reader.old))) reader.old
+        result reader.new }
 {
     let mut text = Secret::with_room(alloc, 0)?;
     'items: loop {

@@ -2,7 +2,7 @@
 use Rattle.std.proofs.Common.{◌≡◌, ◌≢◌, ℕ, List, [], ◌++◌, length, drop, refl, sym, ◌∙◌, ap, subst, arith, All, Bool, true, false, Result, Ok, Err, OnOk}
 use Rattle.std.proofs.lemmas.List.{append_assoc}
 use Rattle.mac_core.specs.Answers.{FeedReturns, AtEnd, Start}
-use Rattle.mac_core.specs.Blocks.{IsContent, block, blocks, concatenated, mac_of, length_prefixed}
+use Rattle.mac_core.specs.Blocks.{IsContent, block, blocks, concat_contents, mac_of, length_prefixed}
 use Rattle.mac_core.specs.declared.fail.BlockFail.{BlockFail}
 use Rattle.mac_core.specs.declared.fail.BlockFail.TheVariants.{BlockMac, Truncated}
 use Rattle.mac_core.proofs.OneReading.{Stop, one_reading}
@@ -62,11 +62,11 @@ pub same_output : (start : Start) (out other bytes : List ℕ) (x : Result Bool 
 unfolding told
 same_output start out other bytes (Ok true) a b =
     let one = one_telling start.base bytes (Ok true) (Ok true) (told start out bytes (Ok true) a) (told start other bytes (Ok true) b) in
-    a.given ∙ ap (λ (ds : List (List ℕ)). start.before ++ concatenated ds) one.1 ∙ sym b.given
+    a.given ∙ ap (λ (ds : List (List ℕ)). start.before ++ concat_contents ds) one.1 ∙ sym b.given
 same_output start out other bytes (Ok false) a b =
     let one = one_telling start.base bytes (Ok false) (Ok false) (told start out bytes (Ok false) a) (told start other bytes (Ok false) b) in
-    a.given ∙ ap (λ (ds : List (List ℕ)). start.before ++ concatenated ds ++ drop 36 a.rest) one.1
-    ∙ ap (λ (r : List ℕ). start.before ++ concatenated b.contents ++ drop 36 r) one.2 ∙ sym b.given
+    a.given ∙ ap (λ (ds : List (List ℕ)). start.before ++ concat_contents ds ++ drop 36 a.rest) one.1
+    ∙ ap (λ (r : List ℕ). start.before ++ concat_contents b.contents ++ drop 36 r) one.2 ∙ sym b.given
 same_output start out other bytes (Err e) a b = tt
 
 -- more bytes change no refusal
@@ -102,10 +102,10 @@ still_ended start out bytes more a = record {
 -- right blocks and a right end block are read as such, whatever the pieces were
 pub written_is_read : (start : Start) (contents : List (List ℕ)) (tail out : List ℕ) (x : Result Bool BlockFail) → All IsContent contents
     → FeedReturns start out (blocks start.base 0 contents ++ block start.base (length contents) [] ++ tail) x
-    → (x ≡ Ok true) × (out ≡ start.before ++ concatenated contents)
+    → (x ≡ Ok true) × (out ≡ start.before ++ concat_contents contents)
 written_is_read start contents tail out x each a =
     let bytes = blocks start.base 0 contents ++ block start.base (length contents) [] ++ tail in
-    let whole = start.before ++ concatenated contents in
+    let whole = start.before ++ concat_contents contents in
     let end : FeedReturns start whole bytes (Ok true) =
     record { contents = contents; whole = record { tail = tail; each = each; is = refl }; given = refl } in
     let same : x ≡ Ok true = same_answer start out whole bytes x (Ok true) a end in

@@ -7,7 +7,7 @@ use Rattle.std.proofs.lemmas.Slice.Eq.{bytes_eq-Decides}
 use Rattle.std.proofs.lemmas.Nat.{le_bytes_4}
 use Rattle.std.proofs.lemmas.List.{append-nil, append_assoc, drop_at, get_or-drop, get_or-take, get_or_past, length-take-le, length-take, nil_from_length, take-append-drop, take_at}
 use Rattle.std.proofs.lemmas.List.Elements.{All-head, All-nil, All-push, All-tail}
-use Rattle.mac_core.specs.Blocks.{IsContent, IsDamaged, IsUnfinished, IsWhole, block, blocks, concatenated, mac_of, size_in, length_prefixed}
+use Rattle.mac_core.specs.Blocks.{IsContent, IsDamaged, IsUnfinished, IsWhole, block, blocks, concat_contents, mac_of, size_in, length_prefixed}
 use Rattle.mac_core.specs.Contents.{AreContents, block_at, contents_of, head_of_block, block_read}
 use Rattle.mac_core.specs.Joining.{BlockRead, contents_from, written_blocks}
 use Rattle.mac_core.specs.declared.fail.BlockFail.{BlockFail}
@@ -98,7 +98,7 @@ blocks_long base i (c ∷ cs) fine = omega (
 module _ (base : List ℕ) (size : ℕ) where
   -- reading goes contents_from-written_blocks right blocks
   passes : (contents : List (List ℕ)) (rest bytes : List ℕ) → All IsContent contents → bytes ≡ blocks base 0 contents ++ rest
-      → contents_of base size bytes ≡ contents_from (block_at base size) (Truncated size) (length bytes - length contents) (length contents) (concatenated contents) rest
+      → contents_of base size bytes ≡ contents_from (block_at base size) (Truncated size) (length bytes - length contents) (length contents) (concat_contents contents) rest
   passes contents rest bytes fine is =
       let long = blocks_long base 0 contents fine in
       let count : length bytes ≡ (length bytes - length contents) + length contents =
@@ -115,7 +115,7 @@ module _ (base : List ℕ) (size : ℕ) where
   steps_left contents rest bytes fine is some =
       omega (arith, ap length is, length-append (blocks base 0 contents) rest, blocks_long base 0 contents fine)
 
-  contents_of-IsWhole : (bytes : List ℕ) (parts : List (List ℕ)) → IsWhole base bytes parts → contents_of base size bytes ≡ Ok (concatenated parts)
+  contents_of-IsWhole : (bytes : List ℕ) (parts : List (List ℕ)) → IsWhole base bytes parts → contents_of base size bytes ≡ Ok (concat_contents parts)
   contents_of-IsWhole bytes parts w =
       let i = length parts in
       let rest = block base i [] ++ w.tail in
@@ -124,8 +124,8 @@ module _ (base : List ℕ) (size : ℕ) where
       omega (arith, length-append (block base i []) w.tail, length-append (mac_of base i []) (length_prefixed []), length-append (to_le_bytes w32 0) []) in
       let left = length bytes - i - 1 in
       passes parts rest bytes w.each is
-      ∙ ap (λ (n : ℕ). contents_from (block_at base size) (Truncated size) n i (concatenated parts) rest) (steps_left parts rest bytes w.each is some)
-      ∙ ended (block_at base size) (Truncated size) left i (concatenated parts) rest (record { content = []; rest = w.tail })
+      ∙ ap (λ (n : ℕ). contents_from (block_at base size) (Truncated size) n i (concat_contents parts) rest) (steps_left parts rest bytes w.each is some)
+      ∙ ended (block_at base size) (Truncated size) left i (concat_contents parts) rest (record { content = []; rest = w.tail })
       (block_again base size i [] w.tail (omega arith)) refl
 
   contents_of-IsDamaged : (bytes : List ℕ) (i : ℕ) → IsDamaged base bytes i → contents_of base size bytes ≡ Err (BlockMac i)
@@ -137,18 +137,18 @@ module _ (base : List ℕ) (size : ℕ) where
       let some : 0 < length rest = omega arith in
       let left = length bytes - length d.contents - 1 in
       passes d.contents rest bytes d.each is
-      ∙ ap (λ (n : ℕ). contents_from (block_at base size) (Truncated size) n (length d.contents) (concatenated d.contents) rest) (steps_left d.contents rest bytes d.each is some)
-      ∙ ap (λ (k : ℕ). contents_from (block_at base size) (Truncated size) (suc left) k (concatenated d.contents) rest) d.index
-      ∙ refused (block_at base size) (Truncated size) left i (concatenated d.contents) rest (BlockMac i)
+      ∙ ap (λ (n : ℕ). contents_from (block_at base size) (Truncated size) n (length d.contents) (concat_contents d.contents) rest) (steps_left d.contents rest bytes d.each is some)
+      ∙ ap (λ (k : ℕ). contents_from (block_at base size) (Truncated size) (suc left) k (concat_contents d.contents) rest) d.index
+      ∙ refused (block_at base size) (Truncated size) left i (concat_contents d.contents) rest (BlockMac i)
       (block_wrong base size i rest long (λ e. d.wrong (mac_same base i rest x (frame_head rest x) e)))
 
   contents_of-IsUnfinished : (bytes : List ℕ) (parts : List (List ℕ)) (rest : List ℕ) → IsUnfinished base bytes parts rest
       → contents_of base size bytes ≡ Err (Truncated size)
   contents_of-IsUnfinished bytes parts rest u = passes parts rest bytes u.each u.is ∙ by (length bytes - length parts)
     where
-      by : (n : ℕ) → contents_from (block_at base size) (Truncated size) n (length parts) (concatenated parts) rest ≡ Err (Truncated size)
-      by zero = runs_out (block_at base size) (Truncated size) (length parts) (concatenated parts) rest
-      by (suc n) = refused (block_at base size) (Truncated size) n (length parts) (concatenated parts) rest (Truncated size)
+      by : (n : ℕ) → contents_from (block_at base size) (Truncated size) n (length parts) (concat_contents parts) rest ≡ Err (Truncated size)
+      by zero = runs_out (block_at base size) (Truncated size) (length parts) (concat_contents parts) rest
+      by (suc n) = refused (block_at base size) (Truncated size) n (length parts) (concat_contents parts) rest (Truncated size)
           (block_short base size (length parts) rest u.part)
 
   pub contents_of-AreContents : (bytes : List ℕ) (x : Result (List ℕ) BlockFail) → AreContents base size bytes x → contents_of base size bytes ≡ x
@@ -171,9 +171,9 @@ take_low n bytes low k = by (nat_lt k n) refl
     by true e = rw (get_or-take n bytes k 0 (ltb-true k n e)) (low k)
     by false e = rw (get_or_past (take n bytes) k 0 (omega (arith, length-take n bytes, ltb-false k n e))) (omega arith)
 
-joined_push : (contents : List (List ℕ)) (content : List ℕ) → concatenated (contents ++ content ∷ []) ≡ concatenated contents ++ content
+joined_push : (contents : List (List ℕ)) (content : List ℕ) → concat_contents (contents ++ content ∷ []) ≡ concat_contents contents ++ content
 joined_push [] content = append-nil content
-joined_push (c ∷ cs) content = ap (λ (xs : List ℕ). c ++ xs) (joined_push cs content) ∙ sym (append_assoc c (concatenated cs) content)
+joined_push (c ∷ cs) content = ap (λ (xs : List ℕ). c ++ xs) (joined_push cs content) ∙ sym (append_assoc c (concat_contents cs) content)
 
 first_rest : (base xs : List ℕ) → xs ≡ blocks base 0 [] ++ xs
 unfolding blocks
@@ -294,7 +294,7 @@ module _ (base : List ℕ) (size : ℕ) where
         → length bytes < 36 + size_in bytes → AreContentsOfBytes (Err (Truncated size))
     ends_here front bytes fine is short = (refl, (front, (bytes, record { each = fine; is = is; part = short })))
 
-    told_from : (n i : ℕ) (front : List (List ℕ)) (given bytes : List ℕ) → All IsContent front → length front ≡ i → given ≡ concatenated front
+    told_from : (n i : ℕ) (front : List (List ℕ)) (given bytes : List ℕ) → All IsContent front → length front ≡ i → given ≡ concat_contents front
         → all ≡ blocks base 0 front ++ bytes → (Low all → Low bytes) → length bytes ≤ n
         → AreContentsOfBytes (contents_from (block_at base size) (Truncated size) n i given bytes)
     told_from zero i front given bytes fine due so_far is low few =

@@ -3,7 +3,7 @@ use Rattle.std.proofs.Common.{◌≡◌, ℕ, zero, suc, ◌+◌, ◌<◌, ◌�
 use Rattle.std.proofs.lemmas.Bool.{eq-eqb, eqb-true}
 use Rattle.std.proofs.lemmas.List.{append-nil, append_assoc}
 use Rattle.std.proofs.lemmas.List.Elements.{All-head, All-tail}
-use Rattle.mac_core.specs.Blocks.{IsContent, concatenated}
+use Rattle.mac_core.specs.Blocks.{IsContent, concat_contents}
 use Rattle.mac_core.specs.Joining.{BlockRead, contents_from, written_blocks}
 use Rattle.outside_core.specs.Results.{◌>>=◌}
 use Rattle.std.specs.Prelude.{◌==◌}
@@ -51,7 +51,7 @@ module _ {E : Type 0} (read : ℕ → List ℕ → Result BlockRead E) (exhauste
       (each : (i : ℕ) (content tail : List ℕ) → i < top → IsContent content → read i (write i content ++ tail) ≡ Ok (record { content = content; rest = tail })) where
     pub contents_from-written_blocks : (n i j k : ℕ) (given : List ℕ) (contents : List (List ℕ)) (rest : List ℕ) → All IsContent contents
         → n ≡ k + length contents → j ≡ i + length contents → j ≤ top
-        → contents_from read exhausted n i given (written_blocks write i contents ++ rest) ≡ contents_from read exhausted k j (given ++ concatenated contents) rest
+        → contents_from read exhausted n i given (written_blocks write i contents ++ rest) ≡ contents_from read exhausted k j (given ++ concat_contents contents) rest
     unfolding written_blocks
     contents_from-written_blocks n i j k given [] rest fine count due low =
         let same_n : n ≡ k = omega (arith, count) in
@@ -67,4 +67,4 @@ module _ {E : Type 0} (read : ℕ → List ℕ → Result BlockRead E) (exhauste
         ap (λ (xs : List ℕ). contents_from read exhausted (suc n) i given xs) (append_assoc (write i c) (written_blocks write (suc i) cs) rest)
         ∙ goes_on n i given (write i c ++ (written_blocks write (suc i) cs ++ rest)) b (each i c (written_blocks write (suc i) cs ++ rest) (omega (arith, due, low)) is) some
         ∙ contents_from-written_blocks n (suc i) j k (given ++ c) cs rest (All-tail IsContent c cs fine) (omega (arith, count)) (omega (arith, due)) low
-        ∙ ap (λ (xs : List ℕ). contents_from read exhausted k j xs rest) (append_assoc given c (concatenated cs))
+        ∙ ap (λ (xs : List ℕ). contents_from read exhausted k j xs rest) (append_assoc given c (concat_contents cs))

@@ -1,7 +1,7 @@
 -- What the answers of a reader of blocks, which began with an empty output, say of the contents.
 use Rattle.std.proofs.Common.{◌≡◌, ℕ, ◌+◌, List, [], ◌++◌, length, ◌∙◌, ap, Bool, true, false, Ok, Err}
 use Rattle.mac_core.specs.Answers.{FeedReturns, AtEnd, EndReturns, Start}
-use Rattle.mac_core.specs.Blocks.{concatenated}
+use Rattle.mac_core.specs.Blocks.{concat_contents}
 use Rattle.mac_core.specs.Contents.{contents_of}
 use Rattle.mac_core.specs.declared.fail.BlockFail.{BlockFail}
 use Rattle.mac_core.specs.declared.fail.BlockFail.TheVariants.{BlockMac, Truncated}
@@ -30,4 +30,4 @@ module _ (base : List ℕ) (offset : ℕ) (before out bytes : List ℕ) where
   pub end_read : before ≡ [] → AtEnd (started base offset before) out bytes → contents_of base (offset + length bytes) bytes ≡ Ok out
   end_read none a =
       contents_of-AreContents base (offset + length bytes) bytes (Ok out)
-      (a.contents, (a.whole, a.given ∙ ap (λ (b : List ℕ). b ++ concatenated a.contents) none))
+      (a.contents, (a.whole, a.given ∙ ap (λ (b : List ℕ). b ++ concat_contents a.contents) none))

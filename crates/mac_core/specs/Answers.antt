@@ -1,6 +1,6 @@
 -- What each answer of the block reader says of the bytes fed to it, whatever the pieces were.
 use Rattle.std.specs.Prelude.{◌≡◌, ℕ, ◌+◌, List, ◌++◌, length, drop, Bool, true, false, Result, Ok, Err}
-use Rattle.mac_core.specs.Blocks.{IsDamaged, IsUnfinished, IsWhole, concatenated}
+use Rattle.mac_core.specs.Blocks.{IsDamaged, IsUnfinished, IsWhole, concat_contents}
 use Rattle.mac_core.specs.declared.fail.BlockFail.{BlockFail}
 use Rattle.mac_core.specs.declared.fail.BlockFail.TheVariants.{BlockMac, Truncated}
 
@@ -15,7 +15,7 @@ pub record Start : Type 0 where
 pub record AtEnd (start : Start) (out bytes : List ℕ) : Type 0 where
   pub contents : List (List ℕ)
   pub whole : IsWhole start.base bytes contents
-  pub given : out ≡ start.before ++ concatenated contents
+  pub given : out ≡ start.before ++ concat_contents contents
 
 -- the bytes end within a block, of whose content, which no MAC vouches for yet, the output has what
 -- there is
@@ -23,7 +23,7 @@ pub record AtPart (start : Start) (out bytes : List ℕ) : Type 0 where
   pub contents : List (List ℕ)
   pub rest : List ℕ
   pub unfinished : IsUnfinished start.base bytes contents rest
-  pub given : out ≡ start.before ++ concatenated contents ++ drop 36 rest
+  pub given : out ≡ start.before ++ concat_contents contents ++ drop 36 rest
 
 -- what an answer of `feed` says of all bytes fed since the start and of the output
 abbrev pub FeedReturns : Start → List ℕ → List ℕ → Result Bool BlockFail → Type 0

@@ -2,7 +2,7 @@
 -- what is in them.
 use Rattle.std.specs.Prelude.{◌≡◌, ℕ, ◌+◌, ◌++◌, List, length, take, drop, Result, Ok, Err, nat_lt, bytes_eq, if◌then◌else◌}
 use Rattle.std.specs.Int.{w32, to_le_bytes}
-use Rattle.mac_core.specs.Blocks.{IsDamaged, IsUnfinished, IsWhole, concatenated, mac_of, size_in}
+use Rattle.mac_core.specs.Blocks.{IsDamaged, IsUnfinished, IsWhole, concat_contents, mac_of, size_in}
 use Rattle.mac_core.specs.Joining.{BlockRead, joined_contents}
 use Rattle.mac_core.specs.declared.fail.BlockFail.{BlockFail}
 use Rattle.mac_core.specs.declared.fail.BlockFail.TheVariants.{BlockMac, Truncated}
@@ -36,7 +36,7 @@ contents_of base size bytes = joined_contents (block_at base size) (Truncated si
 -- wrong; or the file, of `size` bytes, ends before its end block does.
 abbrev pub AreContents : List ℕ → ℕ → List ℕ → Result (List ℕ) BlockFail → Type 0
 AreContents base size bytes (Ok content) = (parts : List (List ℕ))
-    × (IsWhole base bytes parts × (content ≡ concatenated parts))
+    × (IsWhole base bytes parts × (content ≡ concat_contents parts))
 AreContents base size bytes (Err (BlockMac i)) = IsDamaged base bytes i
 AreContents base size bytes (Err (Truncated offset)) =
     (offset ≡ size) × ((parts : List (List ℕ))

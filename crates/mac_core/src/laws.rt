@@ -4,7 +4,7 @@
 
 ghost use Rattle.std.specs.Prelude.{◌≡◌, ℕ, ◌<◌, List, [], ◌++◌, length, slice_index, All, Bool, true, Result, OnOk};
 ghost use Rattle.mac_core.specs.Answers.{FeedReturns, Start};
-ghost use Rattle.mac_core.specs.Blocks.{IsContent, block, blocks, concatenated};
+ghost use Rattle.mac_core.specs.Blocks.{IsContent, block, blocks, concat_contents};
 ghost use Rattle.mac_core.specs.Contents.{AreContents, contents_of};
 ghost use Rattle.mac_core.specs.declared.fail.BlockFail.{BlockFail};
 
@@ -33,7 +33,7 @@ pub fn read_back()
         → All IsContent contents
         → FeedReturns start out
         (blocks start.base 0 contents ++ block start.base (length contents) [] ++ tail) x
-        → (x ≡ Ok true) × (out ≡ start.before ++ concatenated contents) }
+        → (x ≡ Ok true) × (out ≡ start.before ++ concat_contents contents) }
 {}
 
 /// `contents_of` has the value that is in the blocks, and where the bytes are bytes what it gives

@@ -5,18 +5,18 @@ use Rattle.std.proofs.lemmas.Bool.Decides.{nat_tests}
 use Rattle.markup_grammar.specs.Answers.{form}
 use Rattle.markup_grammar.specs.Bytes.{is_space}
 use Rattle.markup_grammar.specs.Machine.{State, Level, before, within, behind, between, opened, in_comment, in_instruction, no_dash, one_dash, two_dashes, step, verdict, on, off, comment_step, instruction_step}
-use Rattle.markup_core.specs.Left.{left, StandsAt, BeginsWithout}
+use Rattle.markup_core.specs.Left.{answers_at, StandsAt, BeginsWithout}
 use Rattle.markup_core.specs.Scans.{EndsWithin, run_end}
 use Rattle.markup_core.specs.Asides.{EndsTag, EndsTagOrStays, NoAside, IsOutside, dashes_of}
 use Rattle.markup_core.proofs.Steps.{left_on, refused, other_byte, run_left}
 use Rattle.markup_core.proofs.Numbers.{differ}
 
 -- past one byte
-pub past_on : (text : List ℕ) (s next : State) (at end byte : ℕ) → step s at byte ≡ on [] next → (end ≡ at + 1) × StandsAt text at byte → left text s at ≡ left text next end
-past_on text s next at end byte turn is = left_on text s next at byte [] is.1 turn ∙ ap (λ n. left text next n) (sym is.0)
+pub past_on : (text : List ℕ) (s next : State) (at end byte : ℕ) → step s at byte ≡ on [] next → (end ≡ at + 1) × StandsAt text at byte → answers_at text s at ≡ answers_at text next end
+past_on text s next at end byte turn is = left_on text s next at byte [] is.1 turn ∙ ap (λ n. answers_at text next n) (sym is.0)
 
 -- the one byte that a state waits for does not stand there
-pub past_off : (text : List ℕ) (s : State) (at place byte : ℕ) → verdict s at ≡ form at → ((b : ℕ) → eqb b byte ≡ false → step s at b ≡ off) → (place ≡ at) × BeginsWithout byte (drop at text) → left text s at ≡ form place ∷ []
+pub past_off : (text : List ℕ) (s : State) (at place byte : ℕ) → verdict s at ≡ form at → ((b : ℕ) → eqb b byte ≡ false → step s at b ≡ off) → (place ≡ at) × BeginsWithout byte (drop at text) → answers_at text s at ≡ form place ∷ []
 past_off text s at place byte ends turn is =
     refused text s at (λ _. ends) (λ b stand. turn b (other_byte text at b byte stand is.1)) ∙ ap (λ n. form n ∷ []) (sym is.0)
 
@@ -41,7 +41,7 @@ comment_more level (suc (suc n)) b e =
     by_dash true = rw (add-one (suc (suc n))) refl
     by_dash false = refl
 
-pub comment_goes : (text : List ℕ) (level : Level) (d place b next : ℕ) → StandsAt text place b → (leb 2 d && eqb b 62) ≡ false → next ≡ cond (eqb b 45) (d + 1) 0 → left text (in_comment (dashes_of d) level) place ≡ left text (in_comment (dashes_of next) level) (place + 1)
+pub comment_goes : (text : List ℕ) (level : Level) (d place b next : ℕ) → StandsAt text place b → (leb 2 d && eqb b 62) ≡ false → next ≡ cond (eqb b 45) (d + 1) 0 → answers_at text (in_comment (dashes_of d) level) place ≡ answers_at text (in_comment (dashes_of next) level) (place + 1)
 comment_goes text level d place b next stand e is =
     left_on text (in_comment (dashes_of d) level) (in_comment (dashes_of next) level) place b [] stand
     (comment_more level d b e ∙ ap (λ n. on [] (in_comment (dashes_of n) level)) (sym is))
@@ -54,7 +54,7 @@ comment_last level (suc (suc n)) b e =
     let ends : eqb b 62 ≡ true = rw more at e in
     rw ends refl
 
-pub comment_ends : (text : List ℕ) (level : Level) (d place b : ℕ) → StandsAt text place b → (leb 2 d && eqb b 62) ≡ true → left text (in_comment (dashes_of d) level) place ≡ left text (between level) (place + 1)
+pub comment_ends : (text : List ℕ) (level : Level) (d place b : ℕ) → StandsAt text place b → (leb 2 d && eqb b 62) ≡ true → answers_at text (in_comment (dashes_of d) level) place ≡ answers_at text (between level) (place + 1)
 comment_ends text level d place b stand e =
     left_on text (in_comment (dashes_of d) level) (between level) place b [] stand (comment_last level d b e)
 
@@ -80,7 +80,7 @@ instruction_more level true b e = rw e (by_mark (eqb b 63))
     by_mark true = refl
     by_mark false = refl
 
-pub instruction_goes : (text : List ℕ) (level : Level) (asked : Bool) (place b : ℕ) (next : Bool) → StandsAt text place b → (asked && eqb b 62) ≡ false → next ≡ eqb b 63 → left text (in_instruction asked level) place ≡ left text (in_instruction next level) (place + 1)
+pub instruction_goes : (text : List ℕ) (level : Level) (asked : Bool) (place b : ℕ) (next : Bool) → StandsAt text place b → (asked && eqb b 62) ≡ false → next ≡ eqb b 63 → answers_at text (in_instruction asked level) place ≡ answers_at text (in_instruction next level) (place + 1)
 instruction_goes text level asked place b next stand e is =
     left_on text (in_instruction asked level) (in_instruction next level) place b [] stand
     (instruction_more level asked b e ∙ ap (λ t. on [] (in_instruction t level)) (sym is))
@@ -89,7 +89,7 @@ instruction_last : (level : Level) (asked : Bool) (b : ℕ) → (asked && eqb b 
 instruction_last level false b e = absurd (cc)
 instruction_last level true b e = rw e refl
 
-pub instruction_ends : (text : List ℕ) (level : Level) (asked : Bool) (place b : ℕ) → StandsAt text place b → (asked && eqb b 62) ≡ true → left text (in_instruction asked level) place ≡ left text (between level) (place + 1)
+pub instruction_ends : (text : List ℕ) (level : Level) (asked : Bool) (place b : ℕ) → StandsAt text place b → (asked && eqb b 62) ≡ true → answers_at text (in_instruction asked level) place ≡ answers_at text (between level) (place + 1)
 instruction_ends text level asked place b stand e =
     left_on text (in_instruction asked level) (between level) place b [] stand (instruction_last level asked b e)
 
@@ -98,10 +98,10 @@ unfolding is_space
 space_not_open = refl
 
 -- white space outside the outermost element
-pub spaces_left : (text : List ℕ) (level : Level) (at end : ℕ) → IsOutside level → end ≡ run_end is_space text at → left text (between level) at ≡ left text (between level) end
+pub spaces_left : (text : List ℕ) (level : Level) (at end : ℕ) → IsOutside level → end ≡ run_end is_space text at → answers_at text (between level) at ≡ answers_at text (between level) end
 spaces_left text level at end outside is =
     run_left text is_space (λ _. between level) 0 (λ place b _ stand holds. turn level outside place b holds) at (omega arith)
-    ∙ ap (λ n. left text (between level) n) (sym is)
+    ∙ ap (λ n. answers_at text (between level) n) (sym is)
   where
     turn : (level : Level) → IsOutside level → (place b : ℕ) → is_space b ≡ true → step (between level) place b ≡ on [] (between level)
     turn before outside place b holds = rw (differ is_space b 60 holds space_not_open, holds) refl
@@ -109,7 +109,7 @@ spaces_left text level at end outside is =
     turn behind outside place b holds = rw (differ is_space b 60 holds space_not_open, holds) refl
 
 -- past a `<` and what follows it
-pub opened_on : (text : List ℕ) (level : Level) (next : State) (at tag end byte : ℕ) → step (opened at level) (at + 1) byte ≡ on [] next → (tag ≡ at + 1) × StandsAt text at 60 → (end ≡ tag + 1) × StandsAt text tag byte → left text (between level) at ≡ left text next end
+pub opened_on : (text : List ℕ) (level : Level) (next : State) (at tag end byte : ℕ) → step (opened at level) (at + 1) byte ≡ on [] next → (tag ≡ at + 1) × StandsAt text at 60 → (end ≡ tag + 1) × StandsAt text tag byte → answers_at text (between level) at ≡ answers_at text next end
 opened_on text level next at tag end byte turn first second =
     past_on text (between level) (opened at level) at tag 60 refl first
     ∙ past_on text (opened at level) next tag end byte turn second

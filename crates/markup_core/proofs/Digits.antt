@@ -10,7 +10,7 @@ use Rattle.std.specs.List.{list_all}
 use Rattle.std.specs.Option.{SomeIff}
 use Rattle.std.specs.Str.Parse.{digits_value, digits_value_after}
 use lib.Utf8.{scalar}
-use Rattle.markup_grammar.specs.Escapes.{numbered, referred, by_name, behind_hash}
+use Rattle.markup_grammar.specs.Escapes.{character_by_number, character_of_reference, by_name, behind_hash}
 use Rattle.markup_core.specs.Fronts.{DiffersFirst}
 
 abbrev digit_in : ℕ → ℕ → Bool
@@ -37,14 +37,14 @@ fails_third true false c e = refl
 fails_third false b c e = refl
 
 -- no digits
-pub no_digits : (radix : ℕ) (digits : List ℕ) → length digits ≡ 0 → numbered radix digits ≡ None
-unfolding numbered
+pub no_digits : (radix : ℕ) (digits : List ℕ) → length digits ≡ 0 → character_by_number radix digits ≡ None
+unfolding character_by_number
 no_digits radix [] e = refl
 no_digits radix (d ∷ digits) e = absurd (omega arith)
 
 -- what is no digit of the base
-pub wrong_digit : (radix i : ℕ) (digits : List ℕ) → i < length digits → ¬ (digit_value (get_or digits i 0) < radix) → numbered radix digits ≡ None
-unfolding numbered
+pub wrong_digit : (radix i : ℕ) (digits : List ℕ) → i < length digits → ¬ (digit_value (get_or digits i 0) < radix) → character_by_number radix digits ≡ None
+unfolding character_by_number
 wrong_digit radix i digits within wrong =
     rw (fails_second _ _ _ (list_all_at (λ d. is_digit d radix) digits i 0 within (grind (arith, nat_tests)))) refl
 
@@ -52,8 +52,8 @@ wrong_digit radix i digits within wrong =
 pub past_last : (radix i n : ℕ) (digits : List ℕ) → 2 ≤ radix → i < length digits
     → digits_value_after radix n (drop i digits) ≡ digits_value radix digits
     → 0x10FFFF < n * radix + digit_value (get_or digits i 0)
-    → numbered radix digits ≡ None
-unfolding numbered
+    → character_by_number radix digits ≡ None
+unfolding character_by_number
 past_last radix i n digits some within value high =
     let step : digits_value radix digits ≡ digits_value_after radix (n * radix + digit_value (get_or digits i 0)) (drop (suc i) digits) =
     sym value ∙ ap (digits_value_after radix n) (drop-cons digits i 0 within) in
@@ -64,8 +64,8 @@ pub all_digits : (radix i n : ℕ) (digits : List ℕ) (r : Option ℕ) → 0 < 
     → digits_value_after radix n (drop i digits) ≡ digits_value radix digits
     → list_all (λ d. is_digit d radix) (drop i digits) ≡ list_all (λ d. is_digit d radix) digits
     → SomeIff r (IsScalar n) n
-    → r ≡ numbered radix digits
-unfolding numbered
+    → r ≡ character_by_number radix digits
+unfolding character_by_number
 all_digits radix i n digits r some whole value all is =
     let none : drop i digits ≡ [] = drop_all i digits whole in
     let number : n ≡ digits_value radix digits = (rw none at value) in
@@ -79,21 +79,21 @@ all_digits radix i n digits r some whole value all is =
     by_scalar false (Some x) is = absurd (true≢false (sym is.0))
 
 -- a name that does not begin with `#`
-pub no_hash : (name : List ℕ) → DiffersFirst 35 name → referred name ≡ by_name name
-unfolding referred
+pub no_hash : (name : List ℕ) → DiffersFirst 35 name → character_of_reference name ≡ by_name name
+unfolding character_of_reference
 no_hash [] other = refl
 no_hash (b ∷ rest) other = rw (ne_eqb b 35 other) refl
 
 -- `#x` and digits
-pub hexadecimal : (name number digits : List ℕ) → name ≡ 35 ∷ number → number ≡ 120 ∷ digits → referred name ≡ numbered 16 digits
-unfolding referred
+pub hexadecimal : (name number digits : List ℕ) → name ≡ 35 ∷ number → number ≡ 120 ∷ digits → character_of_reference name ≡ character_by_number 16 digits
+unfolding character_of_reference
 hexadecimal name number digits e f = rw (e, f) refl
 
 -- `#` and digits
-pub decimal : (name number : List ℕ) → name ≡ 35 ∷ number → DiffersFirst 120 number → referred name ≡ numbered 10 number
-unfolding referred
+pub decimal : (name number : List ℕ) → name ≡ 35 ∷ number → DiffersFirst 120 number → character_of_reference name ≡ character_by_number 10 number
+unfolding character_of_reference
 decimal name number e other = rw e (by_radix number other)
   where
-    by_radix : (number : List ℕ) → DiffersFirst 120 number → behind_hash number ≡ numbered 10 number
+    by_radix : (number : List ℕ) → DiffersFirst 120 number → behind_hash number ≡ character_by_number 10 number
     by_radix [] other = sym (no_digits 10 [] refl)
     by_radix (b ∷ rest) other = rw (ne_eqb b 120 other) refl

@@ -2,8 +2,8 @@
 use Rattle.std.proofs.Common.{◌≡◌, ℕ, ◌+◌, ◌-◌, ◌<◌, true, false, List, [], ◌∷◌, length, refl, ap, ◌∙◌, arith, slice_range, slice_set, Result, Ok, Err}
 use Rattle.markup_grammar.specs.Answers.{start, words, stop, finish, form, depth}
 use Rattle.markup_grammar.specs.Machine.{Names}
-use Rattle.markup_core.specs.Left.{left}
-use Rattle.markup_core.specs.Reader.{seen, answers_left}
+use Rattle.markup_core.specs.Left.{answers_at}
+use Rattle.markup_core.specs.Reader.{bounded_answers, answers_left}
 use Rattle.markup_core.specs.Spans.{open_names}
 use Rattle.markup_core.specs.Tokens.{Tells, TokenStands, state_at}
 use Rattle.markup_core.specs.declared.reader.Reader.TheInside.{Inside}
@@ -35,8 +35,8 @@ pub next_words : (r : Inside) (place end : ℕ) (raw : List ℕ) → r.is_empty 
 unfolding answers_left
 next_words r place end raw e tells is =
     rw (e, is)
-    (ap (λ xs. seen r.is_whole (length r.text.now) r.depth xs) tells
-    ∙ seen_words r.is_whole (length r.text.now) r.depth place (slice_range r.text.now place end) (left r.text.now (state_at end (names_of r)) end))
+    (ap (λ xs. bounded_answers r.is_whole (length r.text.now) r.depth xs) tells
+    ∙ seen_words r.is_whole (length r.text.now) r.depth place (slice_range r.text.now place end) (answers_at r.text.now (state_at end (names_of r)) end))
 
 pub next_start : (r : Inside) (place : ℕ) (tag : StartTag) (name raw : List ℕ) → r.is_empty ≡ false → TellsNext r (Ok (Start place tag)) → tag.is_empty ≡ false → r.depth < 256 → r.depth < length r.spans → name ≡ slice_range r.text.now (place + 1) tag.name_end → raw ≡ slice_range r.text.now tag.name_end tag.attrs_end → answers_left r ≡ start place name raw ∷ answers_left (record r { at = tag.attrs_end + 1; spans = slice_set r.spans r.depth (place + 1, tag.name_end); depth = r.depth + 1 })
 unfolding answers_left
@@ -64,16 +64,16 @@ pub next_refused : (r : Inside) (place : ℕ) → r.is_empty ≡ false → Tells
 unfolding answers_left
 next_refused r place e tells =
     rw e
-    (ap (λ xs. seen r.is_whole (length r.text.now) r.depth xs) tells ∙ seen_form r.is_whole (length r.text.now) r.depth place)
+    (ap (λ xs. bounded_answers r.is_whole (length r.text.now) r.depth xs) tells ∙ seen_form r.is_whole (length r.text.now) r.depth place)
 
 -- the end of the whole text, or of a front that is not
 pub next_end : (r : Inside) → r.is_empty ≡ false → TellsNext r (Ok End) → r.is_whole ≡ true → answers_left r ≡ finish ∷ []
 unfolding answers_left
-next_end r e tells whole = rw (e, whole) (ap (λ xs. seen true (length r.text.now) r.depth xs) tells)
+next_end r e tells whole = rw (e, whole) (ap (λ xs. bounded_answers true (length r.text.now) r.depth xs) tells)
 
 pub next_cut : (r : Inside) → r.is_empty ≡ false → TellsNext r (Ok End) → r.is_whole ≡ false → answers_left r ≡ form (length r.text.now) ∷ []
 unfolding answers_left
-next_cut r e tells cut = rw (e, cut) (ap (λ xs. seen false (length r.text.now) r.depth xs) tells)
+next_cut r e tells cut = rw (e, cut) (ap (λ xs. bounded_answers false (length r.text.now) r.depth xs) tells)
 
 -- an end tag's end lies behind the text's start
 pub stop_low : (text : List ℕ) (at place end : ℕ) → TokenStands text at (Ok (Stop place end)) → 0 < end

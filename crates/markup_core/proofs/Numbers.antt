@@ -5,7 +5,7 @@ use Rattle.std.proofs.lemmas.Bool.Decides.{nat_tests}
 use Rattle.markup_grammar.specs.Answers.{form}
 use Rattle.markup_grammar.specs.Bytes.{is_digit, is_hex_digit, digit_value}
 use Rattle.markup_grammar.specs.Machine.{Ref, decimal_at, hexadecimal_at, RefTurn, ref_ends, ref_off, ref_step, number_on, number_ends, verdict, on}
-use Rattle.markup_core.specs.Left.{left, StandsAt}
+use Rattle.markup_core.specs.Left.{answers_at, StandsAt}
 use Rattle.markup_core.specs.Numbers.{radix_of, is_digit_of, is_character, first_of, digits_of, number_at, IsBaseGiven}
 use Rattle.markup_core.specs.Scans.{Host, of_run, of_value, host_begin, host_state, host_reference}
 use Rattle.markup_core.specs.declared.reference.Base.{Base}
@@ -71,13 +71,13 @@ zero_there t begin place value is le zero e =
     let low : ltb begin place ≡ false = is ∙ e in
     zero (grind (arith, nat_tests))
 
-next_number : (text : List ℕ) (h : Host) (base : Base) (begin place value : ℕ) → begin ≤ place → left text (host_reference text h (digits_of base value) (place + 1)) (place + 1) ≡ left text (host_reference text h (number_at base begin (place + 1) value) (place + 1)) (place + 1)
+next_number : (text : List ℕ) (h : Host) (base : Base) (begin place value : ℕ) → begin ≤ place → answers_at text (host_reference text h (digits_of base value) (place + 1)) (place + 1) ≡ answers_at text (host_reference text h (number_at base begin (place + 1) value) (place + 1)) (place + 1)
 next_number text h base begin place value le =
     let more : ltb begin (place + 1) ≡ true = lt-ltb begin (place + 1) (omega arith) in
     rw more refl
 
 -- past a digit, within the greatest number
-pub number_goes : (text : List ℕ) (h : Host) (base : Base) (begin place value b next : ℕ) → host_begin h ≤ begin → begin ≤ place → (place ≡ begin → value ≡ 0) → StandsAt text place b → is_digit_of base b ≡ true → next ≡ value * radix_of base + digit_value b → next ≤ 0x10FFFF → left text (host_reference text h (number_at base begin place value) place) place ≡ left text (host_reference text h (number_at base begin (place + 1) next) (place + 1)) (place + 1)
+pub number_goes : (text : List ℕ) (h : Host) (base : Base) (begin place value b next : ℕ) → host_begin h ≤ begin → begin ≤ place → (place ≡ begin → value ≡ 0) → StandsAt text place b → is_digit_of base b ≡ true → next ≡ value * radix_of base + digit_value b → next ≤ 0x10FFFF → answers_at text (host_reference text h (number_at base begin place value) place) place ≡ answers_at text (host_reference text h (number_at base begin (place + 1) next) (place + 1)) (place + 1)
 number_goes text h base begin place value b next kept le zero stand holds is low =
     let above : host_begin h ≤ place = omega arith in
     let within : leb (value * radix_of base + digit_value b) 0x10FFFF ≡ true = rw (← is) (let e : leb next 0x10FFFF ≡ true = grind (arith, nat_tests) in e) in
@@ -89,7 +89,7 @@ number_goes text h base begin place value b next kept le zero stand holds is low
     ∙ next_number text h base begin place next le
 
 -- past the greatest number
-pub number_past : (text : List ℕ) (h : Host) (base : Base) (begin place value b next : ℕ) → host_begin h ≤ begin → begin ≤ place → (place ≡ begin → value ≡ 0) → StandsAt text place b → is_digit_of base b ≡ true → next ≡ value * radix_of base + digit_value b → 0x10FFFF < next → left text (host_reference text h (number_at base begin place value) place) place ≡ form place ∷ []
+pub number_past : (text : List ℕ) (h : Host) (base : Base) (begin place value b next : ℕ) → host_begin h ≤ begin → begin ≤ place → (place ≡ begin → value ≡ 0) → StandsAt text place b → is_digit_of base b ≡ true → next ≡ value * radix_of base + digit_value b → 0x10FFFF < next → answers_at text (host_reference text h (number_at base begin place value) place) place ≡ form place ∷ []
 number_past text h base begin place value b next kept le zero stand holds is high =
     let above : host_begin h ≤ place = omega arith in
     let within : leb (value * radix_of base + digit_value b) 0x10FFFF ≡ false = rw (← is) (let e : leb next 0x10FFFF ≡ false = grind (arith, nat_tests) in e) in
@@ -105,7 +105,7 @@ given_there Decimal text begin place b given le stand e =
     other_byte text place b 120 stand (rw same given)
 given_there Hexadecimal text begin place b given le stand e = tt
 
-other_turn : (text : List ℕ) (h : Host) (base : Base) (begin place value b : ℕ) → host_begin h ≤ begin → begin ≤ place → IsBaseGiven base text begin → StandsAt text place b → is_digit_of base b ≡ false → verdict (host_reference text h (number_at base begin place value) place) place ≡ form place → (ends : Bool) → ends ≡ (eqb b 59 && (ltb begin place && is_character value)) → left text (host_reference text h (number_at base begin place value) place) place ≡ cond ends (left text (host_state text h (place + 1)) (place + 1)) (form place ∷ [])
+other_turn : (text : List ℕ) (h : Host) (base : Base) (begin place value b : ℕ) → host_begin h ≤ begin → begin ≤ place → IsBaseGiven base text begin → StandsAt text place b → is_digit_of base b ≡ false → verdict (host_reference text h (number_at base begin place value) place) place ≡ form place → (ends : Bool) → ends ≡ (eqb b 59 && (ltb begin place && is_character value)) → answers_at text (host_reference text h (number_at base begin place value) place) place ≡ cond ends (answers_at text (host_state text h (place + 1)) (place + 1)) (form place ∷ [])
 other_turn text h base begin place value b kept le given stand fails v true e =
     let above : host_begin h ≤ place = omega arith in
     left_on text (host_reference text h (number_at base begin place value) place) (host_state text h (place + 1)) place b [] stand
@@ -125,6 +125,6 @@ reference_ends text (of_run place name names) r at = refl
 reference_ends text (of_value quote place name from names) r at = refl
 
 -- past another byte, which ends the number or is refused
-pub number_ends_there : (text : List ℕ) (h : Host) (base : Base) (begin place value b : ℕ) (ends : Bool) → host_begin h ≤ begin → begin ≤ place → IsBaseGiven base text begin → StandsAt text place b → is_digit_of base b ≡ false → ends ≡ (eqb b 59 && (ltb begin place && is_character value)) → left text (host_reference text h (number_at base begin place value) place) place ≡ cond ends (left text (host_state text h (place + 1)) (place + 1)) (form place ∷ [])
+pub number_ends_there : (text : List ℕ) (h : Host) (base : Base) (begin place value b : ℕ) (ends : Bool) → host_begin h ≤ begin → begin ≤ place → IsBaseGiven base text begin → StandsAt text place b → is_digit_of base b ≡ false → ends ≡ (eqb b 59 && (ltb begin place && is_character value)) → answers_at text (host_reference text h (number_at base begin place value) place) place ≡ cond ends (answers_at text (host_state text h (place + 1)) (place + 1)) (form place ∷ [])
 number_ends_there text h base begin place value b ends kept le given stand fails e =
     other_turn text h base begin place value b kept le given stand fails (reference_ends text h (number_at base begin place value) place) ends e

@@ -2,7 +2,7 @@
 use Rattle.std.proofs.Common.{◌≡◌, ℕ, ◌+◌, ◌≤◌, true, false, eqb, cond, List, [], ◌∷◌, refl, ap, sym, ◌∙◌, arith, Result, Ok, Err}
 use Rattle.markup_grammar.specs.Answers.{form}
 use Rattle.markup_grammar.specs.Machine.{State, Ref, due, ref_on, ref_ends, ref_off, ref_step, on, off}
-use Rattle.markup_core.specs.Left.{left, StandsAt}
+use Rattle.markup_core.specs.Left.{answers_at, StandsAt}
 use Rattle.markup_core.specs.Scans.{Leads, EndsWithin, Await, Host, host_begin, host_state, host_reference}
 use Rattle.markup_core.proofs.Steps.{left_on, refused, host_step, host_turn}
 use Rattle.markup_core.proofs.Numbers.{reference_ends}
@@ -31,21 +31,21 @@ await_due text h least le = record {
 }
 
 -- a byte of a reference, and what it leads to
-pub reference_on : (text : List ℕ) (h : Host) (r next : Ref) (at end byte : ℕ) → host_begin h ≤ at → ref_step r byte ≡ ref_on next → (end ≡ at + 1) × StandsAt text at byte → left text (host_reference text h r at) at ≡ left text (host_reference text h next end) end
+pub reference_on : (text : List ℕ) (h : Host) (r next : Ref) (at end byte : ℕ) → host_begin h ≤ at → ref_step r byte ≡ ref_on next → (end ≡ at + 1) × StandsAt text at byte → answers_at text (host_reference text h r at) at ≡ answers_at text (host_reference text h next end) end
 reference_on text h r next at end byte le turn is =
     left_on text (host_reference text h r at) (host_reference text h next (at + 1)) at byte [] is.1
     (host_step text h r at byte le is.1 ∙ ap (λ t. host_turn text h (at + 1) t) turn)
-    ∙ ap (λ n. left text (host_reference text h next n) n) (sym is.0)
+    ∙ ap (λ n. answers_at text (host_reference text h next n) n) (sym is.0)
 
 -- no byte that a reference may go on with
-pub reference_off : (text : List ℕ) (h : Host) (r : Ref) (at place : ℕ) → host_begin h ≤ at → ((b : ℕ) → StandsAt text at b → ref_step r b ≡ ref_off) → place ≡ at → left text (host_reference text h r at) at ≡ form place ∷ []
+pub reference_off : (text : List ℕ) (h : Host) (r : Ref) (at place : ℕ) → host_begin h ≤ at → ((b : ℕ) → StandsAt text at b → ref_step r b ≡ ref_off) → place ≡ at → answers_at text (host_reference text h r at) at ≡ form place ∷ []
 reference_off text h r at place le turn is =
     refused text (host_reference text h r at) at (λ _. reference_ends text h r at)
     (λ b stand. host_step text h r at b le stand ∙ ap (λ t. host_turn text h (at + 1) t) (turn b stand))
     ∙ ap (λ n. form n ∷ []) (sym is)
 
 -- past what leads there
-pub leads_after : (text : List ℕ) (s t : State) (at place : ℕ) (to : ℕ → State) (r : Result ℕ ℕ) → left text s at ≡ left text t place → Leads text t place to r → Leads text s at to r
+pub leads_after : (text : List ℕ) (s t : State) (at place : ℕ) (to : ℕ → State) (r : Result ℕ ℕ) → answers_at text s at ≡ answers_at text t place → Leads text t place to r → Leads text s at to r
 leads_after text s t at place to (Ok end) e leads = e ∙ leads
 leads_after text s t at place to (Err n) e leads = e ∙ leads
 

@@ -3,33 +3,33 @@ use Rattle.std.proofs.Common.{◌≡◌, ℕ, suc, ◌+◌, ◌-◌, ◌<◌, �
 use Rattle.std.proofs.lemmas.List.{take_more, get_or-drop}
 use Rattle.std.specs.List.{prefix_len}
 use Rattle.markup_grammar.specs.Answers.{Answer, form}
-use Rattle.markup_grammar.specs.Machine.{State, Turn, on, off, step, verdict, followed, answers_from, Ref, RefTurn, ref_on, ref_ends, ref_off, ref_step, in_run, in_value, tag_turn}
-use Rattle.markup_core.specs.Left.{left, StandsAt, BeginsWithout, FailsFirst}
+use Rattle.markup_grammar.specs.Machine.{State, Turn, on, off, step, verdict, answers_of_turn, answers_from, Ref, RefTurn, ref_on, ref_ends, ref_off, ref_step, in_run, in_value, tag_turn}
+use Rattle.markup_core.specs.Left.{answers_at, StandsAt, BeginsWithout, FailsFirst}
 use Rattle.markup_core.specs.Scans.{run_end, Host, of_run, of_value, host_begin, host_state, host_reference}
 
 -- the end of the text
-pub left_end : (text : List ℕ) (s : State) (at : ℕ) → drop at text ≡ [] → left text s at ≡ verdict s at ∷ []
-unfolding left answers_from
+pub left_end : (text : List ℕ) (s : State) (at : ℕ) → drop at text ≡ [] → answers_at text s at ≡ verdict s at ∷ []
+unfolding answers_at answers_from
 left_end text s at e = ap (λ xs. answers_from s at xs) e
 
 -- a good byte
-pub left_on : (text : List ℕ) (s next : State) (at b : ℕ) (said : List Answer) → StandsAt text at b → step s at b ≡ on said next → left text s at ≡ said ++ left text next (at + 1)
-unfolding left answers_from
+pub left_on : (text : List ℕ) (s next : State) (at b : ℕ) (said : List Answer) → StandsAt text at b → step s at b ≡ on said next → answers_at text s at ≡ said ++ answers_at text next (at + 1)
+unfolding answers_at answers_from
 left_on text s next at b said stands e =
-    ap (λ xs. answers_from s at xs) stands ∙ ap (λ t. followed t at (λ n. answers_from n (at + 1) (drop (at + 1) text))) e
+    ap (λ xs. answers_from s at xs) stands ∙ ap (λ t. answers_of_turn t at (λ n. answers_from n (at + 1) (drop (at + 1) text))) e
 
 -- a refused byte
-pub left_off : (text : List ℕ) (s : State) (at b : ℕ) → StandsAt text at b → step s at b ≡ off → left text s at ≡ form at ∷ []
-unfolding left answers_from
+pub left_off : (text : List ℕ) (s : State) (at b : ℕ) → StandsAt text at b → step s at b ≡ off → answers_at text s at ≡ form at ∷ []
+unfolding answers_at answers_from
 left_off text s at b stands e =
-    ap (λ xs. answers_from s at xs) stands ∙ ap (λ t. followed t at (λ n. answers_from n (at + 1) (drop (at + 1) text))) e
+    ap (λ xs. answers_from s at xs) stands ∙ ap (λ t. answers_of_turn t at (λ n. answers_from n (at + 1) (drop (at + 1) text))) e
 
 -- two states that go on alike from a byte on
-pub left_same : (text : List ℕ) (s t : State) (at b : ℕ) → StandsAt text at b → step s at b ≡ step t at b → left text s at ≡ left text t at
-unfolding left answers_from
+pub left_same : (text : List ℕ) (s t : State) (at b : ℕ) → StandsAt text at b → step s at b ≡ step t at b → answers_at text s at ≡ answers_at text t at
+unfolding answers_at answers_from
 left_same text s t at b stands e =
     ap (λ xs. answers_from s at xs) stands
-    ∙ (ap (λ u. followed u at (λ n. answers_from n (at + 1) (drop (at + 1) text))) e ∙ ap (λ xs. answers_from t at xs) (sym stands))
+    ∙ (ap (λ u. answers_of_turn u at (λ n. answers_from n (at + 1) (drop (at + 1) text))) e ∙ ap (λ xs. answers_from t at xs) (sym stands))
 
 -- the byte that a place's rest begins with
 pub stands : (text : List ℕ) (at b : ℕ) (bs : List ℕ) → drop at text ≡ b ∷ bs → StandsAt text at b
@@ -46,17 +46,17 @@ at_place text at = by_rest (drop at text) refl
     by_rest (b ∷ bs) e = inr (b, stands text at b bs e)
 
 -- neither an end nor a byte that is there is good
-pub refused : (text : List ℕ) (s : State) (at : ℕ) → (drop at text ≡ [] → verdict s at ≡ form at) → ((b : ℕ) → StandsAt text at b → step s at b ≡ off) → left text s at ≡ form at ∷ []
+pub refused : (text : List ℕ) (s : State) (at : ℕ) → (drop at text ≡ [] → verdict s at ≡ form at) → ((b : ℕ) → StandsAt text at b → step s at b ≡ off) → answers_at text s at ≡ form at ∷ []
 refused text s at ends offs =
-    elim (at_place text at) as (λ _. left text s at ≡ form at ∷ []) [
+    elim (at_place text at) as (λ _. answers_at text s at ≡ form at ∷ []) [
       | inl e ↦ left_end text s at e ∙ ap (λ a. a ∷ []) (ends e)
       | inr w ↦ left_off text s at w.0 w.1 (offs w.0 w.1)
     ]
 
 -- the same answers of two states that neither end otherwise nor go on otherwise
-pub alike : (text : List ℕ) (s t : State) (at : ℕ) → (drop at text ≡ [] → verdict s at ≡ verdict t at) → ((b : ℕ) → StandsAt text at b → step s at b ≡ step t at b) → left text s at ≡ left text t at
+pub alike : (text : List ℕ) (s t : State) (at : ℕ) → (drop at text ≡ [] → verdict s at ≡ verdict t at) → ((b : ℕ) → StandsAt text at b → step s at b ≡ step t at b) → answers_at text s at ≡ answers_at text t at
 alike text s t at ends same =
-    elim (at_place text at) as (λ _. left text s at ≡ left text t at) [
+    elim (at_place text at) as (λ _. answers_at text s at ≡ answers_at text t at) [
       | inl e ↦ left_end text s at e ∙ (ap (λ a. a ∷ []) (ends e) ∙ sym (left_end text t at e))
       | inr w ↦ left_same text s t at w.0 w.1 (same w.0 w.1)
     ]
@@ -100,13 +100,13 @@ one_more : (at k : ℕ) → at + 1 + k ≡ at + (1 + k)
 one_more at k = omega arith
 
 -- one byte of a run, or none
-run_step : (text : List ℕ) (test : ℕ → Bool) (s : ℕ → State) (at b k : ℕ) → StandsAt text at b → (test b ≡ true → step (s at) at b ≡ on [] (s (at + 1))) → left text (s (at + 1)) (at + 1) ≡ left text (s (at + 1 + k)) (at + 1 + k) → (t : Bool) → test b ≡ t → left text (s at) at ≡ left text (s (at + cond t (1 + k) 0)) (at + cond t (1 + k) 0)
+run_step : (text : List ℕ) (test : ℕ → Bool) (s : ℕ → State) (at b k : ℕ) → StandsAt text at b → (test b ≡ true → step (s at) at b ≡ on [] (s (at + 1))) → answers_at text (s (at + 1)) (at + 1) ≡ answers_at text (s (at + 1 + k)) (at + 1 + k) → (t : Bool) → test b ≡ t → answers_at text (s at) at ≡ answers_at text (s (at + cond t (1 + k) 0)) (at + cond t (1 + k) 0)
 run_step text test s at b k stand turn more true pass =
-    left_on text (s at) (s (at + 1)) at b [] stand (turn pass) ∙ (more ∙ ap (λ n. left text (s n) n) (one_more at k))
-run_step text test s at b k stand turn more false fail = ap (λ n. left text (s n) n) (sym (no_more at))
+    left_on text (s at) (s (at + 1)) at b [] stand (turn pass) ∙ (more ∙ ap (λ n. answers_at text (s n) n) (one_more at k))
+run_step text test s at b k stand turn more false fail = ap (λ n. answers_at text (s n) n) (sym (no_more at))
 
-run_over : (text : List ℕ) (test : ℕ → Bool) (s : ℕ → State) (least : ℕ) → ((at b : ℕ) → least ≤ at → StandsAt text at b → test b ≡ true → step (s at) at b ≡ on [] (s (at + 1))) → (xs : List ℕ) (at : ℕ) → least ≤ at → drop at text ≡ xs → left text (s at) at ≡ left text (s (at + prefix_len test xs)) (at + prefix_len test xs)
-run_over text test s least turn [] at le e = ap (λ n. left text (s n) n) (sym (no_more at))
+run_over : (text : List ℕ) (test : ℕ → Bool) (s : ℕ → State) (least : ℕ) → ((at b : ℕ) → least ≤ at → StandsAt text at b → test b ≡ true → step (s at) at b ≡ on [] (s (at + 1))) → (xs : List ℕ) (at : ℕ) → least ≤ at → drop at text ≡ xs → answers_at text (s at) at ≡ answers_at text (s (at + prefix_len test xs)) (at + prefix_len test xs)
+run_over text test s least turn [] at le e = ap (λ n. answers_at text (s n) n) (sym (no_more at))
 run_over text test s least turn (b ∷ bs) at le e =
     let stand : StandsAt text at b = stands text at b bs e in
     let rest : drop (at + 1) text ≡ bs = sym (drop-drop 1 at text) ∙ ap (λ xs. drop 1 xs) e in
@@ -114,7 +114,7 @@ run_over text test s least turn (b ∷ bs) at le e =
     run_step text test s at b (prefix_len test bs) stand (turn at b le stand) (run_over text test s least turn bs (at + 1) above rest) (test b) refl
 
 -- a run of bytes each of which leads from its place's state to that of the next place
-pub run_left : (text : List ℕ) (test : ℕ → Bool) (s : ℕ → State) (least : ℕ) → ((at b : ℕ) → least ≤ at → StandsAt text at b → test b ≡ true → step (s at) at b ≡ on [] (s (at + 1))) → (at : ℕ) → least ≤ at → left text (s at) at ≡ left text (s (run_end test text at)) (run_end test text at)
+pub run_left : (text : List ℕ) (test : ℕ → Bool) (s : ℕ → State) (least : ℕ) → ((at b : ℕ) → least ≤ at → StandsAt text at b → test b ≡ true → step (s at) at b ≡ on [] (s (at + 1))) → (at : ℕ) → least ≤ at → answers_at text (s at) at ≡ answers_at text (s (run_end test text at)) (run_end test text at)
 run_left text test s least turn at le = run_over text test s least turn (drop at text) at le refl
 
 ends_step : (test : ℕ → Bool) (b : ℕ) (bs : List ℕ) (k : ℕ) (t : Bool) → test b ≡ t → FailsFirst test (drop k bs) → FailsFirst test (drop (cond t (1 + k) 0) (b ∷ bs))

@@ -4,8 +4,8 @@ use Rattle.std.proofs.lemmas.Bool.Decides.{nat_tests}
 use Rattle.std.specs.List.{prefix_len}
 use Rattle.markup_grammar.specs.Answers.{start, stop, form}
 use Rattle.markup_grammar.specs.Bytes.{is_space, is_digit, begins_name, is_name_byte}
-use Rattle.markup_grammar.specs.Machine.{State, Names, between, within, outside, in_name, in_tag, Spot, spaced, naming, named, equalled, valuing, valued, slashed, closing, closed, spot_on, spot_off, tag_turn, step, on, off}
-use Rattle.markup_core.specs.Left.{left, StandsAt, BeginsWithout, FailsFirst}
+use Rattle.markup_grammar.specs.Machine.{State, Names, between, within, level_of_names, in_name, in_tag, Spot, spaced, naming, named, equalled, valuing, valued, slashed, closing, closed, spot_on, spot_off, tag_turn, step, on, off}
+use Rattle.markup_core.specs.Left.{answers_at, StandsAt, BeginsWithout, FailsFirst}
 use Rattle.markup_core.specs.Scans.{run_end, NameEnds, Await, IsPast}
 use Rattle.markup_core.specs.Tags.{EndsStartTag, EndsNoTag, IsOpened, ClosesTag, AsciiAt}
 use Rattle.markup_core.proofs.Steps.{left_on, left_same, refused, alike, at_place, other_byte, fails_there, slice_more, slice_none, run_left, stops_at, stands_within}
@@ -61,25 +61,25 @@ abbrev pub tag_state : List ℕ → ℕ → List ℕ → ℕ → Names → Spot 
 tag_state text place name from names spot at = in_tag spot place name (slice_range text from at) names
 
 -- one byte of a start tag
-pub tag_on : (text : List ℕ) (place : ℕ) (name : List ℕ) (from : ℕ) (names : Names) (spot next : Spot) (at end b : ℕ) → from ≤ at → ((raw : List ℕ) → step (in_tag spot place name raw names) at b ≡ on [] (in_tag next place name (raw ++ b ∷ []) names)) → (end ≡ at + 1) × StandsAt text at b → left text (tag_state text place name from names spot at) at ≡ left text (tag_state text place name from names next end) end
+pub tag_on : (text : List ℕ) (place : ℕ) (name : List ℕ) (from : ℕ) (names : Names) (spot next : Spot) (at end b : ℕ) → from ≤ at → ((raw : List ℕ) → step (in_tag spot place name raw names) at b ≡ on [] (in_tag next place name (raw ++ b ∷ []) names)) → (end ≡ at + 1) × StandsAt text at b → answers_at text (tag_state text place name from names spot at) at ≡ answers_at text (tag_state text place name from names next end) end
 tag_on text place name from names spot next at end b le turn is =
     left_on text (tag_state text place name from names spot at) (tag_state text place name from names next (at + 1)) at b [] is.1
     (turn (slice_range text from at) ∙ ap (λ raw. on [] (in_tag next place name raw names)) (sym (slice_more text from at b le is.1)))
-    ∙ ap (λ n. left text (tag_state text place name from names next n) n) (sym is.0)
+    ∙ ap (λ n. answers_at text (tag_state text place name from names next n) n) (sym is.0)
 
 -- a run of bytes of a start tag
-tag_run : (text : List ℕ) (place : ℕ) (name : List ℕ) (from : ℕ) (names : Names) (spot : Spot) (test : ℕ → Bool) → ((raw : List ℕ) (at b : ℕ) → test b ≡ true → step (in_tag spot place name raw names) at b ≡ on [] (in_tag spot place name (raw ++ b ∷ []) names)) → (at end : ℕ) → from ≤ at → end ≡ run_end test text at → left text (tag_state text place name from names spot at) at ≡ left text (tag_state text place name from names spot end) end
+tag_run : (text : List ℕ) (place : ℕ) (name : List ℕ) (from : ℕ) (names : Names) (spot : Spot) (test : ℕ → Bool) → ((raw : List ℕ) (at b : ℕ) → test b ≡ true → step (in_tag spot place name raw names) at b ≡ on [] (in_tag spot place name (raw ++ b ∷ []) names)) → (at end : ℕ) → from ≤ at → end ≡ run_end test text at → answers_at text (tag_state text place name from names spot at) at ≡ answers_at text (tag_state text place name from names spot end) end
 tag_run text place name from names spot test turn at end le is =
     run_left text test (tag_state text place name from names spot) from
     (λ n b above stand holds. turn (slice_range text from n) n b holds ∙ ap (λ raw. on [] (in_tag spot place name raw names)) (sym (slice_more text from n b above stand)))
     at le
-    ∙ ap (λ n. left text (tag_state text place name from names spot n) n) (sym is)
+    ∙ ap (λ n. answers_at text (tag_state text place name from names spot n) n) (sym is)
 
 naming_named : (place : ℕ) (name raw : List ℕ) (names : Names) (at b : ℕ) → is_name_byte b ≡ false → step (in_tag naming place name raw names) at b ≡ step (in_tag named place name raw names) at b
 naming_named place name raw names at b none = rw none refl
 
 -- an attribute's name and the white space behind it
-pub attribute_named : (text : List ℕ) (place : ℕ) (name : List ℕ) (from : ℕ) (names : Names) (at end sign : ℕ) → from ≤ at → at ≤ end → NameEnds text at (Ok end) → sign ≡ run_end is_space text end → left text (tag_state text place name from names spaced at) at ≡ left text (tag_state text place name from names named sign) sign
+pub attribute_named : (text : List ℕ) (place : ℕ) (name : List ℕ) (from : ℕ) (names : Names) (at end sign : ℕ) → from ≤ at → at ≤ end → NameEnds text at (Ok end) → sign ≡ run_end is_space text end → answers_at text (tag_state text place name from names spaced at) at ≡ answers_at text (tag_state text place name from names named sign) sign
 attribute_named text place name from names at end sign le after is signs =
     let more : begins_name is.0 ≡ true = is.2 in
     let above : from ≤ at + 1 = omega arith in
@@ -93,23 +93,23 @@ attribute_named text place name from names at end sign le after is signs =
     ∙ tag_run text place name from names named is_space (λ raw n b holds. rw holds refl) end sign behind signs))
 
 -- the `=` and the white space behind it
-pub attribute_equalled : (text : List ℕ) (place : ℕ) (name : List ℕ) (from : ℕ) (names : Names) (sign after opening : ℕ) → from ≤ sign → (after ≡ sign + 1) × StandsAt text sign 61 → opening ≡ run_end is_space text after → left text (tag_state text place name from names named sign) sign ≡ left text (tag_state text place name from names equalled opening) opening
+pub attribute_equalled : (text : List ℕ) (place : ℕ) (name : List ℕ) (from : ℕ) (names : Names) (sign after opening : ℕ) → from ≤ sign → (after ≡ sign + 1) × StandsAt text sign 61 → opening ≡ run_end is_space text after → answers_at text (tag_state text place name from names named sign) sign ≡ answers_at text (tag_state text place name from names equalled opening) opening
 attribute_equalled text place name from names sign after opening le is opens =
     let behind : from ≤ after = omega (arith, is.0) in
     tag_on text place name from names named equalled sign after 61 le (λ raw. rw space_not_equals refl) is
     ∙ tag_run text place name from names equalled is_space (λ raw n b holds. rw holds refl) after opening behind opens
 
 -- an opening quote
-pub attribute_double : (text : List ℕ) (place : ℕ) (name : List ℕ) (from : ℕ) (names : Names) (opening value : ℕ) → from ≤ opening → (value ≡ opening + 1) × StandsAt text opening 34 → left text (tag_state text place name from names equalled opening) opening ≡ left text (tag_state text place name from names (valuing 34) value) value
+pub attribute_double : (text : List ℕ) (place : ℕ) (name : List ℕ) (from : ℕ) (names : Names) (opening value : ℕ) → from ≤ opening → (value ≡ opening + 1) × StandsAt text opening 34 → answers_at text (tag_state text place name from names equalled opening) opening ≡ answers_at text (tag_state text place name from names (valuing 34) value) value
 attribute_double text place name from names opening value le is =
     tag_on text place name from names equalled (valuing 34) opening value 34 le (λ raw. rw space_not_double refl) is
 
-pub attribute_single : (text : List ℕ) (place : ℕ) (name : List ℕ) (from : ℕ) (names : Names) (opening value : ℕ) → from ≤ opening → (value ≡ opening + 1) × StandsAt text opening 39 → left text (tag_state text place name from names equalled opening) opening ≡ left text (tag_state text place name from names (valuing 39) value) value
+pub attribute_single : (text : List ℕ) (place : ℕ) (name : List ℕ) (from : ℕ) (names : Names) (opening value : ℕ) → from ≤ opening → (value ≡ opening + 1) × StandsAt text opening 39 → answers_at text (tag_state text place name from names equalled opening) opening ≡ answers_at text (tag_state text place name from names (valuing 39) value) value
 attribute_single text place name from names opening value le is =
     tag_on text place name from names equalled (valuing 39) opening value 39 le (λ raw. rw space_not_single refl) is
 
 -- no attribute's name begins there
-pub attribute_nameless : (text : List ℕ) (place : ℕ) (name : List ℕ) (from : ℕ) (names : Names) (at p : ℕ) → FailsFirst is_space (drop at text) → EndsNoTag text at → NameEnds text at (Err p) → left text (tag_state text place name from names spaced at) at ≡ form p ∷ []
+pub attribute_nameless : (text : List ℕ) (place : ℕ) (name : List ℕ) (from : ℕ) (names : Names) (at p : ℕ) → FailsFirst is_space (drop at text) → EndsNoTag text at → NameEnds text at (Err p) → answers_at text (tag_state text place name from names spaced at) at ≡ form p ∷ []
 attribute_nameless text place name from names at p fails none is =
     refused text (tag_state text place name from names spaced at) at (λ _. refl)
     (λ b stand. let more : eqb b 62 ≡ false = other_byte text at b 62 stand none.0 in
@@ -120,7 +120,7 @@ attribute_nameless text place name from names at p fails none is =
     ∙ ap (λ n. form n ∷ []) (sym is.0)
 
 -- no `=` stands there
-pub attribute_signless : (text : List ℕ) (place : ℕ) (name : List ℕ) (from : ℕ) (names : Names) (at p : ℕ) → FailsFirst is_space (drop at text) → (p ≡ at) × BeginsWithout 61 (drop at text) → left text (tag_state text place name from names named at) at ≡ form p ∷ []
+pub attribute_signless : (text : List ℕ) (place : ℕ) (name : List ℕ) (from : ℕ) (names : Names) (at p : ℕ) → FailsFirst is_space (drop at text) → (p ≡ at) × BeginsWithout 61 (drop at text) → answers_at text (tag_state text place name from names named at) at ≡ form p ∷ []
 attribute_signless text place name from names at p fails is =
     refused text (tag_state text place name from names named at) at (λ _. refl)
     (λ b stand. let sign : eqb b 61 ≡ false = other_byte text at b 61 stand is.1 in
@@ -129,7 +129,7 @@ attribute_signless text place name from names at p fails is =
     ∙ ap (λ n. form n ∷ []) (sym is.0)
 
 -- no quote stands there
-pub attribute_valueless : (text : List ℕ) (place : ℕ) (name : List ℕ) (from : ℕ) (names : Names) (at p : ℕ) → FailsFirst is_space (drop at text) → BeginsWithout 34 (drop at text) → (p ≡ at) × BeginsWithout 39 (drop at text) → left text (tag_state text place name from names equalled at) at ≡ form p ∷ []
+pub attribute_valueless : (text : List ℕ) (place : ℕ) (name : List ℕ) (from : ℕ) (names : Names) (at p : ℕ) → FailsFirst is_space (drop at text) → BeginsWithout 34 (drop at text) → (p ≡ at) × BeginsWithout 39 (drop at text) → answers_at text (tag_state text place name from names equalled at) at ≡ form p ∷ []
 attribute_valueless text place name from names at p fails double is =
     refused text (tag_state text place name from names equalled at) at (λ _. refl)
     (λ b stand. let one : eqb b 34 ≡ false = other_byte text at b 34 stand double in
@@ -151,18 +151,18 @@ first_passes test text at low =
     by_test b k false e h = absurd (let g : at < at + 0 = rw e at h in omega arith)
 
 -- behind a value, white space leads on as behind white space
-valued_space : (text : List ℕ) (place : ℕ) (name : List ℕ) (from : ℕ) (names : Names) (at b : ℕ) → StandsAt text at b → is_space b ≡ true → left text (tag_state text place name from names valued at) at ≡ left text (tag_state text place name from names spaced at) at
+valued_space : (text : List ℕ) (place : ℕ) (name : List ℕ) (from : ℕ) (names : Names) (at b : ℕ) → StandsAt text at b → is_space b ≡ true → answers_at text (tag_state text place name from names valued at) at ≡ answers_at text (tag_state text place name from names spaced at) at
 valued_space text place name from names at b stand holds =
     left_same text (tag_state text place name from names valued at) (tag_state text place name from names spaced at) at b stand (rw holds refl)
 
-valued_end : (text : List ℕ) (place : ℕ) (name : List ℕ) (from : ℕ) (names : Names) (at : ℕ) → EndsStartTag text at → left text (tag_state text place name from names valued at) at ≡ left text (tag_state text place name from names spaced at) at
+valued_end : (text : List ℕ) (place : ℕ) (name : List ℕ) (from : ℕ) (names : Names) (at : ℕ) → EndsStartTag text at → answers_at text (tag_state text place name from names valued at) at ≡ answers_at text (tag_state text place name from names spaced at) at
 valued_end text place name from names at (inl more) =
     left_same text (tag_state text place name from names valued at) (tag_state text place name from names spaced at) at 62 more refl
 valued_end text place name from names at (inr slash) =
     left_same text (tag_state text place name from names valued at) (tag_state text place name from names spaced at) at 47 slash refl
 
 -- white space behind the tag's name or a value
-pub attributes_spaced : (text : List ℕ) (place : ℕ) (name : List ℕ) (from : ℕ) (names : Names) (at end : ℕ) → from ≤ at → at < end → end ≡ run_end is_space text at → left text (tag_state text place name from names valued at) at ≡ left text (tag_state text place name from names spaced end) end
+pub attributes_spaced : (text : List ℕ) (place : ℕ) (name : List ℕ) (from : ℕ) (names : Names) (at end : ℕ) → from ≤ at → at < end → end ≡ run_end is_space text at → answers_at text (tag_state text place name from names valued at) at ≡ answers_at text (tag_state text place name from names spaced end) end
 attributes_spaced text place name from names at end le low is =
     let w = first_passes is_space text at (rw is at low) in
     valued_space text place name from names at w.0 w.1 w.2
@@ -170,17 +170,17 @@ attributes_spaced text place name from names at end le low is =
     (λ raw n b holds. rw (differ is_space b 62 holds space_not_more, differ is_space b 47 holds space_not_slash, holds) refl) at end le is
 
 -- the end of the attributes
-pub attributes_over : (text : List ℕ) (place : ℕ) (name : List ℕ) (from : ℕ) (names : Names) (at end : ℕ) → from ≤ at → at ≤ end → end ≡ run_end is_space text at → EndsStartTag text end → left text (tag_state text place name from names valued at) at ≡ left text (tag_state text place name from names spaced end) end
+pub attributes_over : (text : List ℕ) (place : ℕ) (name : List ℕ) (from : ℕ) (names : Names) (at end : ℕ) → from ≤ at → at ≤ end → end ≡ run_end is_space text at → EndsStartTag text end → answers_at text (tag_state text place name from names valued at) at ≡ answers_at text (tag_state text place name from names spaced end) end
 attributes_over text place name from names at end le above is ends = by_run (prefix_len is_space (drop at text)) is
   where
-    by_run : (k : ℕ) → end ≡ at + k → left text (tag_state text place name from names valued at) at ≡ left text (tag_state text place name from names spaced end) end
+    by_run : (k : ℕ) → end ≡ at + k → answers_at text (tag_state text place name from names valued at) at ≡ answers_at text (tag_state text place name from names spaced end) end
     by_run zero e =
         let same : end ≡ at = omega arith in
         rw same (valued_end text place name from names at (rw same at ends))
     by_run (suc k) e = attributes_spaced text place name from names at end le (omega arith) is
 
 -- neither white space nor the tag's end behind its name or a value
-pub attributes_off : (text : List ℕ) (place : ℕ) (name : List ℕ) (from : ℕ) (names : Names) (at end : ℕ) → end ≡ at → end ≡ run_end is_space text at → EndsNoTag text end → left text (tag_state text place name from names valued at) at ≡ form end ∷ []
+pub attributes_off : (text : List ℕ) (place : ℕ) (name : List ℕ) (from : ℕ) (names : Names) (at end : ℕ) → end ≡ at → end ≡ run_end is_space text at → EndsNoTag text end → answers_at text (tag_state text place name from names valued at) at ≡ form end ∷ []
 attributes_off text place name from names at end same is none =
     refused text (tag_state text place name from names valued at) at (λ _. refl)
     (λ b stand. let more : eqb b 62 ≡ false = other_byte text at b 62 stand (rw same at none.0) in
@@ -202,34 +202,34 @@ named_valued place name names at b none = rw none (by_space (is_space b))
     by_space false = refl
 
 -- a start tag's name
-pub name_opened : (text : List ℕ) (s : State) (place : ℕ) (names : Names) (at end : ℕ) → IsOpened text s place names at → NameEnds text at (Ok end) → left text s at ≡ left text (tag_state text place (slice_range text at end) end names valued end) end
+pub name_opened : (text : List ℕ) (s : State) (place : ℕ) (names : Names) (at end : ℕ) → IsOpened text s place names at → NameEnds text at (Ok end) → answers_at text s at ≡ answers_at text (tag_state text place (slice_range text at end) end names valued end) end
 name_opened text s place names at end opened is =
     let more : begins_name is.0 ≡ true = is.2 in
     let above : at ≤ at + 1 = omega arith in
     let here : at ≤ at = omega arith in
     let one : slice_range text at (at + 1) ≡ is.0 ∷ [] = slice_more text at at is.0 here is.1 ∙ ap (λ xs. xs ++ is.0 ∷ []) (slice_none text at) in
     left_on text s (in_name place (is.0 ∷ []) names) at is.0 [] is.1 (opened.turns is.0 is.1 ∙ rw more refl)
-    ∙ (ap (λ name. left text (in_name place name names) (at + 1)) (sym one)
+    ∙ (ap (λ name. answers_at text (in_name place name names) (at + 1)) (sym one)
     ∙ (run_left text is_name_byte (λ n. in_name place (slice_range text at n) names) at (λ n b le stand holds. name_turn text place at names n b le stand holds) (at + 1) above
-    ∙ (ap (λ n. left text (in_name place (slice_range text at n) names) n) (sym is.3)
+    ∙ (ap (λ n. answers_at text (in_name place (slice_range text at n) names) n) (sym is.3)
     ∙ (alike text (in_name place (slice_range text at end) names) (in_tag valued place (slice_range text at end) [] names) end (λ _. refl)
     (λ b stand. named_valued place (slice_range text at end) names end b (fails_there is_name_byte text end b stand (stops_at is_name_byte text (at + 1) end is.3)))
-    ∙ ap (λ raw. left text (in_tag valued place (slice_range text at end) raw names) end) (sym (slice_none text end))))))
+    ∙ ap (λ raw. answers_at text (in_tag valued place (slice_range text at end) raw names) end) (sym (slice_none text end))))))
 
 -- no name begins there
-pub name_missing : (text : List ℕ) (s : State) (place : ℕ) (names : Names) (at p : ℕ) → IsOpened text s place names at → NameEnds text at (Err p) → left text s at ≡ form p ∷ []
+pub name_missing : (text : List ℕ) (s : State) (place : ℕ) (names : Names) (at p : ℕ) → IsOpened text s place names at → NameEnds text at (Err p) → answers_at text s at ≡ form p ∷ []
 name_missing text s place names at p opened is =
     refused text s at opened.ends
     (λ b stand. opened.turns b stand ∙ (let begins : begins_name b ≡ false = fails_there begins_name text at b stand is.1 in rw begins refl))
     ∙ ap (λ n. form n ∷ []) (sym is.0)
 
 -- `>` behind the attributes
-pub tag_over : (text : List ℕ) (place : ℕ) (name : List ℕ) (from : ℕ) (names : Names) (at : ℕ) → StandsAt text at 62 → left text (tag_state text place name from names spaced at) at ≡ start place name (slice_range text from at) ∷ left text (between (within name names)) (at + 1)
+pub tag_over : (text : List ℕ) (place : ℕ) (name : List ℕ) (from : ℕ) (names : Names) (at : ℕ) → StandsAt text at 62 → answers_at text (tag_state text place name from names spaced at) at ≡ start place name (slice_range text from at) ∷ answers_at text (between (within name names)) (at + 1)
 tag_over text place name from names at stand =
     left_on text (tag_state text place name from names spaced at) (between (within name names)) at 62 (start place name (slice_range text from at) ∷ []) stand refl
 
 -- `/` there
-pub tag_slashed : (text : List ℕ) (place : ℕ) (name : List ℕ) (from : ℕ) (names : Names) (at : ℕ) → StandsAt text at 47 → left text (tag_state text place name from names spaced at) at ≡ left text (slashed at place name (slice_range text from at) names) (at + 1)
+pub tag_slashed : (text : List ℕ) (place : ℕ) (name : List ℕ) (from : ℕ) (names : Names) (at : ℕ) → StandsAt text at 47 → answers_at text (tag_state text place name from names spaced at) at ≡ answers_at text (slashed at place name (slice_range text from at) names) (at + 1)
 tag_slashed text place name from names at stand =
     left_on text (tag_state text place name from names spaced at) (slashed at place name (slice_range text from at) names) at 47 [] stand refl
 
@@ -237,13 +237,13 @@ two_on : (at : ℕ) → at + 1 + 1 ≡ at + 2
 two_on at = omega arith
 
 -- and `>` behind it
-pub empty_over : (text : List ℕ) (slash place : ℕ) (name raw : List ℕ) (names : Names) → StandsAt text (slash + 1) 62 → left text (slashed slash place name raw names) (slash + 1) ≡ start place name raw ∷ stop slash ∷ left text (between (outside names)) (slash + 2)
+pub empty_over : (text : List ℕ) (slash place : ℕ) (name raw : List ℕ) (names : Names) → StandsAt text (slash + 1) 62 → answers_at text (slashed slash place name raw names) (slash + 1) ≡ start place name raw ∷ stop slash ∷ answers_at text (between (level_of_names names)) (slash + 2)
 empty_over text slash place name raw names stand =
-    left_on text (slashed slash place name raw names) (between (outside names)) (slash + 1) 62 (start place name raw ∷ stop slash ∷ []) stand refl
-    ∙ ap (λ n. start place name raw ∷ stop slash ∷ left text (between (outside names)) n) (two_on slash)
+    left_on text (slashed slash place name raw names) (between (level_of_names names)) (slash + 1) 62 (start place name raw ∷ stop slash ∷ []) stand refl
+    ∙ ap (λ n. start place name raw ∷ stop slash ∷ answers_at text (between (level_of_names names)) n) (two_on slash)
 
 -- or something else
-pub empty_off : (text : List ℕ) (slash place : ℕ) (name raw : List ℕ) (names : Names) (p : ℕ) → (p ≡ slash + 1) × BeginsWithout 62 (drop (slash + 1) text) → left text (slashed slash place name raw names) (slash + 1) ≡ form p ∷ []
+pub empty_off : (text : List ℕ) (slash place : ℕ) (name raw : List ℕ) (names : Names) (p : ℕ) → (p ≡ slash + 1) × BeginsWithout 62 (drop (slash + 1) text) → answers_at text (slashed slash place name raw names) (slash + 1) ≡ form p ∷ []
 empty_off text slash place name raw names p is =
     refused text (slashed slash place name raw names) (slash + 1) (λ _. refl)
     (λ b stand. let more : eqb b 62 ≡ false = other_byte text (slash + 1) b 62 stand is.1 in rw more refl)
@@ -254,17 +254,17 @@ pub await_closing : (text : List ℕ) (place : ℕ) (names : Names) (at : ℕ) �
 await_closing text place names at = record { turns = λ c more n b le stand. refl; ends = λ c more n. refl }
 
 -- the white space behind it
-pub closing_spaced : (text : List ℕ) (place : ℕ) (names : Names) (at end : ℕ) → end ≡ run_end is_space text at → left text (closing place [] names) at ≡ left text (closed place names) end
+pub closing_spaced : (text : List ℕ) (place : ℕ) (names : Names) (at end : ℕ) → end ≡ run_end is_space text at → answers_at text (closing place [] names) at ≡ answers_at text (closed place names) end
 closing_spaced text place names at end is =
     alike text (closing place [] names) (closed place names) at (λ _. refl) (λ b stand. refl)
     ∙ (run_left text is_space (λ _. closed place names) 0 (λ n b _ stand holds. rw (differ is_space b 62 holds space_not_more, holds) refl) at (omega arith)
-    ∙ ap (λ n. left text (closed place names) n) (sym is))
+    ∙ ap (λ n. answers_at text (closed place names) n) (sym is))
 
 -- and its `>`
-pub closed_by : (text : List ℕ) (place : ℕ) (name : List ℕ) (names : Names) (at behind : ℕ) (r : Result ℕ ℕ) → left text (closing place name names) at ≡ left text (closed place names) behind → FailsFirst is_space (drop behind text) → IsPast text behind 62 r → ClosesTag text place name names at r
+pub closed_by : (text : List ℕ) (place : ℕ) (name : List ℕ) (names : Names) (at behind : ℕ) (r : Result ℕ ℕ) → answers_at text (closing place name names) at ≡ answers_at text (closed place names) behind → FailsFirst is_space (drop behind text) → IsPast text behind 62 r → ClosesTag text place name names at r
 closed_by text place name names at behind (Ok end) e fails is =
-    e ∙ (left_on text (closed place names) (between (outside names)) behind 62 (stop place ∷ []) is.1 refl
-    ∙ ap (λ n. stop place ∷ left text (between (outside names)) n) (sym is.0))
+    e ∙ (left_on text (closed place names) (between (level_of_names names)) behind 62 (stop place ∷ []) is.1 refl
+    ∙ ap (λ n. stop place ∷ answers_at text (between (level_of_names names)) n) (sym is.0))
 closed_by text place name names at behind (Err p) e fails is =
     e ∙ (refused text (closed place names) behind (λ _. refl)
     (λ b stand. let more : eqb b 62 ≡ false = other_byte text behind b 62 stand is.1 in

@@ -5,7 +5,7 @@ use Rattle.markup_grammar.specs.Answers.{start, words, finish, form}
 use Rattle.markup_grammar.specs.Bytes.{is_space}
 use Rattle.markup_grammar.specs.Machine.{State, before, within, behind, fresh, between, opened, in_words, Names, step, verdict, on, off}
 use Rattle.markup_core.specs.Asides.{NoAside}
-use Rattle.markup_core.specs.Left.{left, StandsAt, BeginsWithout, FailsFirst}
+use Rattle.markup_core.specs.Left.{answers_at, StandsAt, BeginsWithout, FailsFirst}
 use Rattle.markup_core.specs.Scans.{Leads, IsPast}
 use Rattle.markup_core.specs.Spans.{part, open_names}
 use Rattle.markup_core.specs.Tags.{IsOpened, GivesTag, behind_tag}
@@ -22,7 +22,7 @@ past_leads text s next at byte (Ok end) turn ends offs is = past_on text s next 
 past_leads text s next at byte (Err place) turn ends offs is = past_off text s at place byte ends offs is
 
 -- without a byte order mark
-pub unmarked : (text : List ℕ) → BeginsWithout 239 (drop 0 text) → left text fresh 0 ≡ left text (between before) 0
+pub unmarked : (text : List ℕ) → BeginsWithout 239 (drop 0 text) → answers_at text fresh 0 ≡ answers_at text (between before) 0
 unmarked text bare =
     alike text fresh (between before) 0 (λ _. refl)
     (λ b stand. let other : eqb b 239 ≡ false = other_byte text 0 b 239 stand bare in rw other refl)
@@ -47,14 +47,14 @@ opened_child text place name names at is none bare = record {
 }
 
 -- a start tag
-pub tag_told : (text : List ℕ) (s t : State) (names : Names) (at place opening : ℕ) (tag : StartTag) → left text s at ≡ left text t opening → opening ≡ place + 1 → GivesTag text t place names opening (Ok tag) → Tells text names s at (Ok (Start place tag))
+pub tag_told : (text : List ℕ) (s t : State) (names : Names) (at place opening : ℕ) (tag : StartTag) → answers_at text s at ≡ answers_at text t opening → opening ≡ place + 1 → GivesTag text t place names opening (Ok tag) → Tells text names s at (Ok (Start place tag))
 tag_told text s t names at place opening tag e is gives =
     e
     ∙ (gives
     ∙ ap (λ n. start place (slice_range text n tag.name_end) (slice_range text tag.name_end tag.attrs_end) ∷ behind_tag text tag (slice_range text n tag.name_end) names) is)
 
 -- no outermost element
-pub rootless : (text : List ℕ) (place p : ℕ) → FailsFirst is_space (drop place text) → (p ≡ place) × BeginsWithout 60 (drop place text) → left text (between before) place ≡ form p ∷ []
+pub rootless : (text : List ℕ) (place p : ℕ) → FailsFirst is_space (drop place text) → (p ≡ place) × BeginsWithout 60 (drop place text) → answers_at text (between before) place ≡ form p ∷ []
 rootless text place p fails is =
     refused text (between before) place (λ _. refl)
     (λ b stand. let tag : eqb b 60 ≡ false = other_byte text place b 60 stand is.1 in
@@ -63,7 +63,7 @@ rootless text place p fails is =
     ∙ ap (λ n. form n ∷ []) (sym is.0)
 
 -- a run of text
-pub words_told : (text : List ℕ) (name : List ℕ) (names : Names) (at place end : ℕ) → left text (between (within name names)) at ≡ left text (in_words place (slice_range text place end) name names) end → StandsAt text end 60 → left text (between (within name names)) at ≡ words place (slice_range text place end) ∷ left text (between (within name names)) end
+pub words_told : (text : List ℕ) (name : List ℕ) (names : Names) (at place end : ℕ) → answers_at text (between (within name names)) at ≡ answers_at text (in_words place (slice_range text place end) name names) end → StandsAt text end 60 → answers_at text (between (within name names)) at ≡ words place (slice_range text place end) ∷ answers_at text (between (within name names)) end
 words_told text name names at place end e stand =
     e
     ∙ (left_on text (in_words place (slice_range text place end) name names) (opened end (within name names)) end 60 (words place (slice_range text place end) ∷ []) stand refl
@@ -78,11 +78,11 @@ no_end text place le other nil =
     other (omega arith)
 
 -- the end of the text behind the outermost element
-pub end_told : (text : List ℕ) (place : ℕ) → place ≡ length text → left text (between behind) place ≡ finish ∷ []
+pub end_told : (text : List ℕ) (place : ℕ) → place ≡ length text → answers_at text (between behind) place ≡ finish ∷ []
 end_told text place is = left_end text (between behind) place (drop_all place text (omega arith))
 
 -- a tag there
-pub second_root : (text : List ℕ) (place at : ℕ) → (at ≡ place + 1) × StandsAt text place 60 → NoAside text place → left text (between behind) place ≡ form at ∷ []
+pub second_root : (text : List ℕ) (place at : ℕ) → (at ≡ place + 1) × StandsAt text place 60 → NoAside text place → answers_at text (between behind) place ≡ form at ∷ []
 second_root text place at is none =
     past_on text (between behind) (opened place behind) place at 60 refl is
     ∙ refused text (opened place behind) at (λ _. refl)
@@ -91,7 +91,7 @@ second_root text place at is none =
     rw (mark, ask) refl)
 
 -- something else there
-pub text_behind : (text : List ℕ) (place p : ℕ) → place ≤ length text → place ≢ length text → FailsFirst is_space (drop place text) → (p ≡ place) × BeginsWithout 60 (drop place text) → left text (between behind) place ≡ form p ∷ []
+pub text_behind : (text : List ℕ) (place p : ℕ) → place ≤ length text → place ≢ length text → FailsFirst is_space (drop place text) → (p ≡ place) × BeginsWithout 60 (drop place text) → answers_at text (between behind) place ≡ form p ∷ []
 text_behind text place p le other fails is =
     refused text (between behind) place (λ nil. absurd (no_end text place le other nil))
     (λ b stand. let tag : eqb b 60 ≡ false = other_byte text place b 60 stand is.1 in

@@ -4,7 +4,7 @@ use Rattle.std.proofs.lemmas.List.{drop_all, drop-drop}
 use Rattle.std.proofs.lemmas.Bool.{ne_eqb, eqb-true}
 use Rattle.std.specs.List.{prefix_len}
 use lib.Utf8.{encode}
-use Rattle.markup_grammar.specs.Escapes.{returned, reference, unescaped, unescaped_from, referred, bytes_of}
+use Rattle.markup_grammar.specs.Escapes.{returned, reference, unescaped, unescaped_from, character_of_reference, bytes_of}
 use Rattle.markup_core.specs.Fronts.{DiffersFirst}
 use Rattle.markup_core.specs.Parts.{is_plain, is_inside_reference}
 
@@ -72,7 +72,7 @@ plain_some (b ∷ bs) no_amp no_return some = rw (ne_eqb b 38 no_amp, ne_eqb b 1
 -- what is behind the bytes of a reference
 abbrev closed : List ℕ → List ℕ → List ℕ
 closed name [] = []
-closed name (b ∷ rest) = bytes_of (referred name) ++ unescaped rest
+closed name (b ∷ rest) = bytes_of (character_of_reference name) ++ unescaped rest
 
 inside_step : (acc : List ℕ) (b : ℕ) (bs : List ℕ) (k : ℕ) (t : Bool) → is_inside_reference b ≡ t
     → unescaped_from (reference (acc ++ b ∷ [])) bs ≡ closed ((acc ++ b ∷ []) ++ take k bs) (drop k bs)
@@ -93,15 +93,15 @@ unended bytes n e whole =
     let none : drop n bytes ≡ [] = drop_all n bytes (omega arith) in
     reference_run [] bytes ∙ (rw (← e, add-one, none) (sym nothing))
 
-ended_at : (name rest : List ℕ) → 0 < length rest → closed name rest ≡ bytes_of (referred name) ++ unescaped (drop 1 rest)
+ended_at : (name rest : List ℕ) → 0 < length rest → closed name rest ≡ bytes_of (character_of_reference name) ++ unescaped (drop 1 rest)
 ended_at name [] some = absurd (omega arith)
 ended_at name (b ∷ rest) some = refl
 
 -- a reference that ends
 pub ended : (bytes : List ℕ) (n : ℕ) → n ≡ prefix_len is_inside_reference bytes → (n ≡ length bytes → ⊥) → n ≤ length bytes
-    → unescaped_from (reference []) bytes ≡ bytes_of (referred (take n bytes)) ++ unescaped (drop (n + 2) (38 ∷ bytes))
+    → unescaped_from (reference []) bytes ≡ bytes_of (character_of_reference (take n bytes)) ++ unescaped (drop (n + 2) (38 ∷ bytes))
 ended bytes n e more within =
-    reference_run [] bytes ∙ (rw (← e) (ended_at (take n bytes) (drop n bytes) (simp length-drop (omega arith)) ∙ ap (λ r. bytes_of (referred (take n bytes)) ++ unescaped r) (shifted bytes n)))
+    reference_run [] bytes ∙ (rw (← e) (ended_at (take n bytes) (drop n bytes) (simp length-drop (omega arith)) ∙ ap (λ r. bytes_of (character_of_reference (take n bytes)) ++ unescaped r) (shifted bytes n)))
   where
     shifted : (bytes : List ℕ) (n : ℕ) → drop 1 (drop n bytes) ≡ drop (n + 2) (38 ∷ bytes)
     shifted bytes n = let e : n + 2 ≡ suc (n + 1) = omega arith in rw e (drop-drop 1 n bytes ∙ ap (λ k. drop k bytes) (omega arith))

@@ -4,8 +4,8 @@ use Rattle.markup_grammar.specs.Answers.{Answer}
 use Rattle.markup_grammar.specs.Machine.{State, answers_from}
 
 -- the answers that a state gives from this place of the text on
-unfoldable pub left : List ℕ → State → ℕ → List Answer
-left text state at = answers_from state at (drop at text)
+unfoldable pub answers_at : List ℕ → State → ℕ → List Answer
+answers_at text state at = answers_from state at (drop at text)
 
 -- this byte is at the place
 abbrev pub StandsAt : List ℕ → ℕ → ℕ → Type 0

@@ -1,28 +1,29 @@
 -- What a reader's fields stand for: the answers that are left.
 use Rattle.std.specs.Prelude.{ℕ, ◌+◌, ◌≡◌, ◌≤◌, ◌<◌, Bool, true, None, if◌then◌else◌, List, ◌∷◌, length}
 use Rattle.std.specs.Str.{IsCharBoundary}
-use Rattle.markup_grammar.specs.Answers.{Answer, stop, limited, cut_short}
+use Rattle.markup_grammar.specs.Answers.{Answer, stop, limit_depth, cut_short}
 use Rattle.markup_grammar.specs.Utf8.{none_left, utf8_run}
-use Rattle.markup_core.specs.Left.{left, StandsAt}
+use Rattle.markup_core.specs.Left.{answers_at, StandsAt}
 use Rattle.markup_core.specs.Spans.{SpansFit, open_names}
 use Rattle.markup_core.specs.Tokens.{state_at}
 use Rattle.markup_core.specs.declared.reader.Reader.TheInside.{Inside}
 
 -- the answers with so many elements open, on a text of this length that is the whole or is cut off
 -- there
-abbrev pub seen : Bool → ℕ → ℕ → List Answer → List Answer
-seen is_whole len open_count answers = limited open_count
+abbrev pub bounded_answers : Bool → ℕ → ℕ → List Answer → List Answer
+bounded_answers is_whole len open_count answers = limit_depth open_count
     (if is_whole then answers else cut_short len answers)
 
 -- those that are left from a place between two tokens on
-abbrev pub seen_from : Inside → ℕ → List Answer
-seen_from r at =
-    seen r.is_whole (length r.text.now) r.depth
-    (left r.text.now (state_at at (open_names r.text.now r.spans r.depth)) at)
+abbrev pub answers_left_from : Inside → ℕ → List Answer
+answers_left_from r at =
+    bounded_answers r.is_whole (length r.text.now) r.depth
+    (answers_at r.text.now (state_at at (open_names r.text.now r.spans r.depth)) at)
 
 -- the answers that are left: where an empty element's `/` comes next, its end comes first
 unfoldable pub answers_left : Inside → List Answer
-answers_left r = if r.is_empty then stop r.at ∷ seen_from r (r.at + 2) else seen_from r r.at
+answers_left r = if r.is_empty then stop r.at ∷ answers_left_from r (r.at + 2)
+    else answers_left_from r r.at
 
 -- places and counts are within the text and the stack, and the text begins one in UTF-8
 pub record IsSound (r : Inside) : Type 0 where

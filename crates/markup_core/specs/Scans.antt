@@ -5,13 +5,13 @@ use Rattle.std.specs.List.{prefix_len}
 use Rattle.markup_grammar.specs.Answers.{form}
 use Rattle.markup_grammar.specs.Bytes.{begins_name, is_name_byte}
 use Rattle.markup_grammar.specs.Machine.{State, in_words, in_reference, in_tag, valuing, referring, Names, Ref, on, off, step, verdict}
-use Rattle.markup_core.specs.Left.{left, StandsAt, BeginsWithout, FailsFirst}
+use Rattle.markup_core.specs.Left.{answers_at, StandsAt, BeginsWithout, FailsFirst}
 
 -- reading goes from one state to another, which may report by the place of its end, and gives
 -- nothing on the way; or it is refused at a place
 abbrev pub Leads : List ℕ → State → ℕ → (ℕ → State) → Result ℕ ℕ → Type 0
-Leads text from at to (Ok end) = left text from at ≡ left text (to end) end
-Leads text from at to (Err place) = left text from at ≡ form place ∷ []
+Leads text from at to (Ok end) = answers_at text from at ≡ answers_at text (to end) end
+Leads text from at to (Err place) = answers_at text from at ≡ form place ∷ []
 
 -- an end lies after the beginning and in the text
 abbrev pub EndsWithin : List ℕ → ℕ → Result ℕ ℕ → Type 0

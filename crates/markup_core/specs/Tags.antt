@@ -1,8 +1,8 @@
 -- What the tags of a text give.
 use Rattle.std.specs.Prelude.{ℕ, ◌+◌, ◌≡◌, ◌≤◌, ◌<◌, ◌⊎◌, if◌then◌else◌, true, List, [], ◌∷◌, drop, slice_range, Result, Ok, Err}
 use Rattle.markup_grammar.specs.Answers.{Answer, start, stop, form}
-use Rattle.markup_grammar.specs.Machine.{State, Names, between, within, closing, outside, name_begins, step, verdict}
-use Rattle.markup_core.specs.Left.{left, StandsAt, BeginsWithout}
+use Rattle.markup_grammar.specs.Machine.{State, Names, between, within, closing, level_of_names, name_begins, step, verdict}
+use Rattle.markup_core.specs.Left.{answers_at, StandsAt, BeginsWithout}
 use Rattle.markup_core.specs.declared.tag.StartTag.{StartTag}
 
 -- a `>` or a `/` is there
@@ -22,16 +22,16 @@ pub record IsOpened (text : List ℕ) (s : State) (place : ℕ) (names : Names) 
 abbrev pub behind_tag : List ℕ → StartTag → List ℕ → Names → List Answer
 behind_tag text tag name names =
     if tag.is_empty
-    then stop tag.attrs_end ∷ left text (between (outside names)) (tag.attrs_end + 2)
-    else left text (between (within name names)) (tag.attrs_end + 1)
+    then stop tag.attrs_end ∷ answers_at text (between (level_of_names names)) (tag.attrs_end + 2)
+    else answers_at text (between (within name names)) (tag.attrs_end + 1)
 
 -- the rest of a start tag is there, and gives its piece; or it is refused at a place
 abbrev pub GivesTag : List ℕ → State → ℕ → Names → ℕ → Result StartTag ℕ → Type 0
 GivesTag text s place names at (Ok tag) =
-    left text s at
+    answers_at text s at
     ≡ start place (slice_range text at tag.name_end) (slice_range text tag.name_end tag.attrs_end)
     ∷ behind_tag text tag (slice_range text at tag.name_end) names
-GivesTag text s place names at (Err p) = left text s at ≡ form p ∷ []
+GivesTag text s place names at (Err p) = answers_at text s at ≡ form p ∷ []
 
 -- a byte of ASCII is there
 abbrev pub AsciiAt : List ℕ → ℕ → Type 0
@@ -48,5 +48,7 @@ pub record TagStands (text : List ℕ) (at : ℕ) (tag : StartTag) : Type 0 wher
 -- the rest of the end tag of this name is there, and gives its piece; or it is refused at a place
 abbrev pub ClosesTag : List ℕ → ℕ → List ℕ → Names → ℕ → Result ℕ ℕ → Type 0
 ClosesTag text place name names at (Ok end) =
-    left text (closing place name names) at ≡ stop place ∷ left text (between (outside names)) end
-ClosesTag text place name names at (Err p) = left text (closing place name names) at ≡ form p ∷ []
+    answers_at text (closing place name names) at ≡ stop place ∷ answers_at text
+    (between (level_of_names names)) end
+ClosesTag text place name names at (Err p) = answers_at text (closing place name names) at ≡ form p
+    ∷ []

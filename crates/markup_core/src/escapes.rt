@@ -141,7 +141,7 @@ fn reference_at(bytes: &[u8]) -> (Part<'_>, usize)
 
 /// The character that a reference stands for, by what is between its `&` and its `;`.
 fn referred(name: &[u8]) -> Option<char>
-    ensures value { result ≡ spec.referred name.now }
+    ensures value { result ≡ spec.character_of_reference name.now }
     ensures some { OnSome result (2 ≤ length name.now) }
 {
     let Some(number) = strip(name, b'#') else {
@@ -177,7 +177,7 @@ fn named(name: &[u8]) -> Option<char>
 fn numbered(digits: &[u8], radix: u32) -> Option<char>
     requires some { 2 ≤ radix }
     requires most { radix ≤ 16 }
-    ensures value { result ≡ spec.numbered radix digits.now }
+    ensures value { result ≡ spec.character_by_number radix digits.now }
     ensures some { OnSome result (0 < length digits.now) }
 {
     if digits.is_empty() {

@@ -6,7 +6,7 @@ use Rattle.markup_grammar.specs.Answers.{Answer, start, words, stop, finishes}
 use Rattle.markup_grammar.specs.Bytes.{is_space, is_digit, is_hex_digit, digit_value, begins_name, is_name_byte, is_text, is_value}
 use Rattle.markup_grammar.specs.Faults.{end_tags}
 use Rattle.markup_grammar.specs.Machine as m
-use Rattle.markup_grammar.specs.Machine.{State, Level, Ref, Dashes, Spot, Names, Turn, RefTurn, SpotTurn, on, off, ref_on, ref_ends, ref_off, spot_on, spot_off, step, ref_step, spot_step, number_on, number_ends, in_run, in_value, tag_turn, outside, before, within, behind, no_dash, one_dash, two_dashes, spaced, naming, named, equalled, valuing, referring, valued, begun, after_a, due, hash, decimal_at, hash_x, hexadecimal_at, fresh, between, opened, bang_dash, in_comment, in_instruction, in_words, in_reference, in_name, in_tag, slashed, closing, closed, answers_from}
+use Rattle.markup_grammar.specs.Machine.{State, Level, Ref, Dashes, Spot, Names, Turn, RefTurn, SpotTurn, on, off, ref_on, ref_ends, ref_off, spot_on, spot_off, step, ref_step, spot_step, number_on, number_ends, in_run, in_value, tag_turn, level_of_names, before, within, behind, no_dash, one_dash, two_dashes, spaced, naming, named, equalled, valuing, referring, valued, begun, after_a, due, hash, decimal_at, hash_x, hexadecimal_at, fresh, between, opened, bang_dash, in_comment, in_instruction, in_words, in_reference, in_name, in_tag, slashed, closing, closed, answers_from}
 use Rattle.markup_grammar.specs.References.{IsScalar}
 use Rattle.markup_grammar.specs.Tags.{IsQuote}
 use Rattle.markup_grammar.specs.Utf8.{Partial, none_left, one, two, two_low, two_high, three, three_low, three_high, utf8_step, utf8_run}
@@ -47,13 +47,13 @@ unfolding is_space
 blank = refl
 
 -- the end tag of a name, and what follows
-tag_ends : (name : List ℕ) (names : Names) (rest : List ℕ) (at : ℕ) → finishes (answers_from (between (outside names)) (at + 2 + (length name + 2)) rest) ≡ true → finishes (answers_from (closing at name names) (at + 2) (name ++ (32 ∷ 62 ∷ rest))) ≡ true
+tag_ends : (name : List ℕ) (names : Names) (rest : List ℕ) (at : ℕ) → finishes (answers_from (between (level_of_names names)) (at + 2 + (length name + 2)) rest) ≡ true → finishes (answers_from (closing at name names) (at + 2) (name ++ (32 ∷ 62 ∷ rest))) ≡ true
 tag_ends name names rest at h =
     ap finishes (end_on at name names (32 ∷ []) rest (at + 2) (blank, tt))
-    ∙ (ap (λ n. finishes (answers_from (between (outside names)) n rest)) (let e : at + 2 + (length name + (1 + 1)) ≡ at + 2 + (length name + 2) = omega arith in e) ∙ h)
+    ∙ (ap (λ n. finishes (answers_from (between (level_of_names names)) n rest)) (let e : at + 2 + (length name + (1 + 1)) ≡ at + 2 + (length name + 2) = omega arith in e) ∙ h)
 
 -- the end tags of the open elements complete a text
-pub tags_finish : (names : Names) (at : ℕ) → finishes (answers_from (between (outside names)) at (end_tags names)) ≡ true
+pub tags_finish : (names : Names) (at : ℕ) → finishes (answers_from (between (level_of_names names)) at (end_tags names)) ≡ true
 tags_finish [] at = ap finishes (at_end (between behind) at)
 tags_finish (name ∷ names) at =
     ap finishes (ap (λ bs. answers_from (between (within name names)) at bs) (tags_are name names)
@@ -74,7 +74,7 @@ tags_run (name ∷ names) are =
     ∙ (run_append name (32 ∷ 62 ∷ end_tags names) none_left none_left are.0.1
     ∙ (run_on none_left 32 _ none_left (ascii 32 (omega arith)) ∙ (run_on none_left 62 _ none_left (ascii 62 (omega arith)) ∙ tags_run names are.1)))))
 
-alive_outside : (names : Names) (at : ℕ) → AreWholeNames names → Alive (between (outside names)) none_left at
+alive_outside : (names : Names) (at : ℕ) → AreWholeNames names → Alive (between (level_of_names names)) none_left at
 alive_outside names at are = (end_tags names, tags_finish names at, tags_run names are)
 
 alive_behind : (at : ℕ) → Alive (between behind) none_left at
@@ -82,7 +82,7 @@ alive_behind at = alive_outside [] at tt
 
 alive_slashed : (slash place : ℕ) (name raw : List ℕ) (names : Names) (at : ℕ) → AreWholeNames names → Alive (slashed slash place name raw names) none_left at
 alive_slashed slash place name raw names at are =
-    alive_ascii (slashed slash place name raw names) (between (outside names)) at 62 (start place name raw ∷ stop slash ∷ []) refl (omega arith) (alive_outside names (at + 1) are)
+    alive_ascii (slashed slash place name raw names) (between (level_of_names names)) at 62 (start place name raw ∷ stop slash ∷ []) refl (omega arith) (alive_outside names (at + 1) are)
 
 -- in a name
 alive_name : (place : ℕ) (name : List ℕ) (names : Names) (at : ℕ) → AreWholeNames names → Alive (in_name place name names) none_left at
@@ -375,14 +375,14 @@ module _ (place : ℕ) (name : List ℕ) (names : Names) (are : AreWholeNames na
 -- in an end tag
 alive_closed : (place : ℕ) (names : Names) (at : ℕ) → AreWholeNames names → Alive (closed place names) none_left at
 alive_closed place names at are =
-    alive_ascii (closed place names) (between (outside names)) at 62 (stop place ∷ []) refl (omega arith) (alive_outside names (at + 1) are)
+    alive_ascii (closed place names) (between (level_of_names names)) at 62 (stop place ∷ []) refl (omega arith) (alive_outside names (at + 1) are)
 
 alive_closing : (rest : List ℕ) (place : ℕ) (names : Names) (u : Partial) (at : ℕ) → utf8_run rest u ≡ Some none_left → AreWholeNames names → Alive (closing place rest names) u at
 alive_closing [] place names u at ran are =
     let h : Some u ≡ Some none_left = sym (run_nil u) ∙ ran in
     let same : u ≡ none_left = cc in
     at_none (closing place [] names) u at same
-    (alive_ascii (closing place [] names) (between (outside names)) at 62 (stop place ∷ []) refl (omega arith) (alive_outside names (at + 1) are))
+    (alive_ascii (closing place [] names) (between (level_of_names names)) at 62 (stop place ∷ []) refl (omega arith) (alive_outside names (at + 1) are))
 alive_closing (c ∷ rest) place names u at ran are =
     by_turn (utf8_step u c) refl (λ v. alive_closing rest place names v (at + 1))
   where

@@ -1,8 +1,8 @@
 -- The answers on a text end as many elements as they begin: none ends where none is open, and the text ends where none is.
 use Rattle.std.proofs.Common.{◌≡◌, ℕ, zero, suc, ◌+◌, ◌-◌, Bool, true, false, eqb, ltb, cond, List, [], ◌∷◌, ◌++◌, length, take, refl, ap, sym, subst, ◌∙◌, arith}
-use Rattle.markup_grammar.specs.Answers.{Answer, start, words, stop, finish, form, depth, limited, cut_short}
+use Rattle.markup_grammar.specs.Answers.{Answer, start, words, stop, finish, form, depth, limit_depth, cut_short}
 use Rattle.markup_grammar.specs.Machine as m
-use Rattle.markup_grammar.specs.Machine.{State, Names, Turn, on, off, step, ref_step, spot_step, outside, before, within, behind, fresh, between, opened, bang_dash, in_comment, in_instruction, in_words, in_reference, in_name, in_tag, slashed, closing, closed, verdict, answers_from}
+use Rattle.markup_grammar.specs.Machine.{State, Names, Turn, on, off, step, ref_step, spot_step, level_of_names, before, within, behind, fresh, between, opened, bang_dash, in_comment, in_instruction, in_words, in_reference, in_name, in_tag, slashed, closing, closed, verdict, answers_from}
 use Rattle.markup_grammar.specs.Reading.{answers_within, answers}
 use Rattle.markup_grammar.specs.Utf8.{utf8_front}
 use Rattle.markup_grammar.proofs.Edges.{Edges, edges, in_comments, in_instructions, in_runs, in_tags}
@@ -26,11 +26,11 @@ abbrev BalancedTurn : State → Turn → Type 0
 BalancedTurn s off = Unit {0}
 BalancedTurn s (on said next) = (more : List Answer) → Balanced (open_count next) more → Balanced (open_count s) (said ++ more)
 
-outside_count : (names : Names) → open_count (between (outside names)) ≡ length names
+outside_count : (names : Names) → open_count (between (level_of_names names)) ≡ length names
 outside_count [] = refl
 outside_count (name ∷ names) = refl
 
-after_end : (names : Names) (more : List Answer) → Balanced (open_count (between (outside names))) more → Balanced (length names) more
+after_end : (names : Names) (more : List Answer) → Balanced (open_count (between (level_of_names names))) more → Balanced (length names) more
 after_end names more h = subst (λ (count : ℕ). Balanced count more) (outside_count names) h
 
 balanced_edges : Edges (λ s at b turn. BalancedTurn s turn)
@@ -141,16 +141,16 @@ one_more count = omega arith
 one_less : (count : ℕ) → suc count - 1 ≡ count
 one_less count = omega arith
 
-within_limit : (count : ℕ) (list : List Answer) → Balanced count list → Balanced count (limited count list)
+within_limit : (count : ℕ) (list : List Answer) → Balanced count list → Balanced count (limit_depth count list)
 within_limit count [] h = h
 within_limit count (start place name raw ∷ more) h =
-    limited_start (ltb count 256) count place name raw (limited (count + 1) more)
-    (along (suc count) _ _ (ap (λ n. limited n more) (one_more count)) (within_limit (suc count) more h))
+    limited_start (ltb count 256) count place name raw (limit_depth (count + 1) more)
+    (along (suc count) _ _ (ap (λ n. limit_depth n more) (one_more count)) (within_limit (suc count) more h))
 within_limit count (words place raw ∷ more) h = within_limit count more h
 within_limit zero (stop place ∷ more) h = h
 within_limit (suc count) (stop place ∷ more) h =
-    along count _ _ (ap (λ n. limited n more) (one_less count)) (within_limit count more h)
-within_limit count (finish ∷ more) h = (h.0, ap (λ list. limited count list) h.1)
+    along count _ _ (ap (λ n. limit_depth n more) (one_less count)) (within_limit count more h)
+within_limit count (finish ∷ more) h = (h.0, ap (λ list. limit_depth count list) h.1)
 within_limit count (form place ∷ more) h = tt
 within_limit count (depth place ∷ more) h = tt
 

@@ -7,7 +7,7 @@ use Rattle.std.specs.Str.Parse.{digits_value_after}
 use lib.Utf8.{encode, scalar}
 use Rattle.markup_grammar.specs.Bytes.{is_digit, is_hex_digit, digit_value, AllAre}
 use Rattle.markup_grammar.specs.Escapes as told
-use Rattle.markup_grammar.specs.Escapes.{Place, unescaped, unescaped_from, referred, numbered, bytes_of, given, place_after}
+use Rattle.markup_grammar.specs.Escapes.{Place, unescaped, unescaped_from, character_of_reference, character_by_number, bytes_of, bytes_given, place_after}
 use Rattle.markup_grammar.specs.References.{Reference, amp, lt, gt, quot, apos, decimal, hexadecimal, reference_body, number_from, IsScalar, IsReference, character}
 use Rattle.markup_grammar.proofs.Classes.{digit_not_x, digit_not_semicolon, hex_not_semicolon}
 use Rattle.markup_grammar.proofs.Steps.{differ}
@@ -46,16 +46,16 @@ scalar_told : (n : ℕ) → IsScalar n → scalar n ≡ true
 scalar_told n (inl low) = grind (arith, nat_tests)
 scalar_told n (inr (high, most)) = grind (arith, nat_tests)
 
-numbered_told : (test : ℕ → Bool) (base : ℕ) (digits : List ℕ) → digits ≢ [] → ((b : ℕ) → test b ≡ true → std_char.digit_value b ≡ digit_value b) → ((b : ℕ) → test b ≡ true → digit_value b < base) → AllAre test digits → IsScalar (number_from base 0 digits) → numbered base digits ≡ Some (number_from base 0 digits)
-unfolding numbered
+numbered_told : (test : ℕ → Bool) (base : ℕ) (digits : List ℕ) → digits ≢ [] → ((b : ℕ) → test b ≡ true → std_char.digit_value b ≡ digit_value b) → ((b : ℕ) → test b ≡ true → digit_value b < base) → AllAre test digits → IsScalar (number_from base 0 digits) → character_by_number base digits ≡ Some (number_from base 0 digits)
+unfolding character_by_number
 numbered_told test base [] some worth small all is = absurd (some refl)
 numbered_told test base (b ∷ digits) some worth small all is =
     let has : ltb 0 (length (b ∷ digits)) ≡ true = lt-ltb 0 (length (b ∷ digits)) (omega arith) in
     rw (has, digits_pass test base (b ∷ digits) worth small all, value_told test base 0 (b ∷ digits) worth all, scalar_told (number_from base 0 (b ∷ digits)) is) refl
 
 -- a reference's body tells its character
-referred_told : (r : Reference) → IsReference r → referred (reference_body r) ≡ Some (character r)
-unfolding referred
+referred_told : (r : Reference) → IsReference r → character_of_reference (reference_body r) ≡ Some (character r)
+unfolding character_of_reference
 referred_told amp is = refl
 referred_told lt is = refl
 referred_told gt is = refl
@@ -80,16 +80,16 @@ body_ends (decimal digits) is = (refl, digits_end is_digit digits digit_not_semi
 body_ends (hexadecimal digits) is = (refl, (refl, digits_end is_hex_digit digits hex_not_semicolon is.1))
 
 -- a byte of raw text
-goes : (place : Place) (b : ℕ) (rest : List ℕ) → unescaped_from place (b ∷ rest) ≡ given place b ++ unescaped_from (place_after place b) rest
+goes : (place : Place) (b : ℕ) (rest : List ℕ) → unescaped_from place (b ∷ rest) ≡ bytes_given place b ++ unescaped_from (place_after place b) rest
 unfolding unescaped_from
 goes place b rest = refl
 
-body_goes : (acc body rest : List ℕ) → Avoids 59 body → unescaped_from (told.reference acc) (body ++ (59 ∷ rest)) ≡ bytes_of (referred (acc ++ body)) ++ unescaped rest
+body_goes : (acc body rest : List ℕ) → Avoids 59 body → unescaped_from (told.reference acc) (body ++ (59 ∷ rest)) ≡ bytes_of (character_of_reference (acc ++ body)) ++ unescaped rest
 body_goes acc [] rest all =
-    goes (told.reference acc) 59 rest ∙ ap (λ xs. bytes_of (referred xs) ++ unescaped rest) (sym (append-nil acc))
+    goes (told.reference acc) 59 rest ∙ ap (λ xs. bytes_of (character_of_reference xs) ++ unescaped rest) (sym (append-nil acc))
 body_goes acc (b ∷ body) rest all =
     goes (told.reference acc) b (body ++ (59 ∷ rest))
-    ∙ rw all.0 (body_goes (acc ++ b ∷ []) body rest all.1 ∙ ap (λ xs. bytes_of (referred xs) ++ unescaped rest) (append_assoc acc (b ∷ []) body))
+    ∙ rw all.0 (body_goes (acc ++ b ∷ []) body rest all.1 ∙ ap (λ xs. bytes_of (character_of_reference xs) ++ unescaped rest) (append_assoc acc (b ∷ []) body))
 
 -- a reference stands for the UTF-8 of its character
 pub character_told : (r : Reference) (rest : List ℕ) → IsReference r → unescaped (38 ∷ (reference_body r ++ (59 ∷ rest))) ≡ encode (character r) ++ unescaped rest

@@ -5,7 +5,7 @@ use Rattle.markup_grammar.specs.Answers.{Answer, words, stop, finishes}
 use Rattle.markup_grammar.specs.Bytes.{is_space, is_digit, is_hex_digit, begins_name, is_name_byte, is_text, is_value, AllAre, IsName}
 use Rattle.markup_grammar.specs.Faults.{end_tags, AreNames}
 use Rattle.markup_grammar.specs.Machine as m
-use Rattle.markup_grammar.specs.Machine.{State, Level, Ref, Dashes, Spot, Names, Turn, RefTurn, SpotTurn, on, off, ref_on, ref_ends, ref_off, spot_on, spot_off, step, ref_step, spot_step, in_run, in_value, tag_turn, outside, before, within, behind, no_dash, one_dash, two_dashes, spaced, naming, named, equalled, valuing, referring, valued, begun, after_a, due, hash, decimal_at, hash_x, hexadecimal_at, fresh, between, opened, bang_dash, in_comment, in_instruction, in_words, in_reference, in_name, in_tag, slashed, closing, closed, answers_from}
+use Rattle.markup_grammar.specs.Machine.{State, Level, Ref, Dashes, Spot, Names, Turn, RefTurn, SpotTurn, on, off, ref_on, ref_ends, ref_off, spot_on, spot_off, step, ref_step, spot_step, in_run, in_value, tag_turn, level_of_names, before, within, behind, no_dash, one_dash, two_dashes, spaced, naming, named, equalled, valuing, referring, valued, begun, after_a, due, hash, decimal_at, hash_x, hexadecimal_at, fresh, between, opened, bang_dash, in_comment, in_instruction, in_words, in_reference, in_name, in_tag, slashed, closing, closed, answers_from}
 use Rattle.markup_grammar.specs.Tags.{IsQuote}
 use Rattle.markup_grammar.specs.Utf8.{Partial}
 use Rattle.markup_grammar.proofs.Classes.{space_not_open, space_not_name, begins_not_slash, name_not_close, name_from_begins}
@@ -74,10 +74,10 @@ tags_are : (tag : List ℕ) (tags : Names) → end_tags (tag ∷ tags) ≡ 60 �
 tags_are tag tags = simp append_assoc refl
 
 -- a name and an end tag that closes it
-closes_same : (p at : ℕ) (owed tag : List ℕ) (names : Names) (rest : List ℕ) → AllAre is_name_byte owed → AllAre is_name_byte tag → finishes (answers_from (closing p owed names) at (tag ++ (32 ∷ 62 ∷ rest))) ≡ true → (place : ℕ) × (finishes (answers_from (between (outside names)) place rest) ≡ true)
+closes_same : (p at : ℕ) (owed tag : List ℕ) (names : Names) (rest : List ℕ) → AllAre is_name_byte owed → AllAre is_name_byte tag → finishes (answers_from (closing p owed names) at (tag ++ (32 ∷ 62 ∷ rest))) ≡ true → (place : ℕ) × (finishes (answers_from (between (level_of_names names)) place rest) ≡ true)
 closes_same p at [] [] names rest owed_is tag_is h = (
   at + 1 + 1,
-  sym (ap finishes (step_on (closed p names) (between (outside names)) (at + 1) 62 rest (stop p ∷ []) refl))
+  sym (ap finishes (step_on (closed p names) (between (level_of_names names)) (at + 1) 62 rest (stop p ∷ []) refl))
       ∙ finishes_past (closing p [] names) (closed p names) at 32 (62 ∷ rest) (rw blank refl) h,
 )
 closes_same p at [] (b ∷ tag) names rest owed_is tag_is h =
@@ -87,22 +87,22 @@ closes_same p at (d ∷ owed) [] names rest owed_is tag_is h =
 closes_same p at (d ∷ owed) (b ∷ tag) names rest owed_is tag_is h =
     by_byte (eqb b d) refl (λ said. closes_same p (at + 1) owed tag names rest owed_is.1 tag_is.1 said)
   where
-    by_byte : (test : Bool) → eqb b d ≡ test → (finishes (answers_from (closing p owed names) (at + 1) (tag ++ (32 ∷ 62 ∷ rest))) ≡ true → (place : ℕ) × (finishes (answers_from (between (outside names)) place rest) ≡ true)) → (place : ℕ) × (finishes (answers_from (between (outside names)) place rest) ≡ true)
+    by_byte : (test : Bool) → eqb b d ≡ test → (finishes (answers_from (closing p owed names) (at + 1) (tag ++ (32 ∷ 62 ∷ rest))) ≡ true → (place : ℕ) × (finishes (answers_from (between (level_of_names names)) place rest) ≡ true)) → (place : ℕ) × (finishes (answers_from (between (level_of_names names)) place rest) ≡ true)
     by_byte true test further =
         further (finishes_past (closing p (d ∷ owed) names) (closing p owed names) at b (tag ++ (32 ∷ 62 ∷ rest)) (rw test refl) h)
     by_byte false test further = absurd (no_finish (closing p (d ∷ owed) names) at b (tag ++ (32 ∷ 62 ∷ rest)) (rw test refl) h)
 
 -- past the `<` of an end tag where an element is open
-closes_count : (place at : ℕ) (name : List ℕ) (names tags : Names) (tag : List ℕ) → AreWholeNames (name ∷ names) → AreNames (tag ∷ tags) → ((p : ℕ) → finishes (answers_from (between (outside names)) p (end_tags tags)) ≡ true → length names ≡ length tags) → finishes (answers_from (opened place (within name names)) at (47 ∷ past_slash tag tags)) ≡ true → length names ≡ length tags
+closes_count : (place at : ℕ) (name : List ℕ) (names tags : Names) (tag : List ℕ) → AreWholeNames (name ∷ names) → AreNames (tag ∷ tags) → ((p : ℕ) → finishes (answers_from (between (level_of_names names)) p (end_tags tags)) ≡ true → length names ≡ length tags) → finishes (answers_from (opened place (within name names)) at (47 ∷ past_slash tag tags)) ≡ true → length names ≡ length tags
 closes_count place at name names tags tag are are_tags further h =
     from (closes_same place (at + 1) name tag names (end_tags tags) (name_bytes name are.0.0) (name_bytes tag are_tags.0)
     (finishes_past (opened place (within name names)) (closing place name names) at 47 (past_slash tag tags) refl h))
   where
-    from : (p : ℕ) × (finishes (answers_from (between (outside names)) p (end_tags tags)) ≡ true) → length names ≡ length tags
+    from : (p : ℕ) × (finishes (answers_from (between (level_of_names names)) p (end_tags tags)) ≡ true) → length names ≡ length tags
     from (p, more) = further p more
 
 -- end tags that complete a text are as many as elements are open
-same_count : (names tags : Names) (at : ℕ) → AreWholeNames names → AreNames tags → finishes (answers_from (between (outside names)) at (end_tags tags)) ≡ true → length names ≡ length tags
+same_count : (names tags : Names) (at : ℕ) → AreWholeNames names → AreNames tags → finishes (answers_from (between (level_of_names names)) at (end_tags tags)) ≡ true → length names ≡ length tags
 same_count [] [] at are are_tags h = refl
 same_count [] (tag ∷ tags) at are are_tags h =
     absurd (no_finish (opened at behind) (at + 1) 47 (past_slash tag tags) refl

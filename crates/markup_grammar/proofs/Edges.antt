@@ -3,7 +3,7 @@ use Rattle.std.proofs.Common.{◌≡◌, ℕ, Bool, true, false, eqb, cond, List
 use Rattle.markup_grammar.specs.Answers.{start, words, stop}
 use Rattle.markup_grammar.specs.Bytes.{is_space, begins_name, is_name_byte, is_text}
 use Rattle.markup_grammar.specs.Machine as m
-use Rattle.markup_grammar.specs.Machine.{State, Level, Ref, Dashes, Spot, Names, Turn, RefTurn, SpotTurn, on, off, ref_on, ref_ends, ref_off, spot_on, spot_off, step, ref_step, spot_step, comment_step, instruction_step, tag_begins, between_step, name_begins, word_on, in_run, tag_turn, or_ends, outside, before, within, behind, no_dash, one_dash, two_dashes, spaced, naming, named, equalled, valuing, referring, valued, begun, fresh, between, opened, bang_dash, in_comment, in_instruction, in_words, in_reference, in_name, in_tag, slashed, closing, closed}
+use Rattle.markup_grammar.specs.Machine.{State, Level, Ref, Dashes, Spot, Names, Turn, RefTurn, SpotTurn, on, off, ref_on, ref_ends, ref_off, spot_on, spot_off, step, ref_step, spot_step, comment_step, instruction_step, tag_begins, between_step, name_begins, word_on, in_run, tag_turn, or_ends, level_of_names, before, within, behind, no_dash, one_dash, two_dashes, spaced, naming, named, equalled, valuing, referring, valued, begun, fresh, between, opened, bang_dash, in_comment, in_instruction, in_words, in_reference, in_name, in_tag, slashed, closing, closed}
 
 -- by what a test tells
 pub by_test : {A : Type 0} (P : A → Type 0) (test : Bool) (x y : A) → (test ≡ true → P x) → (test ≡ false → P y) → P (cond test x y)
@@ -59,11 +59,11 @@ pub record Edges (P : State → ℕ → ℕ → Turn → Type 0) : Type 0 where
   pub tag_ends : (spot : Spot) (place : ℕ) (name raw : List ℕ) (names : Names) (at : ℕ) → MayEnd spot → P (in_tag spot place name raw names) at 62 (on (start place name raw ∷ []) (between (within name names)))
   pub tag_slash : (spot : Spot) (place : ℕ) (name raw : List ℕ) (names : Names) (at : ℕ) → MayEnd spot → P (in_tag spot place name raw names) at 47 (on [] (slashed at place name raw names))
   pub tag_goes : (spot : Spot) (place : ℕ) (name raw : List ℕ) (names : Names) (at b : ℕ) → P (in_tag spot place name raw names) at b (tag_turn (spot_step spot b) place name (raw ++ b ∷ []) names)
-  pub empty_ends : (slash place : ℕ) (name raw : List ℕ) (names : Names) (at : ℕ) → P (slashed slash place name raw names) at 62 (on (start place name raw ∷ stop slash ∷ []) (between (outside names)))
-  pub end_ends : (place : ℕ) (names : Names) (at : ℕ) → P (closing place [] names) at 62 (on (stop place ∷ []) (between (outside names)))
+  pub empty_ends : (slash place : ℕ) (name raw : List ℕ) (names : Names) (at : ℕ) → P (slashed slash place name raw names) at 62 (on (start place name raw ∷ stop slash ∷ []) (between (level_of_names names)))
+  pub end_ends : (place : ℕ) (names : Names) (at : ℕ) → P (closing place [] names) at 62 (on (stop place ∷ []) (between (level_of_names names)))
   pub end_space : (place : ℕ) (names : Names) (at b : ℕ) → is_space b ≡ true → P (closing place [] names) at b (on [] (closed place names))
   pub end_goes : (place c : ℕ) (rest : List ℕ) (names : Names) (at : ℕ) → P (closing place (c ∷ rest) names) at c (on [] (closing place rest names))
-  pub closed_ends : (place : ℕ) (names : Names) (at : ℕ) → P (closed place names) at 62 (on (stop place ∷ []) (between (outside names)))
+  pub closed_ends : (place : ℕ) (names : Names) (at : ℕ) → P (closed place names) at 62 (on (stop place ∷ []) (between (level_of_names names)))
   pub closed_space : (place : ℕ) (names : Names) (at b : ℕ) → is_space b ≡ true → P (closed place names) at b (on [] (closed place names))
 
 -- what holds of each step

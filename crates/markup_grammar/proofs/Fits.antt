@@ -4,7 +4,7 @@ use Rattle.std.proofs.lemmas.Bool.{leb-true}
 use Rattle.markup_grammar.specs.Answers.{Answer}
 use Rattle.markup_grammar.specs.Bytes.{is_space, is_digit, is_hex_digit, digit_value, begins_name, is_name_byte, is_value, AllAre, IsName}
 use Rattle.markup_grammar.specs.Machine as m
-use Rattle.markup_grammar.specs.Machine.{State, Level, Ref, Dashes, Spot, Names, Turn, RefTurn, SpotTurn, on, off, ref_on, ref_ends, ref_off, spot_on, spot_off, step, ref_step, spot_step, number_on, number_ends, comment_step, instruction_step, in_run, in_value, tag_turn, outside, before, within, behind, no_dash, one_dash, two_dashes, spaced, naming, named, equalled, valuing, referring, valued, begun, after_a, due, hash, decimal_at, hash_x, hexadecimal_at, fresh, between, opened, bang_dash, in_comment, in_instruction, in_words, in_reference, in_name, in_tag, slashed, closing, closed}
+use Rattle.markup_grammar.specs.Machine.{State, Level, Ref, Dashes, Spot, Names, Turn, RefTurn, SpotTurn, on, off, ref_on, ref_ends, ref_off, spot_on, spot_off, step, ref_step, spot_step, number_on, number_ends, comment_step, instruction_step, in_run, in_value, tag_turn, level_of_names, before, within, behind, no_dash, one_dash, two_dashes, spaced, naming, named, equalled, valuing, referring, valued, begun, after_a, due, hash, decimal_at, hash_x, hexadecimal_at, fresh, between, opened, bang_dash, in_comment, in_instruction, in_words, in_reference, in_name, in_tag, slashed, closing, closed}
 use Rattle.markup_grammar.specs.Tags.{IsQuote}
 use Rattle.markup_grammar.specs.Utf8.{Partial, none_left, one, two, two_low, two_high, three, three_low, three_high, utf8_step, utf8_run}
 use Rattle.markup_grammar.proofs.Classes.{space_cases, name_from_begins}
@@ -115,7 +115,7 @@ name_grows : (acc : List ℕ) (b : ℕ) → IsName acc → is_name_byte b ≡ tr
 name_grows [] b is h = absurd is
 name_grows (c ∷ cs) b is h = (is.0, AllAre-append is_name_byte cs (b ∷ []) is.1 (h, tt))
 
-outside_fits : (names : Names) (v : Partial) → v ≡ none_left → AreWholeNames names → Fits (between (outside names)) v
+outside_fits : (names : Names) (v : Partial) → v ≡ none_left → AreWholeNames names → Fits (between (level_of_names names)) v
 outside_fits [] v same are = (same, tt)
 outside_fits (name ∷ names) v same are = (same, are)
 

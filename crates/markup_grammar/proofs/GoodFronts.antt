@@ -1,6 +1,6 @@
 -- Where a reader stands behind a front that is good, in the grammar and in its characters, and how far such a front goes.
 use Rattle.std.proofs.Common.{◌≡◌, ℕ, ◌+◌, ◌-◌, ◌<◌, ◌≤◌, Bool, true, false, ltb, Option, Some, None, List, [], ◌∷◌, ◌++◌, length, refl, ap, sym, ◌∙◌, subst, inl, inr, ◌⊎◌, append_assoc, append-nil, length-append, arith, true≢false, ltb-true, ltb-false, IsUtf8}
-use Rattle.markup_grammar.specs.Answers.{Answer, start, words, stop, finish, form, depth, finishes, refusal_of, limited}
+use Rattle.markup_grammar.specs.Answers.{Answer, start, words, stop, finish, form, depth, finishes, refusal_of, limit_depth}
 use Rattle.markup_grammar.specs.Faults.{end_tags, AreNames, LeavesOpen, IsTooDeep, Begins}
 use Rattle.markup_grammar.specs.Machine as m
 use Rattle.markup_grammar.specs.Machine.{State, Level, Names, Turn, on, off, step, before, within, behind, fresh, between, opened, bang_dash, in_comment, in_instruction, in_words, in_reference, in_name, in_tag, slashed, closing, closed, answers_from}
@@ -18,8 +18,8 @@ use Rattle.markup_grammar.proofs.Whole.{whole}
 -- what the pieces so far do to the limit on open elements: a start tag among them is too deep, or so many are open behind them
 abbrev pub Cut : List ℕ → List Answer → ℕ → Type 0
 Cut past said count =
-    ((place : ℕ) × (place < length past) × ((more : List ℕ) → IsTooDeep (past ++ more) place) × ((list : List Answer) → refusal_of (limited 0 (said ++ list)) ≡ Some (depth place)))
-    ⊎ ((count ≤ 256) × ((list : List Answer) → refusal_of (limited 0 (said ++ list)) ≡ refusal_of (limited count list)))
+    ((place : ℕ) × (place < length past) × ((more : List ℕ) → IsTooDeep (past ++ more) place) × ((list : List Answer) → refusal_of (limit_depth 0 (said ++ list)) ≡ Some (depth place)))
+    ⊎ ((count ≤ 256) × ((list : List Answer) → refusal_of (limit_depth 0 (said ++ list)) ≡ refusal_of (limit_depth count list)))
 
 -- the bytes lead a reader to this state, and their characters to that one
 pub record Stands (past : List ℕ) (s : State) (u : Partial) : Type 0 where
@@ -47,11 +47,11 @@ clean_append (depth p ∷ xs) ys c d = absurd c
 -- what one turn's pieces do to the limit
 abbrev TurnCut : List ℕ → ℕ → ℕ → ℕ → List Answer → Type 0
 TurnCut past b count next said =
-    ((place : ℕ) × (place < length past + 1) × ((more : List ℕ) → IsTooDeep (past ++ (b ∷ more)) place) × ((list : List Answer) → refusal_of (limited count (said ++ list)) ≡ Some (depth place)))
-    ⊎ ((next ≤ 256) × ((list : List Answer) → refusal_of (limited count (said ++ list)) ≡ refusal_of (limited next list)))
+    ((place : ℕ) × (place < length past + 1) × ((more : List ℕ) → IsTooDeep (past ++ (b ∷ more)) place) × ((list : List Answer) → refusal_of (limit_depth count (said ++ list)) ≡ Some (depth place)))
+    ⊎ ((next ≤ 256) × ((list : List Answer) → refusal_of (limit_depth count (said ++ list)) ≡ refusal_of (limit_depth next list)))
 
 start_cut : (past : List ℕ) (b count next place : ℕ) (name raw : List ℕ) (rest : List Answer) (test : Bool) → ltb count 256 ≡ test → count ≤ 256 → (count < 256 → next ≤ 256) → Deepens count past b (start place name raw ∷ rest)
-    → ((list : List Answer) → refusal_of (limited (count + 1) (rest ++ list)) ≡ refusal_of (limited next list)) → TurnCut past b count next (start place name raw ∷ rest)
+    → ((list : List Answer) → refusal_of (limit_depth (count + 1) (rest ++ list)) ≡ refusal_of (limit_depth next list)) → TurnCut past b count next (start place name raw ∷ rest)
 start_cut past b count next place name raw rest true e le fits deep further =
     inr (fits (ltb-true count 256 e), λ list. rw e (further list))
 start_cut past b count next place name raw rest false e le fits deep further =
@@ -59,14 +59,14 @@ start_cut past b count next place name raw rest false e le fits deep further =
     inl (place, deep.0, deep.1 (omega arith), λ list. rw e refl)
 
 turn_cut : (past : List ℕ) (b count next : ℕ) (said : List Answer) → count ≤ 256 → Counted count said next → Deepens count past b said → TurnCut past b count next said
-turn_cut past b count next [] le counted deep = inr (omega arith, λ list. ap (λ n. refusal_of (limited n list)) (sym counted))
-turn_cut past b count next (words p raw ∷ []) le counted deep = inr (omega arith, λ list. ap (λ n. refusal_of (limited n list)) (sym counted))
-turn_cut past b count next (stop p ∷ []) le counted deep = inr (omega arith, λ list. ap (λ n. refusal_of (limited n list)) (sym counted))
+turn_cut past b count next [] le counted deep = inr (omega arith, λ list. ap (λ n. refusal_of (limit_depth n list)) (sym counted))
+turn_cut past b count next (words p raw ∷ []) le counted deep = inr (omega arith, λ list. ap (λ n. refusal_of (limit_depth n list)) (sym counted))
+turn_cut past b count next (stop p ∷ []) le counted deep = inr (omega arith, λ list. ap (λ n. refusal_of (limit_depth n list)) (sym counted))
 turn_cut past b count next (start p name raw ∷ []) le counted deep =
-    start_cut past b count next p name raw [] (ltb count 256) refl le (λ lt. omega arith) deep (λ list. ap (λ n. refusal_of (limited n list)) (sym counted))
+    start_cut past b count next p name raw [] (ltb count 256) refl le (λ lt. omega arith) deep (λ list. ap (λ n. refusal_of (limit_depth n list)) (sym counted))
 turn_cut past b count next (start p name raw ∷ stop q ∷ []) le counted deep =
     start_cut past b count next p name raw (stop q ∷ []) (ltb count 256) refl le (λ lt. omega arith) deep
-    (λ list. ap (λ n. refusal_of (limited n list)) (let back : count + 1 - 1 ≡ next = omega arith in back))
+    (λ list. ap (λ n. refusal_of (limit_depth n list)) (let back : count + 1 - 1 ≡ next = omega arith in back))
 turn_cut past b count next (start p name raw ∷ start q name' raw' ∷ said) le counted deep = absurd counted
 turn_cut past b count next (start p name raw ∷ words q raw' ∷ said) le counted deep = absurd counted
 turn_cut past b count next (start p name raw ∷ stop q ∷ x ∷ said) le counted deep = absurd counted
@@ -87,7 +87,7 @@ cut_on past b said more count next (inl (place, lt, deep, told)) counted deepens
       place,
       omega arith,
       λ rest. let P : List ℕ → Type 0 = λ xs. IsTooDeep xs place in subst P (sym (append_assoc past (b ∷ []) rest)) (deep (b ∷ rest)),
-      λ list. ap (λ xs. refusal_of (limited 0 xs)) (append_assoc said more list) ∙ told (more ++ list),
+      λ list. ap (λ xs. refusal_of (limit_depth 0 xs)) (append_assoc said more list) ∙ told (more ++ list),
     )
 cut_on past b said more count next (inr (le, told)) counted deepens = by_turn (turn_cut past b count next more le counted deepens)
   where
@@ -98,10 +98,10 @@ cut_on past b said more count next (inr (le, told)) counted deepens = by_turn (t
           place,
           omega arith,
           λ rest. let P : List ℕ → Type 0 = λ xs. IsTooDeep xs place in subst P (sym (append_assoc past (b ∷ []) rest)) (deep rest),
-          λ list. ap (λ xs. refusal_of (limited 0 xs)) (append_assoc said more list) ∙ (told (more ++ list) ∙ turned list),
+          λ list. ap (λ xs. refusal_of (limit_depth 0 xs)) (append_assoc said more list) ∙ (told (more ++ list) ∙ turned list),
         )
     by_turn (inr (fit, turned)) =
-        inr (fit, λ list. ap (λ xs. refusal_of (limited 0 xs)) (append_assoc said more list) ∙ (told (more ++ list) ∙ turned list))
+        inr (fit, λ list. ap (λ xs. refusal_of (limit_depth 0 xs)) (append_assoc said more list) ∙ (told (more ++ list) ∙ turned list))
 
 are_names : (names : Names) → AreWholeNames names → AreNames names
 are_names [] are = tt

@@ -3,7 +3,7 @@ use Rattle.std.proofs.Common.{◌≡◌, ℕ, ◌+◌, ◌-◌, ◌<◌, ◌≤�
 use Rattle.std.proofs.Math.Seq.{take-append_seam, get_or-append_seam, take-length}
 use Rattle.std.proofs.lemmas.Str.{IsUtf8-take, IsCharBoundary-after_ascii}
 use Rattle.std.specs.Str.{IsUtf8}
-use Rattle.markup_grammar.specs.Answers.{Answer, start, words, stop, finish, form, depth, finishes, limited, cut_short}
+use Rattle.markup_grammar.specs.Answers.{Answer, start, words, stop, finish, form, depth, finishes, limit_depth, cut_short}
 use Rattle.markup_grammar.specs.Bytes.{is_space}
 use Rattle.markup_grammar.specs.Machine.{fresh, answers_from}
 use Rattle.markup_grammar.specs.Reading.{answers_within, answers}
@@ -27,15 +27,15 @@ pub within_whole : (text : List ℕ) (n : ℕ) → n ≡ length text → answers
 within_whole text n e = rw (eq-eqb n (length text) e) refl
 
 -- the answers on a text in UTF-8
-pub answers_utf8 : (text : List ℕ) → IsUtf8 text → answers text ≡ limited 0 (answers_from fresh 0 text)
+pub answers_utf8 : (text : List ℕ) → IsUtf8 text → answers text ≡ limit_depth 0 (answers_from fresh 0 text)
 unfolding answers
-answers_utf8 text is = ap (λ xs. limited 0 xs) (within_whole text (utf8_front text) (whole_front text is))
+answers_utf8 text is = ap (λ xs. limit_depth 0 xs) (within_whole text (utf8_front text) (whole_front text is))
 
 -- a text of the grammar within the limit
 pub whole_texts : (text : List ℕ) (tree : Tree) → IsText text tree → height tree.root ≤ 256 → answers text ≡ tree_pieces tree ++ finish ∷ []
 whole_texts text tree is fit =
     answers_utf8 text is.utf8
-    ∙ (ap (λ xs. limited 0 xs) (whole text tree is)
+    ∙ (ap (λ xs. limit_depth 0 xs) (whole text tree is)
     ∙ limited-pieces tree.root 0 (length (spelled_front tree)) (finish ∷ []) (omega arith))
 
 -- what is cut short does not finish
@@ -49,7 +49,7 @@ cut_finishes n (form p ∷ list) h = cut_finishes n list h
 cut_finishes n (depth p ∷ list) h = cut_finishes n list h
 
 -- a list that is cut does not end in `finish`
-start_finishes : (room : Bool) (d p : ℕ) (name raw : List ℕ) (more : List Answer) → ltb d 256 ≡ room → finishes (limited d (start p name raw ∷ more)) ≡ true → (d < 256) × (finishes (limited (d + 1) more) ≡ true)
+start_finishes : (room : Bool) (d p : ℕ) (name raw : List ℕ) (more : List Answer) → ltb d 256 ≡ room → finishes (limit_depth d (start p name raw ∷ more)) ≡ true → (d < 256) × (finishes (limit_depth (d + 1) more) ≡ true)
 start_finishes true d p name raw more is h =
     (ltb-true d 256 is, let test : ltb d 256 ≡ true = is in rw test at h)
 start_finishes false d p name raw more is h =
@@ -58,7 +58,7 @@ start_finishes false d p name raw more is h =
     absurd (true≢false (sym cut))
 
 -- what ends in `finish` behind the limit ends in it before
-pub uncut : (d : ℕ) (list : List Answer) → finishes (limited d list) ≡ true → finishes list ≡ true
+pub uncut : (d : ℕ) (list : List Answer) → finishes (limit_depth d list) ≡ true → finishes list ≡ true
 uncut d [] h = h
 uncut d (start p name raw ∷ more) h = uncut (d + 1) more (start_finishes (ltb d 256) d p name raw more refl h).1
 uncut d (words p raw ∷ more) h = uncut d more h
@@ -67,39 +67,39 @@ uncut d (finish ∷ more) h = refl
 uncut d (form p ∷ more) h = uncut d more h
 uncut d (depth p ∷ more) h = uncut d more h
 
-words_finish : (text : List ℕ) (d at : ℕ) (more : List Answer) → finishes (limited d (words_at at text ++ more)) ≡ true → finishes (limited d more) ≡ true
+words_finish : (text : List ℕ) (d at : ℕ) (more : List Answer) → finishes (limit_depth d (words_at at text ++ more)) ≡ true → finishes (limit_depth d more) ≡ true
 words_finish [] d at more h = h
 words_finish (b ∷ bs) d at more h = h
 
-finishes_along : (d : ℕ) (xs ys : List Answer) → xs ≡ ys → finishes (limited d xs) ≡ true → finishes (limited d ys) ≡ true
-finishes_along d xs ys e h = sym (ap (λ zs. finishes (limited d zs)) e) ∙ h
+finishes_along : (d : ℕ) (xs ys : List Answer) → xs ≡ ys → finishes (limit_depth d xs) ≡ true → finishes (limit_depth d ys) ≡ true
+finishes_along d xs ys e h = sym (ap (λ zs. finishes (limit_depth d zs)) e) ∙ h
 
 mutual
   -- where the pieces of an element are not cut, it keeps within the limit
-  fits : (e : Element) (d p : ℕ) (more : List Answer) → d ≤ 256 → finishes (limited d (pieces p e ++ more)) ≡ true → (d + height e ≤ 256) × (finishes (limited d more) ≡ true)
+  fits : (e : Element) (d p : ℕ) (more : List Answer) → d ≤ 256 → finishes (limit_depth d (pieces p e ++ more)) ≡ true → (d + height e ≤ 256) × (finishes (limit_depth d more) ≡ true)
   fits (element name raw inner space) d p more le h =
-      let begun : (d < 256) × (finishes (limited (d + 1) (pieces_all (p + length (start_tag name raw)) inner ++ stop (p + length (start_tag name raw) + length (spelled_all inner)) ∷ [] ++ more)) ≡ true) =
+      let begun : (d < 256) × (finishes (limit_depth (d + 1) (pieces_all (p + length (start_tag name raw)) inner ++ stop (p + length (start_tag name raw) + length (spelled_all inner)) ∷ [] ++ more)) ≡ true) =
       start_finishes (ltb d 256) d p name raw _ refl h in
       let room : d + 1 ≤ 256 = omega arith in
-      let all : (d + 1 + height_all inner ≤ 256) × (finishes (limited (d + 1) (stop (p + length (start_tag name raw) + length (spelled_all inner)) ∷ more)) ≡ true) =
+      let all : (d + 1 + height_all inner ≤ 256) × (finishes (limit_depth (d + 1) (stop (p + length (start_tag name raw) + length (spelled_all inner)) ∷ more)) ≡ true) =
       fits_all inner (d + 1) (p + length (start_tag name raw)) (stop (p + length (start_tag name raw) + length (spelled_all inner)) ∷ more) room
       (finishes_along (d + 1) _ _ (append_assoc (pieces_all (p + length (start_tag name raw)) inner) (stop (p + length (start_tag name raw) + length (spelled_all inner)) ∷ []) more) begun.1) in
       let back : d + 1 - 1 ≡ d = omega arith in
-      (omega arith, sym (ap (λ n. finishes (limited n more)) back) ∙ all.1)
+      (omega arith, sym (ap (λ n. finishes (limit_depth n more)) back) ∙ all.1)
   fits (empty name raw) d p more le h =
-      let begun : (d < 256) × (finishes (limited (d + 1) (stop (p + length (60 ∷ (name ++ raw))) ∷ more)) ≡ true) =
+      let begun : (d < 256) × (finishes (limit_depth (d + 1) (stop (p + length (60 ∷ (name ++ raw))) ∷ more)) ≡ true) =
       start_finishes (ltb d 256) d p name raw (stop (p + length (60 ∷ (name ++ raw))) ∷ more) refl h in
       let back : d + 1 - 1 ≡ d = omega arith in
-      (omega arith, sym (ap (λ n. finishes (limited n more)) back) ∙ begun.1)
+      (omega arith, sym (ap (λ n. finishes (limit_depth n more)) back) ∙ begun.1)
 
-  fits_all : (inner : Content) (d at : ℕ) (more : List Answer) → d ≤ 256 → finishes (limited d (pieces_all at inner ++ more)) ≡ true → (d + height_all inner ≤ 256) × (finishes (limited d more) ≡ true)
+  fits_all : (inner : Content) (d at : ℕ) (more : List Answer) → d ≤ 256 → finishes (limit_depth d (pieces_all at inner ++ more)) ≡ true → (d + height_all inner ≤ 256) × (finishes (limit_depth d more) ≡ true)
   fits_all (text_only text) d at more le h = (omega arith, words_finish text d at more h)
   fits_all (element_after text e inner) d at more le h =
-      let first : (d + height e ≤ 256) × (finishes (limited d (pieces_all (at + length text + length (spelled e)) inner ++ more)) ≡ true) =
+      let first : (d + height e ≤ 256) × (finishes (limit_depth d (pieces_all (at + length text + length (spelled e)) inner ++ more)) ≡ true) =
       fits e d (at + length text) (pieces_all (at + length text + length (spelled e)) inner ++ more) le
       (finishes_along d _ _ (append_assoc (pieces (at + length text) e) _ more)
       (words_finish text d at _ (finishes_along d _ _ (append_assoc (words_at at text) _ more) h))) in
-      let rest : (d + height_all inner ≤ 256) × (finishes (limited d more) ≡ true) =
+      let rest : (d + height_all inner ≤ 256) × (finishes (limit_depth d more) ≡ true) =
       fits_all inner d (at + length text + length (spelled e)) more le first.1 in
       (omega arith, rest.1)
   fits_all (aside_after text a inner) d at more le h =
@@ -187,7 +187,7 @@ finished_texts text h = in_limit (finished text (uncut 0 (answers_within text (u
     in_limit : (tree : Tree) × IsText text tree → (tree : Tree) × IsText text tree × (height tree.root ≤ 256)
     in_limit (tree, is) =
         let low : 0 ≤ 256 = omega arith in
-        let both : (0 + height tree.root ≤ 256) × (finishes (limited 0 (finish ∷ [])) ≡ true) =
+        let both : (0 + height tree.root ≤ 256) × (finishes (limit_depth 0 (finish ∷ [])) ≡ true) =
         fits tree.root 0 (length (spelled_front tree)) (finish ∷ []) low
         (finishes_along 0 _ _ (within_whole text (utf8_front text) (whole_front text is.utf8) ∙ whole text tree is) h) in
         (tree, is, omega arith)

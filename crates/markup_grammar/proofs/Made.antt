@@ -1,6 +1,6 @@
 -- Pieces are made of names, attributes and runs of text.
 use Rattle.std.proofs.Common.{◌≡◌, ◌≢◌, ℕ, ◌+◌, ◌-◌, Bool, true, false, eqb, ltb, cond, List, [], ◌∷◌, ◌++◌, length, take, refl, ap, sym, ◌∙◌, subst, append_assoc, append-nil}
-use Rattle.markup_grammar.specs.Answers.{Answer, start, words, stop, finish, form, depth, limited, cut_short}
+use Rattle.markup_grammar.specs.Answers.{Answer, start, words, stop, finish, form, depth, limit_depth, cut_short}
 use Rattle.markup_grammar.specs.Bytes.{is_name_byte, is_text, IsName}
 use Rattle.markup_grammar.specs.Kinds.{IsMade, AreMade}
 use Rattle.markup_grammar.specs.Machine.{State, Names, Ref, begun, RefTurn, ref_on, ref_ends, ref_off, ref_step, Spot, valued, SpotTurn, spot_on, spot_off, spot_step, fresh, in_words, in_reference, in_name, in_tag, slashed, in_run, tag_turn, Turn, on, off, step, answers_from}
@@ -201,9 +201,9 @@ made_cut : (room : Bool) (p : ℕ) (name raw : List ℕ) (more : List Answer) �
 made_cut true p name raw more s h = (s, h)
 made_cut false p name raw more s h = (tt, tt)
 
-made_limited : (d : ℕ) (list : List Answer) → AreMade list → AreMade (limited d list)
+made_limited : (d : ℕ) (list : List Answer) → AreMade list → AreMade (limit_depth d list)
 made_limited d [] h = tt
-made_limited d (start p name raw ∷ more) h = made_cut (ltb d 256) p name raw (limited (d + 1) more) h.0 (made_limited (d + 1) more h.1)
+made_limited d (start p name raw ∷ more) h = made_cut (ltb d 256) p name raw (limit_depth (d + 1) more) h.0 (made_limited (d + 1) more h.1)
 made_limited d (words p raw ∷ more) h = (h.0, made_limited d more h.1)
 made_limited d (stop p ∷ more) h = (tt, made_limited (d - 1) more h.1)
 made_limited d (finish ∷ more) h = (tt, made_limited d more h.1)

@@ -5,7 +5,7 @@ use Rattle.markup_grammar.specs.Answers.{Answer, start, words, stop}
 use Rattle.markup_grammar.specs.Bytes.{is_space, IsName}
 use Rattle.markup_grammar.specs.Faults.{end_tags, LeavesOpen, IsTooDeep}
 use Rattle.markup_grammar.specs.Machine as m
-use Rattle.markup_grammar.specs.Machine.{State, Level, Spot, Names, Turn, RefTurn, SpotTurn, on, off, ref_on, ref_ends, ref_off, spot_on, spot_off, step, ref_step, spot_step, in_run, tag_turn, outside, before, within, behind, spaced, valued, fresh, between, opened, bang_dash, in_comment, in_instruction, in_words, in_reference, in_name, in_tag, slashed, closing, closed}
+use Rattle.markup_grammar.specs.Machine.{State, Level, Spot, Names, Turn, RefTurn, SpotTurn, on, off, ref_on, ref_ends, ref_off, spot_on, spot_off, step, ref_step, spot_step, in_run, tag_turn, level_of_names, before, within, behind, spaced, valued, fresh, between, opened, bang_dash, in_comment, in_instruction, in_words, in_reference, in_name, in_tag, slashed, closing, closed}
 use Rattle.markup_grammar.specs.Tags.{IsTagText}
 use Rattle.markup_grammar.specs.Tree.{start_tag, empty_tag}
 use Rattle.markup_grammar.specs.Utf8.{Partial, none_left, utf8_step, utf8_run}
@@ -52,11 +52,11 @@ abbrev pub TurnCounts : State → Turn → Type 0
 TurnCounts s off = Unit {0}
 TurnCounts s (on said next) = Counted (open_count s) said (open_count next)
 
-outside_count : (names : Names) → open_count (between (outside names)) ≡ length names
+outside_count : (names : Names) → open_count (between (level_of_names names)) ≡ length names
 outside_count [] = refl
 outside_count (name ∷ names) = refl
 
-left_count : (names : Names) → open_count (between (outside names)) ≡ suc (length names) - 1
+left_count : (names : Names) → open_count (between (level_of_names names)) ≡ suc (length names) - 1
 left_count names = outside_count names ∙ omega arith
 
 counts_edges : Edges (λ s at b turn. TurnCounts s turn)
@@ -218,7 +218,7 @@ tag_longer past front name raw b e =
 bare : (past front name : List ℕ) → past ≡ front ++ (60 ∷ name) → past ≡ front ++ (60 ∷ (name ++ []))
 bare past front name e = e ∙ ap (λ xs. front ++ (60 ∷ xs)) (sym (append-nil name))
 
-outside_holds : (names : Names) (past : List ℕ) → Holds (between (outside names)) past
+outside_holds : (names : Names) (past : List ℕ) → Holds (between (level_of_names names)) past
 outside_holds names past = tt
 
 -- a turn of the attributes

@@ -2,10 +2,10 @@
 use Rattle.std.proofs.Common.{◌≡◌, ℕ, suc, ◌+◌, ◌<◌, ◌≤◌, true, false, eqb, Some, None, List, [], ◌∷◌, ◌++◌, length, min, take, drop, refl, ap, sym, ◌∙◌, subst, inl, inr, ◌⊎◌, append_assoc, append-nil, length-append, length-take, take-append-drop, take-take, arith, true≢false, eqb-true}
 use Rattle.std.proofs.lemmas.Bool.{cond_both, eq-eqb, cases_lt}
 use Rattle.std.proofs.Math.Seq.{take-append_seam, take-append-add}
-use Rattle.markup_grammar.specs.Answers.{Answer, start, words, stop, finish, form, depth, finishes, refusal_of, limited, cut_short}
+use Rattle.markup_grammar.specs.Answers.{Answer, start, words, stop, finish, form, depth, finishes, refusal_of, limit_depth, cut_short}
 use Rattle.markup_grammar.specs.Faults.{end_tags, LeavesOpen, IsStartTag, IsTooDeep, Begins, IsLongestFront, NoneDeepBefore, IsFault}
 use Rattle.markup_grammar.specs.Machine as m
-use Rattle.markup_grammar.specs.Machine.{State, Level, Names, Turn, on, off, step, verdict, before, within, behind, fresh, between, opened, in_words, outside, answers_from}
+use Rattle.markup_grammar.specs.Machine.{State, Level, Names, Turn, on, off, step, verdict, before, within, behind, fresh, between, opened, in_words, level_of_names, answers_from}
 use Rattle.markup_grammar.specs.Reading.{answers, answers_within}
 use Rattle.markup_grammar.specs.Tree.{Tree, IsText, start_tag, empty_tag}
 use Rattle.markup_grammar.specs.Utf8.{Partial, none_left, utf8_run, utf8_front_from, utf8_front}
@@ -113,7 +113,7 @@ within_reaches past (b ∷ rest) s u h (inr (refused, v, e)) =
     taken : take (utf8_front (past ++ (b ∷ rest))) (past ++ (b ∷ rest)) ≡ past ++ (b ∷ take (utf8_front_from v rest) rest)
     taken = ap (λ n. take n (past ++ (b ∷ rest))) front ∙ take-append-add past (b ∷ rest) (suc (utf8_front_from v rest))
 
-answers_are : (text : List ℕ) → answers text ≡ limited 0 (answers_within text (utf8_front text))
+answers_are : (text : List ℕ) → answers text ≡ limit_depth 0 (answers_within text (utf8_front text))
 unfolding answers
 answers_are text = refl
 
@@ -219,12 +219,12 @@ opening_cut place said list at c (lead, name, raw, more, is, only) = (
 )
 
 -- where 256 elements are open, a start tag is refused
-opening_deep : (lead : List Answer) (at count : ℕ) (name raw : List ℕ) (more : List Answer) → count ≡ 256 → (lead ≡ []) ⊎ ((place : ℕ) × (text : List ℕ) × (lead ≡ words place text ∷ [])) → refusal_of (limited count (lead ++ (start at name raw ∷ more))) ≡ Some (depth at)
+opening_deep : (lead : List Answer) (at count : ℕ) (name raw : List ℕ) (more : List Answer) → count ≡ 256 → (lead ≡ []) ⊎ ((place : ℕ) × (text : List ℕ) × (lead ≡ words place text ∷ [])) → refusal_of (limit_depth count (lead ++ (start at name raw ∷ more))) ≡ Some (depth at)
 opening_deep lead at count name raw more full (inl is) =
-    ap (λ xs. refusal_of (limited count (xs ++ (start at name raw ∷ more)))) is ∙ ap (λ n. refusal_of (limited n (start at name raw ∷ more))) full
+    ap (λ xs. refusal_of (limit_depth count (xs ++ (start at name raw ∷ more)))) is ∙ ap (λ n. refusal_of (limit_depth n (start at name raw ∷ more))) full
 opening_deep lead at count name raw more full (inr (place, text, is)) =
-    ap (λ xs. refusal_of (limited count (xs ++ (start at name raw ∷ more)))) is
-    ∙ ap (λ n. refusal_of (limited n (words place text ∷ start at name raw ∷ more))) full
+    ap (λ xs. refusal_of (limit_depth count (xs ++ (start at name raw ∷ more)))) is
+    ∙ ap (λ n. refusal_of (limit_depth n (words place text ∷ start at name raw ∷ more))) full
 
 -- the answers within the front that begins UTF-8, behind which a start tag stands
 opening_within : (past tag rest : List ℕ) (s : State) (u : Partial) (h : Stands past s u) (count : ℕ) → MayOpen s (length past) count → IsStartTag tag → utf8_run past none_left ≡ Some none_left → Opening h.said (length past) (answers_within (past ++ (tag ++ rest)) (utf8_front (past ++ (tag ++ rest))))
@@ -253,13 +253,13 @@ opening_within past tag rest s u h count o t ran =
         ∙ (take-append-add (past ++ tag) rest (utf8_front rest) ∙ append_assoc past tag (take (utf8_front rest) rest)))
 
 -- a start tag that is too deep is refused, or an earlier one is
-refused_deep : (past : List ℕ) (list said : List Answer) (at count : ℕ) → at ≡ length past → Cut past said count → count ≡ 256 → Opening said at list → (place : ℕ) × (place ≤ at) × (refusal_of (limited 0 list) ≡ Some (depth place))
+refused_deep : (past : List ℕ) (list said : List Answer) (at count : ℕ) → at ≡ length past → Cut past said count → count ≡ 256 → Opening said at list → (place : ℕ) × (place ≤ at) × (refusal_of (limit_depth 0 list) ≡ Some (depth place))
 refused_deep past list said at count here (inl (place, lt, deep, told)) full (lead, name, raw, more, is, only) =
-    (place, omega arith, ap (λ xs. refusal_of (limited 0 xs)) is ∙ told (lead ++ (start at name raw ∷ more)))
+    (place, omega arith, ap (λ xs. refusal_of (limit_depth 0 xs)) is ∙ told (lead ++ (start at name raw ∷ more)))
 refused_deep past list said at count here (inr (le, told)) full (lead, name, raw, more, is, only) = (
   at,
   omega arith,
-  ap (λ xs. refusal_of (limited 0 xs)) is ∙ (told (lead ++ (start at name raw ∷ more)) ∙ opening_deep lead at count name raw more full only),
+  ap (λ xs. refusal_of (limit_depth 0 xs)) is ∙ (told (lead ++ (start at name raw ∷ more)) ∙ opening_deep lead at count name raw more full only),
 )
 
 deep_from : (text past tag rest : List ℕ) (n : ℕ) (s : State) (u : Partial) (names : Names) (tree : Tree) → Stands past s u → text ≡ past ++ (tag ++ rest) → length past ≡ n → length names ≡ 256 → LeavesOpen past names → IsStartTag tag → (place : ℕ) × (place ≤ n) × (refusal_of (answers text) ≡ Some (depth place))
@@ -271,7 +271,7 @@ deep_from text past tag rest n s u (name ∷ names) tree h is size full open_her
     let opening = opening_within past tag rest s u h (length (name ∷ names)) o t (front_run past name names open_here) in
     from (refused_deep past (answers_within (past ++ (tag ++ rest)) (utf8_front (past ++ (tag ++ rest)))) h.said (length past) (open_count s) refl h.cut (o.is_count ∙ full) opening)
   where
-    from : (place : ℕ) × (place ≤ length past) × (refusal_of (limited 0 (answers_within (past ++ (tag ++ rest)) (utf8_front (past ++ (tag ++ rest))))) ≡ Some (depth place)) → (place : ℕ) × (place ≤ n) × (refusal_of (answers text) ≡ Some (depth place))
+    from : (place : ℕ) × (place ≤ length past) × (refusal_of (limit_depth 0 (answers_within (past ++ (tag ++ rest)) (utf8_front (past ++ (tag ++ rest))))) ≡ Some (depth place)) → (place : ℕ) × (place ≤ n) × (refusal_of (answers text) ≡ Some (depth place))
     from (place, le, told) = (place, omega arith, ap (λ xs. refusal_of (answers xs)) is ∙ (ap refusal_of (answers_are (past ++ (tag ++ rest))) ∙ told))
 
 deep_refused : Soundness → (text : List ℕ) (n : ℕ) → IsTooDeep text n → (place : ℕ) × (place ≤ n) × (refusal_of (answers text) ≡ Some (depth place))
@@ -309,12 +309,12 @@ front_past_deep text n k d front = by_tag (tag_open d.tag d.is_tag)
         by_order (subst P (sym spells) (subst Q size (begins_open (take n text) (behind_it ++ d.rest) d.names d.full d.leaves_open))) (omega arith) (cases_lt k (n + 1))
 
 -- the refusal of a last answer
-last_refusal : (s : State) (at count : ℕ) (rest : List ℕ) (r : Answer) → refusal_of (limited count (Last s at rest ∷ [])) ≡ Some r → r ≡ form at
+last_refusal : (s : State) (at count : ℕ) (rest : List ℕ) (r : Answer) → refusal_of (limit_depth count (Last s at rest ∷ [])) ≡ Some r → r ≡ form at
 last_refusal s at count [] r told = by_verdict (verdict_is s at)
   where
     by_verdict : (verdict s at ≡ finish) ⊎ (verdict s at ≡ form at) → r ≡ form at
-    by_verdict (inl is) = let none : None ≡ Some r = sym (ap (λ a. refusal_of (limited count (a ∷ []))) is) ∙ told in absurd (cc)
-    by_verdict (inr is) = let same : Some (form at) ≡ Some r = sym (ap (λ a. refusal_of (limited count (a ∷ []))) is) ∙ told in cc
+    by_verdict (inl is) = let none : None ≡ Some r = sym (ap (λ a. refusal_of (limit_depth count (a ∷ []))) is) ∙ told in absurd (cc)
+    by_verdict (inr is) = let same : Some (form at) ≡ Some r = sym (ap (λ a. refusal_of (limit_depth count (a ∷ []))) is) ∙ told in cc
 last_refusal s at count (b ∷ rest) r told = let same : Some (form at) ≡ Some r = told in cc
 
 none_before : Soundness → (text : List ℕ) (r : Answer) (n : ℕ) → refusal_of (answers text) ≡ Some r → (r ≡ form n) ⊎ (r ≡ depth n) → NoneDeepBefore text n
@@ -327,9 +327,9 @@ none_before sound text r n told which k d = from (deep_refused sound text k d) w
 refusals_at : Soundness → (past rest : List ℕ) (s : State) (u : Partial) → Stands past s u → Halts s (length past) u rest → (r : Answer) → refusal_of (answers (past ++ rest)) ≡ Some r → IsFault (past ++ rest) r
 refusals_at sound past rest s u h halts r told = by_cut h.cut
   where
-    listed : refusal_of (limited 0 (h.said ++ Last s (length past) rest ∷ [])) ≡ Some r
+    listed : refusal_of (limit_depth 0 (h.said ++ Last s (length past) rest ∷ [])) ≡ Some r
     listed =
-        sym (ap refusal_of (answers_are (past ++ rest)) ∙ ap (λ xs. refusal_of (limited 0 xs)) (within_reaches past rest s u h halts)) ∙ told
+        sym (ap refusal_of (answers_are (past ++ rest)) ∙ ap (λ xs. refusal_of (limit_depth 0 xs)) (within_reaches past rest s u h halts)) ∙ told
 
     P : Answer → Type 0
     P x = IsFault (past ++ rest) x

@@ -1,6 +1,6 @@
 -- Places rise.
 use Rattle.std.proofs.Common.{◌≡◌, ℕ, ◌+◌, ◌-◌, ◌<◌, ◌≤◌, Bool, true, false, eqb, ltb, cond, List, [], ◌∷◌, ◌++◌, length, min, take, refl, sym, subst, length-take, arith}
-use Rattle.markup_grammar.specs.Answers.{Answer, start, words, stop, finish, form, depth, limited, cut_short}
+use Rattle.markup_grammar.specs.Answers.{Answer, start, words, stop, finish, form, depth, limit_depth, cut_short}
 use Rattle.markup_grammar.specs.Machine as m
 use Rattle.markup_grammar.specs.Machine.{State, Level, before, within, behind, Names, fresh, between, opened, bang_dash, in_comment, in_instruction, in_words, in_reference, in_name, in_tag, slashed, closing, closed, Turn, on, off, step, ref_step, spot_step, verdict, answers_from}
 use Rattle.markup_grammar.specs.Places.{AreRising}
@@ -171,9 +171,9 @@ rise_cut : (least : ℕ) (room : Bool) (p : ℕ) (name raw : List ℕ) (more : L
 rise_cut least true p name raw more le r = (le, r)
 rise_cut least false p name raw more le r = (le, tt)
 
-rise_limited : (least d : ℕ) (list : List Answer) → AreRising least list → AreRising least (limited d list)
+rise_limited : (least d : ℕ) (list : List Answer) → AreRising least list → AreRising least (limit_depth d list)
 rise_limited least d [] r = tt
-rise_limited least d (start p name raw ∷ more) r = rise_cut least (ltb d 256) p name raw (limited (d + 1) more) r.0 (rise_limited (p + 1) (d + 1) more r.1)
+rise_limited least d (start p name raw ∷ more) r = rise_cut least (ltb d 256) p name raw (limit_depth (d + 1) more) r.0 (rise_limited (p + 1) (d + 1) more r.1)
 rise_limited least d (words p raw ∷ more) r = (r.0, rise_limited (p + 1) d more r.1)
 rise_limited least d (stop p ∷ more) r = (r.0, rise_limited (p + 1) (d - 1) more r.1)
 rise_limited least d (finish ∷ more) r = rise_limited least d more r

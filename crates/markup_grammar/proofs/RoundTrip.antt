@@ -4,7 +4,7 @@ use Rattle.std.proofs.lemmas.Bool.{ne_eqb, cases_lt}
 use Rattle.std.proofs.lemmas.Bool.Decides.{nat_tests}
 use Rattle.std.proofs.lemmas.Slice.Eq.{bytes_eq-Decides}
 use lib.Utf8.{encode}
-use Rattle.markup_grammar.specs.Escapes.{Place, plain, returned, reference, given, place_after, unescaped, unescaped_from, referred, numbered, escaped, escaped_byte}
+use Rattle.markup_grammar.specs.Escapes.{Place, plain, returned, reference, bytes_given, place_after, unescaped, unescaped_from, character_of_reference, character_by_number, escaped, escaped_byte}
 
 -- where one is past these bytes
 abbrev pub past : Place → List ℕ → Place
@@ -16,8 +16,8 @@ pub unescaped_from-append : (place : Place) (xs ys : List ℕ) → unescaped_fro
 unfolding unescaped_from
 unescaped_from-append place [] ys = refl
 unescaped_from-append place (b ∷ xs) ys =
-    ap (λ r. given place b ++ r) (unescaped_from-append (place_after place b) xs ys)
-    ∙ sym (append_assoc (given place b) (unescaped_from (place_after place b) xs) (unescaped_from (past (place_after place b) xs) ys))
+    ap (λ r. bytes_given place b ++ r) (unescaped_from-append (place_after place b) xs ys)
+    ∙ sym (append_assoc (bytes_given place b) (unescaped_from (place_after place b) xs) (unescaped_from (past (place_after place b) xs) ys))
 
 abbrev is_plain : Place → Bool
 is_plain plain = true
@@ -53,7 +53,7 @@ all_below-at test (suc n) b all h =
     ]
 
 table : all_below returns_byte 64 ≡ true
-unfolding unescaped_from escaped_byte referred numbered encode
+unfolding unescaped_from escaped_byte character_of_reference character_by_number encode
 table = refl
 
 pub record Returns (b : ℕ) : Type 0 where

@@ -3,7 +3,7 @@ use Rattle.std.proofs.Common.{◌≡◌, ℕ, ◌+◌, Bool, true, false, eqb, c
 use Rattle.std.proofs.lemmas.Bool.{false_from_ne_true}
 use Rattle.markup_grammar.specs.Answers.{start, words, stop}
 use Rattle.markup_grammar.specs.Bytes.{is_space, begins_name, is_name_byte, is_text, AllAre, IsName}
-use Rattle.markup_grammar.specs.Machine.{Level, before, within, behind, Names, Ref, begun, RefTurn, ref_on, ref_ends, ref_off, ref_step, Spot, spaced, naming, named, equalled, valuing, referring, valued, SpotTurn, spot_on, spot_off, spot_step, on, off, step, tag_turn, in_run, or_ends, between, opened, in_name, in_tag, in_words, in_reference, slashed, closing, closed, outside, followed, answers_from}
+use Rattle.markup_grammar.specs.Machine.{Level, before, within, behind, Names, Ref, begun, RefTurn, ref_on, ref_ends, ref_off, ref_step, Spot, spaced, naming, named, equalled, valuing, referring, valued, SpotTurn, spot_on, spot_off, spot_step, on, off, step, tag_turn, in_run, or_ends, between, opened, in_name, in_tag, in_words, in_reference, slashed, closing, closed, level_of_names, answers_of_turn, answers_from}
 use Rattle.markup_grammar.specs.References.{reference_body}
 use Rattle.markup_grammar.specs.Runs.{Bit, plain, reference, spelled_bits, AreBits, IsRun}
 use Rattle.markup_grammar.specs.Tags.{IsTagText}
@@ -70,7 +70,7 @@ same_turn false place name b names = refl
 pub as_valued : (place : ℕ) (name : List ℕ) (names : Names) (at b : ℕ) (rest : List ℕ) → is_name_byte b ≡ false → answers_from (in_name place name names) at (b ∷ rest) ≡ answers_from (in_tag valued place name [] names) at (b ∷ rest)
 unfolding answers_from
 as_valued place name names at b rest other =
-    rw other (ap (λ t. followed (or_ends at b place name [] names t) at (λ next. answers_from next (at + 1) rest)) (same_turn (is_space b) place name b names))
+    rw other (ap (λ t. answers_of_turn (or_ends at b place name [] names t) at (λ next. answers_from next (at + 1) rest)) (same_turn (is_space b) place name b names))
 
 -- the text of a tag, up to the byte that ends it
 tag_text_on : (raw : List ℕ) (e : ℕ) (place : ℕ) (name : List ℕ) (names : Names) (rest : List ℕ) (at : ℕ) (t : Spot) → is_name_byte e ≡ false → Leads raw valued t → answers_from (in_name place name names) at (raw ++ (e ∷ rest)) ≡ answers_from (in_tag t place name raw names) (at + length raw) (e ∷ rest)
@@ -112,15 +112,15 @@ start_ends raw place name names rest at is = by_leads (tag_text_leads raw is)
         ∙ ap (λ xs. start place name raw ∷ xs) (at_place (between (within name names)) (at + length raw + 1) (at + (length raw + 1)) rest (omega arith)))
 
 -- an empty element behind its name
-pub empty_ends : (raw : List ℕ) (place : ℕ) (name : List ℕ) (names : Names) (rest : List ℕ) (at : ℕ) → IsTagText raw → answers_from (in_name place name names) at (raw ++ (47 ∷ 62 ∷ rest)) ≡ start place name raw ∷ stop (at + length raw) ∷ answers_from (between (outside names)) (at + (length raw + 2)) rest
+pub empty_ends : (raw : List ℕ) (place : ℕ) (name : List ℕ) (names : Names) (rest : List ℕ) (at : ℕ) → IsTagText raw → answers_from (in_name place name names) at (raw ++ (47 ∷ 62 ∷ rest)) ≡ start place name raw ∷ stop (at + length raw) ∷ answers_from (between (level_of_names names)) (at + (length raw + 2)) rest
 empty_ends raw place name names rest at is = by_leads (tag_text_leads raw is)
   where
-    by_leads : (t : Spot) × MayEnd t × Leads raw valued t → answers_from (in_name place name names) at (raw ++ (47 ∷ 62 ∷ rest)) ≡ start place name raw ∷ stop (at + length raw) ∷ answers_from (between (outside names)) (at + (length raw + 2)) rest
+    by_leads : (t : Spot) × MayEnd t × Leads raw valued t → answers_from (in_name place name names) at (raw ++ (47 ∷ 62 ∷ rest)) ≡ start place name raw ∷ stop (at + length raw) ∷ answers_from (between (level_of_names names)) (at + (length raw + 2)) rest
     by_leads (t, may, leads) =
         tag_text_on raw 47 place name names (62 ∷ rest) at t name_not_slash leads
         ∙ (step_on (in_tag t place name raw names) (slashed (at + length raw) place name raw names) (at + length raw) 47 (62 ∷ rest) [] (slash_here t place name raw names (at + length raw) may)
-        ∙ (step_on (slashed (at + length raw) place name raw names) (between (outside names)) (at + length raw + 1) 62 rest (start place name raw ∷ stop (at + length raw) ∷ []) refl
-        ∙ ap (λ xs. start place name raw ∷ stop (at + length raw) ∷ xs) (at_place (between (outside names)) (at + length raw + 1 + 1) (at + (length raw + 2)) rest (omega arith))))
+        ∙ (step_on (slashed (at + length raw) place name raw names) (between (level_of_names names)) (at + length raw + 1) 62 rest (start place name raw ∷ stop (at + length raw) ∷ []) refl
+        ∙ ap (λ xs. start place name raw ∷ stop (at + length raw) ∷ xs) (at_place (between (level_of_names names)) (at + length raw + 1 + 1) (at + (length raw + 2)) rest (omega arith))))
 
 -- a `<` and the first byte of a name
 pub begins_here : (place : ℕ) (level : Level) (at b : ℕ) → IsOpen level → begins_name b ≡ true → step (opened place level) at b ≡ on [] (in_name place (b ∷ []) (open_names level))
@@ -159,33 +159,33 @@ closing_on place names (b ∷ bytes) rest at =
     run_on (closing place (b ∷ bytes) names) (closing place bytes names) (closing place [] names) at b bytes rest (rw (eqb_self b) refl) (closing_on place names bytes rest (at + 1))
 
 -- white space in an end tag, and its `>`
-closed_on : (place : ℕ) (names : Names) (space rest : List ℕ) (at : ℕ) → AllAre is_space space → answers_from (closed place names) at (space ++ (62 ∷ rest)) ≡ stop place ∷ answers_from (between (outside names)) (at + (length space + 1)) rest
+closed_on : (place : ℕ) (names : Names) (space rest : List ℕ) (at : ℕ) → AllAre is_space space → answers_from (closed place names) at (space ++ (62 ∷ rest)) ≡ stop place ∷ answers_from (between (level_of_names names)) (at + (length space + 1)) rest
 closed_on place names [] rest at all =
-    step_on (closed place names) (between (outside names)) at 62 rest (stop place ∷ []) refl
-    ∙ ap (λ xs. stop place ∷ xs) (at_place (between (outside names)) (at + 1) (at + (0 + 1)) rest (omega arith))
+    step_on (closed place names) (between (level_of_names names)) at 62 rest (stop place ∷ []) refl
+    ∙ ap (λ xs. stop place ∷ xs) (at_place (between (level_of_names names)) (at + 1) (at + (0 + 1)) rest (omega arith))
 closed_on place names (b ∷ space) rest at all =
     let blank : is_space b ≡ true = all.0 in
     step_on (closed place names) (closed place names) at b (space ++ (62 ∷ rest)) [] (rw (differ is_space b 62 blank space_not_close, blank) refl)
     ∙ (closed_on place names space rest (at + 1) all.1
-    ∙ ap (λ xs. stop place ∷ xs) (at_place (between (outside names)) (at + 1 + (length space + 1)) (at + (length (b ∷ space) + 1)) rest (omega arith)))
+    ∙ ap (λ xs. stop place ∷ xs) (at_place (between (level_of_names names)) (at + 1 + (length space + 1)) (at + (length (b ∷ space) + 1)) rest (omega arith)))
 
 -- an end tag behind its name
-end_space_on : (place : ℕ) (names : Names) (space rest : List ℕ) (at : ℕ) → AllAre is_space space → answers_from (closing place [] names) at (space ++ (62 ∷ rest)) ≡ stop place ∷ answers_from (between (outside names)) (at + (length space + 1)) rest
+end_space_on : (place : ℕ) (names : Names) (space rest : List ℕ) (at : ℕ) → AllAre is_space space → answers_from (closing place [] names) at (space ++ (62 ∷ rest)) ≡ stop place ∷ answers_from (between (level_of_names names)) (at + (length space + 1)) rest
 end_space_on place names [] rest at all =
-    step_on (closing place [] names) (between (outside names)) at 62 rest (stop place ∷ []) refl
-    ∙ ap (λ xs. stop place ∷ xs) (at_place (between (outside names)) (at + 1) (at + (0 + 1)) rest (omega arith))
+    step_on (closing place [] names) (between (level_of_names names)) at 62 rest (stop place ∷ []) refl
+    ∙ ap (λ xs. stop place ∷ xs) (at_place (between (level_of_names names)) (at + 1) (at + (0 + 1)) rest (omega arith))
 end_space_on place names (b ∷ space) rest at all =
     let blank : is_space b ≡ true = all.0 in
     step_on (closing place [] names) (closed place names) at b (space ++ (62 ∷ rest)) [] (rw (differ is_space b 62 blank space_not_close, blank) refl)
     ∙ (closed_on place names space rest (at + 1) all.1
-    ∙ ap (λ xs. stop place ∷ xs) (at_place (between (outside names)) (at + 1 + (length space + 1)) (at + (length (b ∷ space) + 1)) rest (omega arith)))
+    ∙ ap (λ xs. stop place ∷ xs) (at_place (between (level_of_names names)) (at + 1 + (length space + 1)) (at + (length (b ∷ space) + 1)) rest (omega arith)))
 
 -- the rest of an end tag
-pub end_on : (place : ℕ) (name : List ℕ) (names : Names) (space rest : List ℕ) (at : ℕ) → AllAre is_space space → answers_from (closing place name names) at (name ++ (space ++ (62 ∷ rest))) ≡ stop place ∷ answers_from (between (outside names)) (at + (length name + (length space + 1))) rest
+pub end_on : (place : ℕ) (name : List ℕ) (names : Names) (space rest : List ℕ) (at : ℕ) → AllAre is_space space → answers_from (closing place name names) at (name ++ (space ++ (62 ∷ rest))) ≡ stop place ∷ answers_from (between (level_of_names names)) (at + (length name + (length space + 1))) rest
 end_on place name names space rest at all =
     closing_on place names name (space ++ (62 ∷ rest)) at
     ∙ (end_space_on place names space rest (at + length name) all
-    ∙ ap (λ xs. stop place ∷ xs) (at_place (between (outside names)) (at + length name + (length space + 1)) (at + (length name + (length space + 1))) rest (omega arith)))
+    ∙ ap (λ xs. stop place ∷ xs) (at_place (between (level_of_names names)) (at + length name + (length space + 1)) (at + (length name + (length space + 1))) rest (omega arith)))
 
 -- the rest of a reference in a run of text
 refers_on : (bytes : List ℕ) (r : Ref) (place : ℕ) (raw name : List ℕ) (names : Names) (rest : List ℕ) (at : ℕ) → RefEnds bytes r → answers_from (in_reference r place raw name names) at (bytes ++ rest) ≡ answers_from (in_words place (raw ++ bytes) name names) (at + length bytes) rest

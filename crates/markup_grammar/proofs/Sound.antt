@@ -3,7 +3,7 @@ use Rattle.std.proofs.Common.{◌≡◌, ℕ, ◌+◌, Bool, true, false, List, 
 use Rattle.markup_grammar.specs.Answers.{finishes}
 use Rattle.markup_grammar.specs.Bytes.{is_space, begins_name, is_name_byte, is_text, AllAre}
 use Rattle.markup_grammar.specs.Machine as m
-use Rattle.markup_grammar.specs.Machine.{State, Level, before, within, behind, Names, Ref, begun, RefTurn, ref_on, ref_ends, ref_off, ref_step, Dashes, no_dash, one_dash, two_dashes, Spot, spaced, valued, SpotTurn, spot_on, spot_off, spot_step, Turn, on, off, step, comment_step, instruction_step, tag_turn, in_run, fresh, between, opened, bang_dash, in_comment, in_instruction, in_words, in_reference, in_name, in_tag, slashed, closing, closed, outside, verdict, answers_from}
+use Rattle.markup_grammar.specs.Machine.{State, Level, before, within, behind, Names, Ref, begun, RefTurn, ref_on, ref_ends, ref_off, ref_step, Dashes, no_dash, one_dash, two_dashes, Spot, spaced, valued, SpotTurn, spot_on, spot_off, spot_step, Turn, on, off, step, comment_step, instruction_step, tag_turn, in_run, fresh, between, opened, bang_dash, in_comment, in_instruction, in_words, in_reference, in_name, in_tag, slashed, closing, closed, level_of_names, verdict, answers_from}
 use Rattle.markup_grammar.specs.Runs.{IsRun}
 use Rattle.markup_grammar.specs.Tags.{IsTagText}
 use Rattle.markup_grammar.specs.Tree.{Aside, comment, instruction, Around, blank, aside, Element, element, empty, Content, text_only, element_after, aside_after, Tree, comment_end, instruction_end, end_tag, spelled, spelled_all, spelled_aside, spelled_around, mark_of, spelled_tree, EndsFirst, IsAside, AreAround, IsElement, IsContent}
@@ -188,7 +188,7 @@ tag_follows p b level bytes opens h (more, rest, all, e, (raw, tail, is, e', sto
         ∙ ap (λ xs. 60 ∷ b ∷ xs) (sym (e ∙ ap (λ xs. more ++ xs) (e' ∙ ap (λ xs. raw ++ xs) e''))))
         (follows_element level (empty (b ∷ more) raw) behind_tag opens ((h, all), is) ends)
 
-outside_ends : (names : Names) (bytes : List ℕ) → Follows (outside names) bytes → Ends names bytes
+outside_ends : (names : Names) (bytes : List ℕ) → Follows (level_of_names names) bytes → Ends names bytes
 outside_ends [] bytes f = f
 outside_ends (name ∷ names) bytes f = f
 

@@ -1,8 +1,8 @@
 -- Each piece stands in the text at its place.
 use Rattle.std.proofs.Common.{◌≡◌, ℕ, ◌+◌, ◌-◌, ◌≤◌, Bool, true, false, eqb, ltb, cond, List, [], ◌∷◌, ◌++◌, length, take, drop, refl, ap, sym, ◌∙◌, subst, inl, inr, append_assoc, append-nil, length-append, take-append-drop, arith}
-use Rattle.markup_grammar.specs.Answers.{Answer, start, words, stop, finish, form, depth, limited, cut_short}
+use Rattle.markup_grammar.specs.Answers.{Answer, start, words, stop, finish, form, depth, limit_depth, cut_short}
 use Rattle.markup_grammar.specs.Machine as m
-use Rattle.markup_grammar.specs.Machine.{State, Level, before, within, behind, Names, fresh, between, opened, bang_dash, in_comment, in_instruction, in_words, in_reference, in_name, in_tag, slashed, closing, closed, outside, Turn, on, off, step, ref_step, spot_step, verdict, answers_from}
+use Rattle.markup_grammar.specs.Machine.{State, Level, before, within, behind, Names, fresh, between, opened, bang_dash, in_comment, in_instruction, in_words, in_reference, in_name, in_tag, slashed, closing, closed, level_of_names, Turn, on, off, step, ref_step, spot_step, verdict, answers_from}
 use Rattle.markup_grammar.specs.Places.{StandAt, IsSlice, AreSlices}
 use Rattle.markup_grammar.specs.Reading.{answers_within, answers}
 use Rattle.markup_grammar.specs.Utf8.{utf8_front}
@@ -221,9 +221,9 @@ deep_stands text true p name raw more s m = (s, m)
 deep_stands text false p name raw more (front, back, spells, count) m =
     (let all : length text ≡ length front + (length (60 ∷ (name ++ raw)) + length back) = ap length spells ∙ simp length-append refl in omega arith, tt)
 
-limited_stands : (text : List ℕ) (d : ℕ) (list : List Answer) → AreSlices text list → AreSlices text (limited d list)
+limited_stands : (text : List ℕ) (d : ℕ) (list : List Answer) → AreSlices text list → AreSlices text (limit_depth d list)
 limited_stands text d [] s = tt
-limited_stands text d (start p name raw ∷ more) s = deep_stands text (ltb d 256) p name raw (limited (d + 1) more) s.0 (limited_stands text (d + 1) more s.1)
+limited_stands text d (start p name raw ∷ more) s = deep_stands text (ltb d 256) p name raw (limit_depth (d + 1) more) s.0 (limited_stands text (d + 1) more s.1)
 limited_stands text d (words p raw ∷ more) s = (s.0, limited_stands text d more s.1)
 limited_stands text d (stop p ∷ more) s = (s.0, limited_stands text (d - 1) more s.1)
 limited_stands text d (finish ∷ more) s = (s.0, limited_stands text d more s.1)

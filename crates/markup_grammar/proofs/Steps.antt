@@ -2,7 +2,7 @@
 use Rattle.std.proofs.Common.{◌≡◌, ℕ, ◌+◌, Bool, true, false, eqb, List, [], ◌∷◌, ◌++◌, length, refl, ap, sym, ◌∙◌, arith, true≢false, eqb-true}
 use Rattle.std.proofs.lemmas.Bool.{false_from_ne_true}
 use Rattle.markup_grammar.specs.Answers.{Answer, start, words, stop, finish, form, depth, finishes, refused_at, refusal_of}
-use Rattle.markup_grammar.specs.Machine.{State, Turn, on, off, step, verdict, followed, answers_from}
+use Rattle.markup_grammar.specs.Machine.{State, Turn, on, off, step, verdict, answers_of_turn, answers_from}
 
 -- a byte that passes a test is not one that fails it
 pub differ : (test : ℕ → Bool) (b c : ℕ) → test b ≡ true → test c ≡ false → eqb b c ≡ false
@@ -17,12 +17,12 @@ at_end s at = refl
 -- a good byte
 pub step_on : (s next : State) (at b : ℕ) (rest : List ℕ) (said : List Answer) → step s at b ≡ on said next → answers_from s at (b ∷ rest) ≡ said ++ answers_from next (at + 1) rest
 unfolding answers_from
-step_on s next at b rest said e = ap (λ t. followed t at (λ n. answers_from n (at + 1) rest)) e
+step_on s next at b rest said e = ap (λ t. answers_of_turn t at (λ n. answers_from n (at + 1) rest)) e
 
 -- a refused byte
 pub step_off : (s : State) (at b : ℕ) (rest : List ℕ) → step s at b ≡ off → answers_from s at (b ∷ rest) ≡ form at ∷ []
 unfolding answers_from
-step_off s at b rest e = ap (λ t. followed t at (λ n. answers_from n (at + 1) rest)) e
+step_off s at b rest e = ap (λ t. answers_of_turn t at (λ n. answers_from n (at + 1) rest)) e
 
 -- the same answers at an equal place
 pub at_place : (s : State) (at place : ℕ) (rest : List ℕ) → at ≡ place → answers_from s at rest ≡ answers_from s place rest

@@ -1,7 +1,7 @@
 -- The attributes that are told of a tag are those that it spells.
 use Rattle.std.proofs.Common.{◌≡◌, ℕ, ◌≤◌, ◌<◌, inl, inr, Bool, true, false, eqb, List, [], ◌∷◌, ◌++◌, refl, ap, sym, ◌∙◌, append_assoc, append-nil, arith, true≢false, rules, subst}
 use Rattle.std.proofs.lemmas.Bool.{false_from_ne_true, ne_eqb}
-use Rattle.markup_grammar.specs.Attributes.{Spot, between, naming, due, quoted, led, ended, attributes, attributes_from}
+use Rattle.markup_grammar.specs.Attributes.{Spot, between, naming, due, quoted, spot_after, attribute_ended_by, attributes, attributes_from}
 use Rattle.markup_grammar.specs.Bytes.{is_space, is_digit, is_hex_digit, is_name_byte, is_value, AllAre, IsName}
 use Rattle.markup_grammar.specs.References.{Reference, amp, lt, gt, quot, apos, decimal, hexadecimal, reference_body, IsReference}
 use Rattle.markup_grammar.specs.Runs.{Bit, plain, reference, spelled_bits, AreBits, IsRun}
@@ -14,7 +14,7 @@ unfolding attributes_from
 at_end spot = refl
 
 -- one byte
-goes : (spot : Spot) (b : ℕ) (rest : List ℕ) → attributes_from spot (b ∷ rest) ≡ ended spot b ++ attributes_from (led spot b) rest
+goes : (spot : Spot) (b : ℕ) (rest : List ℕ) → attributes_from spot (b ∷ rest) ≡ attribute_ended_by spot b ++ attributes_from (spot_after spot b) rest
 unfolding attributes_from
 goes spot b rest = refl
 
@@ -118,7 +118,7 @@ value_told : (name space : List ℕ) (quote : ℕ) (value rest : List ℕ) → A
 value_told name space quote value rest all is run =
     spaces_due name space (quote ∷ (value ++ (quote ∷ rest))) all ∙ by_quote is
   where
-    at_quote : (q : ℕ) → q < 48 → eqb 35 q ≡ false → eqb 38 q ≡ false → led (due name) q ≡ quoted name q [] → IsRun (is_value q) value → attributes_from (due name) (q ∷ (value ++ (q ∷ rest))) ≡ (name, value) ∷ attributes_from between rest
+    at_quote : (q : ℕ) → q < 48 → eqb 35 q ≡ false → eqb 38 q ≡ false → spot_after (due name) q ≡ quoted name q [] → IsRun (is_value q) value → attributes_from (due name) (q ∷ (value ++ (q ∷ rest))) ≡ (name, value) ∷ attributes_from between rest
     at_quote q low hash both leads run =
         goes (due name) q (value ++ (q ∷ rest))
         ∙ (ap (λ spot. attributes_from spot (value ++ (q ∷ rest))) leads ∙ value_goes name q [] value rest (value_avoids q value low hash both run))

@@ -1,6 +1,6 @@
 -- The answers on a text end once: in `finish` or in a refusal.
 use Rattle.std.proofs.Common.{◌≡◌, ℕ, ◌+◌, ◌-◌, Bool, true, false, eqb, ltb, cond, List, [], ◌∷◌, ◌++◌, length, take, refl, ap, sym, subst}
-use Rattle.markup_grammar.specs.Answers.{Answer, start, words, stop, finish, form, depth, EndsOnce, limited, cut_short}
+use Rattle.markup_grammar.specs.Answers.{Answer, start, words, stop, finish, form, depth, EndsOnce, limit_depth, cut_short}
 use Rattle.markup_grammar.specs.Machine.{State, fresh, Turn, on, off, step, answers_from}
 use Rattle.markup_grammar.specs.Reading.{answers_within, answers}
 use Rattle.markup_grammar.specs.Utf8.{utf8_front}
@@ -47,14 +47,14 @@ ends_cut : (room : Bool) (p : ℕ) (name raw : List ℕ) (more : List Answer) �
 ends_cut true p name raw more h = h
 ends_cut false p name raw more h = refl
 
-ends_limited : (d : ℕ) (list : List Answer) → EndsOnce list → EndsOnce (limited d list)
+ends_limited : (d : ℕ) (list : List Answer) → EndsOnce list → EndsOnce (limit_depth d list)
 ends_limited d [] h = h
-ends_limited d (start p name raw ∷ more) h = ends_cut (ltb d 256) p name raw (limited (d + 1) more) (ends_limited (d + 1) more h)
+ends_limited d (start p name raw ∷ more) h = ends_cut (ltb d 256) p name raw (limit_depth (d + 1) more) (ends_limited (d + 1) more h)
 ends_limited d (words p raw ∷ more) h = ends_limited d more h
 ends_limited d (stop p ∷ more) h = ends_limited (d - 1) more h
-ends_limited d (finish ∷ more) h = ap (λ xs. limited d xs) h
-ends_limited d (form p ∷ more) h = ap (λ xs. limited d xs) h
-ends_limited d (depth p ∷ more) h = ap (λ xs. limited d xs) h
+ends_limited d (finish ∷ more) h = ap (λ xs. limit_depth d xs) h
+ends_limited d (form p ∷ more) h = ap (λ xs. limit_depth d xs) h
+ends_limited d (depth p ∷ more) h = ap (λ xs. limit_depth d xs) h
 
 -- the answers on any text end once
 pub verdicts : (text : List ℕ) → EndsOnce (answers text)

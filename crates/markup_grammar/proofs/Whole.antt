@@ -1,8 +1,8 @@
 -- A tree of the grammar gives its pieces.
 use Rattle.std.proofs.Common.{◌≡◌, ℕ, ◌+◌, ◌-◌, ◌<◌, ◌≤◌, Bool, true, false, eqb, ltb, List, [], ◌∷◌, ◌++◌, length, refl, ap, sym, ◌∙◌, append_assoc, append-nil, length-append, arith, lt-ltb}
-use Rattle.markup_grammar.specs.Answers.{Answer, start, stop, finish, limited}
+use Rattle.markup_grammar.specs.Answers.{Answer, start, stop, finish, limit_depth}
 use Rattle.markup_grammar.specs.Bytes.{is_space, is_text, IsName}
-use Rattle.markup_grammar.specs.Machine.{Level, before, within, behind, Names, fresh, mark_one, mark_two, between, opened, closing, outside, answers_from}
+use Rattle.markup_grammar.specs.Machine.{Level, before, within, behind, Names, fresh, mark_one, mark_two, between, opened, closing, level_of_names, answers_from}
 use Rattle.markup_grammar.specs.Tags.{IsTagText}
 use Rattle.markup_grammar.specs.Tree.{Aside, Around, blank, aside, Element, element, empty, Content, text_only, element_after, aside_after, Tree, start_tag, end_tag, spelled, spelled_all, spelled_aside, spelled_around, mark_of, spelled_front, spelled_tree, AreAround, IsElement, IsContent, IsText, height, height_all, words_at, pieces, pieces_all, tree_pieces}
 use Rattle.markup_grammar.proofs.Asides.{past_open, aside_on, spelled_aside-open, around_on}
@@ -32,7 +32,7 @@ spelled-open (empty name raw) rest = refl
 
 mutual
   -- an element behind its `<`
-  pub element_on : (e : Element) (level : Level) (rest : List ℕ) (p : ℕ) → IsOpen level → IsElement e → answers_from (opened p level) (p + 1) (past_open_tag e ++ rest) ≡ pieces p e ++ answers_from (between (outside (open_names level))) (p + length (spelled e)) rest
+  pub element_on : (e : Element) (level : Level) (rest : List ℕ) (p : ℕ) → IsOpen level → IsElement e → answers_from (opened p level) (p + 1) (past_open_tag e ++ rest) ≡ pieces p e ++ answers_from (between (level_of_names (open_names level))) (p + length (spelled e)) rest
   element_on (element name raw inner space) level rest p opens is =
       on_bytes (opened p level) (p + 1) (past_open_tag (element name raw inner space) ++ rest)
       (name ++ (raw ++ (62 ∷ (spelled_all inner ++ (60 ∷ 47 ∷ (name ++ (space ++ (62 ∷ rest)))))))) (simp append_assoc refl)
@@ -43,17 +43,17 @@ mutual
       ∙ (ap (λ xs. pieces_all (p + length (start_tag name raw)) inner ++ xs)
       (end_on (p + length (start_tag name raw) + length (spelled_all inner)) name (open_names level) space rest _ is.3
       ∙ ap (λ xs. stop (p + length (start_tag name raw) + length (spelled_all inner)) ∷ xs)
-      (at_place (between (outside (open_names level))) _ (p + length (spelled (element name raw inner space))) rest
+      (at_place (between (level_of_names (open_names level))) _ (p + length (spelled (element name raw inner space))) rest
       (simp length-append (omega arith))))
       ∙ sym (append_assoc (pieces_all (p + length (start_tag name raw)) inner) (stop (p + length (start_tag name raw) + length (spelled_all inner)) ∷ []) _)))))
   element_on (empty name raw) level rest p opens is =
       on_bytes (opened p level) (p + 1) (past_open_tag (empty name raw) ++ rest) (name ++ (raw ++ (47 ∷ 62 ∷ rest))) (simp append_assoc refl)
       ∙ (name_on p level name (raw ++ (47 ∷ 62 ∷ rest)) (p + 1) opens is.0
       ∙ (empty_ends raw p name (open_names level) rest (p + 1 + length name) is.1
-      ∙ (ap (λ n. start p name raw ∷ stop n ∷ answers_from (between (outside (open_names level))) (p + 1 + length name + (length raw + 2)) rest)
+      ∙ (ap (λ n. start p name raw ∷ stop n ∷ answers_from (between (level_of_names (open_names level))) (p + 1 + length name + (length raw + 2)) rest)
       (let e : p + 1 + length name + length raw ≡ p + length (60 ∷ (name ++ raw)) = simp length-append (omega arith) in e)
       ∙ ap (λ xs. start p name raw ∷ stop (p + length (60 ∷ (name ++ raw))) ∷ xs)
-      (at_place (between (outside (open_names level))) _ (p + length (spelled (empty name raw))) rest (simp length-append (omega arith))))))
+      (at_place (between (level_of_names (open_names level))) _ (p + length (spelled (empty name raw))) rest (simp length-append (omega arith))))))
 
   -- what stands between two tags, and the `</` that ends it
   pub content_on : (inner : Content) (name : List ℕ) (names : Names) (rest : List ℕ) (at : ℕ) → IsContent inner → answers_from (between (within name names)) at (spelled_all inner ++ (60 ∷ 47 ∷ rest)) ≡ pieces_all at inner ++ answers_from (closing (at + length (spelled_all inner)) name names) (at + length (spelled_all inner) + 2) rest
@@ -135,41 +135,41 @@ pub whole : (text : List ℕ) (tree : Tree) → IsText text tree → answers_fro
 whole text tree is = on_bytes fresh 0 text (spelled_tree tree) is.spells ∙ whole_bytes tree is.front is.root is.back
 
 -- a run of text opens nothing
-limited-words_at : (text : List ℕ) (d at : ℕ) (more : List Answer) → limited d (words_at at text ++ more) ≡ words_at at text ++ limited d more
+limited-words_at : (text : List ℕ) (d at : ℕ) (more : List Answer) → limit_depth d (words_at at text ++ more) ≡ words_at at text ++ limit_depth d more
 limited-words_at [] d at more = refl
 limited-words_at (b ∷ bs) d at more = refl
 
 mutual
   -- an element within the limit is not cut
-  pub limited-pieces : (e : Element) (d p : ℕ) (more : List Answer) → d + height e ≤ 256 → limited d (pieces p e ++ more) ≡ pieces p e ++ limited d more
+  pub limited-pieces : (e : Element) (d p : ℕ) (more : List Answer) → d + height e ≤ 256 → limit_depth d (pieces p e ++ more) ≡ pieces p e ++ limit_depth d more
   limited-pieces (element name raw inner space) d p more fit =
       let room : d < 256 = omega arith in
       let within_limit : ltb d 256 ≡ true = lt-ltb d 256 room in
       rw within_limit
       (ap (λ xs. start p name raw ∷ xs)
-      (ap (λ xs. limited (d + 1) xs) (append_assoc (pieces_all (p + length (start_tag name raw)) inner) (stop (p + length (start_tag name raw) + length (spelled_all inner)) ∷ []) more)
+      (ap (λ xs. limit_depth (d + 1) xs) (append_assoc (pieces_all (p + length (start_tag name raw)) inner) (stop (p + length (start_tag name raw) + length (spelled_all inner)) ∷ []) more)
       ∙ (limited-pieces_all inner (d + 1) (p + length (start_tag name raw)) (stop (p + length (start_tag name raw) + length (spelled_all inner)) ∷ more) (omega arith)
-      ∙ (ap (λ n. pieces_all (p + length (start_tag name raw)) inner ++ (stop (p + length (start_tag name raw) + length (spelled_all inner)) ∷ limited n more)) (let back : d + 1 - 1 ≡ d = omega arith in back)
-      ∙ sym (append_assoc (pieces_all (p + length (start_tag name raw)) inner) (stop (p + length (start_tag name raw) + length (spelled_all inner)) ∷ []) (limited d more))))))
+      ∙ (ap (λ n. pieces_all (p + length (start_tag name raw)) inner ++ (stop (p + length (start_tag name raw) + length (spelled_all inner)) ∷ limit_depth n more)) (let back : d + 1 - 1 ≡ d = omega arith in back)
+      ∙ sym (append_assoc (pieces_all (p + length (start_tag name raw)) inner) (stop (p + length (start_tag name raw) + length (spelled_all inner)) ∷ []) (limit_depth d more))))))
   limited-pieces (empty name raw) d p more fit =
       let room : d < 256 = omega arith in
       let within_limit : ltb d 256 ≡ true = lt-ltb d 256 room in
       rw within_limit
-      (ap (λ n. start p name raw ∷ stop (p + length (60 ∷ (name ++ raw))) ∷ limited n more) (let back : d + 1 - 1 ≡ d = omega arith in back))
+      (ap (λ n. start p name raw ∷ stop (p + length (60 ∷ (name ++ raw))) ∷ limit_depth n more) (let back : d + 1 - 1 ≡ d = omega arith in back))
 
-  pub limited-pieces_all : (inner : Content) (d at : ℕ) (more : List Answer) → d + height_all inner ≤ 256 → limited d (pieces_all at inner ++ more) ≡ pieces_all at inner ++ limited d more
+  pub limited-pieces_all : (inner : Content) (d at : ℕ) (more : List Answer) → d + height_all inner ≤ 256 → limit_depth d (pieces_all at inner ++ more) ≡ pieces_all at inner ++ limit_depth d more
   limited-pieces_all (text_only text) d at more fit = limited-words_at text d at more
   limited-pieces_all (element_after text e inner) d at more fit =
-      ap (λ xs. limited d xs) (append_assoc (words_at at text) _ more)
+      ap (λ xs. limit_depth d xs) (append_assoc (words_at at text) _ more)
       ∙ (limited-words_at text d at _
       ∙ (ap (λ xs. words_at at text ++ xs)
-      (ap (λ xs. limited d xs) (append_assoc (pieces (at + length text) e) _ more)
+      (ap (λ xs. limit_depth d xs) (append_assoc (pieces (at + length text) e) _ more)
       ∙ (limited-pieces e d (at + length text) _ (omega arith)
       ∙ (ap (λ xs. pieces (at + length text) e ++ xs) (limited-pieces_all inner d (at + length text + length (spelled e)) more (omega arith))
       ∙ sym (append_assoc (pieces (at + length text) e) _ _))))
       ∙ sym (append_assoc (words_at at text) _ _)))
   limited-pieces_all (aside_after text a inner) d at more fit =
-      ap (λ xs. limited d xs) (append_assoc (words_at at text) _ more)
+      ap (λ xs. limit_depth d xs) (append_assoc (words_at at text) _ more)
       ∙ (limited-words_at text d at _
       ∙ (ap (λ xs. words_at at text ++ xs) (limited-pieces_all inner d (at + length text + length (spelled_aside a)) more fit)
       ∙ sym (append_assoc (words_at at text) _ _)))

@@ -39,16 +39,17 @@ refusal_of (_ ∷ answers) = refusal_of answers
 
 -- the answers up to the start tag with which more than 256 elements would be open, which is refused
 -- at its place
-abbrev pub limited : ℕ → List Answer → List Answer
-limited open_count [] = []
-limited open_count (start place name raw ∷ answers) =
-    if nat_lt open_count 256 then start place name raw ∷ limited (open_count + 1) answers else depth
-    place ∷ []
-limited open_count (stop place ∷ answers) = stop place ∷ limited (open_count - 1) answers
-limited open_count (words place raw ∷ answers) = words place raw ∷ limited open_count answers
-limited open_count (finish ∷ answers) = finish ∷ limited open_count answers
-limited open_count (form place ∷ answers) = form place ∷ limited open_count answers
-limited open_count (depth place ∷ answers) = depth place ∷ limited open_count answers
+abbrev pub limit_depth : ℕ → List Answer → List Answer
+limit_depth open_count [] = []
+limit_depth open_count (start place name raw ∷ answers) =
+    if nat_lt open_count 256 then start place name raw ∷ limit_depth (open_count + 1) answers
+    else depth place ∷ []
+limit_depth open_count (stop place ∷ answers) = stop place ∷ limit_depth (open_count - 1) answers
+limit_depth open_count (words place raw ∷ answers) = words place raw ∷ limit_depth open_count
+    answers
+limit_depth open_count (finish ∷ answers) = finish ∷ limit_depth open_count answers
+limit_depth open_count (form place ∷ answers) = form place ∷ limit_depth open_count answers
+limit_depth open_count (depth place ∷ answers) = depth place ∷ limit_depth open_count answers
 
 -- the answers on a prefix of a text after which more bytes come: its end is no end of the text
 abbrev pub cut_short : ℕ → List Answer → List Answer

@@ -12,27 +12,28 @@ pub data Spot : Type 0 where
   quoted : List ℕ → ℕ → List ℕ → Spot
 
 -- a name goes on up to white space or `=`
-abbrev pub named : List ℕ → ℕ → Spot
-named name b = if is_space b || b == 61 then due name else naming (name ++ b ∷ [])
+abbrev pub spot_in_name : List ℕ → ℕ → Spot
+spot_in_name name b = if is_space b || b == 61 then due name else naming (name ++ b ∷ [])
 
 -- where a byte leads: white space parts attributes, and after a name comes its value in the next
 -- pair of quotes
-abbrev pub led : Spot → ℕ → Spot
-led between b = if is_space b then between else named [] b
-led (naming name) b = named name b
-led (due name) b = if b == 34 || b == 39 then quoted name b [] else due name
-led (quoted name quote value) b = if b == quote then between else quoted name quote
+abbrev pub spot_after : Spot → ℕ → Spot
+spot_after between b = if is_space b then between else spot_in_name [] b
+spot_after (naming name) b = spot_in_name name b
+spot_after (due name) b = if b == 34 || b == 39 then quoted name b [] else due name
+spot_after (quoted name quote value) b = if b == quote then between else quoted name quote
     (value ++ b ∷ [])
 
 -- the attribute that a byte ends, which is its value's closing quote
-abbrev pub ended : Spot → ℕ → List (List ℕ × List ℕ)
-ended (quoted name quote value) b = if b == quote then (name, value) ∷ [] else []
-ended _ b = []
+abbrev pub attribute_ended_by : Spot → ℕ → List (List ℕ × List ℕ)
+attribute_ended_by (quoted name quote value) b = if b == quote then (name, value) ∷ [] else []
+attribute_ended_by _ b = []
 
 -- the names with their raw values, from a spot on
 unfoldable pub attributes_from : Spot → List ℕ → List (List ℕ × List ℕ)
 attributes_from spot [] = []
-attributes_from spot (b ∷ rest) = ended spot b ++ attributes_from (led spot b) rest
+attributes_from spot (b ∷ rest) = attribute_ended_by spot b ++ attributes_from (spot_after spot b)
+    rest
 
 -- the names of a tag's attributes with their raw values, in their order
 abbrev pub attributes : List ℕ → List (List ℕ × List ℕ)

@@ -18,52 +18,52 @@ mutual
     cut : List ℕ → Answer → Content
 
 -- what is left of the innermost of the open elements
-abbrev pub inner : List Content → Content
-inner [] = cut [] finish
-inner (content ∷ contents) = content
+abbrev pub innermost : List Content → Content
+innermost [] = cut [] finish
+innermost (content ∷ contents) = content
 
 -- what is left of those round it
-abbrev pub outer : List Content → List Content
-outer [] = []
-outer (content ∷ contents) = contents
+abbrev pub outer_contents : List Content → List Content
+outer_contents [] = []
+outer_contents (content ∷ contents) = contents
 
 -- the same with this text before it
-abbrev pub prepended : List ℕ → Content → Content
-prepended text (last rest) = last (text ++ rest)
-prepended text (also rest e more) = also (text ++ rest) e more
-prepended text (cut rest answer) = cut (text ++ rest) answer
+abbrev pub with_text_before : List ℕ → Content → Content
+with_text_before text (last rest) = last (text ++ rest)
+with_text_before text (also rest e more) = also (text ++ rest) e more
+with_text_before text (cut rest answer) = cut (text ++ rest) answer
 
 -- a start tag begins an element, which holds what is left of the innermost, and is in the one round
 -- it
-abbrev pub begun : ℕ → List ℕ → List ℕ → List Content → List Content
-begun place name raw contents =
-    also [] (element place name raw (inner contents)) (inner (outer contents)) ∷ outer
-    (outer contents)
+abbrev pub with_start : ℕ → List ℕ → List ℕ → List Content → List Content
+with_start place name raw contents =
+    also [] (element place name raw (innermost contents)) (innermost (outer_contents contents))
+    ∷ outer_contents (outer_contents contents)
 
 -- text is in the innermost
-abbrev pub said : List ℕ → List Content → List Content
-said text contents = prepended text (inner contents) ∷ outer contents
+abbrev pub with_text : List ℕ → List Content → List Content
+with_text text contents = with_text_before text (innermost contents) ∷ outer_contents contents
 
 -- what these answers leave of each open element, the innermost first; the whole text is the
 -- outermost. Each run of text is unescaped by itself
-unfoldable pub left : List Answer → List Content
-left [] = []
-left (start place name raw ∷ more) = begun place name raw (left more)
-left (words place raw ∷ more) = said (unescaped raw) (left more)
-left (stop place ∷ more) = last [] ∷ left more
-left (finish ∷ more) = last [] ∷ []
-left (form place ∷ more) = cut [] (form place) ∷ []
-left (depth place ∷ more) = cut [] (depth place) ∷ []
+unfoldable pub open_contents : List Answer → List Content
+open_contents [] = []
+open_contents (start place name raw ∷ more) = with_start place name raw (open_contents more)
+open_contents (words place raw ∷ more) = with_text (unescaped raw) (open_contents more)
+open_contents (stop place ∷ more) = last [] ∷ open_contents more
+open_contents (finish ∷ more) = last [] ∷ []
+open_contents (form place ∷ more) = cut [] (form place) ∷ []
+open_contents (depth place ∷ more) = cut [] (depth place) ∷ []
 
 -- what a text holds, by all answers of a reader on it
 abbrev pub content_of : List Answer → Content
-content_of answers = inner (left answers)
+content_of answers = innermost (open_contents answers)
 
 -- the text of an element's own, joined across the elements in it
-abbrev pub joined : Content → List ℕ
-joined (last text) = text
-joined (also text e more) = text ++ joined more
-joined (cut text answer) = text
+abbrev pub own_text : Content → List ℕ
+own_text (last text) = text
+own_text (also text e more) = text ++ own_text more
+own_text (cut text answer) = text
 
 abbrev mutual
   -- the answer of the first cut in an element, its children read in their order

@@ -6,8 +6,8 @@ use Rattle.std.specs.Str.Parse.{digits_value}
 use lib.Utf8.{scalar}
 
 -- the character whose number these digits write, which is a Unicode scalar value
-unfoldable pub numbered : ℕ → List ℕ → Option ℕ
-numbered radix digits =
+unfoldable pub character_by_number : ℕ → List ℕ → Option ℕ
+character_by_number radix digits =
     if nat_lt 0 (length digits) && list_all (λ d. is_digit d radix) digits
     && scalar (digits_value radix digits)
     then Some (digits_value radix digits)
@@ -16,7 +16,8 @@ numbered radix digits =
 -- past `#`: hexadecimal digits after an `x`, or decimal digits
 abbrev pub behind_hash : List ℕ → Option ℕ
 behind_hash [] = None
-behind_hash (b ∷ rest) = if b == 120 then numbered 16 rest else numbered 10 (b ∷ rest)
+behind_hash (b ∷ rest) = if b == 120 then character_by_number 16 rest else character_by_number 10
+    (b ∷ rest)
 
 -- the character of a name
 abbrev pub by_name : List ℕ → Option ℕ
@@ -29,9 +30,9 @@ by_name name =
     else None))))
 
 -- the character that a reference stands for, by what is between its `&` and its `;`
-unfoldable pub referred : List ℕ → Option ℕ
-referred [] = None
-referred (b ∷ rest) = if b == 35 then behind_hash rest else by_name (b ∷ rest)
+unfoldable pub character_of_reference : List ℕ → Option ℕ
+character_of_reference [] = None
+character_of_reference (b ∷ rest) = if b == 35 then behind_hash rest else by_name (b ∷ rest)
 
 -- the bytes of that character, and none where there is no such character
 abbrev pub bytes_of : Option ℕ → List ℕ
@@ -54,10 +55,10 @@ place_after_text b = if b == 38 then reference [] else (if b == 13 then returned
 
 -- what a byte gives: a line feed after a carriage return gives nothing, and a reference its
 -- character at its `;`
-abbrev pub given : Place → ℕ → List ℕ
-given plain b = plainly_given b
-given returned b = if b == 10 then [] else plainly_given b
-given (reference name) b = if b == 59 then bytes_of (referred name) else []
+abbrev pub bytes_given : Place → ℕ → List ℕ
+bytes_given plain b = plainly_given b
+bytes_given returned b = if b == 10 then [] else plainly_given b
+bytes_given (reference name) b = if b == 59 then bytes_of (character_of_reference name) else []
 
 -- and where one is then
 abbrev pub place_after : Place → ℕ → Place
@@ -68,7 +69,7 @@ place_after (reference name) b = if b == 59 then plain else reference (name ++ b
 -- what raw text stands for, from a place on
 unfoldable pub unescaped_from : Place → List ℕ → List ℕ
 unescaped_from place [] = []
-unescaped_from place (b ∷ rest) = given place b ++ unescaped_from (place_after place b) rest
+unescaped_from place (b ∷ rest) = bytes_given place b ++ unescaped_from (place_after place b) rest
 
 -- what raw text stands for: its line ends as line feeds, and its references as their characters
 abbrev pub unescaped : List ℕ → List ℕ

@@ -169,9 +169,9 @@ spot_step (referring quote r) b = in_value quote (ref_step r b)
 spot_step valued b = if is_space b then spot_on spaced else spot_off
 
 -- after an end tag or an empty element
-abbrev pub outside : Names → Level
-outside [] = behind
-outside (name ∷ names) = within name names
+abbrev pub level_of_names : Names → Level
+level_of_names [] = behind
+level_of_names (name ∷ names) = within name names
 
 -- what a turn of the attributes is
 abbrev pub tag_turn : SpotTurn → ℕ → List ℕ → List ℕ → Names → Turn
@@ -265,14 +265,15 @@ step (in_tag valued place name raw names) at b =
 step (in_tag spot place name raw names) at b = tag_turn (spot_step spot b) place name
     (raw ++ b ∷ []) names
 step (slashed slash place name raw names) at b =
-    if b == 62 then on (start place name raw ∷ stop slash ∷ []) (between (outside names)) else off
+    if b == 62 then on (start place name raw ∷ stop slash ∷ []) (between (level_of_names names))
+    else off
 step (closing place [] names) at b =
-    if b == 62 then on (stop place ∷ []) (between (outside names))
+    if b == 62 then on (stop place ∷ []) (between (level_of_names names))
     else (if is_space b then on [] (closed place names) else off)
 step (closing place (c ∷ rest) names) at b = if b == c then on [] (closing place rest names) else
     off
 step (closed place names) at b =
-    if b == 62 then on (stop place ∷ []) (between (outside names))
+    if b == 62 then on (stop place ∷ []) (between (level_of_names names))
     else (if is_space b then on [] (closed place names) else off)
 
 -- the verdict where the text ends
@@ -281,12 +282,12 @@ verdict (between behind) at = finish
 verdict state at = form at
 
 -- the answers of a turn and of what follows it
-abbrev pub followed : Turn → ℕ → (State → List Answer) → List Answer
-followed (on answers state) at more = answers ++ more state
-followed off at more = form at ∷ []
+abbrev pub answers_of_turn : Turn → ℕ → (State → List Answer) → List Answer
+answers_of_turn (on answers state) at more = answers ++ more state
+answers_of_turn off at more = form at ∷ []
 
 -- the answers from a state on, at this place, over these bytes
 unfoldable pub answers_from : State → ℕ → List ℕ → List Answer
 answers_from state at [] = verdict state at ∷ []
-answers_from state at (b ∷ rest) = followed (step state at b) at
+answers_from state at (b ∷ rest) = answers_of_turn (step state at b) at
     (λ next. answers_from next (at + 1) rest)

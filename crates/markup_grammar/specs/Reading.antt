@@ -1,6 +1,6 @@
 -- The answers of a reader on a whole text.
 use Rattle.std.specs.Prelude.{ℕ, ◌==◌, if◌then◌else◌, List, length, take}
-use Rattle.markup_grammar.specs.Answers.{Answer, limited, cut_short}
+use Rattle.markup_grammar.specs.Answers.{Answer, limit_depth, cut_short}
 use Rattle.markup_grammar.specs.Machine.{fresh, answers_from}
 use Rattle.markup_grammar.specs.Utf8.{utf8_front}
 
@@ -13,4 +13,4 @@ answers_within text n =
 -- the answers on a text: those on the prefix that begins UTF-8, of which at most 256 elements are
 -- open at once
 unfoldable pub answers : List ℕ → List Answer
-answers text = limited 0 (answers_within text (utf8_front text))
+answers text = limit_depth 0 (answers_within text (utf8_front text))

@@ -2,7 +2,7 @@
 -- grammar.
 use Rattle.std.specs.Prelude.{ℕ, ◌+◌, [], length}
 use Rattle.markup_grammar.specs.Elements as told
-use Rattle.markup_grammar.specs.Elements.{prepended}
+use Rattle.markup_grammar.specs.Elements.{with_text_before}
 use Rattle.markup_grammar.specs.Escapes.{unescaped}
 use Rattle.markup_grammar.specs.Tree.{Element, element, empty, Content, text_only, element_after, aside_after, start_tag, spelled, spelled_aside, Tree, spelled_front}
 
@@ -21,7 +21,8 @@ abbrev mutual
       told.also (unescaped text) (element_at (place + length text) e)
       (content_at (place + length text + length (spelled e)) more)
   content_at place (aside_after text a more) =
-      prepended (unescaped text) (content_at (place + length text + length (spelled_aside a)) more)
+      with_text_before (unescaped text)
+      (content_at (place + length text + length (spelled_aside a)) more)
 
 -- a whole text holds one element
 abbrev pub tree_content : Tree → told.Content

@@ -7,7 +7,7 @@ use Rattle.std.specs.Option.{unwrap_or}
 use Rattle.vault_model.specs.declared.nodes.GroupState.{GroupState}
 use Rattle.vault_model.specs.Db.{NodeId, id_cmp, Versions, Place, SharedMeta, Db, holds, newest, state_time, stamp_in, parent_or, Sound}
 use Rattle.vault_model.specs.Join.{stats_join, state_join, meta_join, no_meta, root_of, latest, above, is_held, own, kept, join, IsIn, IsWithin, IsNotEmpty, IsPart, IsAcyclic, Allowed, KeepsParents, Compatible, Agreed}
-use Rattle.vault_model.specs.Unite.{merged, gather, unite}
+use Rattle.vault_model.specs.Unite.{join_options, gather, unite}
 use Rattle.join_laws.proofs.Facts.{join_entries, join_groups, join_places, join_tombs, join_root, part_root, part_sound, part_roots, alive_from_own, own_from_alive, next_own, kept-own, placed_held, held_by}
 use Rattle.join_laws.proofs.Joins.{versions_joins, state_joins, places_joins, meta_joins}
 use Rattle.vault_model.proofs.Orders.{id_order}
@@ -94,7 +94,7 @@ columns : {A : Type 0} {f : A → A → A} → IsJoin f → (col : Db → Option
     → ((R : List Db) → IsIn R Rs → col (join R) ≡ gather f (map col R)) → gather f (map col (map join Rs)) ≡ gather f (map col (end_to_end Rs))
 columns j col [] each = refl
 columns {f = f} j col (R ∷ Rs) each =
-    (λ i. merged f (each R (inl refl) i) (columns j col Rs (λ Q h. each Q (inr h)) i))
+    (λ i. join_options f (each R (inl refl) i) (columns j col Rs (λ Q h. each Q (inr h)) i))
     ∙ sym (ap (gather f) (map_append col R (end_to_end Rs)) ∙ gather-append j (map col R) (map col (end_to_end Rs)))
 
 module _ (S : List Db) (a : Agreed S) (Rs : List (List Db)) (some : IsNotEmpty Rs) (parts : AreParts Rs S) where

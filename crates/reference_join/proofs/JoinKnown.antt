@@ -6,7 +6,7 @@ use Rattle.std.specs.FinMap.{FinMap, keys, contains_key-keys, get}
 use Rattle.vault_model.specs.Db.{NodeId, id_cmp, Db, place_cmp}
 use Rattle.vault_model.specs.Join.{is_id, kept, join, stats_join, state_join}
 use Rattle.join_laws.proofs.Facts.{join_entries, join_groups, join_places, join_tombs}
-use Rattle.vault_model.specs.Unite.{merged, greater, gather, unite}
+use Rattle.vault_model.specs.Unite.{join_options, greater, gather, unite}
 use Rattle.vault_model.proofs.Tests.{or_false, none_of}
 use Rattle.reference_join.specs.KnownIds.{known_in, known_ids}
 
@@ -15,7 +15,7 @@ module _ {A : Type 0} (f : A → A → A) (field : Db → FinMap id_cmp A) (with
   none_known [] q h = refl
   none_known (m ∷ ms) q h =
       let parts = or_false (list_any (is_id q) (known_in m)) (list_any (is_id q) (known_ids ms)) (sym (list_any-append (is_id q) (known_in m) (known_ids ms)) ∙ h) in
-      (λ i. merged f (within m q parts.0 i) (none_known ms q parts.1 i))
+      (λ i. join_options f (within m q parts.0 i) (none_known ms q parts.1 i))
 
 no_key : {A : Type 0} (m : FinMap id_cmp A) (q : NodeId) → list_any (is_id q) (keys m) ≡ false → get m q ≡ None
 no_key m q h = none_of (get m q) (contains_key-keys m q ∙ h)

@@ -4,8 +4,8 @@ ghost use Rattle.std.specs.Option.{option_copied};
 ghost use Rattle.std.specs.FinMap as table;
 ghost use Rattle.std.specs.List.{list_any};
 ghost use Rattle.vault_model.specs.Join.{is_id, path, ids, join, root_of, state_join, stats_join};
-ghost use Rattle.vault_model.specs.Unite.{gather, merged, unite};
-ghost use Rattle.reference_tables.specs.Databases.{database, databases, shared};
+ghost use Rattle.vault_model.specs.Unite.{gather, join_options, unite};
+ghost use Rattle.reference_tables.specs.Databases.{database, databases, shared_meta};
 ghost use Rattle.reference_join.specs.KnownIds.{known_ids};
 
 use crate::nodes::{all_ids, is_kept, is_on_trail, known_ids, latest};
@@ -26,7 +26,7 @@ fn join_versions<'a>(
     so_far: Option<VersionTable<'a>>,
     more: Option<&VersionTable<'a>>,
 ) -> Result<Option<VersionTable<'a>>, NoMemory>
-    ensures { IfOk result (λ v. v ≡ merged (unite stats_join) (option_copied more.entry)
+    ensures { IfOk result (λ v. v ≡ join_options (unite stats_join) (option_copied more.entry)
         so_far.entry) }
 {
     let Some(more) = more else {
@@ -61,7 +61,7 @@ fn join_state<'a>(
     so_far: Option<LentState<'a>>,
     more: Option<&LentState<'a>>,
 ) -> Option<LentState<'a>>
-    ensures { result ≡ merged state_join (option_copied more.entry) so_far.entry }
+    ensures { result ≡ join_options state_join (option_copied more.entry) so_far.entry }
 {
     match (more, so_far) {
         (None, so_far) => so_far,
@@ -84,7 +84,7 @@ fn joined_state<'a>(members: &[Database<'a>], id: &Uuid) -> Option<LentState<'a>
 
 /// The later of two times; where there is but one, that.
 fn later_time(first: Option<Stamp>, second: Option<Stamp>) -> Option<Stamp>
-    ensures { result ≡ merged max first second }
+    ensures { result ≡ join_options max first second }
 {
     match (first, second) {
         (None, _) => second,
@@ -245,7 +245,7 @@ fn joined_tombs(
 /// The shared values of all members, made one.
 fn joined_meta<'a>(alloc: Global, members: &[Database<'a>]) -> Result<LentMeta<'a>, NoMemory>
     requires { 0 < length members.now }
-    ensures { IfOk result (λ m. shared m ≡ (join (databases members.now)).meta) }
+    ensures { IfOk result (λ m. shared_meta m ≡ (join (databases members.now)).meta) }
 {
     let mut joined = members[0].meta.again(alloc)?;
     for member in &members[1..] {

@@ -4,7 +4,7 @@ ghost use Rattle.std.specs.FinMap as table;
 ghost use Rattle.std.specs.List.{list_any};
 ghost use Rattle.vault_model.specs.Db.{holds, stamp_in, place_cmp};
 ghost use Rattle.vault_model.specs.Join.{is_id, latest, above, path, stamp, is_from, is_held, buried, own, ids, trail, kept};
-ghost use Rattle.vault_model.specs.Unite.{gather, greater, merged};
+ghost use Rattle.vault_model.specs.Unite.{gather, greater, join_options};
 ghost use Rattle.reference_tables.specs.Databases.{database, databases};
 ghost use Rattle.reference_join.specs.KnownIds.{known_ids};
 

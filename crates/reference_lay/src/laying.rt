@@ -4,9 +4,9 @@ ghost use Rattle.std.specs.Option.{option_map, unwrap_or};
 ghost use Rattle.std.specs.FinMap as table;
 ghost use Rattle.std.specs.List.{list_any, filter};
 ghost use Rattle.vault_model.specs.Join.{is_id};
-ghost use Rattle.vault_model.specs.Shape.{in_order, kids, laid_children, laid_group, laid_meta, laid_stay, lay, new_view, no_stay, stay_in, stay_of, record_of, standing, stands_in, version_of, versions_in};
+ghost use Rattle.vault_model.specs.Shape.{in_order, kids, laid_children, laid_group, laid_meta, laid_stay, lay, new_view, no_stay, stay_in, stay_of, record_of, ids_in_group, stands_in, version_of, versions_in};
 ghost use Rattle.vault_model.specs.Unite.{tabulate};
-ghost use Rattle.reference_tables.specs.Databases.{database, shared};
+ghost use Rattle.reference_tables.specs.Databases.{database, shared_meta};
 ghost use Rattle.reference_lay.specs.Shapes.{meta_of, shape};
 
 use crate::shapes::{Children, LentEntry, LentGroup, LentVersion, Shape, ShapeMeta, Stay};
@@ -97,7 +97,7 @@ fn standing(
     group: &Uuid,
     ids: &[Uuid],
 ) -> Result<Vec<Uuid>, NoMemory>
-    ensures { IfOk result (λ us. us.items ≡ standing (database laid.now) group.now ids.now) }
+    ensures { IfOk result (λ us. us.items ≡ ids_in_group (database laid.now) group.now ids.now) }
 {
     let mut standing = Vec::new(alloc);
     for id in ids {
@@ -138,7 +138,7 @@ fn old_groups<'s>(older: &'s Shape, group: &Uuid) -> &'s [Uuid]
 
 /// The entries that are in a group, by rising id.
 fn present_entries(alloc: Global, laid: &Database, group: &Uuid) -> Result<Vec<Uuid>, NoMemory>
-    ensures { IfOk result (λ us. us.items ≡ standing (database laid.now) group.now
+    ensures { IfOk result (λ us. us.items ≡ ids_in_group (database laid.now) group.now
         (table.keys laid.now.entries)) }
 {
     let ids = ids_of(alloc, &laid.entries)?;
@@ -148,7 +148,7 @@ fn present_entries(alloc: Global, laid: &Database, group: &Uuid) -> Result<Vec<U
 
 /// The groups that are in a group, by rising id.
 fn present_groups(alloc: Global, laid: &Database, group: &Uuid) -> Result<Vec<Uuid>, NoMemory>
-    ensures { IfOk result (λ us. us.items ≡ standing (database laid.now) group.now
+    ensures { IfOk result (λ us. us.items ≡ ids_in_group (database laid.now) group.now
         (table.keys laid.now.groups)) }
 {
     let ids = ids_of(alloc, &laid.groups)?;
@@ -425,7 +425,7 @@ fn laid_meta<'a>(
     laid: &LentMeta<'a>,
     older: &ShapeMeta<'a>,
 ) -> Result<ShapeMeta<'a>, NoMemory>
-    ensures { IfOk result (λ m. meta_of m ≡ laid_meta (shared laid.now) (meta_of older.now)) }
+    ensures { IfOk result (λ m. meta_of m ≡ laid_meta (shared_meta laid.now) (meta_of older.now)) }
 {
     Ok(ShapeMeta {
         name: laid.name,

@@ -5,8 +5,8 @@ use Rattle.reference_tables.specs.declared.databases.Database.{Database}
 use Rattle.reference_tables.specs.declared.metas.LentMeta.{LentMeta}
 
 -- the values that every copy shares, each lent by some document
-abbrev pub shared : LentMeta → SharedMeta
-shared m = record {
+abbrev pub shared_meta : LentMeta → SharedMeta
+shared_meta m = record {
   name = m.name.now;
   description = m.description.now;
   user = m.user.now;
@@ -25,7 +25,7 @@ database d = record {
   groups = d.groups;
   places = d.places;
   tombs = d.tombs;
-  meta = shared d.meta;
+  meta = shared_meta d.meta;
 }
 
 -- those of some members

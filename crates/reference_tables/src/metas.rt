@@ -2,7 +2,7 @@
 ghost use Rattle.std.specs.Prelude.{◌≡◌, IfOk, OnOk};
 ghost use Rattle.vault_model.specs.Join.{timed_join, meta_join};
 ghost use Rattle.vault_model.specs.Orders.{bin_cmp, bytes_cmp, protection_cmp, settings_cmp};
-ghost use Rattle.reference_tables.specs.Databases.{shared};
+ghost use Rattle.reference_tables.specs.Databases.{shared_meta};
 
 use crate::icons::{ItemTable, LentIcon, add_icons};
 use crate::tables::Table;
@@ -124,7 +124,7 @@ fn later_settings<'a>(
 impl<'a> LentMeta<'a> {
     /// The same values, to be changed elsewhere. A refusal is want of memory.
     pub fn again(&self, alloc: Global) -> Result<LentMeta<'a>, NoMemory>
-        ensures { IfOk result (λ m. shared m ≡ shared self.now) }
+        ensures { IfOk result (λ m. shared_meta m ≡ shared_meta self.now) }
     {
         let mut icons = Table::new(alloc);
         add_icons(&mut icons, &self.icons)?;
@@ -145,7 +145,8 @@ impl<'a> LentMeta<'a> {
     /// Takes in the values of another copy, each where it is the later one. A refusal is want of
     /// memory.
     pub fn absorb(&mut self, other: &LentMeta<'a>) -> Result<(), NoMemory>
-        ensures { OnOk result (shared self.new ≡ meta_join (shared other.now) (shared self.old)) }
+        ensures { OnOk result
+            (shared_meta self.new ≡ meta_join (shared_meta other.now) (shared_meta self.old)) }
     {
         add_icons(&mut self.icons, &other.icons)?;
         self.items.add_all(&other.items)?;

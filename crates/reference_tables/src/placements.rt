@@ -1,7 +1,7 @@
 //! Where nodes are.
 ghost use Rattle.std.specs.Prelude.{◌≡◌};
 ghost use Rattle.vault_model.specs.Db.{place_cmp};
-ghost use Rattle.vault_model.specs.Unite.{greater, merged};
+ghost use Rattle.vault_model.specs.Unite.{greater, join_options};
 
 use std::cmp::Ordering;
 use std::marker::Model;
@@ -30,7 +30,7 @@ impl Model for Placement {
 /// The later placement, of one time the one with the greater parent, and of one time and parent the
 /// one with the greater previous parent; where there is but one, that.
 pub fn later_placement(first: Option<Placement>, second: Option<Placement>) -> Option<Placement>
-    ensures { result ≡ merged (greater place_cmp) first second }
+    ensures { result ≡ join_options (greater place_cmp) first second }
 {
     match (first, second) {
         (None, _) => second,

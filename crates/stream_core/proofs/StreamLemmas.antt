@@ -6,27 +6,27 @@ use borrow.Rule.Slice.PartMut.{put_mid, mid_of}
 use Rattle.std.specs.Int.Bits.{xor_assoc, xor_self, xor_zero_r}
 use Rattle.std.specs.Int.{w32, to_le_bytes}
 use Rattle.stream_core.specs.Words.{byte_in}
-use Rattle.stream_core.specs.Stream.{xored, xored_in_pieces, concatenated}
+use Rattle.stream_core.specs.Stream.{xor_stream, xor_stream_in_pieces, concat_pieces}
 use Rattle.stream_core.proofs.LaneLemmas.{below_four}
 
 -- a text of which the first bytes have been XORed
 abbrev pub xored_front : (ℕ → ℕ) → ℕ → ℕ → List ℕ → List ℕ
-xored_front stream place n text = xored stream place (take n text) ++ drop n text
+xored_front stream place n text = xor_stream stream place (take n text) ++ drop n text
 
-pub length-xored : (f : ℕ → ℕ) (p : ℕ) (text : List ℕ) → length (xored f p text) ≡ length text
+pub length-xored : (f : ℕ → ℕ) (p : ℕ) (text : List ℕ) → length (xor_stream f p text) ≡ length text
 length-xored f p [] = refl
 length-xored f p (b ∷ bs) = ap suc (length-xored f (p + 1) bs)
 
-pub xored-append : (f : ℕ → ℕ) (p : ℕ) (s t : List ℕ) → xored f p (s ++ t) ≡ xored f p s ++ xored f (p + length s) t
+pub xored-append : (f : ℕ → ℕ) (p : ℕ) (s t : List ℕ) → xor_stream f p (s ++ t) ≡ xor_stream f p s ++ xor_stream f (p + length s) t
 xored-append f p [] t =
     let here : p ≡ p + 0 = omega arith in
-    ap (λ n. xored f n t) here
+    ap (λ n. xor_stream f n t) here
 xored-append f p (b ∷ bs) t =
     let next : p + 1 + length bs ≡ p + suc (length bs) = omega arith in
-    ap (λ xs. bit_xor b (f p) ∷ xs) (xored-append f (p + 1) bs t ∙ ap (λ n. xored f (p + 1) bs ++ xored f n t) next)
+    ap (λ xs. bit_xor b (f p) ∷ xs) (xored-append f (p + 1) bs t ∙ ap (λ n. xor_stream f (p + 1) bs ++ xor_stream f n t) next)
 
 -- only the stream's bytes at the text's places count
-pub xored_same : (f g : ℕ → ℕ) (p q : ℕ) (text : List ℕ) → ((i : ℕ) → i < length text → f (p + i) ≡ g (q + i)) → xored f p text ≡ xored g q text
+pub xored_same : (f g : ℕ → ℕ) (p q : ℕ) (text : List ℕ) → ((i : ℕ) → i < length text → f (p + i) ≡ g (q + i)) → xor_stream f p text ≡ xor_stream g q text
 xored_same f g p q [] same = refl
 xored_same f g p q (b ∷ bs) same =
     let start : f p ≡ g q =
@@ -52,38 +52,38 @@ xored_front_more f p (suc i) (b ∷ bs) h =
 
 -- a piece more: the part of the text from d on, of k bytes, is XORed in its place
 pub xored_front_piece : (f : ℕ → ℕ) (p d k j : ℕ) (text whole piece : List ℕ) → text ≡ xored_front f p d whole → j ≡ d + k → j ≤ length whole
-    → piece ≡ xored f (p + d) (mid_of d k text) → put_mid d k text piece ≡ xored_front f p j whole
+    → piece ≡ xor_stream f (p + d) (mid_of d k text) → put_mid d k text piece ≡ xored_front f p j whole
 xored_front_piece f p d k j text whole piece front next within is =
     let done : d ≤ length whole = omega arith in
     let long : length (take d whole) ≡ d = length-take-le d whole done in
-    let long_xored : length (xored f p (take d whole)) ≡ d = length-xored f p (take d whole) ∙ long in
-    let before : take d text ≡ xored f p (take d whole) = ap (take d) front ∙ take_at _ _ d long_xored in
+    let long_xored : length (xor_stream f p (take d whole)) ≡ d = length-xored f p (take d whole) ∙ long in
+    let before : take d text ≡ xor_stream f p (take d whole) = ap (take d) front ∙ take_at _ _ d long_xored in
     let after : drop d text ≡ drop d whole = ap (drop d) front ∙ drop_at _ _ d long_xored in
     let split : take (d + k) whole ≡ take d whole ++ take k (drop d whole) = take-add d k whole in
     let rest : drop (d + k) whole ≡ drop k (drop d whole) = sym (drop-drop k d whole) in
-    let now : piece ≡ xored f (p + length (take d whole)) (take k (drop d whole)) =
-    is ∙ ap (λ xs. xored f (p + d) (take k xs)) after ∙ ap (λ n. xored f (p + n) (take k (drop d whole))) (sym long) in
-    let together : xored f p (take (d + k) whole) ≡ xored f p (take d whole) ++ piece =
-    ap (xored f p) split ∙ xored-append f p (take d whole) (take k (drop d whole)) ∙ ap (λ xs. xored f p (take d whole) ++ xs) (sym now) in
+    let now : piece ≡ xor_stream f (p + length (take d whole)) (take k (drop d whole)) =
+    is ∙ ap (λ xs. xor_stream f (p + d) (take k xs)) after ∙ ap (λ n. xor_stream f (p + n) (take k (drop d whole))) (sym long) in
+    let together : xor_stream f p (take (d + k) whole) ≡ xor_stream f p (take d whole) ++ piece =
+    ap (xor_stream f p) split ∙ xored-append f p (take d whole) (take k (drop d whole)) ∙ ap (λ xs. xor_stream f p (take d whole) ++ xs) (sym now) in
     ap₂ (λ xs ys. xs ++ (piece ++ drop k ys)) before after
-    ∙ sym (append_assoc (xored f p (take d whole)) piece (drop k (drop d whole)))
+    ∙ sym (append_assoc (xor_stream f p (take d whole)) piece (drop k (drop d whole)))
     ∙ ap₂ (λ xs ys. xs ++ ys) (sym together) (sym rest)
     ∙ ap (λ n. xored_front f p n whole) (sym next)
 
 -- a text XORed in pieces is the text XORed whole
-pub xored-joined : (f : ℕ → ℕ) (p : ℕ) (pieces : List (List ℕ)) → xored_in_pieces f p pieces ≡ xored f p (concatenated pieces)
+pub xored-joined : (f : ℕ → ℕ) (p : ℕ) (pieces : List (List ℕ)) → xor_stream_in_pieces f p pieces ≡ xor_stream f p (concat_pieces pieces)
 xored-joined f p [] = refl
 xored-joined f p (t ∷ ts) =
-    ap (λ xs. xored f p t ++ xs) (xored-joined f (p + length t) ts) ∙ sym (xored-append f p t (concatenated ts))
+    ap (λ xs. xor_stream f p t ++ xs) (xored-joined f (p + length t) ts) ∙ sym (xored-append f p t (concat_pieces ts))
 
 -- a text XORed twice from one place is the text
-pub xored-xored : (f : ℕ → ℕ) (p : ℕ) (text : List ℕ) → xored f p (xored f p text) ≡ text
+pub xored-xored : (f : ℕ → ℕ) (p : ℕ) (text : List ℕ) → xor_stream f p (xor_stream f p text) ≡ text
 xored-xored f p [] = refl
 xored-xored f p (b ∷ bs) =
     ap₂ (λ x xs. x ∷ xs) (xor_assoc b (f p) (f p) ∙ ap (bit_xor b) (xor_self (f p)) ∙ xor_zero_r b) (xored-xored f (p + 1) bs)
 
 -- a stream of zeros changes nothing
-pub xored-zero : (p : ℕ) (text : List ℕ) → xored (λ _. 0) p text ≡ text
+pub xored-zero : (p : ℕ) (text : List ℕ) → xor_stream (λ _. 0) p text ≡ text
 xored-zero p [] = refl
 xored-zero p (b ∷ bs) = ap₂ (λ x xs. x ∷ xs) (xor_zero_r b) (xored-zero (p + 1) bs)
 

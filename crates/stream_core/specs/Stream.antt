@@ -8,20 +8,20 @@ pub record StreamCipher : Type 0 where
   pub position : ℕ
 
 -- each byte of a text XORed with the stream's byte at its place, the first byte's place being given
-abbrev pub xored : (ℕ → ℕ) → ℕ → List ℕ → List ℕ
-xored stream place [] = []
-xored stream place (b ∷ bs) = bit_xor b (stream place) ∷ xored stream (place + 1) bs
+abbrev pub xor_stream : (ℕ → ℕ) → ℕ → List ℕ → List ℕ
+xor_stream stream place [] = []
+xor_stream stream place (b ∷ bs) = bit_xor b (stream place) ∷ xor_stream stream (place + 1) bs
 
 -- pieces of a text put end to end
-abbrev pub concatenated : List (List ℕ) → List ℕ
-concatenated [] = []
-concatenated (t ∷ ts) = t ++ concatenated ts
+abbrev pub concat_pieces : List (List ℕ) → List ℕ
+concat_pieces [] = []
+concat_pieces (t ∷ ts) = t ++ concat_pieces ts
 
 -- the pieces XORed one after another, each from the place where the one before it ended
-abbrev pub xored_in_pieces : (ℕ → ℕ) → ℕ → List (List ℕ) → List ℕ
-xored_in_pieces stream place [] = []
-xored_in_pieces stream place (t ∷ ts) = xored stream place t
-    ++ xored_in_pieces stream (place + length t) ts
+abbrev pub xor_stream_in_pieces : (ℕ → ℕ) → ℕ → List (List ℕ) → List ℕ
+xor_stream_in_pieces stream place [] = []
+xor_stream_in_pieces stream place (t ∷ ts) = xor_stream stream place t
+    ++ xor_stream_in_pieces stream (place + length t) ts
 
 -- 256 bytes are those of the stream round a place, counted from a multiple of 256; at such a
 -- multiple they may be any

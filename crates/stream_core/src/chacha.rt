@@ -2,7 +2,7 @@
 
 ghost use Rattle.std.specs.Prelude.{◌≡◌, ℕ, ◌+◌, ◌^◌, ◌≤◌, length};
 ghost use Rattle.stream_core.specs.ChaCha20.{chacha_byte, chacha_word};
-ghost use Rattle.stream_core.specs.Stream.{StreamCipher, xored, IsWindowAt};
+ghost use Rattle.stream_core.specs.Stream.{StreamCipher, xor_stream, IsWindowAt};
 
 use crate::chacha_blocks::four_blocks;
 use crate::state::{BlockFunction, State};
@@ -58,8 +58,8 @@ impl ChaCha20 {
     /// 32-bit counter.
     pub fn apply(&mut self, text: &mut [u8])
         requires limit { self.old.position + length text.old ≤ 2 ^ 38 }
-        ensures text { text.new ≡ xored (chacha_byte self.old.key self.old.nonce) self.old.position
-            text.old }
+        ensures text { text.new ≡ xor_stream (chacha_byte self.old.key self.old.nonce)
+            self.old.position text.old }
         ensures position { self.new ≡ record self.old
             { position = self.old.position + length text.old } }
     {

@@ -4,7 +4,7 @@ ghost use Rattle.std.specs.Prelude.{◌≡◌, ◌≢◌, ℕ, ◌+◌, Some, No
 ghost use Rattle.sha2.specs.Sha256.{sha256};
 ghost use Rattle.sha2.specs.Sha512.{sha512};
 ghost use Rattle.stream_core.specs.InnerStream.{kdbx_nonce};
-ghost use Rattle.stream_core.specs.Stream.{xored};
+ghost use Rattle.stream_core.specs.Stream.{xor_stream};
 
 use crate::chacha::ChaCha20;
 use crate::salsa::Salsa20;
@@ -54,7 +54,7 @@ impl InnerStream {
     pub fn apply(&mut self, text: &mut [u8])
         requires left { HasLeft self.old (length text.old) }
         ensures text { (place : ℕ) → IsAt self.old place
-            → text.new ≡ xored (keystream_byte (keystream self.old)) place text.old }
+            → text.new ≡ xor_stream (keystream_byte (keystream self.old)) place text.old }
         ensures keystream { keystream self.new ≡ keystream self.old }
         ensures place { (place : ℕ) → IsAt self.old place
             → IsAt self.new (place + length text.old) }

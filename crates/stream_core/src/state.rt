@@ -4,7 +4,7 @@
 ghost use Rattle.std.specs.Prelude.{◌≡◌, ℕ, ◌+◌, ◌*◌, ◌/◌, ◌%◌, ◌^◌, ◌<◌, ◌≤◌, List, length, slice_index, replicate};
 ghost use Rattle.stream_core.specs.Words.{byte_in};
 ghost use Rattle.stream_core.specs.Lanes.{lane_word, AreTurns};
-ghost use Rattle.stream_core.specs.Stream.{xored, IsWindowAt};
+ghost use Rattle.stream_core.specs.Stream.{xor_stream, IsWindowAt};
 
 use crate::lanes::turns;
 use crate::window::put_blocks;
@@ -97,7 +97,7 @@ impl<const N: usize> State<N> {
         requires limit { place + length text.old ≤ 2 ^ 38 }
         requires window { IsWindowAt (byte_in (B.word self.old.key self.old.nonce)) self.old.window
             place }
-        ensures text { text.new ≡ xored (byte_in (B.word self.old.key self.old.nonce)) place
+        ensures text { text.new ≡ xor_stream (byte_in (B.word self.old.key self.old.nonce)) place
             text.old }
         ensures key { self.new.key ≡ self.old.key }
         ensures nonce { self.new.nonce ≡ self.old.nonce }
@@ -121,7 +121,7 @@ impl<const N: usize> State<N> {
 #[inline(always)]
 fn xor_window(text: &mut [u8], window: &[u8; 256], from: usize)
     requires { from + length text.old ≤ 256 }
-    ensures { text.new ≡ xored (slice_index window.now) from text.old }
+    ensures { text.new ≡ xor_stream (slice_index window.now) from text.old }
 {
     'bytes: for i in 0..text.len() {
         text[i] ^= window[from + i];

@@ -1,9 +1,9 @@
 -- Steps of a definition that may be refused: the first refusal, or the next step.
-use Rattle.std.proofs.Common.{◌≡◌, Bool, true, false, Option, None, Some, Result, Ok, Err, refl, sym, ap, ◌∙◌}
+use Rattle.std.proofs.Common.{◌≡◌, Bool, true, false, Option, None, Some, Result, Ok, Err, ap}
 use Rattle.outside_core.specs.Results.{◌>>=◌}
 use Rattle.tree_changes.specs.declared.fails.TreeFail.{TreeFail}
 use Rattle.tree_changes.specs.declared.fails.TreeFail.TheVariants.{NoSuchPath}
-use Rattle.tree_changes.specs.After.{named, refuse_if}
+use Rattle.tree_changes.specs.After.{named_or_refusal, refuse_if}
 
 module _ {A B : Type 0} (next : A → Result B TreeFail) where
   pub goes_on : (r : Result A TreeFail) (a : A) → r ≡ Ok a → (r >>= next) ≡ next a
@@ -13,12 +13,12 @@ module _ {A B : Type 0} (next : A → Result B TreeFail) where
   ends r fail e = ap (λ (x : Result A TreeFail). x >>= next) e
 
   -- a path that names something
-  pub names : (o : Option A) (a : A) → o ≡ Some a → (named o >>= next) ≡ next a
-  names o a e = ap (λ (x : Option A). named x >>= next) e
+  pub names : (o : Option A) (a : A) → o ≡ Some a → (named_or_refusal o >>= next) ≡ next a
+  names o a e = ap (λ (x : Option A). named_or_refusal x >>= next) e
 
   -- a path that names nothing
-  pub names_none : (o : Option A) → o ≡ None → (named o >>= next) ≡ Err NoSuchPath
-  names_none o e = ap (λ (x : Option A). named x >>= next) e
+  pub names_none : (o : Option A) → o ≡ None → (named_or_refusal o >>= next) ≡ Err NoSuchPath
+  names_none o e = ap (λ (x : Option A). named_or_refusal x >>= next) e
 
 module _ {B : Type 0} (next : Unit {0} → Result B TreeFail) where
   -- what would be refused does not hold

@@ -1,10 +1,10 @@
 -- One group of a tree changed: where it is not there, by a function of the group, and not at all.
-use Rattle.std.proofs.Common.{◌≡◌, Bool, true, false, ◌||◌, cond, inl, inr, List, Option, Some, None, refl, sym, ap, ◌∙◌}
+use Rattle.std.proofs.Common.{◌≡◌, false, cond, inl, inr, Some, None, refl, sym, ap, ◌∙◌}
 use Rattle.std.proofs.lemmas.Option.{same_Some}
 use Rattle.vault_model.specs.Db.{NodeId}
 use Rattle.vault_model.specs.Join.{is_id}
 use Rattle.vault_model.specs.Tree.{Tree, Trees, beside, node, none}
-use Rattle.vault_model.proofs.Tests.{apart, decide, or_false}
+use Rattle.vault_model.proofs.Tests.{decide, or_false}
 use Rattle.tree_changes.specs.Changes.{changed_at, changed_in, group_among, group_with, has_group, have_group}
 
 -- ---- a group that is not there

@@ -1,30 +1,23 @@
 -- Changes of the entries of two groups, one after the other.
-use Rattle.std.proofs.Common.{◌≡◌, ◌≢◌, ◌≤◌, ℕ, Bool, true, false, not, cond, ◌&&◌, ◌||◌, inl, inr, option_and_then, IfSome, IsSome, MatchResult, Result, Ok, Err, List, [], ◌∷◌, ◌++◌, Option, None, Some, refl, sym, ap, subst, ◌∙◌, arith}
+use Rattle.std.proofs.Common.{◌≡◌, ◌≢◌, ℕ, Bool, true, false, not, cond, ◌&&◌, ◌||◌, inl, inr, option_and_then, IfSome, IsSome, MatchResult, Result, Ok, Err, List, ◌∷◌, ◌++◌, Option, Some, refl, sym, ap, subst, ◌∙◌, arith}
 use Rattle.vault_model.specs.Db.{NodeId, nil_id}
 use Rattle.vault_model.specs.Join.{is_id}
-use Rattle.vault_model.specs.Shape.{EntryRecord, GroupRecord}
+use Rattle.vault_model.specs.Shape.{EntryRecord}
 use Rattle.std.specs.List.{list_all}
 use Rattle.vault_model.specs.declared.nodes.Tombstone.{Tombstone}
-use Rattle.vault_model.specs.Tree.{BareDoc, IsDoc, Tree, Trees, beside, entry_rows, entry_rows_all, is_elsewhere, is_proper_entry, node, node_ids, node_ids_all, none}
-use Rattle.vault_model.proofs.Ids.{is_same_id, same_id}
-use Rattle.vault_model.proofs.Tests.{and_both, and_true, apart, decide, is_false, not_false, some_of}
+use Rattle.vault_model.specs.Tree.{BareDoc, IsDoc, Tree, Trees, beside, entry_rows, entry_rows_all, is_elsewhere, is_proper_entry, node, node_ids, none}
+use Rattle.vault_model.proofs.Ids.{same_id}
+use Rattle.vault_model.proofs.Tests.{and_both, and_true, decide, is_false, not_false, some_of}
 use Rattle.tree_changes.specs.Changes.{changed_at, changed_in, entry_at, entry_moved, group_among, group_with, has_group, have_group, is_free, moved_entry, on_entries, own_entry, with_entry, without, without_entry}
 use Rattle.tree_changes.proofs.Added.{added_is_doc}
-use Rattle.tree_changes.proofs.Around.{entries_rows, found_group, found_id, ids_rows, occurs_change, rows_change}
-use Rattle.tree_changes.proofs.Changed.{changed_by}
-use Rattle.tree_changes.proofs.EntriesRemoved.{found_at, gone, one_less, own_id, removed_is_doc, same_group, split, untombed, was_once}
+use Rattle.tree_changes.proofs.Around.{entries_rows, found_group, found_id, rows_change}
+use Rattle.tree_changes.proofs.EntriesRemoved.{found_at, gone, own_id, removed_is_doc, split, untombed, was_once}
 use Rattle.tree_changes.proofs.Ways.{below, first, here, later}
-use Rattle.tree_changes.proofs.Counted.{all_front, elsewhere_occurs, occurs, occurs-append, one_if}
-use Rattle.tree_changes.proofs.Rows.{keys}
+use Rattle.tree_changes.proofs.Counted.{all_front, elsewhere_occurs, occurs}
 
 -- an entry as it is in the group that it is moved to
 abbrev pub placed_at : NodeId → ℕ → NodeId × EntryRecord → NodeId × EntryRecord
 placed_at from time e = (e.0, moved_entry from time e.1)
-
--- entries with one in the place of the first without an id
-abbrev pub filled : NodeId × EntryRecord → List (NodeId × EntryRecord) → List (NodeId × EntryRecord)
-filled e [] = []
-filled e (x ∷ xs) = cond (is_id x.0 nil_id) (e ∷ xs) (x ∷ filled e xs)
 
 abbrev Entries : Type 0
 Entries = List (NodeId × EntryRecord)
@@ -133,22 +126,6 @@ module _ (g : NodeId) (k l : Entries → Entries) where
               ∙ sym (later g (on_entries (λ xs. k (l xs))) t ts p)
         ]
 
--- ---- a place that is kept, and filled
-
-pub fills : (e hole : NodeId × EntryRecord) (es : Entries) → hole.0 ≡ nil_id → occurs nil_id (keys es) ≡ 0 → filled e (es ++ hole ∷ []) ≡ es ++ e ∷ []
-fills e hole [] nil zeros = ap (λ b. cond b (e ∷ []) (hole ∷ [])) (is_same_id hole.0 nil_id nil)
-fills e hole (x ∷ xs) nil zeros =
-    elim (decide (is_id nil_id x.0)) [
-      | inl p ↦ let one = ap one_if p in absurd (omega (arith, one, zeros))
-      | inr p ↦
-          let zero = ap one_if p in
-          let rest : occurs nil_id (keys xs) ≡ 0 = omega (arith, zero, zeros) in
-          ap (λ b. cond b (e ∷ (xs ++ hole ∷ [])) (x ∷ filled e (xs ++ hole ∷ []))) (other x.0 p) ∙ ap (λ ys. x ∷ ys) (fills e hole xs nil rest)
-    ]
-  where
-    other : (u : NodeId) → is_id nil_id u ≡ false → is_id u nil_id ≡ false
-    other u p = elim (decide (is_id u nil_id)) [ inl q ↦ apart (is_id nil_id u) (is_same_id nil_id u (sym (same_id u nil_id q))) p | inr q ↦ q ]
-
 -- ---- an entry of another group is found as before
 
 by_there : (u : NodeId) (b : Bool) (x y z w : Option Tree) → option_and_then (own_entry u) x ≡ option_and_then (own_entry u) y → option_and_then (own_entry u) z ≡ option_and_then (own_entry u) w
@@ -190,42 +167,6 @@ module _ (g h u : NodeId) (l : Entries → Entries) (other : g ≢ h) where
               ap (λ xs. option_and_then (own_entry u) (group_among g xs)) (later h (on_entries l) t ts q)
               ∙ by_there u (has_group g t) (group_with g t) (group_with g t) (group_among g (changed_in h (on_entries l) ts)) (group_among g ts) refl (still_among ts)
         ]
-
--- ---- an entry that is moved by way of a place that is kept for it
-
-own_keys : (x : NodeId) (t : Tree) → occurs x (node_ids t) ≡ 0 → (k : Entries → Entries) (l : Entries → Entries) → ((es : Entries) → occurs x (keys es) ≡ 0 → k es ≡ l es) → on_entries k t ≡ on_entries l t
-own_keys x (node v r es ts) zero k l same =
-    let split = occurs-append x (keys es) (node_ids_all ts) in
-    let zeros : occurs x (keys es) ≡ 0 = omega (arith, split, zero) in
-    ap (λ ys. node v r ys ts) (same es zeros)
-
-fewer : (g u : NodeId) (t b : Tree) (e : NodeId × EntryRecord) → group_with g t ≡ Some b → own_entry u b ≡ Some e → (x : NodeId) → occurs x (node_ids (changed_at g (without_entry u) t)) ≤ occurs x (node_ids t)
-fewer g u t b e there own x =
-    let change = occurs_change x t (changed_at g (without_entry u) t) b (without_entry u b) (rows_change node_ids node_ids_all ids_rows g (without_entry u) t b there (same_group u b ∙ found_id g t b there)) in
-    let less = one_less x u e b own in
-    omega (arith, change, less)
-
-pub moved_by_place : (from to u : NodeId) (old : Tree) (hole e : NodeId × EntryRecord) (time : ℕ) → from ≢ to → has_group to old ≡ true → hole.0 ≡ nil_id → is_elsewhere old nil_id ≡ true
-    → entry_at from u old ≡ Some e
-    → changed_at to (on_entries (filled (placed_at from time e))) (changed_at from (without_entry u) (changed_at to (with_entry hole) old)) ≡ entry_moved from to time e old
-moved_by_place from to u old hole e time other has nil off there =
-    let f = found_at from u old e there in
-    let id = own_id u f.0 e f.1.1 in
-    let t = changed_at from (without_entry u) old in
-    let goal = found_group to t (same_there to from (without u) old ∙ has) in
-    let zero = elsewhere_occurs old nil_id off in
-    let few = fewer from u old f.0 e f.1.0 f.1.1 nil_id in
-    let none_in : occurs nil_id (node_ids t) ≡ 0 = omega (arith, zero, few) in
-    let rows = rows_change node_ids node_ids_all ids_rows to (λ x. x) t goal.0 goal.1 (found_id to t goal.0 goal.1) in
-    let split = ap (occurs nil_id) rows.was ∙ occurs-append nil_id rows.front (node_ids goal.0 ++ rows.back) in
-    let split2 = occurs-append nil_id (node_ids goal.0) rows.back in
-    let none_own : occurs nil_id (node_ids goal.0) ≡ 0 = omega (arith, none_in, split, split2) in
-    ap (changed_at to (on_entries (filled (placed_at from time e)))) (either_order from to (without u) (λ es. es ++ hole ∷ []) other old)
-    ∙ at_once to (filled (placed_at from time e)) (λ es. es ++ hole ∷ []) t
-    ∙ sym (changed_by to (on_entries (λ es. filled (placed_at from time e) (es ++ hole ∷ []))) t goal.0 goal.1)
-    ∙ ap (λ w. changed_at to (λ x. w) t) (own_keys nil_id goal.0 none_own (λ es. filled (placed_at from time e) (es ++ hole ∷ [])) (λ es. es ++ placed_at from time e ∷ []) (λ es zeros. fills (placed_at from time e) hole es nil zeros))
-    ∙ changed_by to (with_entry (placed_at from time e)) t goal.0 goal.1
-    ∙ ap (λ v. changed_at to (with_entry (placed_at from time e)) (changed_at from (without_entry v) old)) (sym id)
 
 -- ---- the document
 
@@ -271,20 +212,6 @@ moved_is_doc d is from to u time e has there =
     let ready = move_ready d is from to u e has there in
     subst (λ (v : NodeId). IsDoc (record d { tree = changed_at to (with_entry (placed_at from time e)) (changed_at from (without_entry v) d.tree) })) (sym (own_id u f.0 e f.1.1))
     (added_is_doc (record d { tree = changed_at from (without_entry u) d.tree }) (removed_is_doc d is from u e f.0 f.1.0 f.1.1) to (placed_at from time e) ready.goal ready.there ready.free ready.proper)
-
--- the three changes of a move, one after another
-pub move_done : (from to u : NodeId) (old one two three : Tree) (hole e : NodeId × EntryRecord) (time : ℕ) → from ≢ to → has_group to old ≡ true → hole.0 ≡ nil_id → is_elsewhere old nil_id ≡ true
-    → one ≡ changed_at to (with_entry hole) old → entry_at from u one ≡ Some e → two ≡ changed_at from (without_entry u) one → three ≡ changed_at to (on_entries (filled (placed_at from time e))) two
-    → IfSome (entry_at from u old) (λ x. three ≡ entry_moved from to time x old)
-move_done from to u old one two three hole e time other has nil off p there q r =
-    let at : entry_at from u old ≡ Some e = sym (still_at from to u (λ es. es ++ hole ∷ []) other old) ∙ ap (entry_at from u) (sym p) ∙ there in
-    subst (λ (o : Option (NodeId × EntryRecord)). IfSome o (λ x. three ≡ entry_moved from to time x old)) (sym at)
-    (r ∙ ap (λ t. changed_at to (on_entries (filled (placed_at from time e))) t) (q ∙ ap (changed_at from (without_entry u)) p) ∙ moved_by_place from to u old hole e time other has nil off at)
-
-pub move_finds : {A : Type 0} (from to u : NodeId) (old one : Tree) (hole : NodeId × EntryRecord) → from ≢ to → IsSome (entry_at from u old) → one ≡ changed_at to (with_entry hole) old → entry_at from u one ≡ None → A
-move_finds from to u old one hole other some p off =
-    let at : entry_at from u old ≡ None = sym (still_at from to u (λ es. es ++ hole ∷ []) other old) ∙ ap (entry_at from u) (sym p) ∙ off in
-    apart false (subst (λ (o : Option (NodeId × EntryRecord)). IsSome o) at some) refl
 
 -- what a move leaves, whatever was answered
 pub move_is_doc : {E : Type 0} (d : BareDoc) → IsDoc d → (from to u : NodeId) (time : ℕ) (new : Tree) (result : Result (Unit {0}) E) → has_group to d.tree ≡ true → IsSome (entry_at from u d.tree)

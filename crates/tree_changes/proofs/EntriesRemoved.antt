@@ -1,17 +1,14 @@
 -- A document without one of its entries, which has a tombstone, is a document.
-use Rattle.std.proofs.Common.{◌≡◌, ◌≤◌, ◌+◌, ℕ, Bool, true, false, not, cond, ◌&&◌, inl, inr, List, [], ◌∷◌, ◌++◌, Option, None, Some, MatchOption, Result, Ok, Err, find, option_and_then, subst, refl, sym, ap, ◌∙◌, arith}
+use Rattle.std.proofs.Common.{◌≡◌, ◌≤◌, ◌+◌, ℕ, Bool, true, false, not, cond, ◌&&◌, inl, inr, List, [], ◌∷◌, ◌++◌, Option, None, Some, find, option_and_then, subst, refl, sym, ap, ◌∙◌, arith}
 use Rattle.std.proofs.lemmas.Option.{same_Some}
 use Rattle.std.specs.List.{list_all}
 use Rattle.std.specs.Ordering.{is_lt, ordering_reverse}
 use Rattle.std.specs.declared.cmp.Ordering.{Ordering}
 use Rattle.std.specs.declared.cmp.Ordering.TheVariants.{Less, Equal, Greater}
-use Rattle.vault_model.specs.declared.metas.Meta.{Meta}
-use Rattle.vault_model.specs.declared.nodes.Entry.{Entry}
 use Rattle.vault_model.specs.declared.nodes.Tombstone.{Tombstone}
 use Rattle.vault_model.specs.Db.{NodeId, id_cmp, nil_id}
 use Rattle.vault_model.specs.Join.{is_id}
 use Rattle.vault_model.specs.Proper.{is_proper_group_content, rises}
-use Rattle.vault_model.specs.SeenNodes.{entry_row}
 use Rattle.vault_model.specs.Shape.{EntryRecord, GroupRecord}
 use Rattle.vault_model.specs.Tree.{BareDoc, IsDoc, Tree, entry_rows, entry_rows_all, group_rows, group_rows_all, height, id_of, is_elsewhere, is_proper_entry, node, node_ids, node_ids_all}
 use Rattle.vault_model.proofs.Ids.{id_itself, is_same_id, same_id}

@@ -1,5 +1,5 @@
 -- A document with a group put in, or with one taken out, is a document.
-use Rattle.std.proofs.Common.{◌≡◌, ◌≤◌, ◌+◌, ℕ, Bool, true, false, not, cond, ◌&&◌, ◌⊎◌, inl, inr, List, [], ◌∷◌, ◌++◌, Option, None, Some, max, map, refl, sym, ap, subst, ◌∙◌, arith, append_assoc, append-nil}
+use Rattle.std.proofs.Common.{◌≡◌, ◌≤◌, ◌+◌, Bool, true, not, cond, inl, inr, ◌++◌, Some, refl, sym, ap, ◌∙◌, arith, append_assoc, append-nil}
 use Rattle.std.proofs.lemmas.Option.{same_Some}
 use Rattle.std.specs.List.{list_all}
 use Rattle.vault_model.specs.declared.nodes.Tombstone.{Tombstone}
@@ -10,8 +10,8 @@ use Rattle.vault_model.specs.Shape.{EntryRecord, GroupRecord}
 use Rattle.vault_model.specs.Tree.{BareDoc, IsDoc, LEVELS, Tree, Trees, beside, entry_rows, entry_rows_all, group_rows, group_rows_all, height, height_all, id_of, is_elsewhere, is_proper_entry, node, node_ids, node_ids_all, none}
 use Rattle.vault_model.proofs.Tests.{and_both, and_true, decide}
 use Rattle.tree_changes.proofs.Options.{never}
-use Rattle.tree_changes.specs.Changes.{but_group, changed_at, child_with, group_with, level_of, on_groups, own_group, with_group, with_last, without_group}
-use Rattle.tree_changes.proofs.Around.{RowsChange, all_change, entries_rows, found_id, groups_rows, ids_rows, no_higher, occurs_change, rows_change}
+use Rattle.tree_changes.specs.Changes.{but_group, changed_at, child_with, group_with, level_of, own_group, with_group, with_last, without_group}
+use Rattle.tree_changes.proofs.Around.{all_change, entries_rows, found_id, groups_rows, ids_rows, no_higher, occurs_change, rows_change}
 use Rattle.tree_changes.proofs.Changed.{changed_by}
 use Rattle.tree_changes.proofs.Counted.{all_append, all_both, all_front, distinct, elsewhere_occurs, occurs, occurs-append, occurs_elsewhere, once}
 use Rattle.tree_changes.proofs.GroupMoves.{put_height}
@@ -37,7 +37,7 @@ last_groups : (w : Tree) (ts : Trees) → group_rows_all (with_last w ts) ≡ gr
 last_groups w none = append-nil (group_rows w)
 last_groups w (beside t ts) = ap (λ xs. group_rows t ++ xs) (last_groups w ts) ∙ sym (append_assoc (group_rows t) (group_rows_all ts) (group_rows w))
 
-put_root : (w t : Tree) → id_of (with_group w t) ≡ id_of t
+pub put_root : (w t : Tree) → id_of (with_group w t) ≡ id_of t
 put_root w (node v r es ts) = refl
 
 put_counts : (x : NodeId) (w t : Tree) → occurs x (node_ids (with_group w t)) ≡ occurs x (node_ids t) + occurs x (node_ids w)
@@ -108,7 +108,7 @@ but_ids x u c (beside t ts) h =
           omega (arith, all, rest, now, split)
     ]
 
-take_counts : (x u : NodeId) (c t : Tree) → child_with u t ≡ Some c → occurs x (node_ids (without_group u t)) + occurs x (node_ids c) ≡ occurs x (node_ids t)
+pub take_counts : (x u : NodeId) (c t : Tree) → child_with u t ≡ Some c → occurs x (node_ids (without_group u t)) + occurs x (node_ids c) ≡ occurs x (node_ids t)
 take_counts x u c (node v r es ts) h =
     let less = but_ids x u c ts h in
     let now = occurs-append x (keys es) (node_ids_all (but_group u ts)) in
@@ -142,7 +142,7 @@ but_height u (beside t ts) =
       | inr p ↦ let now = ap (λ b. height_all (cond b ts (beside t (but_group u ts)))) p in omega (arith, rest, now)
     ]
 
-take_root : (u : NodeId) (t : Tree) → id_of (without_group u t) ≡ id_of t
+pub take_root : (u : NodeId) (t : Tree) → id_of (without_group u t) ≡ id_of t
 take_root u (node v r es ts) = refl
 
 take_height : (u : NodeId) (t : Tree) → height (without_group u t) ≤ height t

@@ -19,7 +19,7 @@ either false b e = e
 
 mutual
   -- a group that is there is counted
-  has_counts : (g : NodeId) (t : Tree) → has_group g t ≡ true → 1 ≤ occurs g (node_ids t)
+  pub has_counts : (g : NodeId) (t : Tree) → has_group g t ≡ true → 1 ≤ occurs g (node_ids t)
   has_counts g (node v r es ts) h =
       elim (or_cases (is_id v g) (have_group g ts) h) [
         | inl p ↦ let here = ap one_if (is_same_id g v (sym (same_id v g p))) in omega (arith, here)
@@ -29,7 +29,7 @@ mutual
             omega (arith, below, split)
       ]
 
-  have_counts : (g : NodeId) (ts : Trees) → have_group g ts ≡ true → 1 ≤ occurs g (node_ids_all ts)
+  pub have_counts : (g : NodeId) (ts : Trees) → have_group g ts ≡ true → 1 ≤ occurs g (node_ids_all ts)
   have_counts g none h = apart false h refl
   have_counts g (beside t ts) h =
       let split = occurs-append g (node_ids t) (node_ids_all ts) in

@@ -1,14 +1,14 @@
 -- What a path names is in the tree.
-use Rattle.std.proofs.Common.{◌≡◌, Bool, true, false, cond, ◌||◌, inl, inr, List, [], ◌∷◌, ◌++◌, Option, None, Some, map, is_some, find, refl, sym, ap, ◌∙◌}
-use Rattle.std.specs.Prelude.{ℕ, bytes_eq, codes}
+use Rattle.std.proofs.Common.{◌≡◌, Bool, true, false, cond, List, [], ◌∷◌, ◌++◌, Option, None, Some, map, sym, ap, ◌∙◌}
+use Rattle.std.specs.Prelude.{ℕ, bytes_eq}
 use Rattle.std.proofs.lemmas.Option.{same_Some}
 use Rattle.vault_model.specs.Db.{NodeId}
 use Rattle.vault_model.specs.Join.{is_id}
 use Rattle.vault_model.specs.Shape.{EntryRecord}
 use Rattle.vault_model.specs.Tree.{BareDoc, Tree, Trees, beside, node, none}
-use Rattle.vault_model.specs.Walk.{Walked, slash_joined, name_of, title_of, walk_tree, walk_trees, walked_entry}
+use Rattle.vault_model.specs.Walk.{slash_joined, name_of, title_of, walk_tree, walk_trees, walked_entry}
 use Rattle.vault_model.proofs.Ids.{id_itself}
-use Rattle.vault_model.proofs.Tests.{decide, or_left, or_right}
+use Rattle.vault_model.proofs.Tests.{or_left, or_right}
 use Rattle.tree_core.specs.Finding.{first, group_found, group_named, or_else, without_slashes}
 use Rattle.tree_core.proofs.Walks.{first_append}
 use Rattle.tree_changes.specs.Changes.{has_group, have_group}

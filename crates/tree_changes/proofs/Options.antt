@@ -1,5 +1,5 @@
 -- Options.
-use Rattle.std.proofs.Common.{◌≡◌, Option, None, Some, true, false, true≢false, is_some, sym, ap, ◌∙◌}
+use Rattle.std.proofs.Common.{◌≡◌, None, Some, true≢false, is_some, sym, ap}
 
 -- nothing is never something
 pub never : {A B : Type 0} (x : A) → None ≡ Some x → B

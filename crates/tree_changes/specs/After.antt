@@ -32,9 +32,9 @@ Changes after result old new =
 -- ---- refusals
 
 -- a path must name something
-abbrev pub named : {A : Type 0} → Option A → Result A TreeFail
-named None = Err NoSuchPath
-named (Some x) = Ok x
+abbrev pub named_or_refusal : {A : Type 0} → Option A → Result A TreeFail
+named_or_refusal None = Err NoSuchPath
+named_or_refusal (Some x) = Ok x
 
 -- a refusal where something holds
 abbrev pub refuse_if : Bool → TreeFail → Result (Unit {0}) TreeFail
@@ -52,7 +52,7 @@ time_after now time =
 -- `add`: a new entry, the last of its group
 abbrev pub after_add : List ℕ → NodeId → GivenValues → ℕ → BareDoc → Result BareDoc TreeFail
 after_add path id values now d = do
-  group ← named (group_found d (before_last path))
+  group ← named_or_refusal (group_found d (before_last path))
   _ ← refuse_if (has_entry_path d (new_path path)) NameTaken
   _ ← refuse_if (not (is_free id d)) (IdTaken id)
   Ok (record d {
@@ -65,7 +65,7 @@ after_add path id values now d = do
 -- a new group of a path without slashes around it, the last of its group
 abbrev pub after_new_group : List ℕ → NodeId → ℕ → BareDoc → Result BareDoc TreeFail
 after_new_group path id now d = do
-  group ← named (group_found d (before_last path))
+  group ← named_or_refusal (group_found d (before_last path))
   _ ← refuse_if (has_group_path d (new_path path)) NameTaken
   _ ← refuse_if (nat_lt LEVELS (level_of group d.tree + 1)) TooDeep
   _ ← refuse_if (not (is_free id d)) (IdTaken id)
@@ -87,14 +87,14 @@ pub record Holding : Type 0 where
 -- the entry of this id in a group
 abbrev pub held_in : NodeId → Tree → NodeId → Result Holding TreeFail
 held_in id t group = do
-  entry ← named (entry_at group id t)
+  entry ← named_or_refusal (entry_at group id t)
   Ok (record { group = group; entry = entry })
 
 -- the entry that a path names, and its group
 abbrev pub entry_named : List ℕ → BareDoc → Result Holding TreeFail
 entry_named path d = do
-  id ← named (entry_found d path)
-  group ← named (holder id d.tree)
+  id ← named_or_refusal (entry_found d path)
+  group ← named_or_refusal (holder id d.tree)
   held_in id d.tree group
 
 -- an entry with the values that are given, made at a time; its history is within the limits
@@ -125,7 +125,7 @@ entry_moved_to group held now d = do
 abbrev pub after_move_entry : List ℕ → List ℕ → ℕ → BareDoc → Result BareDoc TreeFail
 after_move_entry path goal now d = do
   held ← entry_named path d
-  group ← named (group_found d goal)
+  group ← named_or_refusal (group_found d goal)
   _ ← refuse_if (is_id held.group group) AlreadyThere
   entry_moved_to group held now d
 
@@ -147,13 +147,14 @@ group_moved_to group moving now d = do
 
 -- the group that a path names
 abbrev pub group_named : List ℕ → BareDoc → Result Tree TreeFail
-group_named path d = named (option_and_then (λ id. group_with id d.tree) (group_found d path))
+group_named path d = named_or_refusal
+    (option_and_then (λ id. group_with id d.tree) (group_found d path))
 
 -- `move_group`
 abbrev pub after_move_group : List ℕ → List ℕ → ℕ → BareDoc → Result BareDoc TreeFail
 after_move_group path goal now d = do
   moving ← group_named path d
-  group ← named (group_found d goal)
+  group ← named_or_refusal (group_found d goal)
   _ ← refuse_if (is_parent group (parent_of (id_of moving) d.tree)) AlreadyThere
   _ ← refuse_if (is_id (id_of moving) (id_of d.tree)) RootFixed
   group_moved_to group moving now d
@@ -192,8 +193,8 @@ pub record AfterRemoval : Type 0 where
   pub doc : BareDoc
 
 -- a document with a node in the bin
-abbrev pub recycled : BareDoc → Result AfterRemoval TreeFail
-recycled d = Ok (record { removed = Recycled; doc = d })
+abbrev pub after_recycling : BareDoc → Result AfterRemoval TreeFail
+after_recycling d = Ok (record { removed = Recycled; doc = d })
 
 -- the bin is this group, or has it below it
 abbrev pub is_in_bin : NodeId → BareDoc → Bool
@@ -208,7 +209,7 @@ abbrev pub entry_recycled : Option NodeId → Holding → ℕ → BareDoc → Re
 entry_recycled bin held now d = do
   ready ← with_bin_made bin now d
   moved ← entry_moved_to ready.meta.bin.value.id held now ready
-  recycled moved
+  after_recycling moved
 
 -- an entry is deleted
 abbrev pub entry_deleted : Holding → ℕ → BareDoc → AfterRemoval
@@ -239,7 +240,7 @@ group_recycled bin removing now d = do
   _ ← refuse_if (nat_lt LEVELS (bin_level d + height removing)) TooDeep
   ready ← with_bin_made bin now d
   moved ← group_moved_to ready.meta.bin.value.id removing now ready
-  recycled moved
+  after_recycling moved
 
 -- a group is deleted, and all below it
 abbrev pub group_deleted : Tree → ℕ → BareDoc → AfterRemoval

@@ -22,17 +22,17 @@ pub record GivenValues : Type 0 where
   pub notes : Option (List ℕ)
 
 -- a value that is lent
-abbrev pub lent : Option (Bor (List ℕ)) → Option (List ℕ)
-lent = option_map (λ value. value.now)
+abbrev pub lent_value : Option (Bor (List ℕ)) → Option (List ℕ)
+lent_value = option_map (λ value. value.now)
 
 -- the values that a call is given
-abbrev pub given : Values → GivenValues
-given v = record {
-  title = lent v.title;
-  user = lent v.user;
-  password = lent v.password;
-  url = lent v.url;
-  notes = lent v.notes;
+abbrev pub given_values : Values → GivenValues
+given_values v = record {
+  title = lent_value v.title;
+  user = lent_value v.user;
+  password = lent_value v.password;
+  url = lent_value v.url;
+  notes = lent_value v.notes;
 }
 
 -- ---- a new entry

@@ -28,7 +28,7 @@ use Rattle.tree_changes.specs.After.{edited_entry}
 use Rattle.tree_changes.specs.Histories.{is_within, rising_versions, versions_size, within_limits}
 use Rattle.tree_changes.specs.InOrder.{put_in_order}
 use Rattle.tree_edits.specs.Texts.{AreTexts, is_text_value}
-use Rattle.tree_changes.specs.NewNodes.{GivenValues, edited_fields, edited_version, field, lent, new_content, new_entry, new_fields, with_given, with_value}
+use Rattle.tree_changes.specs.NewNodes.{GivenValues, edited_fields, edited_version, field, lent_value, new_content, new_entry, new_fields, with_given, with_value}
 
 -- ---- texts
 
@@ -41,7 +41,7 @@ text_or_empty : (o : Option (List ℕ)) → is_text_value o ≡ true → is_utf8
 text_or_empty None h = empty_text
 text_or_empty (Some text) h = h
 
-pub lent_text : (o : Option (Bor (List ℕ))) → IfSome o (λ text. is_utf8 text.now ≡ true) → is_text_value (lent o) ≡ true
+pub lent_text : (o : Option (Bor (List ℕ))) → IfSome o (λ text. is_utf8 text.now ≡ true) → is_text_value (lent_value o) ≡ true
 lent_text None h = refl
 lent_text (Some text) h = h
 

@@ -15,7 +15,7 @@ use Rattle.vault_model.specs.declared.nodes.Version.{Version}
 use Rattle.vault_model.specs.Db.{Mark, Versions, mark_cmp}
 use Rattle.vault_model.specs.Join.{stats_join}
 use Rattle.vault_model.specs.Shape.{BareVersion, EntryRecord, version_of, versions_of}
-use Rattle.vault_model.specs.Unite.{by_order, merged, unite, unite_all}
+use Rattle.vault_model.specs.Unite.{by_order, join_options, unite, unite_all}
 use Rattle.vault_model.proofs.Orders.{mark_order}
 use Rattle.vault_model.proofs.Tests.{decide}
 use Rattle.join_laws.proofs.Joins.{stats_joins, versions_joins}
@@ -32,7 +32,7 @@ abbrev joined_at : Stats → Option Stats → Stats
 joined_at s None = s
 joined_at s (Some t) = stats_join s t
 
-merged_some : (s : Stats) (o : Option Stats) → Some (joined_at s o) ≡ merged stats_join (Some s) o
+merged_some : (s : Stats) (o : Option Stats) → Some (joined_at s o) ≡ join_options stats_join (Some s) o
 merged_some s None = refl
 merged_some s (Some t) = refl
 
@@ -41,20 +41,20 @@ add_one m v =
     same_map mark_order.total mark_order.same (insert m v.mark (joined_at v.stats (get m v.mark))) (unite stats_join (single v) m) (λ q.
     get-insert mark_order.total m v.mark (joined_at v.stats (get m v.mark)) q
     ∙ at_key q
-    ∙ ap (λ w. merged stats_join w (get m q)) (sym (get-insert mark_order.total empty v.mark v.stats q ∙ ap (cond (eq_by_cmp mark_cmp q v.mark) (Some v.stats)) (get-empty mark_cmp q)))
+    ∙ ap (λ w. join_options stats_join w (get m q)) (sym (get-insert mark_order.total empty v.mark v.stats q ∙ ap (cond (eq_by_cmp mark_cmp q v.mark) (Some v.stats)) (get-empty mark_cmp q)))
     ∙ sym (get-unite mark_order.total mark_order.same stats_join (single v) m q))
   where
-    at_key : (q : Mark) → cond (eq_by_cmp mark_cmp q v.mark) (Some (joined_at v.stats (get m v.mark))) (get m q) ≡ merged stats_join (cond (eq_by_cmp mark_cmp q v.mark) (Some v.stats) None) (get m q)
+    at_key : (q : Mark) → cond (eq_by_cmp mark_cmp q v.mark) (Some (joined_at v.stats (get m v.mark))) (get m q) ≡ join_options stats_join (cond (eq_by_cmp mark_cmp q v.mark) (Some v.stats) None) (get m q)
     at_key q =
         elim (decide (eq_by_cmp mark_cmp q v.mark)) [
           | inl t ↦
               ap (λ b. cond b (Some (joined_at v.stats (get m v.mark))) (get m q)) t
               ∙ ap (λ x. Some (joined_at v.stats (get m x))) (sym (tie mark_order.total mark_order.same q v.mark t))
               ∙ merged_some v.stats (get m q)
-              ∙ sym (ap (λ b. merged stats_join (cond b (Some v.stats) None) (get m q)) t)
+              ∙ sym (ap (λ b. join_options stats_join (cond b (Some v.stats) None) (get m q)) t)
           | inr t ↦
               ap (λ b. cond b (Some (joined_at v.stats (get m v.mark))) (get m q)) t
-              ∙ sym (ap (λ b. merged stats_join (cond b (Some v.stats) None) (get m q)) t)
+              ∙ sym (ap (λ b. join_options stats_join (cond b (Some v.stats) None) (get m q)) t)
         ]
 
 -- ---- a version put among rows that rise
@@ -149,9 +149,9 @@ rises_on all rest rest' rising rising' v next put h = record {
 
 unite_none : (m : Versions) → unite stats_join m empty ≡ m
 unite_none m = same_map mark_order.total mark_order.same (unite stats_join m empty) m (λ q.
-    get-unite mark_order.total mark_order.same stats_join m empty q ∙ ap (merged stats_join (get m q)) (get-empty mark_cmp q) ∙ none_right (get m q))
+    get-unite mark_order.total mark_order.same stats_join m empty q ∙ ap (join_options stats_join (get m q)) (get-empty mark_cmp q) ∙ none_right (get m q))
   where
-    none_right : (p : Option Stats) → merged stats_join p None ≡ p
+    none_right : (p : Option Stats) → join_options stats_join p None ≡ p
     none_right None = refl
     none_right (Some x) = refl
 

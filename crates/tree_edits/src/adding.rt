@@ -4,7 +4,7 @@ ghost use Rattle.std.specs.Prelude.{◌≡◌, IfSome, true};
 ghost use Rattle.std.specs.Str.{is_utf8};
 ghost use Rattle.vault_model.specs.SeenDoc.{doc_seen};
 ghost use Rattle.tree_changes.specs.After.{Changes, after_add};
-ghost use Rattle.tree_changes.specs.NewNodes.{given};
+ghost use Rattle.tree_changes.specs.NewNodes.{given_values};
 
 use crate::new_entries::{new_entry, new_fields};
 use crate::texts::values_are_utf8;
@@ -28,8 +28,8 @@ pub fn add(
     now: Stamp,
 ) -> Result<(), TreeFail>
     requires { IfSome values.now.password (λ password. is_utf8 password.now ≡ true) }
-    ensures { Changes (after_add path.now id (given values.now) now (doc_seen doc.old)) result
-        (doc_seen doc.old) (doc_seen doc.new) }
+    ensures { Changes (after_add path.now id (given_values values.now) now (doc_seen doc.old))
+        result (doc_seen doc.old) (doc_seen doc.new) }
 {
     let Some(group) = find_group_of(doc, before_last(path.as_bytes())) else {
         return Err(TreeFail::NoSuchPath);

@@ -31,7 +31,8 @@ fn set_given(
     hidden: bool,
 ) -> Result<(), NoMemory>
     ensures { OnOk result (map bare_field fields.new
-        ≡ spec.with_given key.now hidden (spec.lent value.entry) (map bare_field fields.old)) }
+        ≡ spec.with_given key.now hidden (spec.lent_value value.entry)
+        (map bare_field fields.old)) }
 {
     match value {
         Some(value) => set_value(alloc, fields, key, value, hidden),
@@ -41,7 +42,7 @@ fn set_given(
 
 // The bytes of a text, where it is given.
 fn bytes_of(text: Option<&str>) -> Option<&[u8]>
-    ensures { spec.lent result ≡ spec.lent text.entry }
+    ensures { spec.lent_value result ≡ spec.lent_value text.entry }
 {
     match text {
         Some(text) => Some(text.as_bytes()),
@@ -57,7 +58,8 @@ fn set_values(
     values: &Values<'_>,
 ) -> Result<(), NoMemory>
     ensures { OnOk result (map bare_field fields.new
-        ≡ spec.edited_fields protect.now (spec.given values.now) (map bare_field fields.old)) }
+        ≡ spec.edited_fields protect.now (spec.given_values values.now)
+        (map bare_field fields.old)) }
 {
     set_given(
         alloc,
@@ -93,7 +95,8 @@ fn edited_version(
     time: Stamp,
 ) -> Result<Version, NoMemory>
     ensures { IfOk result (λ version. bare_version version
-        ≡ spec.edited_version protect.now (spec.given values.now) time (bare_version old.now)) }
+        ≡ spec.edited_version protect.now (spec.given_values values.now) time
+        (bare_version old.now)) }
 {
     let mut version = copy_version(alloc, old)?;
     set_values(alloc, &mut version.content.fields, protect, values)?;
@@ -131,8 +134,8 @@ pub fn edit(
     now: Stamp,
 ) -> Result<(), TreeFail>
     requires { IfSome values.now.password (λ password. is_utf8 password.now ≡ true) }
-    ensures { Changes (after_edit path.now (spec.given values.now) now (doc_seen doc.old)) result
-        (doc_seen doc.old) (doc_seen doc.new) }
+    ensures { Changes (after_edit path.now (spec.given_values values.now) now (doc_seen doc.old))
+        result (doc_seen doc.old) (doc_seen doc.new) }
 {
     let Some(id) = find_entry(doc, path) else {
         return Err(TreeFail::NoSuchPath);

@@ -16,7 +16,7 @@ use vault_model::{AutoType, Content, Entry, Field, Protection, Stamp, Stats, Ver
 
 // The bytes of a text, none where it is not given.
 fn text_or_empty(text: Option<&str>) -> &[u8]
-    ensures { result.now ≡ unwrap_or (spec.lent text.entry) [] }
+    ensures { result.now ≡ unwrap_or (spec.lent_value text.entry) [] }
 {
     match text {
         Some(text) => text.as_bytes(),
@@ -26,7 +26,7 @@ fn text_or_empty(text: Option<&str>) -> &[u8]
 
 // Some bytes, none where they are not given.
 fn bytes_or_empty(bytes: Option<&[u8]>) -> &[u8]
-    ensures { result.now ≡ unwrap_or (spec.lent bytes.entry) [] }
+    ensures { result.now ≡ unwrap_or (spec.lent_value bytes.entry) [] }
 {
     match bytes {
         Some(bytes) => bytes,
@@ -60,7 +60,7 @@ pub(crate) fn new_fields(
     values: &Values<'_>,
 ) -> Result<List<Field>, NoMemory>
     ensures { IfOk result (λ fields. map bare_field fields
-        ≡ spec.new_fields protect.now title.now (spec.given values.now)) }
+        ≡ spec.new_fields protect.now title.now (spec.given_values values.now)) }
 {
     let mut fields = List::new(alloc);
     let list = &mut fields;

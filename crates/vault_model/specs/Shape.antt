@@ -159,8 +159,8 @@ stands_in g None = false
 stands_in g (Some p) = is_id g p.parent
 
 -- those of some ids, which rise, that are in a group
-abbrev pub standing : Db → NodeId → List NodeId → List NodeId
-standing m g us = filter (λ u. stands_in g (get m.places u)) us
+abbrev pub ids_in_group : Db → NodeId → List NodeId → List NodeId
+ids_in_group m g us = filter (λ u. stands_in g (get m.places u)) us
 
 -- a group's children in a shape
 abbrev pub kids : Shape → NodeId → Children
@@ -170,8 +170,8 @@ kids s g = unwrap_or (get s.children g) no_children
 -- by rising id
 abbrev pub laid_children : Db → Shape → NodeId → Children
 laid_children m t g = record {
-  entries = in_order (kids t g).entries (standing m g (keys m.entries));
-  groups = in_order (kids t g).groups (standing m g (keys m.groups));
+  entries = in_order (kids t g).entries (ids_in_group m g (keys m.entries));
+  groups = in_order (kids t g).groups (ids_in_group m g (keys m.groups));
 }
 
 -- how a group that is new is looked at

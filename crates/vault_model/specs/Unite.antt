@@ -19,15 +19,15 @@ abbrev pub by_key : {A K : Type 0} → (K → K → Ordering) → (A → K) → 
 by_key R key join x y = by_order (R (key x) (key y)) y (join x y) x
 
 -- two optional values, joined where both are there
-abbrev pub merged : {A : Type 0} → (A → A → A) → Option A → Option A → Option A
-merged join None p = p
-merged join (Some x) None = Some x
-merged join (Some x) (Some y) = Some (join x y)
+abbrev pub join_options : {A : Type 0} → (A → A → A) → Option A → Option A → Option A
+join_options join None p = p
+join_options join (Some x) None = Some x
+join_options join (Some x) (Some y) = Some (join x y)
 
 -- the optional values of a list, joined
 abbrev pub gather : {A : Type 0} → (A → A → A) → List (Option A) → Option A
 gather join [] = None
-gather join (o ∷ os) = merged join o (gather join os)
+gather join (o ∷ os) = join_options join o (gather join os)
 
 -- the map with a value put at a key, or left as it is where there is none
 abbrev pub put_some : {K A : Type 0} {R : K → K → Ordering} → K → Option A → FinMap R A → FinMap R A
@@ -42,7 +42,7 @@ tabulate (k ∷ ks) value = put_some k (value k) (tabulate ks value)
 -- two maps, joined key by key
 unfoldable pub unite : {K A : Type 0} {R : K → K → Ordering} → (A → A → A) → FinMap R A → FinMap R A
     → FinMap R A
-unite join m n = tabulate (keys m ++ keys n) (λ k. merged join (get m k) (get n k))
+unite join m n = tabulate (keys m ++ keys n) (λ k. join_options join (get m k) (get n k))
 
 -- many maps, joined key by key
 abbrev pub unite_all : {K A : Type 0} {R : K → K → Ordering} → (A → A → A) → List (FinMap R A)

@@ -5,14 +5,14 @@ use Rattle.std.specs.Str.{IsUtf8}
 use Rattle.markup_grammar.proofs.RoundTrip.{round_trip_lem}
 use Rattle.markup_grammar.specs.Attributes.{attributes_from, last_named}
 use Rattle.markup_grammar.specs.Elements as told
-use Rattle.markup_grammar.specs.Elements.{joined}
+use Rattle.markup_grammar.specs.Elements.{own_text}
 use Rattle.markup_grammar.specs.Escapes.{unescaped, unescaped_from, escaped, escaped_byte}
 use Rattle.markup_grammar.specs.Tree.{spelled, start_tag}
 use Rattle.markup_grammar.specs.TreeElements.{element_at, content_at}
 use Rattle.markup_grammar.specs.Bytes.{is_space}
 use Rattle.base64.specs.Engines.{standard}
 use Rattle.base64.specs.GeneralPurpose.{encode_of, IsBytes}
-use Rattle.stream_core.specs.Stream.{xored}
+use Rattle.stream_core.specs.Stream.{xor_stream}
 use Rattle.stream_core.specs.InnerStream.{Keystream, keystream_byte}
 use Rattle.doc_forms.specs.declared.cursor.Cursor.{Cursor}
 use Rattle.doc_forms.specs.declared.fails.DocFail.{DocFail}
@@ -227,7 +227,7 @@ pub plain_end : (s : Setting) (place : ℕ) (raw text : List ℕ) (c : Cursor) �
 plain_end s place raw text c e = rw e refl
 
 -- elements side by side have no text between them
-pub no_text : (pieces : Pieces) (place : ℕ) (k : Keystream) (p : ℕ) → joined (content_at place (content_of k p pieces)) ≡ []
+pub no_text : (pieces : Pieces) (place : ℕ) (k : Keystream) (p : ℕ) → own_text (content_at place (content_of k p pieces)) ≡ []
 unfolding unescaped_from
 no_text none place k p = refl
 no_text (beside x xs) place k p = no_text xs (place + 0 + length (spelled (element_of k p x))) k (p + hidden_len x)
@@ -243,8 +243,8 @@ children_read {P} s view child name pieces f n r place begins p c room =
     let a = r.read place p c room in
     let content = content_at place (content_of s.keystream c.offset pieces) in (
       a.0,
-      ap (λ (r : Result (P × Cursor) DocFail). r >>= λ x. (text_at_end s begins [] ([] ++ joined content) x.1 >>= λ y. Ok (x.0, y.1))) a.1
-          ∙ ap (λ (r : Result (ElementText × Cursor) DocFail). r >>= λ y. Ok (a.0, y.1)) (plain_end s begins [] ([] ++ joined content) (cursor_after c (hidden_len_all pieces) n) no_protection),
+      ap (λ (r : Result (P × Cursor) DocFail). r >>= λ x. (text_at_end s begins [] ([] ++ own_text content) x.1 >>= λ y. Ok (x.0, y.1))) a.1
+          ∙ ap (λ (r : Result (ElementText × Cursor) DocFail). r >>= λ y. Ok (a.0, y.1)) (plain_end s begins [] ([] ++ own_text content) (cursor_after c (hidden_len_all pieces) n) no_protection),
       a.2,
     )
 
@@ -282,7 +282,7 @@ pub secret_rest : (s : Setting) (place : ℕ) (raw bytes : List ℕ) (c : Cursor
     → IsBytes bytes
     → read_rest s place raw [] (told.last (unescaped (hidden_text s.keystream c.offset bytes))) c ≡ Ok (hidden_bytes bytes, cursor_after c (length bytes) 0)
 secret_rest s place raw bytes c protected_marks may are_bytes =
-    let given = xored (keystream_byte s.keystream) c.offset bytes in
+    let given = xor_stream (keystream_byte s.keystream) c.offset bytes in
     let text = encode_of standard given in
     let are_given = xored_bytes (keystream_byte s.keystream) bytes c.offset (stream_bytes s.keystream) are_bytes in
     ap (λ (t : List ℕ). text_at_end s place raw t c) (ap unescaped (sym (coded_plain given are_given)) ∙ round_trip_lem text)

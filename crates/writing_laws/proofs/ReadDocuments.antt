@@ -4,7 +4,7 @@ use Rattle.vault_model.specs.Db.{nil_id}
 use Rattle.vault_model.specs.Tree.{BareDoc, height}
 use Rattle.vault_model.specs.declared.nodes.Tombstone.{Tombstone}
 use Rattle.markup_grammar.specs.Elements as told
-use Rattle.markup_grammar.specs.Elements.{joined}
+use Rattle.markup_grammar.specs.Elements.{own_text}
 use Rattle.markup_grammar.specs.Tree.{spelled, start_tag}
 use Rattle.markup_grammar.specs.TreeElements.{element_at, content_at}
 use Rattle.doc_forms.specs.declared.cursor.Cursor.{Cursor}
@@ -134,8 +134,8 @@ module _ (s : Setting) (pool : List ReadBinary) (form : DocForm) (items : List P
         (λ (p : RootParts) e. subst (λ (v : RootParts). ReadsAt s (root_parts_with pool) (by_name s (root_rows s)) T p v 0) (ap (λ (p : RootParts). record p { tombs = d.tombs }) e) (from_any (by_row (root_rows s) (tombs_read pool form d.tombs tombs)) p)) after c room in
         let e = cursor_after c (hidden_len_all inner) (tree_nodes d.tree + 0) in (
           record q { root = Some a.0 },
-          ap (λ (r : Result (RootParts × Cursor) DocFail). ◌>>=◌ {A = RootParts × Cursor} (r >>= λ x. (text_at_end s place [] ([] ++ joined content) x.1 >>= λ y. Ok (x.0, y.1))) (λ x. last x.0 x.1 (is_some q.root))) a.1
-              ∙ (ap (λ (r : Result (ElementText × Cursor) DocFail). ◌>>=◌ {A = RootParts × Cursor} (r >>= λ y. Ok (a.0, y.1)) (λ x. last x.0 x.1 (is_some q.root))) (plain_end s place [] ([] ++ joined content) e no_protection)
+          ap (λ (r : Result (RootParts × Cursor) DocFail). ◌>>=◌ {A = RootParts × Cursor} (r >>= λ x. (text_at_end s place [] ([] ++ own_text content) x.1 >>= λ y. Ok (x.0, y.1))) (λ x. last x.0 x.1 (is_some q.root))) a.1
+              ∙ (ap (λ (r : Result (ElementText × Cursor) DocFail). ◌>>=◌ {A = RootParts × Cursor} (r >>= λ y. Ok (a.0, y.1)) (λ x. last x.0 x.1 (is_some q.root))) (plain_end s place [] ([] ++ own_text content) e no_protection)
               ∙ ap (last a.0 e) (ap is_some first)),
           ap (λ r. let x : FileParts = record { meta = q.meta; root = Some r } in x) a.2,
         );
@@ -161,8 +161,8 @@ module _ (s : Setting) (pool : List ReadBinary) (form : DocForm) (items : List P
       let same : 0 + (tree_nodes d.tree + 0) ≡ tree_nodes d.tree = omega arith in
       let last = λ (r : Result (FileParts × Cursor) DocFail). ◌>>=◌ {A = Option FileParts × Cursor} {B = Option FileParts × Cursor} (r >>= λ x. Ok (Some x.0, x.1)) (λ x. Ok (x.0, x.1)) in (
         a.0,
-        ap (λ (r : Result (FileParts × Cursor) DocFail). last (r >>= λ x. (text_at_end s place [] ([] ++ joined content) x.1 >>= λ y. Ok (x.0, y.1)))) a.1
-            ∙ (ap (λ (r : Result (ElementText × Cursor) DocFail). last (r >>= λ y. Ok (a.0, y.1))) (plain_end s place [] ([] ++ joined content) e no_protection)
+        ap (λ (r : Result (FileParts × Cursor) DocFail). last (r >>= λ x. (text_at_end s place [] ([] ++ own_text content) x.1 >>= λ y. Ok (x.0, y.1)))) a.1
+            ∙ (ap (λ (r : Result (ElementText × Cursor) DocFail). last (r >>= λ y. Ok (a.0, y.1))) (plain_end s place [] ([] ++ own_text content) e no_protection)
             ∙ ap (λ (n : ℕ). Ok (Some a.0, cursor_after c (hidden_len_all inner) n)) same),
         a.2,
       )

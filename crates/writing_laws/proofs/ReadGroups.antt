@@ -11,7 +11,7 @@ use Rattle.vault_model.specs.Tree.{Tree, Trees, height, height_all}
 use Rattle.vault_model.specs.declared.contents.Item.{Item}
 use Rattle.vault_model.specs.declared.contents.Tri.TheVariants.{Inherit}
 use Rattle.markup_grammar.specs.Elements as told
-use Rattle.markup_grammar.specs.Elements.{joined}
+use Rattle.markup_grammar.specs.Elements.{own_text}
 use Rattle.markup_grammar.specs.Tree.{start_tag}
 use Rattle.markup_grammar.specs.TreeElements.{element_at, content_at}
 use Rattle.doc_forms.specs.declared.cursor.Cursor.{Cursor}
@@ -282,8 +282,8 @@ module _ (s : Setting) (pool : List ReadBinary) (form : DocForm) (items : List P
               let content = content_at after (content_of s.keystream c.offset inner) in
               let a = all.read after no_group c (omega arith) in (
                 tree_of a.0 u,
-                ap (λ (r : Result (GroupParts × Cursor) DocFail). r >>= λ x. group_end s true place [] (joined content) x.0 x.1) (parts_are s levels content no_group c ∙ a.1)
-                    ∙ end_is s place (joined content) a.0 u c (hidden_len_all inner) (count_all entry_nodes es + trees_nodes ts) (ap (λ (p : GroupParts). p.id) a.2) good.0.other room,
+                ap (λ (r : Result (GroupParts × Cursor) DocFail). r >>= λ x. group_end s true place [] (own_text content) x.0 x.1) (parts_are s levels content no_group c ∙ a.1)
+                    ∙ end_is s place (own_text content) a.0 u c (hidden_len_all inner) (count_all entry_nodes es + trees_nodes ts) (ap (λ (p : GroupParts). p.id) a.2) good.0.other room,
                 ap (λ (p : GroupParts). tree_of p u) a.2 ∙ tree_is u r es ts,
               );
         }

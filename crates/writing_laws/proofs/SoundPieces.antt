@@ -13,7 +13,7 @@ use Rattle.markup_grammar.specs.Escapes.{escaped}
 use Rattle.markup_grammar.specs.Tags.{IsTagText}
 use Rattle.markup_grammar.specs.Tree.{Element, element, Content, text_only, start_tag, end_tag, spelled, spelled_all, IsElement, IsContent, height, height_all}
 use Rattle.stream_core.specs.InnerStream.{Keystream, keystream_byte}
-use Rattle.stream_core.specs.Stream.{xored}
+use Rattle.stream_core.specs.Stream.{xor_stream}
 use Rattle.vault_model.proofs.Tests.{and_true}
 use Rattle.doc_spelling.specs.Pieces.{Piece, leaf, secret, box, Pieces, none, beside, protected_attribute, attribute_of, attributes_text, hidden_len, element_of, content_of}
 use Rattle.writing_laws.proofs.Attrs.{AreNamed, are_attributes, is_name}
@@ -140,7 +140,7 @@ mutual
       leaf_sound k name attrs text both.0 both.1 u.0 u.1
   sound (secret name attrs bytes) (suc k) e u stream p =
       let both = and_true (is_word name) (are_words attrs) e in
-      let given = xored (keystream_byte stream) p bytes in
+      let given = xor_stream (keystream_byte stream) p bytes in
       let plain = coded_plain given (xored_bytes (keystream_byte stream) bytes p (stream_bytes stream) u.1) in
       subst (λ (t : List ℕ). Sound (suc k) (element name (attributes_text (attrs ++ protected_attribute ∷ [])) (text_only t) [])) plain
       (leaf_sound k name (attrs ++ protected_attribute ∷ []) (encode_of standard given) both.0 (with_protected attrs both.1) (utf8_protected attrs u.0) (base64_utf8 given))

@@ -27,7 +27,7 @@ use Rattle.stream_core.proofs.StreamLemmas.{byte_in-lt}
 use Rattle.stream_core.specs.ChaCha20.{chacha_word}
 use Rattle.stream_core.specs.InnerStream.{Keystream, ChaChaKeystream, SalsaKeystream, NoKeystream, keystream_byte}
 use Rattle.stream_core.specs.Salsa20.{salsa_word}
-use Rattle.stream_core.specs.Stream.{xored}
+use Rattle.stream_core.specs.Stream.{xor_stream}
 use Rattle.time_core.specs.Times.{last_stamp, iso_text}
 use Rattle.vault_model.specs.declared.contents.Tri.{Tri}
 use Rattle.vault_model.specs.declared.contents.Tri.TheVariants.{Inherit, No, Yes}
@@ -45,7 +45,7 @@ stream_bytes (ChaChaKeystream key nonce) place = byte_in-lt (chacha_word key non
 stream_bytes (SalsaKeystream key nonce) place = byte_in-lt (salsa_word key nonce) place
 stream_bytes NoKeystream place = omega arith
 
-pub xored_bytes : (f : ℕ → ℕ) (bytes : List ℕ) (p : ℕ) → ((place : ℕ) → f place < 256) → IsBytes bytes → IsBytes (xored f p bytes)
+pub xored_bytes : (f : ℕ → ℕ) (bytes : List ℕ) (p : ℕ) → ((place : ℕ) → f place < 256) → IsBytes bytes → IsBytes (xor_stream f p bytes)
 xored_bytes f [] p small is i = omega arith
 xored_bytes f (b ∷ bs) p small is zero = xor_of_8 b (f p) (is 0) (small p)
 xored_bytes f (b ∷ bs) p small is (suc i) = xored_bytes f bs (p + 1) small (λ j. is (suc j)) i

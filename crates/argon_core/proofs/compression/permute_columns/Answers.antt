@@ -1,7 +1,7 @@
 use Rattle.std.proofs.Common.{◌≡◌, ◌+◌, ◌*◌, ◌/◌, ◌%◌, slice_index, ap, ◌∙◌, sym, inl, inr, arith, ℕ, List}
 use Rattle.std.proofs.lemmas.Bool.{cases_lt}
 use Rattle.std.proofs.lemmas.List.FromFn.{fill_by_all}
-use Rattle.argon_core.specs.Compression.{permuted, permuted_columns, column}
+use Rattle.argon_core.specs.Compression.{permutation, permuted_columns, column}
 use Rattle.argon_core.proofs.Registers.{column_same}
 use Rattle.argon_core.proofs.compression.permute_columns.Goals as goal
 
@@ -18,7 +18,7 @@ columns-preserved c =
             let here : i % 16 / 2 ≡ j = omega arith in
             let k : ℕ = 2 * (i / 16) + i % 2 in
             let at : 16 * (k / 2) + 2 * j + k % 2 ≡ i = omega arith in
-            let words = c.permute-words.ensures ∙ ap permuted (c.column.ensures ∙ same ∙ ap (λ (n : ℕ). column c.args.block.now n) (sym here)) in
+            let words = c.permute-words.ensures ∙ ap permutation (c.column.ensures ∙ same ∙ ap (λ (n : ℕ). column c.args.block.now n) (sym here)) in
             rw at at (put.here k (omega arith)) ∙ ap (λ (ws : List ℕ). slice_index ws k) words
       ];
       left = λ i h. put.others i (omega arith) ∙ inv.left i (omega arith);

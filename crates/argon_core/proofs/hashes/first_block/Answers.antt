@@ -1,7 +1,7 @@
 use Rattle.std.proofs.Common.{◌++◌, ap, ◌∙◌, List, ℕ}
 use Rattle.argon_core.specs.Words.{words}
 use Rattle.argon_core.specs.Blake2b.{blake2b}
-use Rattle.argon_core.specs.VariableHash.{chained, first_halves, variable_hash}
+use Rattle.argon_core.specs.VariableHash.{first_halves, hash_chain, variable_hash}
 use Rattle.argon_core.proofs.hashes.first_block.Goals as goal
 
 pub returns : goal.returns
@@ -13,4 +13,4 @@ returns c =
     let lane = c.update_number-3.ensures.holds 64 _ column in
     c.load_words.ensures
     ∙ ap (λ (bytes : List ℕ). words 128 bytes) (c.lengthen-bytes.ensures
-    ∙ ap (λ (v : List ℕ). first_halves v 30 ++ blake2b 64 (chained v 29)) (c.digest_of.ensures _ lane))
+    ∙ ap (λ (v : List ℕ). first_halves v 30 ++ blake2b 64 (hash_chain v 29)) (c.digest_of.ensures _ lane))

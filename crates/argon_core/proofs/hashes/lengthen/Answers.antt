@@ -1,10 +1,10 @@
 use Rattle.std.proofs.Common.{refl, arith, ◌∙◌}
-use Rattle.argon_core.specs.VariableHash.{chained, first_halves}
+use Rattle.argon_core.specs.VariableHash.{first_halves, hash_chain}
 use Rattle.argon_core.proofs.LongHash.{chained_next, halves_next, halves_end}
 use Rattle.argon_core.proofs.hashes.lengthen.Goals as goal
 
 pub halves-init : goal.halves-init
-unfolding chained first_halves
+unfolding hash_chain first_halves
 halves-init c = record { hash = refl; halves = refl }
 
 pub halves-preserved : goal.halves-preserved

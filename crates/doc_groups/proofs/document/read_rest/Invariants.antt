@@ -1,6 +1,6 @@
 use Rattle.std.specs.Prelude.{option_map}
 use Rattle.std.proofs.Common.{◌≡◌, length}
-use Rattle.markup_grammar.specs.Elements.{inner, left}
+use Rattle.markup_grammar.specs.Elements.{innermost, open_contents}
 use Rattle.doc_forms.specs.SeenDrafts.{file_parts}
 use Rattle.doc_groups.specs.GroupSteps.{parts_left}
 use Rattle.doc_groups.proofs.document.read_rest.Given as goal
@@ -9,8 +9,8 @@ use Rattle.doc_groups.proofs.document.read_rest.Given as goal
 abbrev pub invariant-pieces : goal.invariant-pieces
 invariant-pieces l =
     record {
-      gives : parts_left l.initial.walk.setting (inner (left l.walk.answers)) (option_map file_parts l.known) l.walk.cursor
-          ≡ parts_left l.initial.walk.setting (inner (left l.initial.walk.answers)) (option_map file_parts l.initial.known) l.initial.walk.cursor;
+      gives : parts_left l.initial.walk.setting (innermost (open_contents l.walk.answers)) (option_map file_parts l.known) l.walk.cursor
+          ≡ parts_left l.initial.walk.setting (innermost (open_contents l.initial.walk.answers)) (option_map file_parts l.initial.known) l.initial.walk.cursor;
       setting : l.walk.setting ≡ l.initial.walk.setting;
     }
 

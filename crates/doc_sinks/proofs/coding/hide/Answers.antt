@@ -1,7 +1,7 @@
 use Rattle.std.proofs.Common.{◌≡◌, ◌+◌, arith, length, rules, ℕ, ap, ◌∙◌, List}
 use Rattle.std.proofs.lemmas.Bool.Decides.{nat_tests}
 use Rattle.stream_core.specs.InnerStream.{IsAt, keystream, keystream_byte, Keystream}
-use Rattle.stream_core.specs.Stream.{xored}
+use Rattle.stream_core.specs.Stream.{xor_stream}
 use Rattle.doc_sinks.specs.Chunks.{base64}
 use Rattle.doc_sinks.specs.Sinks.{coded_len}
 use Rattle.doc_sinks.proofs.Base64Groups.{bytes_step, coded_step, cut_lengths, hidden_end, hidden_step, room_step}
@@ -18,7 +18,7 @@ loop-rest-preserved c =
     let sum : length c.split_at.result.0.now + length c.split_at.result.1.now ≡ length c.loop-rest.rest.now =
     rw (c.split_at.ensures.front, c.split_at.ensures.back) (cut_lengths c.min.result c.loop-rest.rest.now) in
     record {
-      bytes = bytes_step _ _ (base64 (xored k c.loop-rest.at c.split_at.result.0.now)) (base64 (xored k (c.loop-rest.at + length c.split_at.result.0.now) c.split_at.result.1.now)) _ _
+      bytes = bytes_step _ _ (base64 (xor_stream k c.loop-rest.at c.split_at.result.0.now)) (base64 (xor_stream k (c.loop-rest.at + length c.split_at.result.0.now) c.split_at.result.1.now)) _ _
           (rw c.loop-rest.invariant.keystream at c.hide_group.ensures.bytes) hidden c.loop-rest.invariant.bytes;
       spare = room.0;
       room = room.1;

@@ -1,6 +1,6 @@
 use Rattle.std.proofs.Common.{◌≡◌, ◌-◌, ◌≤◌, length}
 use Rattle.kdbx_inner.specs.Inner.{inner_from, inner_step, inner_end_missing}
-use Rattle.outside_core.specs.Results.{repeated}
+use Rattle.outside_core.specs.Results.{repeat_steps}
 use Rattle.kdbx_inner.specs.Seen.{inner_read_seen}
 use Rattle.kdbx_inner.proofs.inner.inner_from.Given as goal
 
@@ -8,5 +8,5 @@ use Rattle.kdbx_inner.proofs.inner.inner_from.Given as goal
 abbrev pub invariant-fields : goal.invariant-fields
 invariant-fields l = record {
   shorter : length l.read.rest.now ≤ length l.text;
-  so_far : repeated (inner_step (length l.text)) (inner_end_missing (length l.text)) (length l.text - l.counter) (inner_read_seen l.read) ≡ inner_from l.text;
+  so_far : repeat_steps (inner_step (length l.text)) (inner_end_missing (length l.text)) (length l.text - l.counter) (inner_read_seen l.read) ≡ inner_from l.text;
 }

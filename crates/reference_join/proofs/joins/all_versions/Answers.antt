@@ -3,7 +3,7 @@ use Rattle.std.proofs.Common.{◌<◌, ◌+◌, List, length, drop, map, arith, 
 use Rattle.std.specs.FinMap.{get}
 use Rattle.vault_model.specs.Db.{Db}
 use Rattle.vault_model.specs.Join.{stats_join}
-use Rattle.vault_model.specs.Unite.{gather, merged, unite}
+use Rattle.vault_model.specs.Unite.{gather, join_options, unite}
 use Rattle.join_laws.proofs.Joins.{versions_joins}
 use Rattle.reference_tables.specs.declared.databases.Database.{Database}
 use Rattle.reference_tables.specs.Databases.{databases}
@@ -21,6 +21,6 @@ loop-member-preserved c =
     let lt : i < length members = omega arith in
     let rest = gather (unite stats_join) (map (λ (n : Db). get n.entries id) (databases (drop (i + 1) members))) in
     c.loop-member.invariant
-    ∙ ap (λ (ms : List Database). merged (unite stats_join) joined (gather (unite stats_join) (map (λ (n : Db). get n.entries id) (databases ms)))) (drop_next members i m lt c.member-item.is)
+    ∙ ap (λ (ms : List Database). join_options (unite stats_join) joined (gather (unite stats_join) (map (λ (n : Db). get n.entries id) (databases ms)))) (drop_next members i m lt c.member-item.is)
     ∙ gather_next versions_joins joined (get m.entries id) rest
-    ∙ ap (λ b. merged (unite stats_join) b rest) (sym (c.in_ok-joined.ensures ∙ ap (λ b. merged (unite stats_join) b joined) c.get.ensures))
+    ∙ ap (λ b. join_options (unite stats_join) b rest) (sym (c.in_ok-joined.ensures ∙ ap (λ b. join_options (unite stats_join) b joined) c.get.ensures))

@@ -2,9 +2,9 @@ use Rattle.std.proofs.Common.{◌≡◌, drop, map}
 use Rattle.std.specs.FinMap.{get}
 use Rattle.vault_model.specs.Db.{Db}
 use Rattle.vault_model.specs.Join.{stats_join}
-use Rattle.vault_model.specs.Unite.{gather, merged, unite}
+use Rattle.vault_model.specs.Unite.{gather, join_options, unite}
 use Rattle.reference_tables.specs.Databases.{databases}
 use Rattle.reference_join.proofs.joins.all_versions.Given as goal
 
 abbrev pub invariant-loop-member : goal.invariant-loop-member
-invariant-loop-member l = gather (unite stats_join) (map (λ (m : Db). get m.entries l.id) (databases l.members)) ≡ merged (unite stats_join) l.joined (gather (unite stats_join) (map (λ (m : Db). get m.entries l.id) (databases (drop l.member-index l.members))))
+invariant-loop-member l = gather (unite stats_join) (map (λ (m : Db). get m.entries l.id) (databases l.members)) ≡ join_options (unite stats_join) l.joined (gather (unite stats_join) (map (λ (m : Db). get m.entries l.id) (databases (drop l.member-index l.members))))

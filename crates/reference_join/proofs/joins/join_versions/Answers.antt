@@ -2,7 +2,7 @@
 use Rattle.std.proofs.Common.{Some, ap, sym, ◌∙◌}
 use Rattle.std.specs.Option.{option_copied}
 use Rattle.vault_model.specs.Join.{stats_join}
-use Rattle.vault_model.specs.Unite.{merged, unite}
+use Rattle.vault_model.specs.Unite.{join_options, unite}
 use Rattle.vault_model.proofs.Orders.{mark_order}
 use Rattle.reference_join.proofs.GatherMembers.{merge_in, merge_first}
 use Rattle.reference_join.proofs.joins.join_versions.Goals as goal
@@ -18,4 +18,4 @@ returns c =
           merge_first mark_order.total mark_order.same stats_join c.in-Some.more.now c.match-so_far.all c.add_all.new.self c.args.so_far
           c.in_ok-add_all.ensures w.in-None.is (w.all-is ∙ w.new-all.ensures)
     ])
-    ∙ ap (λ o. merged (unite stats_join) (option_copied o) c.args.so_far) (sym c.in-Some.is)
+    ∙ ap (λ o. join_options (unite stats_join) (option_copied o) c.args.so_far) (sym c.in-Some.is)

@@ -3,7 +3,7 @@ use Rattle.std.proofs.Common.{◌<◌, ◌+◌, List, length, drop, map, arith, 
 use Rattle.std.specs.FinMap.{get}
 use Rattle.vault_model.specs.Db.{Db}
 use Rattle.vault_model.specs.Join.{state_join}
-use Rattle.vault_model.specs.Unite.{gather, merged}
+use Rattle.vault_model.specs.Unite.{gather, join_options}
 use Rattle.join_laws.proofs.Joins.{state_joins}
 use Rattle.reference_tables.specs.declared.databases.Database.{Database}
 use Rattle.reference_tables.specs.Databases.{databases}
@@ -21,6 +21,6 @@ loop-member-preserved c =
     let lt : i < length members = omega arith in
     let rest = gather (state_join) (map (λ (n : Db). get n.groups id) (databases (drop (i + 1) members))) in
     c.loop-member.invariant
-    ∙ ap (λ (ms : List Database). merged (state_join) joined (gather (state_join) (map (λ (n : Db). get n.groups id) (databases ms)))) (drop_next members i m lt c.member-item.is)
+    ∙ ap (λ (ms : List Database). join_options (state_join) joined (gather (state_join) (map (λ (n : Db). get n.groups id) (databases ms)))) (drop_next members i m lt c.member-item.is)
     ∙ gather_next state_joins joined (get m.groups id) rest
-    ∙ ap (λ b. merged (state_join) b rest) (sym (c.join_state-joined.ensures ∙ ap (λ b. merged (state_join) b joined) c.get.ensures))
+    ∙ ap (λ b. join_options (state_join) b rest) (sym (c.join_state-joined.ensures ∙ ap (λ b. join_options (state_join) b joined) c.get.ensures))

@@ -3,7 +3,7 @@ use Rattle.std.proofs.Common.{◌<◌, ◌+◌, List, length, drop, arith, ap, s
 use Rattle.std.specs.FinMap.{get}
 use Rattle.vault_model.specs.Db.{place_cmp}
 use Rattle.vault_model.specs.Join.{latest}
-use Rattle.vault_model.specs.Unite.{greater, merged}
+use Rattle.vault_model.specs.Unite.{greater, join_options}
 use Rattle.join_laws.proofs.Joins.{places_joins}
 use Rattle.reference_tables.specs.declared.databases.Database.{Database}
 use Rattle.reference_tables.specs.Databases.{databases}
@@ -21,6 +21,6 @@ loop-member-preserved c =
     let lt : i < length members = omega arith in
     let rest = latest (databases (drop (i + 1) members)) id in
     c.loop-member.invariant
-    ∙ ap (λ (ms : List Database). merged (greater place_cmp) best (latest (databases ms) id)) (drop_next members i m lt c.member-item.is)
+    ∙ ap (λ (ms : List Database). join_options (greater place_cmp) best (latest (databases ms) id)) (drop_next members i m lt c.member-item.is)
     ∙ gather_next places_joins best (get m.places id) rest
-    ∙ ap (λ b. merged (greater place_cmp) b rest) (sym (c.later_placement-best.ensures ∙ ap (λ b. merged (greater place_cmp) b best) (c.copied.ensures ∙ c.get.ensures)))
+    ∙ ap (λ b. join_options (greater place_cmp) b rest) (sym (c.later_placement-best.ensures ∙ ap (λ b. join_options (greater place_cmp) b best) (c.copied.ensures ∙ c.get.ensures)))

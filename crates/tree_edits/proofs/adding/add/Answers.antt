@@ -9,7 +9,7 @@ use Rattle.tree_core.specs.Finding.{group_found, has_entry_path}
 use Rattle.vault_model.proofs.Tests.{apart}
 use Rattle.tree_changes.proofs.Named.{named_group}
 use Rattle.tree_changes.specs.Changes.{changed_at, has_group, with_entry}
-use Rattle.tree_changes.specs.NewNodes.{given, new_entry, new_fields}
+use Rattle.tree_changes.specs.NewNodes.{given_values, new_entry, new_fields}
 use Rattle.tree_changes.specs.NewPaths.{after_last, before_last, new_path}
 use Rattle.tree_edits.proofs.AddedDoc.{add_is_doc}
 use Rattle.tree_edits.proofs.AfterAdd.{add_done}
@@ -20,9 +20,9 @@ invariant_of-doc c =
     let d = doc_seen c.args.doc.now in
     let path = c.args.path.now in
     let there = sym (ap (group_found d) (c.before_last.ensures ∙ ap before_last c.as_bytes.ensures.value)) ∙ sym c.find_group_of.ensures ∙ c.in-Some.is in
-    let row = c.new_entry.ensures ∙ ap (λ (fs : List BareField). (c.args.id, new_entry fs c.args.now)) (c.in_ok-fields.ensures ∙ ap (λ (t : List ℕ). new_fields d.meta.settings.value.protect t (given c.args.values.now)) c.name_after.ensures) in
+    let row = c.new_entry.ensures ∙ ap (λ (fs : List BareField). (c.args.id, new_entry fs c.args.now)) (c.in_ok-fields.ensures ∙ ap (λ (t : List ℕ). new_fields d.meta.settings.value.protect t (given_values c.args.values.now)) c.name_after.ensures) in
     let title = ap is_utf8 (sym c.name_after.ensures) ∙ is_utf8-from_IsUtf8 c.name_after.result.now c.name_after.utf8 in
-    let h = add_is_doc d (is_doc c.args.doc.now) path c.in-Some.group c.args.id (given c.args.values.now) c.args.now (entry_row c.new_entry.result) row there
+    let h = add_is_doc d (is_doc c.args.doc.now) path c.in-Some.group c.args.id (given_values c.args.values.now) c.args.now (entry_row c.new_entry.result) row there
     (sym c.is_free.ensures ∙ c.if-not-is_free.false) title c.values_are_utf8.ensures (tree_seen c.put_entry.new.root) c.put_entry.result c.put_entry.ensures in
     record {
       distinct = h.distinct;
@@ -43,9 +43,9 @@ returns-in-Some-Ok c =
     let path = c.args.path.now in
     let there = sym (ap (group_found d) (c.before_last.ensures ∙ ap before_last c.as_bytes.ensures.value)) ∙ sym c.find_group_of.ensures ∙ c.in-Some.is in
     let off = sym (ap (has_entry_path d) (c.as_slice.ensures ∙ c.in_ok-new_path.ensures)) ∙ sym c.is_entry_path.ensures ∙ c.if-is_entry_path.false in
-    let row = c.new_entry.ensures ∙ ap (λ (fs : List BareField). (c.args.id, new_entry fs c.args.now)) (c.in_ok-fields.ensures ∙ ap (λ (t : List ℕ). new_fields d.meta.settings.value.protect t (given c.args.values.now)) c.name_after.ensures) in
+    let row = c.new_entry.ensures ∙ ap (λ (fs : List BareField). (c.args.id, new_entry fs c.args.now)) (c.in_ok-fields.ensures ∙ ap (λ (t : List ℕ). new_fields d.meta.settings.value.protect t (given_values c.args.values.now)) c.name_after.ensures) in
     let put = rw (c.in-Some-Ok.is ∙ ap Some c.in-Some-Ok.field-0-is) at c.put_entry.ensures in
-    add_done path c.args.id (given c.args.values.now) c.args.now d c.in-Some.group there off (sym c.is_free.ensures ∙ c.if-not-is_free.false)
+    add_done path c.args.id (given_values c.args.values.now) c.args.now d c.in-Some.group there off (sym c.is_free.ensures ∙ c.if-not-is_free.false)
     ∙ ap (λ e. Ok (record d { tree = changed_at c.in-Some.group (with_entry e) d.tree })) (sym row)
     ∙ ap (λ t. Ok (record d { tree = t })) (sym put)
 

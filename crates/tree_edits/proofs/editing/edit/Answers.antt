@@ -6,7 +6,7 @@ use Rattle.vault_model.specs.SeenNodes.{bare_version, entry_record, entry_row, t
 use Rattle.vault_model.specs.Shape.{BareVersion}
 use Rattle.tree_changes.specs.After.{time_after}
 use Rattle.tree_changes.specs.Histories.{settled_history, with_version}
-use Rattle.tree_changes.specs.NewNodes.{given}
+use Rattle.tree_changes.specs.NewNodes.{given_values}
 use Rattle.tree_edits.proofs.EditedDoc.{edit_comes, edit_is_doc}
 use Rattle.tree_edits.proofs.editing.edit.Goals as goal
 
@@ -18,7 +18,7 @@ invariant_of-doc-2 c =
     let settings = d.meta.settings.value in
     let same = c.in_ok-history.ensures (bare_version c.in_ok-current.current)
     ∙ ap (λ (v : BareVersion). settled_history settings.history_items settings.history_size (with_version v (entry_record entry))) c.in_ok-current.ensures in
-    let h = edit_is_doc d c.in-Some-holder.group c.in-Some.id (entry_row entry) there (given c.args.values.now) c.in_ok-time.time (bare_version c.in_ok-current.current) (map bare_version c.in_ok-history.history) same
+    let h = edit_is_doc d c.in-Some-holder.group c.in-Some.id (entry_row entry) there (given_values c.args.values.now) c.in_ok-time.time (bare_version c.in_ok-current.current) (map bare_version c.in_ok-history.history) same
     (is_doc c.args.doc.now) c.values_are_utf8.ensures (tree_seen c.set_versions.new.root) c.set_versions.ensures in
     record {
       distinct = h.distinct;
@@ -41,7 +41,7 @@ returns c =
     let settings = d.meta.settings.value in
     let same = c.in_ok-history.ensures (bare_version c.in_ok-current.current)
     ∙ ap (λ (v : BareVersion). settled_history settings.history_items settings.history_size (with_version v (entry_record entry))) c.in_ok-current.ensures in
-    edit_comes d c.in-Some-holder.group c.in-Some.id (entry_row entry) there (given c.args.values.now) c.in_ok-time.time (bare_version c.in_ok-current.current) (map bare_version c.in_ok-history.history) same
+    edit_comes d c.in-Some-holder.group c.in-Some.id (entry_row entry) there (given_values c.args.values.now) c.in_ok-time.time (bare_version c.in_ok-current.current) (map bare_version c.in_ok-history.history) same
     c.args.path.now c.args.now (sym c.find_entry.ensures ∙ c.in-Some.is) (sym c.holder.ensures ∙ c.in-Some-holder.is)
     (sym (c.time_after.ensures ∙ ap (time_after c.args.now) c.entry_stamp.ensures) ∙ c.in_ok-time.was)
     (tree_seen c.set_versions.new.root) c.set_versions.ensures

@@ -3,7 +3,7 @@ use Rattle.std.proofs.Common.{ap, ◌∙◌}
 use Rattle.vault_model.specs.Orders.{icon_cmp, later_item_cmp}
 use Rattle.vault_model.specs.Unite.{greater, unite}
 use Rattle.vault_model.proofs.Orders.{bytes_order, id_order}
-use Rattle.reference_tables.specs.Databases.{shared}
+use Rattle.reference_tables.specs.Databases.{shared_meta}
 use Rattle.reference_tables.proofs.UniteMaps.{unite_with_none}
 use Rattle.reference_tables.proofs.metas.LentMeta.again.Goals as goal
 
@@ -19,4 +19,4 @@ returns c =
     ∙ ap (unite (greater later_item_cmp) c.args.self.now.items) c.new-items.ensures
     ∙ unite_with_none bytes_order.total bytes_order.same (greater later_item_cmp) c.args.self.now.items
     in
-    λ i. record (shared c.args.self.now) { icons = icons i; items = items i }
+    λ i. record (shared_meta c.args.self.now) { icons = icons i; items = items i }

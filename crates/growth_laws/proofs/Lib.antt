@@ -1,0 +1,11 @@
+pub mod Carries
+pub mod Commands
+pub mod Grown
+pub mod GroupCommands
+pub mod GroupSteps
+pub mod GrowsAt
+pub mod LostSteps
+pub mod Outcomes
+pub mod Stays
+pub mod StaysGrow
+pub mod Steps

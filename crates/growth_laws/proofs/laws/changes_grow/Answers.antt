@@ -1,0 +1,18 @@
+use Rattle.growth_laws.proofs.Commands.{add_grows, edit_grows, move_entry_grows}
+use Rattle.growth_laws.proofs.GroupCommands.{make_group_grows, move_group_grows}
+use Rattle.growth_laws.proofs.laws.changes_grow.Goals as goal
+
+pub returns-clause-add : goal.returns-clause-add
+returns-clause-add c = add_grows
+
+pub returns-clause-edit : goal.returns-clause-edit
+returns-clause-edit c = edit_grows
+
+pub returns-clause-move_entry : goal.returns-clause-move_entry
+returns-clause-move_entry c = move_entry_grows
+
+pub returns-clause-make_group : goal.returns-clause-make_group
+returns-clause-make_group c = make_group_grows
+
+pub returns-clause-move_group : goal.returns-clause-move_group
+returns-clause-move_group c = move_group_grows

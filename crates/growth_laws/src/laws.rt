@@ -1,0 +1,26 @@
+//! The laws that commands only grow. Each function has laws as its contract, for every document that
+//! a command changes; it does nothing, and takes no memory.
+
+ghost use Rattle.growth_laws.specs.Growth.{AddGrows, EditGrows, GrowthIsAStep, MakeGroupGrows, MoveEntryGrows, MoveGroupGrows, RemoveEntryGrows, RemoveGroupGrows};
+
+/// What is added, moved or edited grows: the join of the databases before and after it is the one
+/// after it, so that a copy that was changed by commands is a step of a schedule. An edit grows where
+/// the limits of histories drop nothing.
+pub fn changes_grow()
+    ensures add { AddGrows }
+    ensures edit { EditGrows }
+    ensures move_entry { MoveEntryGrows }
+    ensures make_group { MakeGroupGrows }
+    ensures move_group { MoveGroupGrows }
+{}
+
+/// What is removed grows in the same way, in the bin or by its tombstones.
+pub fn removals_grow()
+    ensures remove_entry { RemoveEntryGrows }
+    ensures remove_group { RemoveGroupGrows }
+{}
+
+/// A document that a replica's document grew to is a step of a schedule.
+pub fn growth_is_a_step()
+    ensures { GrowthIsAStep }
+{}

@@ -1,0 +1,4 @@
+//! The laws that commands only grow.
+#![tactic(auto)]
+
+pub mod laws;

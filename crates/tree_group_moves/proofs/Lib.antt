@@ -1,0 +1,5 @@
+pub mod AfterGroupMove
+pub mod GroupChildren
+pub mod GroupParents
+pub mod GroupsMoved
+pub mod GroupsTaken

@@ -1,0 +1,5 @@
+pub mod Burials
+pub mod GroupBins
+pub mod GroupsDeleted
+pub mod GroupsRecycled
+pub mod ManyTombs

@@ -1,0 +1,5 @@
+pub mod AfterMake
+pub mod GroupPuts
+pub mod Heights
+pub mod MadeDoc
+pub mod Slashes

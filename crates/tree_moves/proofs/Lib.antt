@@ -1,0 +1,3 @@
+pub mod KeptPlaces
+pub mod Placed
+pub mod Taken

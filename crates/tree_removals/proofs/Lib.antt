@@ -1,0 +1,4 @@
+pub mod Buried
+pub mod Deleted
+pub mod LastGroups
+pub mod NewBins
