@@ -5,8 +5,9 @@ use Rattle.outside_core.specs.Files.{FileMap}
 use Rattle.vault_model.specs.Tree.{BareDoc}
 use Rattle.cli_answers.specs.declared.answers.Refusal.{Refusal}
 use Rattle.cli_answers.specs.declared.answers.Stop.{Stop}
+use Rattle.cli_answers.specs.declared.answers.Stop.TheVariants.{Refused, FileFault, InputFault, NoMemory}
 use Rattle.outside_core.specs.Results.{◌>>=◌}
-use Rattle.cli_answers.specs.Phases.{Returns}
+use Rattle.cli_answers.specs.Phases.{RefusesAskedInput, Returns, Stops}
 use Rattle.cli_lines.specs.Lines.{HasLines, Lines, lines_of}
 use Rattle.cli_words.specs.Needs.{Needs, needs_of}
 use Rattle.cli_words.specs.declared.command.Command.{Command}
@@ -51,3 +52,29 @@ pub output_by_needs : (words : List (List ℕ)) (command : Command) (needs : Nee
 output_by_needs words command needs lines doc result c same p d =
     output_given words command lines doc result c (subst (λ (n : Needs). HasLines n lines) same p)
     (subst (λ (n : Needs). SomeDatabase n lines.password doc) same d)
+
+-- The lines were refused.
+pub lines_refused : (stop : Stop) (words : List (List ℕ)) (input : List ℕ) (files : FileMap) (command : Command) (needs : Needs) (before now : Option (List ℕ))
+    → known_command words ≡ Ok command → needs ≡ needs_of command → RefusesAskedInput stop before now (lines_of needs input) → Stops stop (answer_of words input files)
+unfolding answer_of
+lines_refused (Refused refusal) words input files command needs before now c same h =
+    ap (λ r. r >>= λ command. (lines_of (needs_of command) input).answer >>= λ lines. database_of (needs_of command) lines.password files >>= λ doc. output_of command doc) c
+    ∙ ap (λ r. r >>= λ lines. database_of (needs_of command) lines.password files >>= λ doc. output_of command doc)
+    (subst (λ (n : Needs). (lines_of n input).answer ≡ Err refusal) same h.0)
+lines_refused (FileFault name) words input files command needs before now c same h = tt
+lines_refused InputFault words input files command needs before now c same h = tt
+lines_refused NoMemory words input files command needs before now c same h = tt
+
+-- The database was refused.
+pub database_refused : (stop : Stop) (words : List (List ℕ)) (input : List ℕ) (files : FileMap) (command : Command) (needs : Needs) (lines : Lines)
+    → known_command words ≡ Ok command → needs ≡ needs_of command → (lines_of needs input).answer ≡ Ok lines
+    → Stops stop (database_of needs lines.password files) → Stops stop (answer_of words input files)
+unfolding answer_of
+database_refused (Refused refusal) words input files command needs lines c same p h =
+    ap (λ r. r >>= λ command. (lines_of (needs_of command) input).answer >>= λ lines. database_of (needs_of command) lines.password files >>= λ doc. output_of command doc) c
+    ∙ ap (λ r. r >>= λ lines. database_of (needs_of command) lines.password files >>= λ doc. output_of command doc)
+    (subst (λ (n : Needs). (lines_of n input).answer ≡ Ok lines) same p)
+    ∙ ap (λ r. r >>= λ doc. output_of command doc) (subst (λ (n : Needs). database_of n lines.password files ≡ Err refusal) same h)
+database_refused (FileFault name) words input files command needs lines c same p h = tt
+database_refused InputFault words input files command needs lines c same p h = tt
+database_refused NoMemory words input files command needs lines c same p h = tt

@@ -53,3 +53,16 @@ ends_left (Err (Refused refusal)) before now left h = h
 ends_left (Err (FileFault name)) before now left h = h
 ends_left (Err InputFault) before now left h = tt
 ends_left (Err NoMemory) before now left h = tt
+
+-- the same of what the command asks for, under another name
+pub needs_leave : (stop : Stop) (words : Result Command Refusal) (command : Command) (needs : Needs) (before now : Option (List ℕ)) (input : List ℕ) (f f' : ℕ)
+    → IsLineStop f f' stop → words ≡ Ok command → needs ≡ needs_of command → RefusesAskedInput stop before now (lines_of needs input)
+    → Leaves {X = Output} (Err stop) before now (left_behind words input)
+needs_leave stop words command needs before now input f f' k is same h =
+    lines_leave stop words command before now input f f' k is (subst (λ (n : Needs). RefusesAskedInput stop before now (lines_of n input)) same h)
+
+pub needs_left : (result : Result Output Stop) (words : Result Command Refusal) (command : Command) (needs : Needs) (before now : Option (List ℕ)) (input : List ℕ)
+    → words ≡ Ok command → needs ≡ needs_of command → IsLeft before now (lines_of needs input).left → Leaves result before now (left_behind words input)
+needs_left result words command needs before now input is same h =
+    ends_left result before now (left_behind words input)
+    (goes_on_left words command before now input is (subst (λ (n : Needs). IsLeft before now (lines_of n input).left) same h))
