@@ -1,0 +1,9 @@
+use Rattle.kdbx_seal.specs.Made.{made_file}
+use Rattle.kdbx_open.proofs.SealedFiles.{is_opened}
+use Rattle.sealing_laws.specs.Contents.{made_contents}
+use Rattle.sealing_laws.proofs.HeldDocuments.{is_held}
+use Rattle.sealing_laws.proofs.laws.sealed_documents_are_opened.Goals as goal
+
+pub returns : goal.returns
+returns c s draws composite d is writable sealed =
+    is_opened (made_file s draws composite d) composite (made_contents s draws d) (is_held s draws composite d is writable sealed)
