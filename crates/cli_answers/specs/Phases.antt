@@ -30,6 +30,21 @@ pub record InputAnswer (A : Type 0) : Type 0 where
   pub answer : Result A Refusal
   pub left : List ℕ
 
+-- What a phase gives that takes nothing from the input.
+abbrev pub with_input : {A : Type 0} → Result A Refusal → List ℕ → InputAnswer A
+with_input answer left = record { answer = answer; left = left }
+
+-- The phase after one that gave this and left that.
+abbrev pub after_input : {A B : Type 0} → Result A Refusal → List ℕ
+    → (A → List ℕ → InputAnswer B) → InputAnswer B
+after_input (Ok a) left next = next a left
+after_input (Err refusal) left next = record { answer = Err refusal; left = left }
+
+-- One phase, and then the next on what it left.
+abbrev pub then_input : {A B : Type 0} → InputAnswer A → (A → List ℕ → InputAnswer B)
+    → InputAnswer B
+then_input taken next = after_input taken.answer taken.left next
+
 -- A phase that takes from the input was refused as it is defined, and left what is defined.
 abbrev pub RefusesInput : {Y : Type 0} → Stop → Option (List ℕ) → InputAnswer Y → Type 0
 RefusesInput (Refused refusal) left defined = (defined.answer ≡ Err refusal)

@@ -101,6 +101,16 @@ pub enum Stop {
     NoMemory,
 }
 
+impl From<NoMemory> for Stop {
+    ghost use Rattle.cli_answers.specs.declared.answers.Stop.TheVariants as stop;
+
+    ghost from_gives = { λ _ e. e ≡ stop.NoMemory };
+
+    fn from(_none: NoMemory) -> Stop {
+        Stop::NoMemory
+    }
+}
+
 /// The status of the program for an answer.
 pub fn status(reason: &Reason) -> u8
     ensures { result ≡ status_of reason.now }

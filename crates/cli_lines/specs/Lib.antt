@@ -1,3 +1,3 @@
 pub mod Cutting
 pub mod Lines
-pub mod Passwords
+pub mod SeenLines

@@ -1,13 +1,13 @@
 -- The lines that a call takes from its input.
-use Rattle.std.specs.Prelude.{ℕ, ◌+◌, Bool, true, false, ◌&&◌, ◌||◌, ◌==◌, if◌then◌else◌, nat_lt, cond, drop, List, [], ◌∷◌, codes, Option, None, Some, Result, Ok, Err}
+use Rattle.std.specs.Prelude.{◌≡◌, ◌⊎◌, ℕ, ◌+◌, Bool, true, false, ◌&&◌, ◌==◌, if◌then◌else◌, nat_lt, drop, IsSome, List, [], ◌∷◌, codes, Option, None, Some, Result, Ok, Err}
 use Rattle.std.specs.Str.{is_utf8}
 use Rattle.cli_answers.specs.declared.answers.Reason.TheVariants.{LineLimit, LineForm, InputEnded}
 use Rattle.cli_answers.specs.declared.answers.Refusal.{Refusal}
-use Rattle.cli_words.specs.declared.command.Command.{Command}
-use Rattle.cli_words.specs.declared.command.Command.TheVariants.{Ls}
+use Rattle.cli_words.specs.declared.command.Access.{Access}
+use Rattle.cli_words.specs.Needs.{Needs, asks_password}
 use Rattle.cli_answers.specs.Messages.{refusal_of}
 use Rattle.outside_core.specs.Results.{◌>>=◌}
-use Rattle.cli_answers.specs.Phases.{InputAnswer}
+use Rattle.cli_answers.specs.Phases.{InputAnswer, then_input, with_input}
 
 -- A line that ends here.
 abbrev pub whole : List ℕ → InputAnswer (List ℕ)
@@ -56,20 +56,39 @@ line_of number (b ∷ bs) =
           (line_from 0 (b ∷ bs)).left;
     }
 
--- The password that a line is, where one is due.
-abbrev pub password_if : Bool → List ℕ → InputAnswer (Option (List ℕ))
-password_if true input = record {
-  answer = (line_of 1 input).answer >>= λ line. Ok (Some line);
-  left
-      = (line_of 1 input).left;
-}
-password_if false input = record { answer = Ok None; left = input }
+-- A line that was due.
+abbrev pub some_line : InputAnswer (List ℕ) → InputAnswer (Option (List ℕ))
+some_line taken = record { answer = taken.answer >>= λ line. Ok (Some line); left = taken.left }
 
--- Whether a command asks for a line: the password of a database that is not plain and has one.
-abbrev pub asks : Command → Bool
-asks (Ls access file group recursive flat) = cond (access.plain || access.no_password) false true
+-- The line of this number, where one is due.
+abbrev pub line_if : Bool → ℕ → List ℕ → InputAnswer (Option (List ℕ))
+line_if true number input = some_line (line_of number input)
+line_if false number input = with_input (Ok None) input
 
--- The password of a command's database: the first line, unless the database is plain or has none.
-unfoldable pub password_of : Command → List ℕ → InputAnswer (Option (List ℕ))
-password_of (Ls access file group recursive flat) input = password_if
-    (cond (access.plain || access.no_password) false true) input
+-- The lines of a call, each where it is due: the password of the database, and the line that the
+-- command asks for after it.
+pub record Lines : Type 0 where
+  pub password : Option (List ℕ)
+  pub more : Option (List ℕ)
+
+-- The number of the line after the password, if there is one.
+abbrev pub number_after : Bool → ℕ
+number_after asks = if asks then 2 else 1
+
+-- The lines that a command asks for, one after another.
+abbrev pub lines_of : Needs → List ℕ → InputAnswer Lines
+lines_of needs input =
+    then_input (line_if (asks_password needs.access) 1 input) (λ password rest.
+    then_input (line_if needs.has_line (number_after (asks_password needs.access)) rest)
+    (λ more end. with_input (Ok (record { password = password; more = more })) end))
+
+-- ---- lines that are there
+
+-- Each line that is due is there.
+pub record HasLines (needs : Needs) (lines : Lines) : Type 0 where
+  pub has_password : asks_password needs.access ≡ true → IsSome lines.password
+  pub has_more : needs.has_line ≡ true → IsSome lines.more
+
+-- A database that is no plain document has a password or a key file.
+abbrev pub CanOpen : Access → Option (List ℕ) → Type 0
+CanOpen access password = access.plain ≡ false → IsSome password ⊎ IsSome access.key_file

@@ -3,4 +3,4 @@
 
 mod lines;
 
-pub use lines::read_password;
+pub use lines::{Lines, read_lines};

@@ -1,15 +1,17 @@
 //! The lines that a call takes from its input.
-ghost use Rattle.std.specs.Prelude.{◌≡◌, ◌≢◌, ◌≤◌, ◌<◌, ◌+◌, [], ◌∷◌, ℕ, List, length, IfErr, IfOk, IfSome, Some, option_map};
+ghost use Rattle.std.specs.Prelude.{◌≡◌, ◌≢◌, ◌≤◌, ◌<◌, ◌+◌, [], ◌∷◌, ℕ, List, length, IfErr, IfOk, IfSome, IsSome, Some, true};
 ghost use Rattle.std.specs.Str.{is_utf8};
 ghost use Rattle.outside_core.specs.Counts.{HasCause};
 ghost use Rattle.cli_lines.specs.Cutting.{ComesNext, Cuts, Ends, IsPushed, Puts, cut, weight};
 ghost use Rattle.cli_lines.specs.Lines as spec;
-ghost use Rattle.cli_lines.specs.Lines.{line_from, line_of, password_of};
-ghost use Rattle.cli_lines.specs.Passwords.{HasPassword};
+ghost use Rattle.cli_lines.specs.Lines.{HasLines, line_from, line_if, line_of, lines_of};
+ghost use Rattle.cli_lines.specs.SeenLines.{line_seen, lines_seen};
+ghost use Rattle.cli_words.specs.Needs.{asks_line};
+ghost use Rattle.cli_words.specs.SeenNeeds.{needs_seen};
 ghost use Rattle.cli_answers.specs.Phases.{IsLineStop, ReturnsAskedInput, ReturnsInput, TellsInput};
 
 use cli_answers::{Reason, Stop, refused};
-use cli_words::Command;
+use cli_words::{Needs, asks_password};
 use outside_core::{NoMemory, Source, SourceFail};
 use secret_core::Secret;
 use std::alloc::Global;
@@ -155,37 +157,56 @@ fn read_line<S: Source>(alloc: Global, input: &mut S, number: u64) -> Result<Sec
     }
 }
 
-// Reports whether a command asks for a line: the password of a database that is not plain and has
-// one.
-fn asks(command: &Command) -> bool
-    ensures { result ≡ spec.asks command.now }
-{
-    match command {
-        Command::Ls { access, .. } => !(access.plain || access.no_password),
-    }
-}
-
-/// The password of a command's database: the first line of the input, unless the database is plain
-/// or has none.
-#[tactic(auto, unfolding(crate::specs::Lines::password_of))]
-pub fn read_password<S: Source>(
+// The line of this number, where one is due.
+fn read_if<S: Source>(
     alloc: Global,
     input: &mut S,
-    command: &Command,
+    due: bool,
+    number: u64,
 ) -> Result<Option<Secret>, Stop>
-    ensures told { (i : List ℕ) → TellsInput (spec.asks command.now) (S.left input.old) i
-        → ReturnsAskedInput (option_map (λ line. line.bytes)) result (S.left input.old)
-        (S.left input.new) (password_of command.now i) }
-    ensures given { IfOk result (λ password. HasPassword command.now
-        (option_map (λ line. line.bytes) password)) }
+    ensures told { (i : List ℕ) → TellsInput due (S.left input.old) i
+        → ReturnsAskedInput line_seen result (S.left input.old) (S.left input.new)
+        (line_if due number i) }
+    ensures given { IfOk result (λ line. due ≡ true → IsSome (line_seen line)) }
     ensures cause { IfErr result (IsLineStop (S.faults input.old) (S.faults input.new)) }
     ensures faults { S.faults input.old ≤ S.faults input.new }
 {
-    if !asks(command) {
+    if !due {
         return Ok(None);
     }
-    match read_line(alloc, input, 1) {
+    match read_line(alloc, input, number) {
         Ok(line) => Ok(Some(line)),
         Err(stop) => Err(stop),
     }
+}
+
+// The number of the line after the password, if there is one.
+fn number_after(asks: bool) -> u64
+    ensures { result ≡ spec.number_after asks }
+{
+    if asks { 2 } else { 1 }
+}
+
+/// The lines of a call, each where it is due.
+#[derive(Drop)]
+pub struct Lines {
+    /// The password of the database.
+    pub password: Option<Secret>,
+    /// The line that a command asks for after it.
+    pub more: Option<Secret>,
+}
+
+/// The lines that a command asks for, one after another.
+pub fn read_lines<S: Source>(alloc: Global, input: &mut S, needs: Needs<'_>) -> Result<Lines, Stop>
+    ensures told { (i : List ℕ) → TellsInput (asks_line (needs_seen needs.entry))
+        (S.left input.old) i → ReturnsAskedInput lines_seen result (S.left input.old)
+        (S.left input.new) (lines_of (needs_seen needs.entry) i) }
+    ensures given { IfOk result (λ lines. HasLines (needs_seen needs.entry) (lines_seen lines)) }
+    ensures cause { IfErr result (IsLineStop (S.faults input.old) (S.faults input.new)) }
+    ensures faults { S.faults input.old ≤ S.faults input.new }
+{
+    let asks = asks_password(needs.access);
+    let password = read_if(alloc, input, asks, 1)?;
+    let more = read_if(alloc, input, needs.has_line, number_after(asks))?;
+    Ok(Lines { password, more })
 }

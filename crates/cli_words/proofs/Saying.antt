@@ -3,11 +3,12 @@ use Rattle.std.proofs.Common.{◌≡◌, ◌≢◌, ℕ, Bool, true, false, not,
 use Rattle.std.specs.Option.{option_and_then}
 use Rattle.std.proofs.lemmas.Bool.Decides.{Decides-eqb}
 use Rattle.std.proofs.lemmas.Slice.Eq.{bytes_eq-Decides}
-use Rattle.cli_words.specs.declared.words.Flag.{Flag}
-use Rattle.cli_words.specs.declared.words.Flag.TheVariants.{Recursive, Flat, Quiet, Plain, NoPassword}
+use Rattle.cli_words.specs.declared.options.CommandName.{CommandName}
+use Rattle.cli_words.specs.declared.options.CommandOption.{CommandOption}
 use Rattle.cli_words.specs.Laws.{lack_end}
-use Rattle.cli_words.specs.Prefixes.{strip_prefix}
-use Rattle.cli_words.specs.Words.{Said, flag_of_letter, flag_of_name, is_option, unless_given, with_flag, with_joined_key, with_key, with_key_due, with_letter, with_letters, with_long, with_name, with_option, with_position, with_short, with_value, with_word, with_words}
+use Rattle.cli_words.specs.Options.{has_value, letter_option, name_option}
+use Rattle.cli_words.specs.Prefixes.{after_sign, before_sign, strip_prefix}
+use Rattle.cli_words.specs.Words.{Said, by_letter, is_option, unless_given, with_due, with_flag, with_given, with_joined, with_letters, with_long, with_name, with_next, with_option, with_position, with_short, with_word, with_words, without_sign}
 use Rattle.cli_words.proofs.Flags.{joined, same_step, with_flags}
 
 -- What is said, if anything is, has a property.
@@ -37,82 +38,71 @@ by_step : (P : Said → Type 0) (F : Said → Option Said) → ((s : Said) → P
 by_step P F h None p = refl
 by_step P F h (Some s) p = h s p
 
--- Whether `--` was there, and whether a key file's name is due.
-abbrev pub IsState : Bool → Bool → Said → Type 0
-IsState ended due said = (said.ended ≡ ended) × (said.is_due ≡ due)
-
-flag_keeps : (ended due : Bool) (flag : Flag) (said : Said) → IsState ended due said → IfSaid (IsState ended due) (with_flag said flag)
-flag_keeps e d Recursive said p = by_unless (IsState e d) said.recursive (record said { recursive = true }) p
-flag_keeps e d Flat said p = by_unless (IsState e d) said.flat (record said { flat = true }) p
-flag_keeps e d Quiet said p = by_unless (IsState e d) said.quiet (record said { quiet = true }) p
-flag_keeps e d Plain said p = by_unless (IsState e d) said.plain (record said { plain = true }) p
-flag_keeps e d NoPassword said p = by_unless (IsState e d) said.no_password (record said { no_password = true }) p
+-- Whether `--` was there, and the option whose value is due.
+abbrev pub IsState : Bool → Option CommandOption → Said → Type 0
+IsState ended due said = (said.ended ≡ ended) × (said.due ≡ due)
 
 -- Flags change neither.
-pub flags_keep : (ended due : Bool) (flags : List Flag) (said : Said) → IsState ended due said
-    → IfSaid (IsState ended due) (with_flags flags said)
+pub flags_keep : (ended : Bool) (due : Option CommandOption) (flags : List CommandOption) (said : Said)
+    → IsState ended due said → IfSaid (IsState ended due) (with_flags flags said)
 flags_keep e d [] said p = p
 flags_keep e d (flag ∷ flags) said p =
-    by_step (IsState e d) (with_flags flags) (flags_keep e d flags) (with_flag said flag) (flag_keeps e d flag said p)
+    by_step (IsState e d) (with_flags flags) (flags_keep e d flags) (with_given said flag [])
+    (by_unless (IsState e d) _ _ p)
 
 -- `--` was not there.
 abbrev pub IsOpen : Said → Type 0
 IsOpen said = said.ended ≡ false
 
-flag_opens : (flag : Flag) (said : Said) → IsOpen said → IfSaid IsOpen (with_flag said flag)
-flag_opens Recursive said p = by_unless IsOpen said.recursive (record said { recursive = true }) p
-flag_opens Flat said p = by_unless IsOpen said.flat (record said { flat = true }) p
-flag_opens Quiet said p = by_unless IsOpen said.quiet (record said { quiet = true }) p
-flag_opens Plain said p = by_unless IsOpen said.plain (record said { plain = true }) p
-flag_opens NoPassword said p = by_unless IsOpen said.no_password (record said { no_password = true }) p
+given_opens : (said : Said) (option : CommandOption) (text : List ℕ) → IsOpen said → IfSaid IsOpen (with_given said option text)
+given_opens said option text p = by_unless IsOpen _ _ p
 
-found_flag_opens : (flag : Option Flag) (said : Said) → IsOpen said → IfSaid IsOpen (option_and_then (with_flag said) flag)
-found_flag_opens None said p = refl
-found_flag_opens (Some flag) said p = flag_opens flag said p
+due_opens : (said : Said) (option : CommandOption) → IsOpen said → IfSaid IsOpen (with_due said option)
+due_opens said option p = by_unless IsOpen _ _ p
 
-letters_open : (letters : List ℕ) (said : Said) → IsOpen said → IfSaid IsOpen (with_letters letters said)
-letters_open [] said p = p
-letters_open (letter ∷ letters) said p =
-    by_step IsOpen (with_letters letters) (letters_open letters) (with_letter said letter)
-    (found_flag_opens (flag_of_letter letter) said p)
+flag_opens : (flag : Option CommandOption) (said : Said) → IsOpen said → IfSaid IsOpen (with_flag said flag)
+flag_opens None said p = refl
+flag_opens (Some option) said p = by_test IsOpen (has_value option) None (with_given said option []) refl (given_opens said option [] p)
 
-key_due_opens : (said : Said) → IsOpen said → IfSaid IsOpen (with_key_due said)
-key_due_opens said p = by_unless IsOpen (is_some said.key_file) (record said { is_due = true }) p
+letters_open : (command : CommandName) (letters : List ℕ) (said : Said) → IsOpen said → IfSaid IsOpen (with_letters command letters said)
+letters_open command [] said p = p
+letters_open command (letter ∷ letters) said p =
+    by_step IsOpen (with_letters command letters) (letters_open command letters) (with_flag said (letter_option command letter))
+    (flag_opens (letter_option command letter) said p)
 
-key_opens : (said : Said) (name : List ℕ) → IsOpen said → IfSaid IsOpen (with_key said name)
-key_opens said name p = by_unless IsOpen (is_some said.key_file) (record said { key_file = Some name }) p
+joined_opens : (said : Said) (option : CommandOption) (text : List ℕ) → IsOpen said → IfSaid IsOpen (with_joined said option text)
+joined_opens said option [] p = due_opens said option p
+joined_opens said option (b ∷ bs) p = given_opens said option (without_sign (b ∷ bs)) p
 
-joined_key_opens : (said : Said) (name : List ℕ) → IsOpen said → IfSaid IsOpen (with_joined_key said name)
-joined_key_opens said [] p = key_due_opens said p
-joined_key_opens said (b ∷ bs) p = key_opens said _ p
+letter_opens : (command : CommandName) (said : Said) (letter : ℕ) (rest : List ℕ) (option : Option CommandOption) → IsOpen said
+    → IfSaid IsOpen (by_letter command said letter rest option)
+letter_opens command said letter rest None p = letters_open command (letter ∷ rest) said p
+letter_opens command said letter rest (Some option) p =
+    by_test IsOpen (has_value option) (with_joined said option rest) (with_letters command (letter ∷ rest) said)
+    (joined_opens said option rest p) (letters_open command (letter ∷ rest) said p)
 
-short_opens : (said : Said) (letters : List ℕ) (key : Option (List ℕ)) → IsOpen said → IfSaid IsOpen (with_short said letters key)
-short_opens said letters None p = letters_open letters said p
-short_opens said letters (Some name) p = joined_key_opens said name p
+short_opens : (command : CommandName) (said : Said) (letters : List ℕ) → IsOpen said → IfSaid IsOpen (with_short command said letters)
+short_opens command said [] p = p
+short_opens command said (letter ∷ rest) p = letter_opens command said letter rest (letter_option command letter) p
 
-long_opens : (said : Said) (flag : Option Flag) (value : Option (List ℕ)) → IsOpen said → IfSaid IsOpen (with_long said flag value)
-long_opens said (Some flag) value p = flag_opens flag said p
-long_opens said None (Some name) p = key_opens said name p
-long_opens said None None p = refl
+long_opens : (said : Said) (option : Option CommandOption) (value : Option (List ℕ)) → IsOpen said → IfSaid IsOpen (with_long said option value)
+long_opens said None value p = refl
+long_opens said (Some option) (Some value) p =
+    by_test IsOpen (has_value option) (with_given said option value) None (given_opens said option value p) refl
+long_opens said (Some option) None p =
+    by_test IsOpen (has_value option) (with_due said option) (with_given said option []) (due_opens said option p) (given_opens said option [] p)
 
-name_opens : (said : Said) (b : ℕ) (bs : List ℕ) → IsOpen said → IfSaid IsOpen (with_name said (b ∷ bs))
-name_opens said b bs p =
-    by_test IsOpen (bytes_eq (b ∷ bs) (codes "key-file")) (with_key_due said) _ (key_due_opens said p)
-    (long_opens said (flag_of_name (b ∷ bs)) (strip_prefix (codes "key-file=") (b ∷ bs)) p)
+option_opens : (command : CommandName) (said : Said) (name letters : Option (List ℕ)) → name ≢ Some [] → IsOpen said
+    → IfSaid IsOpen (with_option command said name letters)
+option_opens command said (Some []) letters h p = absurd (h refl)
+option_opens command said (Some (b ∷ bs)) letters h p =
+    long_opens said (name_option command (before_sign (b ∷ bs))) (after_sign (b ∷ bs)) p
+option_opens command said None (Some letters) h p = short_opens command said letters p
+option_opens command said None None h p = refl
 
-option_opens : (said : Said) (name letters : Option (List ℕ)) → name ≢ Some [] → IsOpen said
-    → IfSaid IsOpen (with_option said name letters)
-option_opens said (Some []) letters h p = absurd (h refl)
-option_opens said (Some (b ∷ bs)) letters h p = name_opens said b bs p
-option_opens said None (Some letters) h p = short_opens said letters (strip_prefix (codes "k") letters) p
-option_opens said None None h p = refl
-
-position_opens : (said : Said) (word : List ℕ) (file : Option (List ℕ)) → IsOpen said → IfSaid IsOpen (with_position said word file)
+position_opens : (said : Said) (word : List ℕ) (first : Option (List ℕ)) → IsOpen said → IfSaid IsOpen (with_position said word first)
 position_opens said word None p = p
-position_opens said word (Some file) p = by_unless IsOpen (is_some said.group) (record said { group = Some word }) p
-
-value_opens : (said : Said) (word : List ℕ) → IsOpen said → IfSaid IsOpen (with_value said word)
-value_opens said word p = by_test IsOpen (is_option word) None (Some (record said { key_file = Some word; is_due = false })) refl p
+position_opens said word (Some first) p = by_unless IsOpen _ _ p
 
 -- Only the word `--` is `--` with nothing after it.
 only_end : (word : List ℕ) → bytes_eq word (codes "--") ≡ false → strip_prefix (codes "--") word ≢ Some []
@@ -143,36 +133,39 @@ only_end word h is =
     bare (b ∷ []) g = alone b (b == 45) g
     bare (b ∷ c ∷ cs) g = first b c cs (b == 45) refl g
 
-word_opens : (word : List ℕ) (said : Said) → bytes_eq word (codes "--") ≡ false → IsOpen said → IfSaid IsOpen (with_word said word)
-word_opens word said h p =
-    by_test IsOpen said.is_due (with_value said word) _ (value_opens said word p)
-    (by_test IsOpen (is_option word && not said.ended) _ (with_position said word said.file)
-    (option_opens said (strip_prefix (codes "--") word) (strip_prefix (codes "-") word) (only_end word h) p)
-    (position_opens said word said.file p))
+next_opens : (command : CommandName) (word : List ℕ) (said : Said) (due : Option CommandOption) → bytes_eq word (codes "--") ≡ false → IsOpen said
+    → IfSaid IsOpen (with_next command said word due)
+next_opens command word said (Some option) h p =
+    by_test IsOpen (is_option word) None (with_given (record said { due = None }) option word) refl
+    (given_opens (record said { due = None }) option word p)
+next_opens command word said None h p =
+    by_test IsOpen (is_option word && not said.ended) _ (with_position said word said.first)
+    (option_opens command said (strip_prefix (codes "--") word) (strip_prefix (codes "-") word) (only_end word h) p)
+    (position_opens said word said.first p)
 
 -- The two parts of a test that is met.
 pub parts : (a b : Bool) → (a && b) ≡ true → (a ≡ true) × (b ≡ true)
 parts true b h = (refl, h)
 parts false b h = absurd (let no : false ≡ true → ⊥ = λ p. cc p in no h)
 
-unmet : (a : Bool) → not a ≡ true → a ≡ false
+pub unmet : (a : Bool) → not a ≡ true → a ≡ false
 unmet true h = absurd (let no : false ≡ true → ⊥ = λ p. cc p in no h)
 unmet false h = refl
 
 -- Without the word `--` no words end the options.
-pub words_open : (words : List (List ℕ)) (said : Said) → lack_end words ≡ true → IsOpen said
-    → IfSaid IsOpen (with_words words said)
-words_open [] said h p = p
-words_open (word ∷ words) said h p =
+pub words_open : (command : CommandName) (words : List (List ℕ)) (said : Said) → lack_end words ≡ true → IsOpen said
+    → IfSaid IsOpen (with_words command words said)
+words_open command [] said h p = p
+words_open command (word ∷ words) said h p =
     let both = parts _ _ h in
-    by_step IsOpen (with_words words) (λ s q. words_open words s both.1 q) (with_word said word)
-    (word_opens word said (unmet _ both.0) p)
+    by_step IsOpen (with_words command words) (λ s q. words_open command words s both.1 q) (with_word command said word)
+    (next_opens command word said said.due (unmet _ both.0) p)
 
 -- Words after words.
-pub words_appended : (words more : List (List ℕ)) (said : Said)
-    → with_words (words ++ more) said ≡ option_and_then (with_words more) (with_words words said)
-words_appended [] more said = refl
-words_appended (word ∷ words) more said =
-    same_step (with_words (words ++ more)) (λ s. option_and_then (with_words more) (with_words words s))
-    (words_appended words more) (with_word said word)
-    ∙ sym (joined (with_words words) (with_words more) (with_word said word))
+pub words_appended : (command : CommandName) (words more : List (List ℕ)) (said : Said)
+    → with_words command (words ++ more) said ≡ option_and_then (with_words command more) (with_words command words said)
+words_appended command [] more said = refl
+words_appended command (word ∷ words) more said =
+    same_step (with_words command (words ++ more)) (λ s. option_and_then (with_words command more) (with_words command words s))
+    (words_appended command words more) (with_word command said word)
+    ∙ sym (joined (with_words command words) (with_words command more) (with_word command said word))

@@ -1,30 +1,41 @@
 -- The words that the laws of a call speak of.
-use Rattle.std.specs.Prelude.{ℕ, Bool, true, false, not, ◌&&◌, ◌≡◌, ◌⊎◌, is_some, List, [], ◌∷◌, ◌++◌, codes, Option, Some, option_and_then}
+use Rattle.std.specs.Prelude.{ℕ, Bool, true, false, not, ◌&&◌, ◌≡◌, ◌⊎◌, is_some, List, [], ◌∷◌, ◌++◌, codes, Option, None, Some, option_and_then}
 use Rattle.std.specs.List.{list_all}
 use Rattle.std.specs.Str.{bytes_eq}
-use Rattle.cli_words.specs.Words.{Said, flag_of_letter, flag_of_name, with_position}
+use Rattle.cli_words.specs.declared.options.CommandName.{CommandName}
+use Rattle.cli_words.specs.declared.options.CommandOption.{CommandOption}
+use Rattle.cli_words.specs.Options.{has_value, letter_option, name_option}
+use Rattle.cli_words.specs.Words.{Said, with_position}
 
--- A letter is one of a flag.
-abbrev pub is_flag_letter : ℕ → Bool
-is_flag_letter letter = is_some (flag_of_letter letter)
+-- An option that has no value.
+abbrev pub is_flag : Option CommandOption → Bool
+is_flag None = false
+is_flag (Some option) = not (has_value option)
 
--- Each letter is one of a flag, and there is at least one.
-abbrev pub are_flag_letters : List ℕ → Bool
-are_flag_letters [] = false
-are_flag_letters (letter ∷ letters) = is_flag_letter letter && list_all is_flag_letter letters
+-- A letter is one of a command's flags.
+abbrev pub is_flag_letter : CommandName → ℕ → Bool
+is_flag_letter command letter = is_flag (letter_option command letter)
 
--- A word says flags and nothing else: `--` and the name of a flag, or `-` and letters of flags.
-abbrev pub IsFlagWord : List ℕ → Type 0
-IsFlagWord word =
-    ((name : List ℕ) × (is_some (flag_of_name name) ≡ true) × (word ≡ codes "--" ++ name))
-    ⊎ ((letters : List ℕ) × (are_flag_letters letters ≡ true) × (word ≡ codes "-" ++ letters))
+-- Each letter is one of a command's flags, and there is at least one.
+abbrev pub are_flag_letters : CommandName → List ℕ → Bool
+are_flag_letters command [] = false
+are_flag_letters command (letter ∷ letters) = is_flag_letter command letter
+    && list_all (is_flag_letter command) letters
+
+-- A word says flags of a command and nothing else: `--` and the name of a flag, or `-` and letters
+-- of flags.
+abbrev pub IsFlagWord : CommandName → List ℕ → Type 0
+IsFlagWord command word =
+    ((name : List ℕ) × (is_flag (name_option command name) ≡ true) × (word ≡ codes "--" ++ name))
+    ⊎ ((letters : List ℕ) × (are_flag_letters command letters ≡ true)
+    × (word ≡ codes "-" ++ letters))
 
 -- None of the words is `--`.
 abbrev pub lack_end : List (List ℕ) → Bool
 lack_end words = list_all (λ word. not (bytes_eq word (codes "--"))) words
 
--- The words are the file and the group, whatever they begin with.
+-- The words are the positions, whatever they begin with.
 abbrev pub with_positions : List (List ℕ) → Said → Option Said
 with_positions [] said = Some said
 with_positions (word ∷ words) said =
-    option_and_then (with_positions words) (with_position said word said.file)
+    option_and_then (with_positions words) (with_position said word said.first)

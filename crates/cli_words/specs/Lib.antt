@@ -1,4 +1,7 @@
 pub mod Laws
+pub mod Needs
+pub mod Options
 pub mod Prefixes
 pub mod SaidWords
+pub mod SeenNeeds
 pub mod Words

@@ -1,19 +1,19 @@
 -- What is seen of what words say in memory.
-use Rattle.std.specs.Prelude.{option_map}
+use Rattle.std.specs.Prelude.{ℕ, List, Option, map, option_map}
+use Rattle.std.specs.Borrow.{Bor}
 use Rattle.cli_words.specs.declared.words.SaidWords.{SaidWords}
 use Rattle.cli_words.specs.Words.{Said}
 
--- the same with the names' bytes
+-- The bytes of a text, where there is one.
+abbrev pub text_seen : Option (Bor (List ℕ)) → Option (List ℕ)
+text_seen = option_map (λ text. text.now)
+
+-- the same with the texts' bytes
 abbrev pub said_seen : SaidWords → Said
 said_seen said = record {
-  recursive = said.recursive;
-  flat = said.flat;
-  quiet = said.quiet;
-  plain = said.plain;
-  no_password = said.no_password;
-  key_file = option_map (λ name. name.now) said.key_file;
-  is_due = said.is_due;
+  given = map text_seen said.given;
+  due = said.due;
   ended = said.ended;
-  file = option_map (λ name. name.now) said.file;
-  group = option_map (λ name. name.now) said.group;
+  first = text_seen said.first;
+  second = text_seen said.second;
 }

@@ -1,15 +1,21 @@
--- The words of a call: which command they are, and which files they name.
-use Rattle.std.specs.Prelude.{ℕ, Bool, true, false, not, ◌&&◌, ◌||◌, ◌==◌, if◌then◌else◌, is_some, List, [], ◌∷◌, ◌++◌, codes, Option, None, Some, Result, Ok, Err, option_and_then}
+-- The words of a call: what they say, and which command they are.
+use Rattle.std.specs.Prelude.{ℕ, Bool, true, false, not, ◌&&◌, ◌||◌, ◌==◌, if◌then◌else◌, is_some, List, [], ◌∷◌, codes, replicate, Option, None, Some, Result, Ok, Err, option_and_then, slice_index_or, slice_set}
 use Rattle.std.specs.Str.{bytes_eq}
-use Rattle.cli_words.specs.Prefixes.{strip_prefix}
+use Rattle.cli_words.specs.Prefixes.{after_sign, before_sign, strip_prefix}
 use Rattle.cli_answers.specs.declared.answers.Reason.TheVariants.{WrongWords}
 use Rattle.cli_answers.specs.declared.answers.Refusal.{Refusal}
-use Rattle.cli_words.specs.declared.command.Access.{Access}
-use Rattle.cli_words.specs.declared.command.Command.{Command}
-use Rattle.cli_words.specs.declared.command.Command.TheVariants.{Ls}
-use Rattle.cli_words.specs.declared.words.Flag.{Flag}
-use Rattle.cli_words.specs.declared.words.Flag.TheVariants.{Recursive, Flat, Quiet, Plain, NoPassword}
 use Rattle.cli_answers.specs.Messages.{refusal_of}
+use Rattle.cli_words.specs.declared.command.Access.{Access}
+use Rattle.cli_words.specs.declared.command.Asked.{Asked}
+use Rattle.cli_words.specs.declared.command.Command.{Command}
+use Rattle.cli_words.specs.declared.command.Command.TheVariants.{Ls, Add, Edit}
+use Rattle.cli_words.specs.declared.options.CommandName.{CommandName}
+use Rattle.cli_words.specs.declared.options.CommandName.TheVariants as name
+use Rattle.cli_words.specs.declared.options.CommandOption.{CommandOption}
+use Rattle.cli_words.specs.declared.options.CommandOption.TheVariants as option
+use Rattle.cli_words.specs.Options.{command_named, has_value, letter_option, name_option, place_of}
+
+-- ---- what words say
 
 -- A word of two or more bytes that begins with `-` is an option.
 abbrev pub is_option : List ℕ → Bool
@@ -17,190 +23,219 @@ is_option [] = false
 is_option (b ∷ []) = false
 is_option (b ∷ c ∷ bs) = b == 45
 
--- What the words after a command's name say: which flags are there, the key file, whether its name
--- is due, whether `--` was there, after which no word is an option, the file and the group.
+-- What the words after a command's name say: the text of each option that was given, a flag's being
+-- empty; the option whose value is due in the next word; whether `--` was there, after which no word
+-- is an option; and the two positions.
 pub record Said : Type 0 where
-  pub recursive : Bool
-  pub flat : Bool
-  pub quiet : Bool
-  pub plain : Bool
-  pub no_password : Bool
-  pub key_file : Option (List ℕ)
-  pub is_due : Bool
+  pub given : List (Option (List ℕ))
+  pub due : Option CommandOption
   pub ended : Bool
-  pub file : Option (List ℕ)
-  pub group : Option (List ℕ)
+  pub first : Option (List ℕ)
+  pub second : Option (List ℕ)
 
 -- What no words say.
 abbrev pub nothing_said : Said
 nothing_said = record {
-  recursive = false;
-  flat = false;
-  quiet = false;
-  plain = false;
-  no_password = false;
-  key_file = None;
-  is_due = false;
+  given = replicate 11 None;
+  due = None;
   ended = false;
-  file = None;
-  group = None;
+  first = None;
+  second = None;
 }
+
+-- The text of an option, where it was given.
+abbrev pub text_of : CommandOption → Said → Option (List ℕ)
+text_of option said = slice_index_or said.given (place_of option) None
+
+-- An option was given.
+abbrev pub is_given : CommandOption → Said → Bool
+is_given option said = is_some (text_of option said)
+
+-- The value of an option is still due.
+abbrev pub is_due : Said → Bool
+is_due said = is_some said.due
 
 -- This, unless it was said before.
 abbrev pub unless_given : Bool → Said → Option Said
 unless_given true said = None
 unless_given false said = Some said
 
--- A flag more.
-abbrev pub with_flag : Said → Flag → Option Said
-with_flag said Recursive = unless_given said.recursive (record said { recursive = true })
-with_flag said Flat = unless_given said.flat (record said { flat = true })
-with_flag said Quiet = unless_given said.quiet (record said { quiet = true })
-with_flag said Plain = unless_given said.plain (record said { plain = true })
-with_flag said NoPassword = unless_given said.no_password (record said { no_password = true })
+-- ---- one word more
 
--- The flag of this letter.
-abbrev pub flag_of_letter : ℕ → Option Flag
-flag_of_letter letter =
-    if letter == 82 then Some Recursive
-    else (if letter == 102 then Some Flat
-    else (if letter == 113 then Some Quiet
-    else None))
+-- The texts of options with one more, or another.
+abbrev pub with_text : List (Option (List ℕ)) → CommandOption → List ℕ → List (Option (List ℕ))
+with_text given option text = slice_set given (place_of option) (Some text)
 
--- The flag of this name.
-abbrev pub flag_of_name : List ℕ → Option Flag
-flag_of_name name =
-    if bytes_eq name (codes "recursive") then Some Recursive
-    else (if bytes_eq name (codes "flatten") then Some Flat
-    else (if bytes_eq name (codes "quiet") then Some Quiet
-    else (if bytes_eq name (codes "plain") then Some Plain
-    else (if bytes_eq name (codes "no-password") then Some NoPassword
-    else None))))
+-- An option with its text.
+abbrev pub with_given : Said → CommandOption → List ℕ → Option Said
+with_given said option text =
+    unless_given (is_given option said) (record said { given = with_text said.given option text })
 
--- The flag of a letter more.
-abbrev pub with_letter : Said → ℕ → Option Said
-with_letter said letter = option_and_then (with_flag said) (flag_of_letter letter)
+-- An option whose value is due in the next word.
+abbrev pub with_due : Said → CommandOption → Option Said
+with_due said option = unless_given (is_given option said) (record said { due = Some option })
+
+-- A flag; an option that has a value is none.
+abbrev pub with_flag : Said → Option CommandOption → Option Said
+with_flag said None = None
+with_flag said (Some option) = if has_value option then None else with_given said option []
 
 -- Flags joined in one word.
-abbrev pub with_letters : List ℕ → Said → Option Said
-with_letters [] said = Some said
-with_letters (letter ∷ letters) said =
-    option_and_then (with_letters letters) (with_letter said letter)
+abbrev pub with_letters : CommandName → List ℕ → Said → Option Said
+with_letters command [] said = Some said
+with_letters command (letter ∷ letters) said = option_and_then (with_letters command letters)
+    (with_flag said (letter_option command letter))
 
--- The key file, whose name is due in the next word.
-abbrev pub with_key_due : Said → Option Said
-with_key_due said = unless_given (is_some said.key_file) (record said { is_due = true })
-
--- The key file of this name.
-abbrev pub with_key : Said → List ℕ → Option Said
-with_key said name = unless_given (is_some said.key_file) (record said { key_file = Some name })
-
--- A name after the letter of an option, from which `=` may part it.
+-- A value after the letter of its option, from which `=` may part it.
 abbrev pub without_sign : List ℕ → List ℕ
 without_sign [] = []
 without_sign (b ∷ bs) = if b == 61 then bs else b ∷ bs
 
--- The option `k` with what comes after it in its word.
-abbrev pub with_joined_key : Said → List ℕ → Option Said
-with_joined_key said [] = with_key_due said
-with_joined_key said (b ∷ bs) = with_key said (without_sign (b ∷ bs))
+-- An option with its value after it in the same word, or else in the next one.
+abbrev pub with_joined : Said → CommandOption → List ℕ → Option Said
+with_joined said option [] = with_due said option
+with_joined said option (b ∷ bs) = with_given said option (without_sign (b ∷ bs))
 
--- An option of one `-`: of these letters, or `k` with this after it.
-abbrev pub with_short : Said → List ℕ → Option (List ℕ) → Option Said
-with_short said letters None = with_letters letters said
-with_short said letters (Some joined) = with_joined_key said joined
+-- An option of one `-`: of a letter with its value after it, or of joined letters.
+abbrev pub by_letter : CommandName → Said → ℕ → List ℕ → Option CommandOption → Option Said
+by_letter command said letter rest None = with_letters command (letter ∷ rest) said
+by_letter command said letter rest (Some option) = if has_value option
+    then with_joined said option rest else with_letters command (letter ∷ rest) said
 
--- An option by its name: a flag, or the key file, whose name may come after `=`.
-abbrev pub with_long : Said → Option Flag → Option (List ℕ) → Option Said
-with_long said (Some flag) value = with_flag said flag
-with_long said None (Some name) = with_key said name
-with_long said None None = None
+-- An option of one `-` and what comes after it.
+abbrev pub with_short : CommandName → Said → List ℕ → Option Said
+with_short command said [] = Some said
+with_short command said (letter ∷ rest) =
+    by_letter command said letter rest (letter_option command letter)
 
--- The word `--`, or an option of two `-`.
-abbrev pub with_name : Said → List ℕ → Option Said
-with_name said name =
-    if bytes_eq name [] then Some (record said { ended = true })
-    else (if bytes_eq name (codes "key-file") then with_key_due said
-    else with_long said (flag_of_name name) (strip_prefix (codes "key-file=") name))
+-- An option by its long name: with its value after `=`, or in the next word; or a flag.
+abbrev pub with_long : Said → Option CommandOption → Option (List ℕ) → Option Said
+with_long said None value = None
+with_long said (Some option) (Some value) =
+    if has_value option then with_given said option value else None
+with_long said (Some option) None =
+    if has_value option then with_due said option else with_given said option []
+
+-- The word `--`, or an option of two `-` and what comes after them.
+abbrev pub with_name : CommandName → Said → List ℕ → Option Said
+with_name command said [] = Some (record said { ended = true })
+with_name command said (b ∷ bs) =
+    with_long said (name_option command (before_sign (b ∷ bs))) (after_sign (b ∷ bs))
 
 -- An option more: of two `-`, or of one.
-abbrev pub with_option : Said → Option (List ℕ) → Option (List ℕ) → Option Said
-with_option said (Some name) letters = with_name said name
-with_option said None (Some letters) = with_short said letters (strip_prefix (codes "k") letters)
-with_option said None None = None
+abbrev pub with_option : CommandName → Said → Option (List ℕ) → Option (List ℕ) → Option Said
+with_option command said (Some name) letters = with_name command said name
+with_option command said None (Some letters) = with_short command said letters
+with_option command said None None = None
 
--- The key file's name, in a word of its own.
-abbrev pub with_value : Said → List ℕ → Option Said
-with_value said word = if is_option word then None else Some
-    (record said { key_file = Some word; is_due = false })
-
--- The file, or the group after it.
+-- The first position, or the second.
 abbrev pub with_position : Said → List ℕ → Option (List ℕ) → Option Said
-with_position said word None = Some (record said { file = Some word })
-with_position said word (Some file) =
-    unless_given (is_some said.group) (record said { group = Some word })
+with_position said word None = Some (record said { first = Some word })
+with_position said word (Some first) =
+    unless_given (is_some said.second) (record said { second = Some word })
+
+-- A word where this option's value is due: the value, which is no option; or else an option or a
+-- position.
+abbrev pub with_next : CommandName → Said → List ℕ → Option CommandOption → Option Said
+with_next command said word (Some option) =
+    if is_option word then None else with_given (record said { due = None }) option word
+with_next command said word None =
+    if is_option word && not said.ended
+    then with_option command said (strip_prefix (codes "--") word) (strip_prefix (codes "-") word)
+    else with_position said word said.first
 
 -- A word more.
-abbrev pub with_word : Said → List ℕ → Option Said
-with_word said word =
-    if said.is_due then with_value said word
-    else (if is_option word && not said.ended then with_option said (strip_prefix (codes "--") word)
-    (strip_prefix (codes "-") word)
-    else with_position said word said.file)
+abbrev pub with_word : CommandName → Said → List ℕ → Option Said
+with_word command said word = with_next command said word said.due
 
 -- All words, one after another.
-abbrev pub with_words : List (List ℕ) → Said → Option Said
-with_words [] said = Some said
-with_words (word ∷ words) said = option_and_then (with_words words) (with_word said word)
+abbrev pub with_words : CommandName → List (List ℕ) → Said → Option Said
+with_words command [] said = Some said
+with_words command (word ∷ words) said =
+    option_and_then (with_words command words) (with_word command said word)
+
+-- ---- the command
 
 -- The words are no command.
 abbrev pub wrong_words : Result Command Refusal
 wrong_words = Err (refusal_of WrongWords (codes "words"))
 
+-- How a database is opened.
+abbrev pub access_of : Said → Access
+access_of said = record {
+  plain = is_given option.Plain said;
+  quiet = is_given option.Quiet said;
+  key_file = text_of option.KeyFile said;
+  no_password = is_given option.NoPassword said;
+}
+
 -- Nothing is due, and what opens the database fits it: nothing at a plain document, else a password
 -- or a key file.
 abbrev pub is_whole : Said → Bool
 is_whole said =
-    not said.is_due
-    && (if said.plain then not (said.no_password || is_some said.key_file) else
-    (not said.no_password || is_some said.key_file))
+    not (is_due said)
+    && (if is_given option.Plain said
+    then not (is_given option.NoPassword said || is_given option.KeyFile said)
+    else (not (is_given option.NoPassword said) || is_given option.KeyFile said))
 
--- How a database is opened.
-abbrev pub access_of : Said → Access
-access_of said = record {
-  plain = said.plain;
-  quiet = said.quiet;
-  key_file = said.key_file;
-  no_password = said.no_password;
+-- The values that an entry is to have.
+abbrev pub asked_of : Said → Asked
+asked_of said = record {
+  title = text_of option.Title said;
+  user = text_of option.User said;
+  url = text_of option.Url said;
+  notes = text_of option.Notes said;
+  password = is_given option.EntryPassword said;
 }
 
--- The command `ls` of a file.
-abbrev pub ls_command : Bool → Said → Option (List ℕ) → Result Command Refusal
-ls_command true said (Some file) = Ok (Ls (access_of said) file said.group said.recursive said.flat)
-ls_command true said None = wrong_words
-ls_command false said file = wrong_words
+-- At least one value of an entry is given.
+abbrev pub has_change : Said → Bool
+has_change said =
+    is_given option.Title said || is_given option.User said || is_given option.Url said
+    || is_given option.Notes said || is_given option.EntryPassword said
 
--- The command `ls` whose other words say this.
-abbrev pub ls_of : Option Said → Result Command Refusal
-ls_of None = wrong_words
-ls_of (Some said) = ls_command (is_whole said) said said.file
+-- `ls DATABASE [GROUP]`
+abbrev pub list_at : Said → Option (List ℕ) → Option (List ℕ) → Result Command Refusal
+list_at said (Some file) group =
+    Ok (Ls (access_of said) file group (is_given option.Recursive said) (is_given option.Flat said))
+list_at said None group = wrong_words
 
--- The command that the words are: `ls DATABASE [GROUP]`, with its options in any order after `ls`.
+-- `add DATABASE ENTRY`
+abbrev pub add_at : Said → Option (List ℕ) → Option (List ℕ) → Result Command Refusal
+add_at said (Some file) (Some entry) = Ok (Add (access_of said) file entry (asked_of said))
+add_at said (Some file) None = wrong_words
+add_at said None entry = wrong_words
+
+-- An entry is edited, if a value is given.
+abbrev pub edit_if : Bool → Said → List ℕ → List ℕ → Result Command Refusal
+edit_if true said file entry = Ok (Edit (access_of said) file entry (asked_of said))
+edit_if false said file entry = wrong_words
+
+-- `edit DATABASE ENTRY`
+abbrev pub edit_at : Said → Option (List ℕ) → Option (List ℕ) → Result Command Refusal
+edit_at said (Some file) (Some entry) = edit_if (has_change said) said file entry
+edit_at said (Some file) None = wrong_words
+edit_at said None entry = wrong_words
+
+-- The command of this name with these positions.
+abbrev pub command_at : CommandName → Said → Option (List ℕ) → Option (List ℕ)
+    → Result Command Refusal
+command_at name.Ls said first second = list_at said first second
+command_at name.Add said first second = add_at said first second
+command_at name.Edit said first second = edit_at said first second
+
+-- The command of this name whose other words say this.
+abbrev pub command_saying : CommandName → Option Said → Result Command Refusal
+command_saying command None = wrong_words
+command_saying command (Some said) =
+    if is_whole said then command_at command said said.first said.second else wrong_words
+
+-- The command of this name with these words after it.
+abbrev pub command_by : Option CommandName → List (List ℕ) → Result Command Refusal
+command_by None words = wrong_words
+command_by (Some command) words = command_saying command (with_words command words nothing_said)
+
+-- The command that the words are: its name, and then its options and its positions in any order.
 abbrev pub command_of : List (List ℕ) → Result Command Refusal
 command_of [] = wrong_words
-command_of (name ∷ words) = if bytes_eq name (codes "ls") then ls_of (with_words words nothing_said)
-    else wrong_words
-
--- The key file that a command names, where it names one.
-abbrev pub key_files : Option (List ℕ) → List (List ℕ)
-key_files None = []
-key_files (Some name) = name ∷ []
-
--- The files that a command names.
-abbrev pub files_of : Command → List (List ℕ)
-files_of (Ls access file group recursive flat) = key_files access.key_file ++ file ∷ []
-
--- The files that the words name.
-abbrev pub files_named : Result Command Refusal → List (List ℕ)
-files_named (Ok command) = files_of command
-files_named (Err refusal) = []
+command_of (word ∷ words) = command_by (command_named word) words

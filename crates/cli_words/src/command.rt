@@ -15,6 +15,21 @@ pub struct Access {
     pub no_password: bool,
 }
 
+/// The values that an entry is to have, each where it is given.
+#[derive(Drop)]
+pub struct Asked {
+    /// The entry's title.
+    pub title: Option<Text>,
+    /// The name of its user.
+    pub user: Option<Text>,
+    /// Its address.
+    pub url: Option<Text>,
+    /// Its notes.
+    pub notes: Option<Text>,
+    /// Whether its password is a line of the input.
+    pub password: bool,
+}
+
 /// What the program is asked to do.
 #[derive(Drop)]
 pub enum Command {
@@ -30,5 +45,27 @@ pub enum Command {
         recursive: bool,
         /// Whether each name comes after the path that leads to it.
         flat: bool,
+    },
+    /// Adds an entry to a database.
+    Add {
+        /// How the database is opened.
+        access: Access,
+        /// The file of the database.
+        file: Text,
+        /// The path of the entry.
+        entry: Text,
+        /// The values of its fields.
+        asked: Asked,
+    },
+    /// Gives an entry of a database other values.
+    Edit {
+        /// How the database is opened.
+        access: Access,
+        /// The file of the database.
+        file: Text,
+        /// The path of the entry.
+        entry: Text,
+        /// The values that are other than before.
+        asked: Asked,
     },
 }

@@ -1,29 +1,35 @@
 //! What holds of the words of every call. The functions do nothing, and take no memory.
-ghost use Rattle.std.specs.Prelude.{◌≡◌, ◌++◌, ◌∷◌, ℕ, List, Some, codes, false, true};
+ghost use Rattle.std.specs.Prelude.{◌≡◌, ◌++◌, ◌∷◌, ℕ, List, None, Some, codes, false, true};
+ghost use Rattle.cli_words.specs.declared.options.CommandName.{CommandName};
 ghost use Rattle.cli_words.specs.Laws.{IsFlagWord, are_flag_letters, lack_end, with_positions};
-ghost use Rattle.cli_words.specs.Words.{Said, command_of, ls_of, nothing_said, with_words};
+ghost use Rattle.cli_words.specs.Options.{command_named};
+ghost use Rattle.cli_words.specs.Words.{Said, command_of, command_saying, nothing_said, with_words};
 
 /// The order of flags does not matter: two flags beside each other, wherever they are before
 /// `--`, may be exchanged.
 pub fn flags_have_no_order()
-    ensures { (before after : List (List ℕ)) (a b : List ℕ) → lack_end before ≡ true → IsFlagWord a
-        → IsFlagWord b
-        → command_of (codes "ls" ∷ before ++ a ∷ b ∷ after)
-        ≡ command_of (codes "ls" ∷ before ++ b ∷ a ∷ after) }
+    ensures { (name : List ℕ) (command : CommandName) (before after : List (List ℕ)) (a b : List ℕ)
+        → command_named name ≡ Some command → lack_end before ≡ true
+        → IsFlagWord command a → IsFlagWord command b
+        → command_of (name ∷ before ++ a ∷ b ∷ after)
+        ≡ command_of (name ∷ before ++ b ∷ a ∷ after) }
 {}
 
 /// Flags joined in one word are the same flags in two words.
 pub fn joined_flags_are_separate_flags()
-    ensures { (before after : List (List ℕ)) (a b : List ℕ) → lack_end before ≡ true
-        → are_flag_letters a ≡ true → are_flag_letters b ≡ true
-        → command_of (codes "ls" ∷ before ++ (codes "-" ++ a ++ b) ∷ after)
-        ≡ command_of (codes "ls" ∷ before ++ (codes "-" ++ a) ∷ (codes "-" ++ b) ∷ after) }
+    ensures { (name : List ℕ) (command : CommandName) (before after : List (List ℕ)) (a b : List ℕ)
+        → command_named name ≡ Some command → lack_end before ≡ true
+        → are_flag_letters command a ≡ true → are_flag_letters command b ≡ true
+        → command_of (name ∷ before ++ (codes "-" ++ a ++ b) ∷ after)
+        ≡ command_of (name ∷ before ++ (codes "-" ++ a) ∷ (codes "-" ++ b) ∷ after) }
 {}
 
-/// What follows `--` is the file and the group, whatever it begins with.
+/// What follows `--` is a position, whatever it begins with.
 pub fn words_after_end_are_positions()
-    ensures { (before words : List (List ℕ)) (said : Said)
-        → with_words before nothing_said ≡ Some said → said.is_due ≡ false → said.ended ≡ false
-        → command_of (codes "ls" ∷ before ++ codes "--" ∷ words)
-        ≡ ls_of (with_positions words (record said { ended = true })) }
+    ensures { (name : List ℕ) (command : CommandName) (before words : List (List ℕ)) (said : Said)
+        → command_named name ≡ Some command
+        → with_words command before nothing_said ≡ Some said
+        → said.due ≡ None → said.ended ≡ false
+        → command_of (name ∷ before ++ codes "--" ∷ words)
+        ≡ command_saying command (with_positions words (record said { ended = true })) }
 {}

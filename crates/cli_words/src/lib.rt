@@ -1,9 +1,13 @@
-//! The arguments of the program: which command they are.
+//! The arguments of the program: which command they are, and what it asks for.
 #![tactic(auto)]
 
 mod command;
+mod commands;
 pub mod laws;
+mod needs;
+mod options;
 mod words;
 
-pub use command::{Access, Command};
-pub use words::read_words;
+pub use command::{Access, Asked, Command};
+pub use commands::read_words;
+pub use needs::{Needs, asks_password, needs_of};

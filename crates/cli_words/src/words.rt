@@ -1,41 +1,27 @@
-//! The words of a call.
-ghost use Rattle.std.specs.Prelude.{◌≡◌, IfErr, IfOk, Ok, Some, codes, map, option_map, string_bytes, true};
+//! What the words of a call say.
+ghost use Rattle.std.specs.Prelude.{◌≡◌, ◌<◌, IfSome, codes, map, string_bytes};
 ghost use Rattle.cli_words.specs.Prefixes as prefixes;
+ghost use Rattle.cli_words.specs.Prefixes.{after_sign, before_sign};
+ghost use Rattle.cli_words.specs.SaidWords.{said_seen, text_seen};
 ghost use Rattle.cli_words.specs.Words as spec;
-ghost use Rattle.cli_words.specs.Words.{command_of, ls_of, nothing_said, with_words};
-ghost use Rattle.cli_words.specs.SaidWords.{said_seen};
-ghost use Rattle.cli_answers.specs.Phases.{Returns, IsWordsStop};
+ghost use Rattle.cli_words.specs.Words.{nothing_said, with_words};
+ghost use Rattle.std.specs.Prelude.{option_map, slice_index_or};
 
-use crate::command::{Access, Command};
-use cli_answers::{Reason, Stop, refused};
-use outside_core::{NoMemory, Text};
-use std::alloc::Global;
+use crate::options::{
+    CommandName, CommandOption, OPTIONS, has_value, letter_option, name_option, place_of,
+};
 
-// An option without a value.
+/// What the words after a command's name say.
 #[derive(Clone, Copy)]
-enum Flag {
-    Recursive,
-    Flat,
-    Quiet,
-    Plain,
-    NoPassword,
-}
-
-// What the words after a command's name say.
-#[derive(Clone, Copy)]
-struct SaidWords<'a> {
-    recursive: bool,
-    flat: bool,
-    quiet: bool,
-    plain: bool,
-    no_password: bool,
-    key_file: Option<&'a str>,
-    // Whether the next word is the key file's name.
-    is_due: bool,
+pub(crate) struct SaidWords<'a> {
+    // The text of each option that was given, by its place; a flag's text is empty.
+    given: [Option<&'a str>; OPTIONS],
+    // The option whose value is the next word.
+    due: Option<CommandOption>,
     // Whether `--` was there, after which no word is an option.
     ended: bool,
-    file: Option<&'a str>,
-    group: Option<&'a str>,
+    pub(crate) first: Option<&'a str>,
+    pub(crate) second: Option<&'a str>,
 }
 
 // Reports whether a word is an option: two or more bytes, of which the first is `-`.
@@ -48,153 +34,180 @@ fn is_option(word: &str) -> bool
 
 // A word after a prefix of it, where it begins so.
 fn strip_prefix<'a>(prefix: &str, word: &'a str) -> Option<&'a str>
-    ensures { option_map (λ rest. rest.now) result ≡ prefixes.strip_prefix prefix.now word.now }
+    ensures { text_seen result ≡ prefixes.strip_prefix prefix.now word.now }
 {
     word.strip_prefix(prefix)
 }
 
-// The flag of this letter.
-fn flag_of_letter(letter: u8) -> Option<Flag>
-    ensures { result ≡ spec.flag_of_letter letter }
+// A text before its first `=`, and after it, where there is one.
+fn split_at_sign<'a>(text: &'a str) -> (&'a str, Option<&'a str>)
+    ensures before { result.0.now ≡ before_sign text.now }
+    ensures after { text_seen result.1 ≡ after_sign text.now }
 {
-    match letter {
-        b'R' => Some(Flag::Recursive),
-        b'f' => Some(Flag::Flat),
-        b'q' => Some(Flag::Quiet),
-        _ => None,
+    match text.split_once('=') {
+        Some((name, value)) => (name, Some(value)),
+        None => (text, None),
     }
 }
 
-// The flag of this name.
-fn flag_of_name(name: &str) -> Option<Flag>
-    ensures { result ≡ spec.flag_of_name name.now }
+/// The text of an option, where it was given.
+pub(crate) fn text_of<'a>(said: &SaidWords<'a>, option: CommandOption) -> Option<&'a str>
+    ensures { text_seen result ≡ spec.text_of option (said_seen said.now) }
 {
-    match name {
-        "recursive" => Some(Flag::Recursive),
-        "flatten" => Some(Flag::Flat),
-        "quiet" => Some(Flag::Quiet),
-        "plain" => Some(Flag::Plain),
-        "no-password" => Some(Flag::NoPassword),
-        _ => None,
+    said.given[place_of(option)]
+}
+
+/// Reports whether an option was given.
+pub(crate) fn is_given(said: &SaidWords<'_>, option: CommandOption) -> bool
+    ensures { result ≡ spec.is_given option (said_seen said.now) }
+{
+    text_of(said, option).is_some()
+}
+
+/// Reports whether the value of an option is still due.
+pub(crate) fn is_due(said: &SaidWords<'_>) -> bool
+    ensures { result ≡ spec.is_due (said_seen said.now) }
+{
+    said.due.is_some()
+}
+
+// The texts of options with one more, or another.
+fn with_text<'a>(
+    given: [Option<&'a str>; OPTIONS],
+    option: CommandOption,
+    text: &'a str,
+) -> [Option<&'a str>; OPTIONS]
+    ensures { map text_seen result
+        ≡ spec.with_text (map text_seen given.entry) option text.now }
+{
+    let mut given = given;
+    given[place_of(option)] = Some(text);
+    given
+}
+
+// An option with its text, unless it was given before.
+fn with_given<'a>(
+    said: SaidWords<'a>,
+    option: CommandOption,
+    text: &'a str,
+) -> Option<SaidWords<'a>>
+    ensures { option_map said_seen result
+        ≡ spec.with_given (said_seen said.entry) option text.now }
+{
+    if is_given(&said, option) {
+        return None;
     }
+    Some(SaidWords {
+        given: with_text(said.given, option, text),
+        ..said
+    })
 }
 
-// This, unless it was said before.
-fn unless_given<'a>(before: bool, said: SaidWords<'a>) -> Option<SaidWords<'a>>
-    ensures { option_map said_seen result ≡ spec.unless_given before (said_seen said.entry) }
+// An option whose value is the next word, unless it was given before.
+fn with_due<'a>(said: SaidWords<'a>, option: CommandOption) -> Option<SaidWords<'a>>
+    ensures { option_map said_seen result ≡ spec.with_due (said_seen said.entry) option }
 {
-    if before { None } else { Some(said) }
-}
-
-// A flag more.
-fn with_flag<'a>(said: SaidWords<'a>, flag: Flag) -> Option<SaidWords<'a>>
-    ensures { option_map said_seen result ≡ spec.with_flag (said_seen said.entry) flag }
-{
-    match flag {
-        Flag::Recursive => unless_given(
-            said.recursive,
-            SaidWords {
-                recursive: true,
-                ..said
-            },
-        ),
-        Flag::Flat => unless_given(said.flat, SaidWords { flat: true, ..said }),
-        Flag::Quiet => unless_given(
-            said.quiet,
-            SaidWords {
-                quiet: true,
-                ..said
-            },
-        ),
-        Flag::Plain => unless_given(
-            said.plain,
-            SaidWords {
-                plain: true,
-                ..said
-            },
-        ),
-        Flag::NoPassword => unless_given(
-            said.no_password,
-            SaidWords {
-                no_password: true,
-                ..said
-            },
-        ),
+    if is_given(&said, option) {
+        return None;
     }
+    Some(SaidWords {
+        due: Some(option),
+        ..said
+    })
 }
 
-// The flag of a letter more.
-fn with_letter<'a>(said: SaidWords<'a>, letter: u8) -> Option<SaidWords<'a>>
-    ensures { option_map said_seen result ≡ spec.with_letter (said_seen said.entry) letter }
+// A flag more; an option that has a value is none.
+fn with_flag<'a>(said: SaidWords<'a>, option: Option<CommandOption>) -> Option<SaidWords<'a>>
+    ensures { option_map said_seen result ≡ spec.with_flag (said_seen said.entry) option }
 {
-    match flag_of_letter(letter) {
-        Some(flag) => with_flag(said, flag),
+    match option {
+        Some(option) if has_value(option) => None,
+        Some(option) => with_given(said, option, ""),
         None => None,
     }
 }
 
 // Flags joined in one word.
-fn with_letters<'a>(said: SaidWords<'a>, letters: &[u8]) -> Option<SaidWords<'a>>
-    ensures { option_map said_seen result ≡ spec.with_letters letters.now (said_seen said.entry) }
+fn with_letters<'a>(
+    command: CommandName,
+    said: SaidWords<'a>,
+    letters: &[u8],
+) -> Option<SaidWords<'a>>
+    ensures { option_map said_seen result
+        ≡ spec.with_letters command letters.now (said_seen said.entry) }
 {
     let mut said = said;
     for letter in letters {
-        said = with_letter(said, *letter)?;
+        said = with_flag(said, letter_option(command, *letter))?;
     }
     Some(said)
 }
 
-// The key file, whose name is due in the next word.
-fn with_key_due<'a>(said: SaidWords<'a>) -> Option<SaidWords<'a>>
-    ensures { option_map said_seen result ≡ spec.with_key_due (said_seen said.entry) }
-{
-    unless_given(
-        said.key_file.is_some(),
-        SaidWords {
-            is_due: true,
-            ..said
-        },
-    )
-}
-
-// The key file of this name.
-fn with_key<'a>(said: SaidWords<'a>, name: &'a str) -> Option<SaidWords<'a>>
-    ensures { option_map said_seen result ≡ spec.with_key (said_seen said.entry) name.now }
-{
-    unless_given(
-        said.key_file.is_some(),
-        SaidWords {
-            key_file: Some(name),
-            ..said
-        },
-    )
-}
-
-// A name after the letter of an option, from which `=` may part it.
+// A value after the letter of its option, from which `=` may part it.
 fn without_sign<'a>(joined: &'a str) -> &'a str
     ensures { result.now ≡ spec.without_sign joined.now }
 {
     match strip_prefix("=", joined) {
-        Some(name) => name,
+        Some(value) => value,
         None => joined,
     }
 }
 
-// An option of one `-`: of these letters, or `k` with its value after it.
-fn with_short<'a>(said: SaidWords<'a>, letters: &'a str) -> Option<SaidWords<'a>>
-    ensures { option_map said_seen result ≡ spec.with_short (said_seen said.entry) letters.now
-        (prefixes.strip_prefix (codes "k") letters.now) }
+// An option with its value after it in the same word, or else in the next one.
+fn with_joined<'a>(
+    said: SaidWords<'a>,
+    option: CommandOption,
+    joined: &'a str,
+) -> Option<SaidWords<'a>>
+    ensures { option_map said_seen result
+        ≡ spec.with_joined (said_seen said.entry) option joined.now }
 {
-    match strip_prefix("k", letters) {
-        Some("") => with_key_due(said),
-        Some(joined) => with_key(said, without_sign(joined)),
-        None => with_letters(said, letters.as_bytes()),
+    if joined.is_empty() {
+        with_due(said, option)
+    } else {
+        with_given(said, option, without_sign(joined))
     }
 }
 
-// An option of two `-` by its name, or the word `--`.
-fn with_name<'a>(said: SaidWords<'a>, name: &'a str) -> Option<SaidWords<'a>>
-    ensures { option_map said_seen result ≡ spec.with_name (said_seen said.entry) name.now }
+// An option of one `-`: of a letter with its value after it, or of joined letters.
+fn with_short<'a>(
+    command: CommandName,
+    said: SaidWords<'a>,
+    letters: &'a str,
+) -> Option<SaidWords<'a>>
+    ensures { option_map said_seen result
+        ≡ spec.with_short command (said_seen said.entry) letters.now }
+{
+    let [letter, ..] = letters.as_bytes() else {
+        return Some(said);
+    };
+    match letter_option(command, *letter) {
+        Some(option) if has_value(option) => with_joined(said, option, &letters[1..]),
+        _ => with_letters(command, said, letters.as_bytes()),
+    }
+}
+
+// An option by its long name: with its value after `=`, or in the next word; or a flag.
+fn with_long<'a>(
+    said: SaidWords<'a>,
+    option: CommandOption,
+    value: Option<&'a str>,
+) -> Option<SaidWords<'a>>
+    ensures { option_map said_seen result
+        ≡ spec.with_long (said_seen said.entry) (Some option) (text_seen value.entry) }
+{
+    match (has_value(option), value) {
+        (true, Some(value)) => with_given(said, option, value),
+        (true, None) => with_due(said, option),
+        (false, Some(_)) => None,
+        (false, None) => with_given(said, option, ""),
+    }
+}
+
+// The word `--`, or an option of two `-` and what comes after them.
+fn with_name<'a>(command: CommandName, said: SaidWords<'a>, name: &'a str) -> Option<SaidWords<'a>>
+    ensures { option_map said_seen result
+        ≡ spec.with_name command (said_seen said.entry) name.now }
 {
     if name.is_empty() {
         return Some(SaidWords {
@@ -202,159 +215,70 @@ fn with_name<'a>(said: SaidWords<'a>, name: &'a str) -> Option<SaidWords<'a>>
             ..said
         });
     }
-    if name == "key-file" {
-        return with_key_due(said);
-    }
-    match (flag_of_name(name), strip_prefix("key-file=", name)) {
-        (Some(flag), _) => with_flag(said, flag),
-        (None, Some(value)) => with_key(said, value),
-        (None, None) => None,
-    }
+    let (name, value) = split_at_sign(name);
+    with_long(said, name_option(command, name)?, value)
 }
 
 // An option more.
-fn with_option<'a>(said: SaidWords<'a>, word: &'a str) -> Option<SaidWords<'a>>
-    ensures { option_map said_seen result ≡ spec.with_option (said_seen said.entry)
+fn with_option<'a>(
+    command: CommandName,
+    said: SaidWords<'a>,
+    word: &'a str,
+) -> Option<SaidWords<'a>>
+    ensures { option_map said_seen result ≡ spec.with_option command (said_seen said.entry)
         (prefixes.strip_prefix (codes "--") word.now) (prefixes.strip_prefix (codes "-") word.now) }
 {
     match strip_prefix("--", word) {
-        Some(name) => with_name(said, name),
-        None => with_short(said, strip_prefix("-", word)?),
+        Some(name) => with_name(command, said, name),
+        None => with_short(command, said, strip_prefix("-", word)?),
     }
 }
 
-// The file, or the group after it.
+// The first position, or the second after it.
 fn with_position<'a>(said: SaidWords<'a>, word: &'a str) -> Option<SaidWords<'a>>
     ensures { option_map said_seen result ≡ spec.with_position (said_seen said.entry) word.now
-        (said_seen said.entry).file }
+        (said_seen said.entry).first }
 {
-    match said.file {
-        None => Some(SaidWords {
-            file: Some(word),
+    match (said.first, said.second) {
+        (None, _) => Some(SaidWords {
+            first: Some(word),
             ..said
         }),
-        Some(_) => unless_given(
-            said.group.is_some(),
-            SaidWords {
-                group: Some(word),
-                ..said
-            },
-        ),
+        (Some(_), None) => Some(SaidWords {
+            second: Some(word),
+            ..said
+        }),
+        (Some(_), Some(_)) => None,
     }
 }
 
 // A word more, or none where it must not be there.
-fn with_word<'a>(said: SaidWords<'a>, word: &'a str) -> Option<SaidWords<'a>>
-    ensures { option_map said_seen result ≡ spec.with_word (said_seen said.entry) word.now }
+fn with_word<'a>(command: CommandName, said: SaidWords<'a>, word: &'a str) -> Option<SaidWords<'a>>
+    ensures { option_map said_seen result
+        ≡ spec.with_word command (said_seen said.entry) word.now }
 {
-    let option = is_option(word);
-    if said.is_due && option {
-        return None;
-    }
-    if said.is_due {
-        return Some(SaidWords {
-            key_file: Some(word),
-            is_due: false,
-            ..said
-        });
-    }
-    if option && !said.ended {
-        with_option(said, word)
-    } else {
-        with_position(said, word)
+    match said.due {
+        Some(_) if is_option(word) => None,
+        Some(option) => with_given(SaidWords { due: None, ..said }, option, word),
+        None if is_option(word) && !said.ended => with_option(command, said, word),
+        None => with_position(said, word),
     }
 }
 
-// What all words say, or none where one must not be there.
-fn said_by<'a>(words: &'a [String]) -> Option<SaidWords<'a>>
-    ensures { option_map said_seen result ≡ with_words (map string_bytes words.now) nothing_said }
+/// What all words after a command's name say, or none where one must not be there.
+pub(crate) fn said_by<'a>(command: CommandName, words: &'a [String]) -> Option<SaidWords<'a>>
+    ensures { option_map said_seen result
+        ≡ with_words command (map string_bytes words.now) nothing_said }
 {
     let mut said = SaidWords {
-        recursive: false,
-        flat: false,
-        quiet: false,
-        plain: false,
-        no_password: false,
-        key_file: None,
-        is_due: false,
+        given: [None; OPTIONS],
+        due: None,
         ended: false,
-        file: None,
-        group: None,
+        first: None,
+        second: None,
     };
     for word in words {
-        said = with_word(said, word.as_str())?;
+        said = with_word(command, said, word.as_str())?;
     }
     Some(said)
-}
-
-// Reports whether nothing is due, and what opens the database fits it.
-fn is_whole(said: &SaidWords<'_>) -> bool
-    ensures { result ≡ spec.is_whole (said_seen said.now) }
-{
-    let has_key = said.key_file.is_some();
-    let fits = if said.plain {
-        !(said.no_password || has_key)
-    } else {
-        !said.no_password || has_key
-    };
-    !said.is_due && fits
-}
-
-// A text of its own, where there is one.
-fn text_of(alloc: Global, word: Option<&str>) -> Result<Option<Text>, NoMemory>
-    ensures { IfOk result (λ text. text ≡ option_map (λ w. w.now) word.entry) }
-{
-    match word {
-        Some(word) => Ok(Some(Text::of(alloc, word)?)),
-        None => Ok(None),
-    }
-}
-
-// The command `ls` of a file.
-fn ls_command(alloc: Global, said: &SaidWords<'_>, file: &str) -> Result<Command, NoMemory>
-    ensures { IfOk result (λ command. Ok command
-        ≡ spec.ls_command true (said_seen said.now) (Some file.now)) }
-{
-    let key_file = text_of(alloc, said.key_file)?;
-    let access = Access {
-        plain: said.plain,
-        quiet: said.quiet,
-        key_file,
-        no_password: said.no_password,
-    };
-    Ok(Command::Ls {
-        access,
-        file: Text::of(alloc, file)?,
-        group: text_of(alloc, said.group)?,
-        recursive: said.recursive,
-        flat: said.flat,
-    })
-}
-
-// The command `ls` whose other words say this.
-fn ls_of(alloc: Global, said: Option<SaidWords<'_>>) -> Result<Command, Stop>
-    ensures told { Returns (λ command. command) result (ls_of (option_map said_seen said.entry)) }
-    ensures cause { IfErr result IsWordsStop }
-{
-    let Some(said) = said else {
-        return Err(refused(alloc, Reason::WrongWords, "words"));
-    };
-    match said.file {
-        Some(file) if is_whole(&said) => match ls_command(alloc, &said, file) {
-            Ok(command) => Ok(command),
-            Err(NoMemory) => Err(Stop::NoMemory),
-        },
-        _ => Err(refused(alloc, Reason::WrongWords, "words")),
-    }
-}
-
-/// The command that the words are.
-pub fn read_words(alloc: Global, words: &[String]) -> Result<Command, Stop>
-    ensures told { Returns (λ command. command) result (command_of (map string_bytes words.now)) }
-    ensures cause { IfErr result IsWordsStop }
-{
-    match words {
-        [name, rest @ ..] if name.as_str() == "ls" => ls_of(alloc, said_by(rest)),
-        _ => Err(refused(alloc, Reason::WrongWords, "words")),
-    }
 }

@@ -1,7 +1,6 @@
 -- The value of an attachment, read as its text and then put.
-use Rattle.std.proofs.Common.{◌≡◌, ℕ, Bool, true, false, cond, Option, Some, None, List, [], codes, refl, Result, Ok, Err}
+use Rattle.std.proofs.Common.{◌≡◌, ℕ, Bool, true, false, cond, Option, Some, None, [], codes, refl, Result, Ok, Err}
 use Rattle.markup_grammar.specs.Attributes.{attribute_text}
-use Rattle.markup_grammar.specs.Elements.{element}
 use Rattle.doc_forms.specs.declared.cursor.Cursor.{Cursor}
 use Rattle.doc_forms.specs.declared.fails.DocFail.{DocFail}
 use Rattle.doc_forms.specs.declared.fails.DocFail.TheVariants.{Compressed}

@@ -1,5 +1,5 @@
 -- An element that has ended and is counted.
-use Rattle.std.proofs.Common.{◌≡◌, ℕ, ◌<◌, length, ap, sym, ◌∙◌, arith, Result, Ok, Err}
+use Rattle.std.proofs.Common.{◌≡◌, length, ap, sym, ◌∙◌, arith, Result, Ok, Err}
 use Rattle.outside_core.specs.Results.{◌>>=◌}
 use Rattle.markup_grammar.specs.Elements.{innermost, open_contents}
 use Rattle.doc_forms.specs.declared.cursor.Cursor.{Cursor}

@@ -5,35 +5,76 @@ use Rattle.outside_core.specs.Files.{FileMap}
 use Rattle.vault_model.specs.Tree.{BareDoc}
 use Rattle.cli_answers.specs.declared.answers.Refusal.{Refusal}
 use Rattle.cli_answers.specs.declared.answers.Stop.{Stop}
+use Rattle.cli_answers.specs.declared.answers.Stop.TheVariants.{Refused, FileFault, InputFault, NoMemory}
 use Rattle.outside_core.specs.Results.{◌>>=◌}
-use Rattle.cli_answers.specs.Phases.{Returns}
-use Rattle.cli_lines.specs.Lines.{password_of}
-use Rattle.cli_lines.specs.Passwords.{HasPassword}
+use Rattle.cli_answers.specs.Phases.{RefusesAskedInput, Returns, Stops}
+use Rattle.cli_lines.specs.Lines.{HasLines, Lines, lines_of}
+use Rattle.cli_words.specs.Needs.{Needs, needs_of}
 use Rattle.cli_words.specs.declared.command.Command.{Command}
-use Rattle.cli_words.specs.Words.{command_of}
 use Rattle.keepass_call.specs.declared.execute.Output.{Output}
 use Rattle.keepass_call.specs.Databases.{database_of}
 use Rattle.keepass_call.specs.Held.{IsOfSomeFile}
-use Rattle.keepass_call.specs.Outcome.{answer_of, output_of}
+use Rattle.keepass_call.specs.Outcome.{answer_of, known_command, output_of}
 use Rattle.keepass_call.specs.SomeFiles.{SomeDatabase}
 use Rattle.keepass_call.proofs.HeldFiles.{each_is}
 
 -- Where each phase before it gave something, the last one answers.
-pub given_all : (words : List (List ℕ)) (input : List ℕ) (files : FileMap) (command : Command) (password : Option (List ℕ)) (doc : BareDoc) (result : Result Output Stop)
-    → command_of words ≡ Ok command → (password_of command input).answer ≡ Ok password → database_of command password files ≡ Ok doc
+pub given_all : (words : List (List ℕ)) (input : List ℕ) (files : FileMap) (command : Command) (lines : Lines) (doc : BareDoc) (result : Result Output Stop)
+    → known_command words ≡ Ok command → (lines_of (needs_of command) input).answer ≡ Ok lines → database_of (needs_of command) lines.password files ≡ Ok doc
     → Returns (λ done. done) result (output_of command doc) → Returns (λ done. done) result (answer_of words input files)
-given_all words input files command password doc result c p d = subst (Returns (λ done. done) result) (sym (each_is words input files command password doc c p d))
+given_all words input files command lines doc result c p d = subst (Returns (λ done. done) result) (sym (each_is words input files command lines doc c p d))
 
-pub output_given : (words : List (List ℕ)) (command : Command) (password : Option (List ℕ)) (doc : BareDoc) (result : Result Output Stop)
-    → command_of words ≡ Ok command → HasPassword command password → SomeDatabase command password doc
+pub output_given : (words : List (List ℕ)) (command : Command) (lines : Lines) (doc : BareDoc) (result : Result Output Stop)
+    → known_command words ≡ Ok command → HasLines (needs_of command) lines → SomeDatabase (needs_of command) lines.password doc
     → Returns (λ done. done) result (output_of command doc) → IfOk result (IsOfSomeFile words)
-output_given words command password doc (Ok done) c p d gives = record {
+output_given words command lines doc (Ok done) c p d gives = record {
   command = command;
   is_command = c;
-  password = password;
-  has_password = p;
+  lines = lines;
+  has_lines = p;
   doc = doc;
   holds = d;
   gives = gives;
 }
-output_given words command password doc (Err stop) c p d gives = tt
+output_given words command lines doc (Err stop) c p d gives = tt
+
+-- The same, where what the command asks for has another name.
+pub given_by_needs : (words : List (List ℕ)) (input : List ℕ) (files : FileMap) (command : Command) (needs : Needs) (lines : Lines) (doc : BareDoc) (result : Result Output Stop)
+    → known_command words ≡ Ok command → needs ≡ needs_of command → (lines_of needs input).answer ≡ Ok lines → database_of needs lines.password files ≡ Ok doc
+    → Returns (λ done. done) result (output_of command doc) → Returns (λ done. done) result (answer_of words input files)
+given_by_needs words input files command needs lines doc result c same p d =
+    given_all words input files command lines doc result c (subst (λ (n : Needs). (lines_of n input).answer ≡ Ok lines) same p)
+    (subst (λ (n : Needs). database_of n lines.password files ≡ Ok doc) same d)
+
+pub output_by_needs : (words : List (List ℕ)) (command : Command) (needs : Needs) (lines : Lines) (doc : BareDoc) (result : Result Output Stop)
+    → known_command words ≡ Ok command → needs ≡ needs_of command → HasLines needs lines → SomeDatabase needs lines.password doc
+    → Returns (λ done. done) result (output_of command doc) → IfOk result (IsOfSomeFile words)
+output_by_needs words command needs lines doc result c same p d =
+    output_given words command lines doc result c (subst (λ (n : Needs). HasLines n lines) same p)
+    (subst (λ (n : Needs). SomeDatabase n lines.password doc) same d)
+
+-- The lines were refused.
+pub lines_refused : (stop : Stop) (words : List (List ℕ)) (input : List ℕ) (files : FileMap) (command : Command) (needs : Needs) (before now : Option (List ℕ))
+    → known_command words ≡ Ok command → needs ≡ needs_of command → RefusesAskedInput stop before now (lines_of needs input) → Stops stop (answer_of words input files)
+unfolding answer_of
+lines_refused (Refused refusal) words input files command needs before now c same h =
+    ap (λ r. r >>= λ command. (lines_of (needs_of command) input).answer >>= λ lines. database_of (needs_of command) lines.password files >>= λ doc. output_of command doc) c
+    ∙ ap (λ r. r >>= λ lines. database_of (needs_of command) lines.password files >>= λ doc. output_of command doc)
+    (subst (λ (n : Needs). (lines_of n input).answer ≡ Err refusal) same h.0)
+lines_refused (FileFault name) words input files command needs before now c same h = tt
+lines_refused InputFault words input files command needs before now c same h = tt
+lines_refused NoMemory words input files command needs before now c same h = tt
+
+-- The database was refused.
+pub database_refused : (stop : Stop) (words : List (List ℕ)) (input : List ℕ) (files : FileMap) (command : Command) (needs : Needs) (lines : Lines)
+    → known_command words ≡ Ok command → needs ≡ needs_of command → (lines_of needs input).answer ≡ Ok lines
+    → Stops stop (database_of needs lines.password files) → Stops stop (answer_of words input files)
+unfolding answer_of
+database_refused (Refused refusal) words input files command needs lines c same p h =
+    ap (λ r. r >>= λ command. (lines_of (needs_of command) input).answer >>= λ lines. database_of (needs_of command) lines.password files >>= λ doc. output_of command doc) c
+    ∙ ap (λ r. r >>= λ lines. database_of (needs_of command) lines.password files >>= λ doc. output_of command doc)
+    (subst (λ (n : Needs). (lines_of n input).answer ≡ Ok lines) same p)
+    ∙ ap (λ r. r >>= λ doc. output_of command doc) (subst (λ (n : Needs). database_of n lines.password files ≡ Err refusal) same h)
+database_refused (FileFault name) words input files command needs lines c same p h = tt
+database_refused InputFault words input files command needs lines c same p h = tt
+database_refused NoMemory words input files command needs lines c same p h = tt

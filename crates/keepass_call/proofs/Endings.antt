@@ -12,11 +12,11 @@ use Rattle.cli_answers.specs.declared.answers.Stop.{Stop}
 use Rattle.cli_answers.specs.declared.answers.Stop.TheVariants.{Refused, FileFault, InputFault, NoMemory}
 use Rattle.cli_answers.specs.Messages.{error_line, reason_text, status_of}
 use Rattle.cli_answers.specs.Phases.{IsCaused, IsLeft, Leaves, Stops}
-use Rattle.cli_words.specs.Words.{command_of, files_named}
+use Rattle.cli_words.specs.Needs.{files_named}
 use Rattle.keepass_call.specs.declared.execute.Output.{Output}
 use Rattle.keepass_call.specs.Call.{IsCall}
 use Rattle.keepass_call.specs.Held.{IsAuthentic, IsComplete, IsOfSomeFile}
-use Rattle.keepass_call.specs.Outcome.{Counts, Gains, IsAsSaid, NoFaults, AgreesUpToFailure, IsRefused, IsSafe, Outcome, SameDraft, Seen, TellsFault, WhereTold, answer_of, ended, left_of, outcome}
+use Rattle.keepass_call.specs.Outcome.{Counts, known_command, Gains, IsAsSaid, NoFaults, AgreesUpToFailure, IsRefused, IsSafe, Outcome, SameDraft, Seen, TellsFault, WhereTold, answer_of, ended, left_of, outcome}
 use Rattle.keepass_call.specs.Telling.{IsPrinted, IsTold}
 use Rattle.keepass_call.proofs.HeldFiles.{is_carried, is_given}
 
@@ -284,8 +284,8 @@ module _ (words : List (List ℕ)) (done : Output) (result : ℕ) (before now : 
         subst (λ (a : Result Output Refusal). IsAsSaid (ended files (left_of words input) a) result before now) (sym (p.gives files input there told))
         (printed_as_said input files there (p.left files input there told) when);
     near = λ files input there told.
-        subst (λ (a : Result Output Refusal). AgreesUpToFailure (files_named (command_of words)) (ended files (left_of words input) a) result before now counts counts') (sym (p.gives files input there told))
-        (printed_near input files there (p.left files input there told) (files_named (command_of words)));
+        subst (λ (a : Result Output Refusal). AgreesUpToFailure (files_named (known_command words)) (ended files (left_of words input) a) result before now counts counts') (sym (p.gives files input there told))
+        (printed_near input files there (p.left files input there told) (files_named (known_command words)));
     refused = λ files input there told some nine ten.
         absurd (elim p.printed [ inl whole ↦ some whole.0 | inr cut ↦ neither result cut.0 nine ten ]);
     authentic = λ files input there told zero. (done, (is_carried words input files done (p.gives files input there told), gains zero));
@@ -310,7 +310,7 @@ pub record Stopped (words : List (List ℕ)) (stop : Stop) (result : ℕ) (befor
   pub left : WhereTold words before (λ input files. Leaves {X = Output} (Err stop) before.left now.left (left_of words input))
   pub quiet : IsQuiet before now
   pub written : now.written ≡ before.written
-  pub caused : IsCaused (files_named (command_of words)) counts.files counts'.files counts.absences counts'.absences counts.input counts'.input stop
+  pub caused : IsCaused (files_named (known_command words)) counts.files counts'.files counts.absences counts'.absences counts.input counts'.input stop
   pub told : IsTold stop result before.errors now.errors counts.err counts'.err
 
 -- the line was not written: memory ran out, or standard error failed
@@ -339,7 +339,7 @@ untold_near names said result before now counts counts' (inr is) written files =
 
 module _ (words : List (List ℕ)) (result : ℕ) (before now : Seen) (counts counts' : Counts) where
   abbrev names : List (List ℕ)
-  names = files_named (command_of words)
+  names = files_named (known_command words)
 
   module _ (input : List ℕ) (files : FileMap) (there : before.files ≡ Some files) where
     refused_as_said : (refusal : Refusal) → Stopped words (Refused refusal) result before now counts counts'

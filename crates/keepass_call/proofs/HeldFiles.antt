@@ -21,15 +21,14 @@ use Rattle.secret_core.specs.declared.files.ReadFail.TheVariants.{TooLarge as Fi
 use Rattle.cli_answers.specs.declared.answers.Reason.TheVariants.{TooLarge}
 use Rattle.cli_answers.specs.declared.answers.Refusal.{Refusal}
 use Rattle.cli_words.specs.declared.command.Command.{Command}
-use Rattle.cli_words.specs.declared.command.Command.TheVariants.{Ls}
 use Rattle.keepass_call.specs.declared.execute.Output.{Output}
 use Rattle.keepass_call.specs.Databases.{document_or_refusal, database_of, held_in, key_in, key_of, key_or_refusal, of_file, document_of_vault, plain_document, plain_of, sealed_in}
 use Rattle.keepass_call.specs.Held.{GivesKey, Holds, HoldsBy, IsCarried, IsPlain, IsSealed, IsThere}
 use Rattle.cli_answers.specs.Messages.{refusal_of}
-use Rattle.keepass_call.specs.Outcome.{answer_of, output_of}
+use Rattle.keepass_call.specs.Outcome.{answer_of, known_command, output_of}
 use Rattle.outside_core.specs.Results.{◌>>=◌}
-use Rattle.cli_lines.specs.Lines.{password_of}
-use Rattle.cli_words.specs.Words.{command_of}
+use Rattle.cli_lines.specs.Lines.{Lines, lines_of}
+use Rattle.cli_words.specs.Needs.{Needs, needs_of}
 
 -- ---- a file that was used
 
@@ -179,28 +178,28 @@ holding : (plain : Bool) (key_file : Option (List ℕ)) (file : List ℕ) (passw
 holding true key_file file password files doc h = plain_given file files doc h
 holding false key_file file password files doc h = sealed_given key_file file password files doc h
 
-database_held : (command : Command) (password : Option (List ℕ)) (files : FileMap) (doc : BareDoc)
-    → database_of command password files ≡ Ok doc → Holds command password files doc
-database_held (Ls access file group recursive flat) password files doc h = held access.plain access.key_file file password files doc h
+database_held : (needs : Needs) (password : Option (List ℕ)) (files : FileMap) (doc : BareDoc)
+    → database_of needs password files ≡ Ok doc → Holds needs password files doc
+database_held needs password files doc h = held needs.access.plain needs.access.key_file needs.file password files doc h
 
-database_given : (command : Command) (password : Option (List ℕ)) (files : FileMap) (doc : BareDoc)
-    → Holds command password files doc → database_of command password files ≡ Ok doc
-database_given (Ls access file group recursive flat) password files doc h = holding access.plain access.key_file file password files doc h
+database_given : (needs : Needs) (password : Option (List ℕ)) (files : FileMap) (doc : BareDoc)
+    → Holds needs password files doc → database_of needs password files ≡ Ok doc
+database_given needs password files doc h = holding needs.access.plain needs.access.key_file needs.file password files doc h
 
 -- what a call gave rests on what its files hold
 pub is_carried : (words : List (List ℕ)) (input : List ℕ) (files : FileMap) (done : Output) → answer_of words input files ≡ Ok done → IsCarried words input files done
 unfolding answer_of
 is_carried words input files done h =
-    let c = in_turn (command_of words) _ done h in
-    let p = in_turn (password_of c.0 input).answer _ done c.1.1 in
-    let d = in_turn (database_of c.0 p.0 files) _ done p.1.1 in
+    let c = in_turn (known_command words) _ done h in
+    let l = in_turn (lines_of (needs_of c.0) input).answer _ done c.1.1 in
+    let d = in_turn (database_of (needs_of c.0) l.0.password files) _ done l.1.1 in
     record {
       command = c.0;
       is_command = c.1.0;
-      password = p.0;
-      is_password = p.1.0;
+      lines = l.0;
+      are_lines = l.1.0;
       doc = d.0;
-      holds = database_held c.0 p.0 files d.0 d.1.0;
+      holds = database_held (needs_of c.0) l.0.password files d.0 d.1.0;
       gives = d.1.1;
     }
 
@@ -211,16 +210,17 @@ each phase next x y p q = ap (λ r. r >>= next) p ∙ q
 pub is_given : (words : List (List ℕ)) (input : List ℕ) (files : FileMap) (done : Output) → IsCarried words input files done → answer_of words input files ≡ Ok done
 unfolding answer_of
 is_given words input files done h =
-    each (command_of words) _ h.command done h.is_command
-    (each (password_of h.command input).answer _ h.password done h.is_password
-    (each (database_of h.command h.password files) _ h.doc done (database_given h.command h.password files h.doc h.holds) h.gives))
+    each (known_command words) _ h.command done h.is_command
+    (each (lines_of (needs_of h.command) input).answer _ h.lines done h.are_lines
+    (each (database_of (needs_of h.command) h.lines.password files) _ h.doc done
+    (database_given (needs_of h.command) h.lines.password files h.doc h.holds) h.gives))
 
 -- what a call gives is what its last phase gives, where each before it gave something
-pub each_is : (words : List (List ℕ)) (input : List ℕ) (files : FileMap) (command : Command) (password : Option (List ℕ)) (doc : BareDoc)
-    → command_of words ≡ Ok command → (password_of command input).answer ≡ Ok password → database_of command password files ≡ Ok doc
+pub each_is : (words : List (List ℕ)) (input : List ℕ) (files : FileMap) (command : Command) (lines : Lines) (doc : BareDoc)
+    → known_command words ≡ Ok command → (lines_of (needs_of command) input).answer ≡ Ok lines → database_of (needs_of command) lines.password files ≡ Ok doc
     → answer_of words input files ≡ output_of command doc
 unfolding answer_of
-each_is words input files command password doc c p d =
-    ap (λ r. r >>= λ command. (password_of command input).answer >>= λ password. database_of command password files >>= λ doc. output_of command doc) c
-    ∙ ap (λ r. r >>= λ password. database_of command password files >>= λ doc. output_of command doc) p
+each_is words input files command lines doc c p d =
+    ap (λ r. r >>= λ command. (lines_of (needs_of command) input).answer >>= λ lines. database_of (needs_of command) lines.password files >>= λ doc. output_of command doc) c
+    ∙ ap (λ r. r >>= λ lines. database_of (needs_of command) lines.password files >>= λ doc. output_of command doc) p
     ∙ ap (λ r. r >>= λ doc. output_of command doc) d

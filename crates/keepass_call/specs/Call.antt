@@ -1,8 +1,8 @@
 -- What the program promises of each call.
 use Rattle.std.specs.Prelude.{◌≡◌, ◌≢◌, ◌⊎◌, ℕ, List}
 use Rattle.keepass_call.specs.Held.{IsAuthentic, IsComplete, PrintsOfSomeFile}
-use Rattle.keepass_call.specs.Outcome.{Counts, IsAsSaid, NoFaults, AgreesUpToFailure, IsRefused, IsSafe, Seen, WhereTold, outcome}
-use Rattle.cli_words.specs.Words.{command_of, files_named}
+use Rattle.keepass_call.specs.Outcome.{Counts, known_command, IsAsSaid, NoFaults, AgreesUpToFailure, IsRefused, IsSafe, Seen, WhereTold, outcome}
+use Rattle.cli_words.specs.Needs.{files_named}
 
 -- A call with these words, its status, what is seen before and after it, and the counts before and
 -- after.
@@ -15,11 +15,11 @@ pub record IsCall (words : List (List ℕ)) (result : ℕ) (before now : Seen) (
       → IsAsSaid (outcome words input files) result before now)
   -- Whatever failed, so much is as the outcome says.
   pub near : WhereTold words before (λ input files.
-      AgreesUpToFailure (files_named (command_of words)) (outcome words input files) result before
-      now counts counts')
+      AgreesUpToFailure (files_named (known_command words)) (outcome words input files) result
+      before now counts counts')
   -- A refusal is the outcome's, or reports a fault whose count rose.
   pub refused : WhereTold words before (λ input files.
-      IsRefused (files_named (command_of words)) (outcome words input files) result before now
+      IsRefused (files_named (known_command words)) (outcome words input files) result before now
       counts counts')
   -- What is listed at status 0 is a document that the file holds under the line and the key file
   -- that were given.

@@ -28,8 +28,7 @@ use Rattle.cli_answers.specs.declared.answers.Reason.TheVariants as answer
 use Rattle.cli_answers.specs.declared.answers.Reason.TheVariants.{NoSuchFile, TooLarge, OutOfMemory}
 use Rattle.cli_answers.specs.declared.answers.Refusal.{Refusal}
 use Rattle.cli_answers.specs.declared.answers.Stop.{Stop}
-use Rattle.cli_words.specs.declared.command.Command.{Command}
-use Rattle.cli_words.specs.declared.command.Command.TheVariants.{Ls}
+use Rattle.cli_words.specs.Needs.{Needs}
 use Rattle.cli_answers.specs.Messages.{refusal_of, Refuses}
 use Rattle.outside_core.specs.Results.{◌>>=◌}
 use Rattle.cli_answers.specs.Phases.{IsFault, IsMemoryStop}
@@ -150,10 +149,10 @@ abbrev pub held_in : Bool → Option (List ℕ) → List ℕ → Option (List �
 held_in true key_file file password files = plain_of file (map.get files file)
 held_in false key_file file password files = key_of key_file files >>= sealed_in file files password
 
--- The database of a command, whose password is given.
-abbrev pub database_of : Command → Option (List ℕ) → FileMap → Result BareDoc Refusal
-database_of (Ls access file group recursive flat) password files = held_in access.plain
-    access.key_file file password files
+-- The database that a command asks for, whose password is given.
+abbrev pub database_of : Needs → Option (List ℕ) → FileMap → Result BareDoc Refusal
+database_of needs password files =
+    held_in needs.access.plain needs.access.key_file needs.file password files
 
 -- ---- stops
 

@@ -11,14 +11,12 @@ use Rattle.kdbx_open.specs.Causes.{file_limit}
 use Rattle.kdbx_open.specs.Opening.{FileContents}
 use Rattle.kdbx_open.specs.Sealed.{Sealed}
 use Rattle.cli_words.specs.declared.command.Command.{Command}
-use Rattle.cli_words.specs.declared.command.Command.TheVariants.{Ls}
 use Rattle.keepass_call.specs.declared.execute.Output.{Output}
 use Rattle.keepass_call.specs.Databases.{plain_document}
-use Rattle.cli_lines.specs.Lines.{password_of}
-use Rattle.cli_lines.specs.Passwords.{HasPassword}
+use Rattle.cli_lines.specs.Lines.{HasLines, Lines, lines_of}
+use Rattle.cli_words.specs.Needs.{Needs, needs_of}
 use Rattle.keepass_call.specs.SomeFiles.{SomeDatabase}
-use Rattle.keepass_call.specs.Outcome.{Counts, Gains, NoFaults, output_of}
-use Rattle.cli_words.specs.Words.{command_of}
+use Rattle.keepass_call.specs.Outcome.{Counts, Gains, NoFaults, known_command, output_of}
 
 -- The file of this name is there and within the limit, and these are its bytes.
 pub record IsThere (files : FileMap) (name bytes : List ℕ) : Type 0 where
@@ -61,21 +59,21 @@ abbrev pub HoldsBy : Bool → Option (List ℕ) → List ℕ → Option (List �
 HoldsBy true key_file file password files doc = IsPlain file files doc
 HoldsBy false key_file file password files doc = IsSealed key_file file password files doc
 
--- The database of a command holds the document.
-abbrev pub Holds : Command → Option (List ℕ) → FileMap → BareDoc → Type 0
-Holds (Ls access file group recursive flat) password files doc = HoldsBy access.plain
-    access.key_file file password files doc
+-- The database that a command asks for holds the document.
+abbrev pub Holds : Needs → Option (List ℕ) → FileMap → BareDoc → Type 0
+Holds needs password files doc =
+    HoldsBy needs.access.plain needs.access.key_file needs.file password files doc
 
--- The words are a command, the line that is due is there, the database holds a document by it, and
--- on that the command gives this.
+-- The words are a command, the lines that are due are there, the database holds a document by them,
+-- and on that the command gives this.
 pub record IsCarried (words : List (List ℕ)) (input : List ℕ) (files : FileMap) (done : Output) :
     Type 0 where
   pub command : Command
-  pub is_command : command_of words ≡ Ok command
-  pub password : Option (List ℕ)
-  pub is_password : (password_of command input).answer ≡ Ok password
+  pub is_command : known_command words ≡ Ok command
+  pub lines : Lines
+  pub are_lines : (lines_of (needs_of command) input).answer ≡ Ok lines
   pub doc : BareDoc
-  pub holds : Holds command password files doc
+  pub holds : Holds (needs_of command) lines.password files doc
   pub gives : output_of command doc ≡ Ok done
 
 -- What was printed is what the command gives on a document that the database holds.
@@ -86,15 +84,15 @@ IsAuthentic words input files written written' =
 
 -- ---- of some files
 
--- This is what the command gives on a document that some file holds, under a password if one is
--- due.
+-- This is what the command gives on a document that some file holds, under lines of which each is
+-- there that is due.
 pub record IsOfSomeFile (words : List (List ℕ)) (done : Output) : Type 0 where
   pub command : Command
-  pub is_command : command_of words ≡ Ok command
-  pub password : Option (List ℕ)
-  pub has_password : HasPassword command password
+  pub is_command : known_command words ≡ Ok command
+  pub lines : Lines
+  pub has_lines : HasLines (needs_of command) lines
   pub doc : BareDoc
-  pub holds : SomeDatabase command password doc
+  pub holds : SomeDatabase (needs_of command) lines.password doc
   pub gives : output_of command doc ≡ Ok done
 
 -- What was printed is so.

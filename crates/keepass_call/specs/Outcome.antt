@@ -4,18 +4,19 @@ use Rattle.outside_core.specs.Counts.{Increased}
 use Rattle.outside_core.specs.Files.{FileMap}
 use Rattle.outside_core.specs.Streams.{GainsPrefix}
 use Rattle.vault_model.specs.Tree.{BareDoc, Tree}
-use Rattle.cli_answers.specs.declared.answers.Reason.TheVariants.{NoSuchPath}
+use Rattle.cli_answers.specs.declared.answers.Reason.TheVariants.{NoSuchPath, WrongWords}
 use Rattle.cli_answers.specs.declared.answers.Refusal.{Refusal}
 use Rattle.cli_words.specs.declared.command.Command.{Command}
-use Rattle.cli_words.specs.declared.command.Command.TheVariants.{Ls}
+use Rattle.cli_words.specs.declared.command.Command.TheVariants.{Ls, Add, Edit}
 use Rattle.keepass_call.specs.declared.execute.Output.{Output}
 use Rattle.keepass_call.specs.Databases.{database_of}
-use Rattle.cli_lines.specs.Lines.{asks, password_of}
+use Rattle.cli_lines.specs.Lines.{lines_of}
+use Rattle.cli_words.specs.Needs.{asks_line, needs_of}
 use Rattle.cli_listing.specs.Listing.{group_lines, tree_listed}
 use Rattle.cli_answers.specs.Messages.{refusal_of, status_of, reason_text, error_line}
 use Rattle.outside_core.specs.Results.{◌>>=◌}
 use Rattle.cli_answers.specs.Phases.{IsLeft, TellsInput}
-use Rattle.cli_words.specs.Words.{command_of, files_named}
+use Rattle.cli_words.specs.Words.{command_of, wrong_words}
 
 -- The lines of the group that is listed, or that the path names none of the file's groups.
 abbrev pub listing_of : List ℕ → (recursive flat : Bool) → Option Tree → Result Output Refusal
@@ -23,34 +24,46 @@ listing_of file recursive flat None = Err (refusal_of NoSuchPath file)
 listing_of file recursive flat (Some tree) = Ok
     (record { text = group_lines recursive flat [] tree })
 
+-- A command, if it is one that is carried out: `ls` alone yet. The others are wrong words.
+abbrev pub if_known : Command → Result Command Refusal
+if_known (Ls access file group recursive flat) = Ok (Ls access file group recursive flat)
+if_known (Add access file entry asked) = wrong_words
+if_known (Edit access file entry asked) = wrong_words
+
+-- The command that the words are, of those that are carried out.
+abbrev pub known_command : List (List ℕ) → Result Command Refusal
+known_command words = command_of words >>= if_known
+
 -- What a command gives on its database.
 abbrev pub output_of : Command → BareDoc → Result Output Refusal
 output_of (Ls access file group recursive flat) doc = listing_of file recursive flat
     (tree_listed group doc)
+output_of (Add access file entry asked) doc = Err (refusal_of WrongWords (codes "words"))
+output_of (Edit access file entry asked) doc = Err (refusal_of WrongWords (codes "words"))
 
--- What these words give over this input and these files: the command, the password that is due, the
+-- What these words give over this input and these files: the command, the lines that are due, the
 -- database that the command names, and what the command gives on it. No command draws an id or
 -- writes a file yet.
 unfoldable pub answer_of : List (List ℕ) → List ℕ → FileMap → Result Output Refusal
 answer_of words input files = do
-  command ← command_of words
-  password ← (password_of command input).answer
-  database ← database_of command password files
+  command ← known_command words
+  lines ← (lines_of (needs_of command) input).answer
+  database ← database_of (needs_of command) lines.password files
   output_of command database
 
 -- Whether words ask for a line.
 abbrev pub asked_by : Result Command Refusal → Bool
-asked_by (Ok command) = asks command
+asked_by (Ok command) = asks_line (needs_of command)
 asked_by (Err refusal) = false
 
 -- What is left of the input after the lines that a command asks for.
 abbrev pub left_behind : Result Command Refusal → List ℕ → List ℕ
-left_behind (Ok command) input = (password_of command input).left
+left_behind (Ok command) input = (lines_of (needs_of command) input).left
 left_behind (Err refusal) input = input
 
 -- What is left of the input after the lines that the words ask for.
 abbrev pub left_of : List (List ℕ) → List ℕ → List ℕ
-left_of words input = left_behind (command_of words) input
+left_of words input = left_behind (known_command words) input
 
 -- What a call results in where nothing of the outside fails: its status, what it prints, its line
 -- on standard error, the files after it, and what is left of the input.
@@ -190,7 +203,7 @@ IsRefused names said result before now counts counts' =
 abbrev pub WhereTold : List (List ℕ) → Seen → (List ℕ → FileMap → Type 0) → Type 0
 WhereTold words before P =
     (files : FileMap) (input : List ℕ) → before.files ≡ Some files
-    → TellsInput (asked_by (command_of words)) before.left input
+    → TellsInput (asked_by (known_command words)) before.left input
     → P input files
 
 -- Whatever is reported: statuses 7, 10 and 11 have their causes, a refusal prints nothing, and

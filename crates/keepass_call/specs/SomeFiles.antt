@@ -6,8 +6,7 @@ use Rattle.vault_model.specs.Tree.{BareDoc}
 use Rattle.doc_forms.specs.Documents.{DocumentAndHash}
 use Rattle.kdbx_open.specs.Opening.{FileContents}
 use Rattle.kdbx_open.specs.Sealed.{IsHeld}
-use Rattle.cli_words.specs.declared.command.Command.{Command}
-use Rattle.cli_words.specs.declared.command.Command.TheVariants.{Ls}
+use Rattle.cli_words.specs.Needs.{Needs}
 use Rattle.keepass_call.specs.Databases.{plain_document}
 
 -- Some bytes are a plain document.
@@ -42,7 +41,7 @@ abbrev pub SomeHolds : Bool → Option (List ℕ) → Option (List ℕ) → Bare
 SomeHolds true key_file password doc = SomePlain doc
 SomeHolds false key_file password doc = SomeSealed key_file password doc
 
--- Some bytes hold the document of a command.
-abbrev pub SomeDatabase : Command → Option (List ℕ) → BareDoc → Type 0
-SomeDatabase (Ls access file group recursive flat) password doc = SomeHolds access.plain
-    access.key_file password doc
+-- Some bytes hold the document that a command asks for.
+abbrev pub SomeDatabase : Needs → Option (List ℕ) → BareDoc → Type 0
+SomeDatabase needs password doc =
+    SomeHolds needs.access.plain needs.access.key_file password doc

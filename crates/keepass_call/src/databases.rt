@@ -10,12 +10,13 @@ ghost use Rattle.keepass_call.specs.Databases as spec;
 ghost use Rattle.keepass_call.specs.Databases.{IsUnopened, IsUnread, document_or_refusal, database_of, held_in, key_in, key_or_refusal, plain_document, plain_of, sealed_in};
 ghost use Rattle.keepass_call.specs.SomeFiles.{IsSealedUnder, IsSomeKey, SomeDatabase, SomeHolds, SomeKey, SomePlain};
 ghost use Rattle.key_core.specs.Keys.{composite_key};
-ghost use Rattle.cli_lines.specs.Passwords.{CanOpen};
+ghost use Rattle.cli_lines.specs.Lines.{CanOpen};
 ghost use Rattle.cli_answers.specs.Phases.{Returns, IsFileStop, IsPlainStop};
-ghost use Rattle.cli_words.specs.Words.{files_of, key_files};
+ghost use Rattle.cli_words.specs.Needs.{files_of, key_files};
+ghost use Rattle.cli_words.specs.SeenNeeds.{needs_seen};
 
 use cli_answers::{Reason, Stop, refused};
-use cli_words::{Access, Command};
+use cli_words::{Access, Needs};
 use doc_read::{DocFail, ReadDoc, read_parts, resolve};
 use kdbx_frame::FrameFail;
 use kdbx_open::{FILE_LIMIT, OpenFail, Opened, open_file};
@@ -315,29 +316,25 @@ fn open_held<F: FileStore>(
     open_sealed(alloc, files, file, password, key)
 }
 
-/// Opens the database that a command names, with the password that is given for it.
+/// Opens the database that a command asks for, with the password that is given for it.
 pub fn open<F: FileStore>(
     alloc: Global,
     files: &mut F,
-    command: &Command,
+    needs: Needs<'_>,
     password: Option<&[u8]>,
 ) -> Result<Doc, Stop>
-    requires { CanOpen command.now (option_map (λ p. p.now) password) }
+    requires { CanOpen needs.access.now (option_map (λ p. p.now) password) }
     ensures told { (m : FileMap) → F.files files.old ≡ Some m
-        → Returns doc_seen result (database_of command.now (option_map (λ p. p.now) password.entry)
-        m) }
-    ensures some_file { IfOk result (λ doc. SomeDatabase command.now
+        → Returns doc_seen result (database_of (needs_seen needs.entry)
+        (option_map (λ p. p.now) password.entry) m) }
+    ensures some_file { IfOk result (λ doc. SomeDatabase (needs_seen needs.entry)
         (option_map (λ p. p.now) password.entry) (doc_seen doc)) }
-    ensures cause { IfErr result (IsFileStop (files_of command.now) (F.faults files.old)
-        (F.faults files.new) (F.absences files.old) (F.absences files.new)) }
+    ensures cause { IfErr result (IsFileStop (files_of (needs_seen needs.entry))
+        (F.faults files.old) (F.faults files.new) (F.absences files.old) (F.absences files.new)) }
     ensures faults { F.faults files.old ≤ F.faults files.new }
     ensures files { F.files files.new ≡ F.files files.old }
     ensures draft_name { F.draft_name files.new ≡ F.draft_name files.old }
     ensures draft_bytes { F.draft_bytes files.new ≡ F.draft_bytes files.old }
 {
-    match command {
-        Command::Ls { access, file, .. } => {
-            open_held(alloc, files, access, file.as_str(), password)
-        }
-    }
+    open_held(alloc, files, needs.access, needs.file.as_str(), password)
 }

@@ -60,5 +60,7 @@ pub fn execute(alloc: Global, command: &Command, doc: &Doc) -> Result<Output, St
             };
             list(alloc, doc, group, manner, file.as_str())
         }
+        Command::Add { .. } => Err(refused(alloc, Reason::WrongWords, "words")),
+        Command::Edit { .. } => Err(refused(alloc, Reason::WrongWords, "words")),
     }
 }

@@ -2,18 +2,18 @@
 ghost use Rattle.std.specs.Prelude.{◌≡◌, ◌≤◌, ℕ, List, Some, IfErr, IfOk, map, option_map, string_bytes};
 ghost use Rattle.outside_core.specs.Files.{FileMap};
 ghost use Rattle.cli_answers.specs.Messages.{error_line, reason_text, status_of};
-ghost use Rattle.cli_answers.specs.Phases.{IsCaused, Leaves, Returns, TellsInput};
-ghost use Rattle.cli_words.specs.Words.{command_of, files_named};
+ghost use Rattle.cli_answers.specs.Phases.{IsCaused, IsWordsStop, Leaves, Returns, TellsInput};
+ghost use Rattle.cli_words.specs.Needs.{HasKey, files_named, needs_of};
 ghost use Rattle.keepass_call.specs.Call.{IsCall};
 ghost use Rattle.keepass_call.specs.Held.{IsOfSomeFile};
-ghost use Rattle.keepass_call.specs.Outcome.{answer_of, asked_by, counts, left_of, seen};
+ghost use Rattle.keepass_call.specs.Outcome.{answer_of, asked_by, counts, known_command, left_of, seen};
 ghost use Rattle.keepass_call.specs.Telling.{IsPrinted, IsTold, IsUnwritten, TellsLine};
 
 use crate::databases::open;
 use crate::execute::{Output, execute};
-use cli_answers::{Reason, Stop, line, status, text_of_reason};
-use cli_lines::read_password;
-use cli_words::read_words;
+use cli_answers::{Reason, Stop, line, refused, status, text_of_reason};
+use cli_lines::read_lines;
+use cli_words::{Command, read_words};
 use outside_core::{Dice, FileStore, NoMemory, Sink, SinkFail, Source, write_all};
 use secret_core::Secret;
 use std::alloc::Global;
@@ -41,6 +41,21 @@ fn bytes_in(password: &Option<Secret>) -> Option<&[u8]>
     }
 }
 
+// The command that the words are, of those that are carried out.
+fn read_command(alloc: Global, words: &[String]) -> Result<Command, Stop>
+    ensures told { Returns (λ command. command) result
+        (known_command (map string_bytes words.now)) }
+    ensures has_key { IfOk result (λ command. HasKey (needs_of command).access) }
+    ensures cause { IfErr result IsWordsStop }
+{
+    let command = read_words(alloc, words)?;
+    match command {
+        Command::Ls { .. } => Ok(command),
+        Command::Add { .. } => Err(refused(alloc, Reason::WrongWords, "words")),
+        Command::Edit { .. } => Err(refused(alloc, Reason::WrongWords, "words")),
+    }
+}
+
 // The phases of a call, one after another.
 #[tactic(auto, unfolding(crate::specs::Outcome::answer_of))]
 fn answer<F: FileStore, S: Source>(
@@ -50,24 +65,27 @@ fn answer<F: FileStore, S: Source>(
     input: &mut S,
 ) -> Result<Output, Stop>
     ensures told { (m : FileMap) (i : List ℕ) → F.files files.old ≡ Some m
-        → TellsInput (asked_by (command_of (map string_bytes words.now))) (S.left input.old) i
+        → TellsInput (asked_by (known_command (map string_bytes words.now))) (S.left input.old) i
         → Returns (λ done. done) result (answer_of (map string_bytes words.now) i m) }
     ensures some_file { IfOk result (IsOfSomeFile (map string_bytes words.now)) }
-    ensures left { (i : List ℕ) → TellsInput (asked_by (command_of (map string_bytes words.now)))
-        (S.left input.old) i → Leaves result (S.left input.old) (S.left input.new)
+    ensures left { (i : List ℕ)
+        → TellsInput (asked_by (known_command (map string_bytes words.now))) (S.left input.old) i
+        → Leaves result (S.left input.old) (S.left input.new)
         (left_of (map string_bytes words.now) i) }
-    ensures cause { IfErr result (IsCaused (files_named (command_of (map string_bytes words.now)))
-        (F.faults files.old) (F.faults files.new) (F.absences files.old) (F.absences files.new)
-        (S.faults input.old) (S.faults input.new)) }
+    ensures cause { IfErr result (IsCaused
+        (files_named (known_command (map string_bytes words.now))) (F.faults files.old)
+        (F.faults files.new) (F.absences files.old) (F.absences files.new) (S.faults input.old)
+        (S.faults input.new)) }
     ensures faults { F.faults files.old ≤ F.faults files.new }
     ensures input { S.faults input.old ≤ S.faults input.new }
     ensures files { F.files files.new ≡ F.files files.old }
     ensures draft_name { F.draft_name files.new ≡ F.draft_name files.old }
     ensures draft_bytes { F.draft_bytes files.new ≡ F.draft_bytes files.old }
 {
-    let command = read_words(alloc, words)?;
-    let password = read_password(alloc, input, &command)?;
-    let doc = open(alloc, files, &command, bytes_in(&password))?;
+    let command = read_command(alloc, words)?;
+    let needs = cli_words::needs_of(&command);
+    let lines = read_lines(alloc, input, needs)?;
+    let doc = open(alloc, files, needs, bytes_in(&lines.password))?;
     execute(alloc, &command, &doc)
 }
 

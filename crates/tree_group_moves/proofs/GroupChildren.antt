@@ -17,7 +17,7 @@ use Rattle.tree_changes.proofs.Options.{never}
 use Rattle.tree_changes.specs.NewNodes.{empty_group}
 use Rattle.tree_changes.proofs.Rows.{keys}
 use Rattle.tree_changes.proofs.Ways.{below, first, here, later}
-use Rattle.tree_group_moves.specs.GroupPlaces.{filled_group, group_at, group_placed}
+use Rattle.tree_group_moves.specs.GroupPlaces.{groups_filled, group_at, group_placed}
 
 -- ---- two changes of one group are one
 
@@ -199,16 +199,16 @@ off_goal from to u t g there off p e b k = ap (has_group to) (same_Some b g (sym
 not_nil : (t : Tree) → occurs nil_id (node_ids t) ≡ 0 → is_id (id_of t) nil_id ≡ false
 not_nil (node v r es ts) zero = is_false (is_id v nil_id) (λ p. let one = ap one_if (is_same_id nil_id v (sym (same_id v nil_id p))) in absurd (omega (arith, one, zero)))
 
-fills_last : (w hole : Tree) (ts : Trees) → id_of hole ≡ nil_id → occurs nil_id (node_ids_all ts) ≡ 0 → filled_group w (with_last hole ts) ≡ with_last w ts
+fills_last : (w hole : Tree) (ts : Trees) → id_of hole ≡ nil_id → occurs nil_id (node_ids_all ts) ≡ 0 → groups_filled w (with_last hole ts) ≡ with_last w ts
 fills_last w hole none nil zero = ap (λ c. cond c (beside w none) (beside hole none)) (is_same_id (id_of hole) nil_id nil)
 fills_last w hole (beside t ts) nil zero =
     let split = occurs-append nil_id (node_ids t) (node_ids_all ts) in
     let own : occurs nil_id (node_ids t) ≡ 0 = omega (arith, split, zero) in
     let rest : occurs nil_id (node_ids_all ts) ≡ 0 = omega (arith, split, zero) in
-    ap (λ c. cond c (beside w (with_last hole ts)) (beside t (filled_group w (with_last hole ts)))) (not_nil t own)
+    ap (λ c. cond c (beside w (with_last hole ts)) (beside t (groups_filled w (with_last hole ts)))) (not_nil t own)
     ∙ ap (λ xs. beside t xs) (fills_last w hole ts nil rest)
 
-fills : (w hole t : Tree) → id_of hole ≡ nil_id → occurs nil_id (node_ids t) ≡ 0 → on_groups (filled_group w) (with_group hole t) ≡ with_group w t
+fills : (w hole t : Tree) → id_of hole ≡ nil_id → occurs nil_id (node_ids t) ≡ 0 → on_groups (groups_filled w) (with_group hole t) ≡ with_group w t
 fills w hole (node v r es ts) nil zero =
     let split = occurs-append nil_id (keys es) (node_ids_all ts) in
     let below : occurs nil_id (node_ids_all ts) ≡ 0 = omega (arith, split, zero) in
@@ -234,7 +234,7 @@ module _ (from to u : NodeId) (time : ℕ) (old hole g : Tree) (other : from ≢
       let zero = elsewhere_occurs old nil_id no_nil in
       omega (arith, change, less, zero)
 
-  by_place : changed_at to (on_groups (filled_group w)) (changed_at from (without_group u) (changed_at to (with_group hole) old)) ≡ changed_at to (with_group w) rest
+  by_place : changed_at to (on_groups (groups_filled w)) (changed_at from (without_group u) (changed_at to (with_group hole) old)) ≡ changed_at to (with_group w) rest
   by_place =
       let goal = found_group to rest (to_there from to u old off ∙ has) in
       let rows = rows_change node_ids node_ids_all ids_rows to (λ x. x) rest goal.0 goal.1 (found_id to rest goal.0 goal.1) in
@@ -242,9 +242,9 @@ module _ (from to u : NodeId) (time : ℕ) (old hole g : Tree) (other : from ≢
       let split2 = occurs-append nil_id (node_ids goal.0) rows.back in
       let none_left = no_nil_left in
       let zero : occurs nil_id (node_ids goal.0) ≡ 0 = omega (arith, none_left, split, split2) in
-      ap (changed_at to (on_groups (filled_group w))) (either_order from to u hole other no_from old off)
-      ∙ changed_twice to (on_groups (filled_group w)) (with_group hole) (put_root hole) rest
-      ∙ sym (changed_by to (λ x. on_groups (filled_group w) (with_group hole x)) rest goal.0 goal.1)
+      ap (changed_at to (on_groups (groups_filled w))) (either_order from to u hole other no_from old off)
+      ∙ changed_twice to (on_groups (groups_filled w)) (with_group hole) (put_root hole) rest
+      ∙ sym (changed_by to (λ x. on_groups (groups_filled w) (with_group hole x)) rest goal.0 goal.1)
       ∙ ap (λ y. changed_at to (λ x. y) rest) (fills w hole goal.0 nil zero)
       ∙ changed_by to (with_group w) rest goal.0 goal.1
 
@@ -256,19 +256,19 @@ module _ (from to u : NodeId) (time : ℕ) (old hole g : Tree) (other : from ≢
       let at : group_at from u one ≡ Some g = ap (group_at from u) put ∙ place_there in
       let id = found_child_id from u old g there in
       subst (λ (o : Option Tree). IfSome o (λ x. new ≡ group_placed from to time x one)) at h
-      ∙ ap (λ v. changed_at to (on_groups (filled_group w)) (changed_at from (without_group v) one)) id
-      ∙ ap (λ t. changed_at to (on_groups (filled_group w)) (changed_at from (without_group u) t)) put
+      ∙ ap (λ v. changed_at to (on_groups (groups_filled w)) (changed_at from (without_group v) one)) id
+      ∙ ap (λ t. changed_at to (on_groups (groups_filled w)) (changed_at from (without_group u) t)) put
       ∙ by_place
       ∙ ap (λ v. changed_at to (with_group w) (changed_at from (without_group v) old)) (sym id)
 
 -- the two changes of a move into a place, one after the other
 pub placed_done : (from to u : NodeId) (time : ℕ) (old two new g w : Tree) → group_at from u old ≡ Some g → two ≡ changed_at from (without_group u) old → w ≡ moved_group from time g
-    → new ≡ changed_at to (on_groups (filled_group w)) two → IfSome (group_at from u old) (λ x. new ≡ group_placed from to time x old)
+    → new ≡ changed_at to (on_groups (groups_filled w)) two → IfSome (group_at from u old) (λ x. new ≡ group_placed from to time x old)
 placed_done from to u time old two new g w there p is q =
     subst (λ (o : Option Tree). IfSome o (λ x. new ≡ group_placed from to time x old)) (sym there)
     (q
-    ∙ ap (λ y. changed_at to (on_groups (filled_group y)) two) is
-    ∙ ap (changed_at to (on_groups (filled_group (moved_group from time g)))) (p ∙ ap (λ v. changed_at from (without_group v) old) (sym (found_child_id from u old g there))))
+    ∙ ap (λ y. changed_at to (on_groups (groups_filled y)) two) is
+    ∙ ap (changed_at to (on_groups (groups_filled (moved_group from time g)))) (p ∙ ap (λ v. changed_at from (without_group v) old) (sym (found_child_id from u old g there))))
 
 -- the same where what is found is not named
 pub place_some : (from to u : NodeId) (old hole one : Tree) → from ≢ to → has_group from hole ≡ false → IsSome (group_at from u old) → IfSome (group_at from u old) (λ g. has_group to g ≡ false)

@@ -15,7 +15,7 @@ use Rattle.vault_model.proofs.Tests.{decide}
 use Rattle.tree_changes.proofs.Changed.{absent_group, changed_by, changed_not}
 use Rattle.tree_changes.proofs.Options.{never}
 use Rattle.tree_changes.specs.Changes.{but_group, changed_at, child_with, has_group, moved_group, on_groups, own_group, without_group}
-use Rattle.tree_group_moves.specs.GroupPlaces.{filled_group, group_at}
+use Rattle.tree_group_moves.specs.GroupPlaces.{groups_filled, group_at}
 use Rattle.tree_steps.specs.ChangedAt.{ChangedAt}
 use Rattle.tree_steps.proofs.InPlace.{record_seen, seen_with_groups, trees, with_groups}
 
@@ -113,27 +113,27 @@ group_absent u g way =
 
 -- ---- a group in a place that is kept
 
-place_filled : (u : NodeId) (gs : List Group) (at : ℕ) (g : Group) → u ≡ nil_id → place u gs ≡ at → trees (slice_set gs at g) ≡ filled_group (tree_seen g) (trees gs)
+place_filled : (u : NodeId) (gs : List Group) (at : ℕ) (g : Group) → u ≡ nil_id → place u gs ≡ at → trees (slice_set gs at g) ≡ groups_filled (tree_seen g) (trees gs)
 place_filled u [] at g nil way = refl
 place_filled u (x ∷ xs) at g nil way =
     elim (decide (there u x)) [
       | inl p ↦
           let first : zero ≡ at = sym (here_first u x xs p) ∙ way in
           ap (λ n. trees (slice_set (x ∷ xs) n g)) (sym first)
-          ∙ ap (λ b. cond b (beside (tree_seen g) (trees xs)) (beside (tree_seen x) (filled_group (tree_seen g) (trees xs))))
+          ∙ ap (λ b. cond b (beside (tree_seen g) (trees xs)) (beside (tree_seen x) (groups_filled (tree_seen g) (trees xs))))
           (sym (ap (is_id (id_of (tree_seen x))) (sym nil) ∙ seen_there u x true p))
       | inr p ↦
           let next : suc (place u xs) ≡ at = omega (arith, here_later u x xs p, way) in
           ap (λ n. trees (slice_set (x ∷ xs) n g)) (sym next)
           ∙ ap (λ ts. beside (tree_seen x) ts) (place_filled u xs (place u xs) g nil refl)
-          ∙ ap (λ b. cond b (beside (tree_seen g) (trees xs)) (beside (tree_seen x) (filled_group (tree_seen g) (trees xs))))
+          ∙ ap (λ b. cond b (beside (tree_seen g) (trees xs)) (beside (tree_seen x) (groups_filled (tree_seen g) (trees xs))))
           (sym (ap (is_id (id_of (tree_seen x))) (sym nil) ∙ seen_there u x false p))
     ]
 
-pub fills_place : (u : NodeId) (gs : List Group) (at : ℕ) (g : Group) → u ≡ nil_id → position (there u) gs ≡ Some at → trees (slice_set gs at g) ≡ filled_group (tree_seen g) (trees gs)
+pub fills_place : (u : NodeId) (gs : List Group) (at : ℕ) (g : Group) → u ≡ nil_id → position (there u) gs ≡ Some at → trees (slice_set gs at g) ≡ groups_filled (tree_seen g) (trees gs)
 fills_place u gs at g nil way = place_filled u gs at g nil (within (nat_lt (place u gs) (length gs)) (place u gs) at way)
 
-no_places : (u : NodeId) (gs : List Group) (g : Group) → u ≡ nil_id → length gs ≤ place u gs → trees gs ≡ filled_group (tree_seen g) (trees gs)
+no_places : (u : NodeId) (gs : List Group) (g : Group) → u ≡ nil_id → length gs ≤ place u gs → trees gs ≡ groups_filled (tree_seen g) (trees gs)
 no_places u [] g nil past = refl
 no_places u (x ∷ xs) g nil past =
     elim (decide (there u x)) [
@@ -142,11 +142,11 @@ no_places u (x ∷ xs) g nil past =
           let next = here_later u x xs p in
           let rest : length xs ≤ place u xs = omega (arith, past, next) in
           ap (λ ts. beside (tree_seen x) ts) (no_places u xs g nil rest)
-          ∙ ap (λ b. cond b (beside (tree_seen g) (trees xs)) (beside (tree_seen x) (filled_group (tree_seen g) (trees xs))))
+          ∙ ap (λ b. cond b (beside (tree_seen g) (trees xs)) (beside (tree_seen x) (groups_filled (tree_seen g) (trees xs))))
           (sym (ap (is_id (id_of (tree_seen x))) (sym nil) ∙ seen_there u x false p))
     ]
 
-pub fills_none : (u : NodeId) (gs : List Group) (g : Group) → u ≡ nil_id → position (there u) gs ≡ None → trees gs ≡ filled_group (tree_seen g) (trees gs)
+pub fills_none : (u : NodeId) (gs : List Group) (g : Group) → u ≡ nil_id → position (there u) gs ≡ None → trees gs ≡ groups_filled (tree_seen g) (trees gs)
 fills_none u gs g nil way = no_places u gs g nil (far u gs (nat_lt (place u gs) (length gs)) refl way)
 
 pub place_there : {A : Type 0} (u : NodeId) (gs : List Group) (at : ℕ) → position (there u) gs ≡ Some at → slice_get gs at ≡ None → A
@@ -155,11 +155,11 @@ place_there u (y ∷ ys) at way is =
     let first = position-Some (there u) (y ∷ ys) at y way in
     never (get_or (y ∷ ys) at y) (sym is ∙ slice_get-get_or (y ∷ ys) at y first.0)
 
-pub group_filled : (w : Tree) (g : Group) (gs : List Group) → trees gs ≡ filled_group w (trees (out-Group g).groups) → tree_seen (with_groups g gs) ≡ on_groups (filled_group w) (tree_seen g)
+pub group_filled : (w : Tree) (g : Group) (gs : List Group) → trees gs ≡ groups_filled w (trees (out-Group g).groups) → tree_seen (with_groups g gs) ≡ on_groups (groups_filled w) (tree_seen g)
 group_filled w g gs is =
     seen_with_groups g gs
     ∙ ap (λ ts. node (out-Group g).id (record_seen g) (map entry_row (out-Group g).entries) ts) is
-    ∙ ap (on_groups (filled_group w)) (sym (seen_group g))
+    ∙ ap (on_groups (groups_filled w)) (sym (seen_group g))
 
 -- ---- a group that is in another group since a time
 

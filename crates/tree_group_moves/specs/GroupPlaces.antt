@@ -15,15 +15,15 @@ abbrev pub group_at : NodeId → NodeId → Tree → Option Tree
 group_at g u t = option_and_then (child_with u) (group_with g t)
 
 -- groups side by side with one in the place of the first without an id, which was kept for it
-abbrev pub filled_group : Tree → Trees → Trees
-filled_group w none = none
-filled_group w (beside t ts) =
-    cond (is_id (id_of t) nil_id) (beside w ts) (beside t (filled_group w ts))
+abbrev pub groups_filled : Tree → Trees → Trees
+groups_filled w none = none
+groups_filled w (beside t ts) =
+    cond (is_id (id_of t) nil_id) (beside w ts) (beside t (groups_filled w ts))
 
 -- a tree whose group is moved from one group to the place that is kept for it in another
 abbrev pub group_placed : NodeId → NodeId → ℕ → Tree → Tree → Tree
 group_placed from to time g t =
-    changed_at to (on_groups (filled_group (moved_group from time g)))
+    changed_at to (on_groups (groups_filled (moved_group from time g)))
     (changed_at from (without_group (id_of g)) t)
 
 -- Since when a group is in a group that it is moved to; or why it is not moved there.

@@ -6,7 +6,7 @@ ghost use Rattle.vault_model.specs.SeenNodes.{tree_seen};
 ghost use Rattle.vault_model.specs.Tree.{all_trees};
 ghost use Rattle.vault_model.specs.declared.nodes.Group.{out-Group};
 ghost use Rattle.tree_changes.specs.Changes.{changed_at, on_groups, without_group};
-ghost use Rattle.tree_group_moves.specs.GroupPlaces.{filled_group, group_at};
+ghost use Rattle.tree_group_moves.specs.GroupPlaces.{groups_filled, group_at};
 
 use outside_core::List;
 use tree_steps::{Change, change_at, is_same};
@@ -57,7 +57,7 @@ pub fn take_group(root: &mut Group, parent: Uuid, id: Uuid) -> Option<Group>
 // Puts a group into the place of the first without an id.
 fn fill_place(groups: &mut List<Group>, group: Group)
     ensures { all_trees (map tree_seen groups.new)
-        ≡ filled_group (tree_seen group) (all_trees (map tree_seen groups.old)) }
+        ≡ groups_filled (tree_seen group) (all_trees (map tree_seen groups.old)) }
 {
     match place_in(groups.as_slice(), Uuid::nil()) {
         Some(at) => {
@@ -79,12 +79,12 @@ impl Change for FillGroup {
     ghost use Rattle.std.specs.Prelude.{◌≡◌};
     ghost use Rattle.vault_model.specs.SeenNodes.{tree_seen};
     ghost use Rattle.tree_changes.specs.Changes.{on_groups};
-    ghost use Rattle.tree_group_moves.specs.GroupPlaces.{filled_group};
+    ghost use Rattle.tree_group_moves.specs.GroupPlaces.{groups_filled};
 
     type Out = ();
 
     ghost makes = { λ fill out old new.
-        new ≡ on_groups (filled_group (tree_seen fill.group)) old };
+        new ≡ on_groups (groups_filled (tree_seen fill.group)) old };
 
     fn make(self, group: &mut Group) {
         fill_place(&mut group.groups, self.group)
@@ -94,7 +94,7 @@ impl Change for FillGroup {
 /// Puts a group into the place that is kept for it in the group of this id.
 pub fn fill_group(root: &mut Group, into: Uuid, group: Group)
     ensures { tree_seen root.new
-        ≡ changed_at into (on_groups (filled_group (tree_seen group))) (tree_seen root.old) }
+        ≡ changed_at into (on_groups (groups_filled (tree_seen group))) (tree_seen root.old) }
 {
     change_at(root, into, FillGroup { group });
 }

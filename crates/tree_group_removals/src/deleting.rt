@@ -32,7 +32,8 @@ fn bury_group(
         (λ g. group_at parent id (tree_seen root.old) ≡ Some g) }
     requires there { IsSome (group_with id (tree_seen root.old)) }
     ensures { MatchResult result (λ _. IfSome (group_with id (tree_seen root.old))
-        (λ g. (tree_seen root.new ≡ changed_at parent (without_group (id_of g)) (tree_seen root.old))
+        (λ g. (tree_seen root.new
+        ≡ changed_at parent (without_group (id_of g)) (tree_seen root.old))
         × (tombs.new ≡ tree_buried now g tombs.old)))
         (λ _. (tree_seen root.new ≡ tree_seen root.old) × (tombs.new ≡ tombs.old)) }
 {

@@ -104,7 +104,8 @@ pub(crate) fn recycle_with_new_bin(
     now: Stamp,
 ) -> Result<Removed, TreeFail>
     requires parent { parent_of id (doc_seen doc.old).tree ≡ Some from }
-    requires absent { has_group (doc_seen doc.old).meta.bin.value.id (doc_seen doc.old).tree ≡ false }
+    requires absent { has_group (doc_seen doc.old).meta.bin.value.id (doc_seen doc.old).tree
+        ≡ false }
     ensures { IfSome (group_with id (doc_seen doc.old).tree)
         (λ g. Removes (spec.group_recycled (Some bin) g now (doc_seen doc.old)) result
         (doc_seen doc.old) (doc_seen doc.new)) }

@@ -13,14 +13,14 @@ use Rattle.tree_changes.proofs.Counted.{elsewhere_occurs, occurs, occurs-append,
 use Rattle.tree_changes.proofs.EntriesMoved.{at_once, either_order, placed_at, same_there, still_at}
 use Rattle.tree_changes.proofs.EntriesRemoved.{found_at, one_less, own_id, same_group}
 use Rattle.tree_changes.proofs.Rows.{keys}
-use Rattle.tree_moves.specs.Places.{filled}
+use Rattle.tree_moves.specs.Places.{entries_filled}
 
 abbrev Entries : Type 0
 Entries = List (NodeId × EntryRecord)
 
 -- ---- a place that is kept, and filled
 
-pub fills : (e hole : NodeId × EntryRecord) (es : Entries) → hole.0 ≡ nil_id → occurs nil_id (keys es) ≡ 0 → filled e (es ++ hole ∷ []) ≡ es ++ e ∷ []
+pub fills : (e hole : NodeId × EntryRecord) (es : Entries) → hole.0 ≡ nil_id → occurs nil_id (keys es) ≡ 0 → entries_filled e (es ++ hole ∷ []) ≡ es ++ e ∷ []
 fills e hole [] nil zeros = ap (λ b. cond b (e ∷ []) (hole ∷ [])) (is_same_id hole.0 nil_id nil)
 fills e hole (x ∷ xs) nil zeros =
     elim (decide (is_id nil_id x.0)) [
@@ -28,7 +28,7 @@ fills e hole (x ∷ xs) nil zeros =
       | inr p ↦
           let zero = ap one_if p in
           let rest : occurs nil_id (keys xs) ≡ 0 = omega (arith, zero, zeros) in
-          ap (λ b. cond b (e ∷ (xs ++ hole ∷ [])) (x ∷ filled e (xs ++ hole ∷ []))) (other x.0 p) ∙ ap (λ ys. x ∷ ys) (fills e hole xs nil rest)
+          ap (λ b. cond b (e ∷ (xs ++ hole ∷ [])) (x ∷ entries_filled e (xs ++ hole ∷ []))) (other x.0 p) ∙ ap (λ ys. x ∷ ys) (fills e hole xs nil rest)
     ]
   where
     other : (u : NodeId) → is_id nil_id u ≡ false → is_id u nil_id ≡ false
@@ -50,7 +50,7 @@ fewer g u t b e there own x =
 
 moved_by_place : (from to u : NodeId) (old : Tree) (hole e : NodeId × EntryRecord) (time : ℕ) → from ≢ to → has_group to old ≡ true → hole.0 ≡ nil_id → is_elsewhere old nil_id ≡ true
     → entry_at from u old ≡ Some e
-    → changed_at to (on_entries (filled (placed_at from time e))) (changed_at from (without_entry u) (changed_at to (with_entry hole) old)) ≡ entry_moved from to time e old
+    → changed_at to (on_entries (entries_filled (placed_at from time e))) (changed_at from (without_entry u) (changed_at to (with_entry hole) old)) ≡ entry_moved from to time e old
 moved_by_place from to u old hole e time other has nil off there =
     let f = found_at from u old e there in
     let id = own_id u f.0 e f.1.1 in
@@ -63,18 +63,18 @@ moved_by_place from to u old hole e time other has nil off there =
     let split = ap (occurs nil_id) rows.was ∙ occurs-append nil_id rows.front (node_ids goal.0 ++ rows.back) in
     let split2 = occurs-append nil_id (node_ids goal.0) rows.back in
     let none_own : occurs nil_id (node_ids goal.0) ≡ 0 = omega (arith, none_in, split, split2) in
-    ap (changed_at to (on_entries (filled (placed_at from time e)))) (either_order from to (without u) (λ es. es ++ hole ∷ []) other old)
-    ∙ at_once to (filled (placed_at from time e)) (λ es. es ++ hole ∷ []) t
-    ∙ sym (changed_by to (on_entries (λ es. filled (placed_at from time e) (es ++ hole ∷ []))) t goal.0 goal.1)
-    ∙ ap (λ w. changed_at to (λ x. w) t) (own_keys nil_id goal.0 none_own (λ es. filled (placed_at from time e) (es ++ hole ∷ [])) (λ es. es ++ placed_at from time e ∷ []) (λ es zeros. fills (placed_at from time e) hole es nil zeros))
+    ap (changed_at to (on_entries (entries_filled (placed_at from time e)))) (either_order from to (without u) (λ es. es ++ hole ∷ []) other old)
+    ∙ at_once to (entries_filled (placed_at from time e)) (λ es. es ++ hole ∷ []) t
+    ∙ sym (changed_by to (on_entries (λ es. entries_filled (placed_at from time e) (es ++ hole ∷ []))) t goal.0 goal.1)
+    ∙ ap (λ w. changed_at to (λ x. w) t) (own_keys nil_id goal.0 none_own (λ es. entries_filled (placed_at from time e) (es ++ hole ∷ [])) (λ es. es ++ placed_at from time e ∷ []) (λ es zeros. fills (placed_at from time e) hole es nil zeros))
     ∙ changed_by to (with_entry (placed_at from time e)) t goal.0 goal.1
     ∙ ap (λ v. changed_at to (with_entry (placed_at from time e)) (changed_at from (without_entry v) old)) (sym id)
 
 -- the three changes of a move, one after another
 pub move_done : (from to u : NodeId) (old one two three : Tree) (hole e : NodeId × EntryRecord) (time : ℕ) → from ≢ to → has_group to old ≡ true → hole.0 ≡ nil_id → is_elsewhere old nil_id ≡ true
-    → one ≡ changed_at to (with_entry hole) old → entry_at from u one ≡ Some e → two ≡ changed_at from (without_entry u) one → three ≡ changed_at to (on_entries (filled (placed_at from time e))) two
+    → one ≡ changed_at to (with_entry hole) old → entry_at from u one ≡ Some e → two ≡ changed_at from (without_entry u) one → three ≡ changed_at to (on_entries (entries_filled (placed_at from time e))) two
     → IfSome (entry_at from u old) (λ x. three ≡ entry_moved from to time x old)
 move_done from to u old one two three hole e time other has nil off p there q r =
     let at : entry_at from u old ≡ Some e = sym (still_at from to u (λ es. es ++ hole ∷ []) other old) ∙ ap (entry_at from u) (sym p) ∙ there in
     subst (λ (o : Option (NodeId × EntryRecord)). IfSome o (λ x. three ≡ entry_moved from to time x old)) (sym at)
-    (r ∙ ap (λ t. changed_at to (on_entries (filled (placed_at from time e))) t) (q ∙ ap (changed_at from (without_entry u)) p) ∙ moved_by_place from to u old hole e time other has nil off at)
+    (r ∙ ap (λ t. changed_at to (on_entries (entries_filled (placed_at from time e))) t) (q ∙ ap (changed_at from (without_entry u)) p) ∙ moved_by_place from to u old hole e time other has nil off at)

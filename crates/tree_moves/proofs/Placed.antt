@@ -7,16 +7,16 @@ use Rattle.vault_model.proofs.Tests.{some_of}
 use Rattle.tree_changes.proofs.EntriesMoved.{placed_at, still_at}
 use Rattle.tree_changes.proofs.EntriesRemoved.{found_at, own_id}
 use Rattle.tree_changes.specs.Changes.{changed_at, entry_at, entry_moved, has_group, on_entries, with_entry, without_entry}
-use Rattle.tree_moves.specs.Places.{entry_placed, filled}
+use Rattle.tree_moves.specs.Places.{entry_placed, entries_filled}
 use Rattle.tree_moves.proofs.KeptPlaces.{move_done}
 
 -- the two changes of such a move, one after the other
 pub placed_done : (from to u : NodeId) (time : ℕ) (old two new : Tree) (e : NodeId × EntryRecord) → entry_at from u old ≡ Some e → two ≡ changed_at from (without_entry u) old
-    → new ≡ changed_at to (on_entries (filled (placed_at from time e))) two → IfSome (entry_at from u old) (λ x. new ≡ entry_placed from to time x old)
+    → new ≡ changed_at to (on_entries (entries_filled (placed_at from time e))) two → IfSome (entry_at from u old) (λ x. new ≡ entry_placed from to time x old)
 placed_done from to u time old two new e there p q =
     let f = found_at from u old e there in
     subst (λ (o : Option (NodeId × EntryRecord)). IfSome o (λ x. new ≡ entry_placed from to time x old)) (sym there)
-    (q ∙ ap (changed_at to (on_entries (filled (placed_at from time e)))) (p ∙ ap (λ v. changed_at from (without_entry v) old) (sym (own_id u f.0 e f.1.1))))
+    (q ∙ ap (changed_at to (on_entries (entries_filled (placed_at from time e)))) (p ∙ ap (λ v. changed_at from (without_entry v) old) (sym (own_id u f.0 e f.1.1))))
 
 -- a place that is made does not hide the entry
 pub still_there : (from to u : NodeId) (old one : Tree) (hole : NodeId × EntryRecord) → from ≢ to → one ≡ changed_at to (with_entry hole) old → IsSome (entry_at from u old) → IsSome (entry_at from u one)
@@ -32,4 +32,4 @@ moved_in_place from to u time old one new hole other has nil off p some h =
     let f = found_at from u one e.0 e.1 in
     let placed = subst (λ (o : Option (NodeId × EntryRecord)). IfSome o (λ x. new ≡ entry_placed from to time x one)) e.1 h in
     move_done from to u old one (changed_at from (without_entry u) one) new hole e.0 time other has nil off p e.1 refl
-    (placed ∙ ap (λ v. changed_at to (on_entries (filled (placed_at from time e.0))) (changed_at from (without_entry v) one)) (own_id u f.0 e.0 f.1.1))
+    (placed ∙ ap (λ v. changed_at to (on_entries (entries_filled (placed_at from time e.0))) (changed_at from (without_entry v) one)) (own_id u f.0 e.0 f.1.1))

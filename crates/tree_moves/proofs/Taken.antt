@@ -15,7 +15,7 @@ use Rattle.vault_model.proofs.Tests.{decide}
 use Rattle.tree_changes.proofs.Changed.{absent_group, changed_by, changed_not}
 use Rattle.tree_changes.proofs.Options.{never}
 use Rattle.tree_changes.specs.Changes.{changed_at, entry_at, has_group, own_entry, without, without_entry}
-use Rattle.tree_moves.specs.Places.{filled}
+use Rattle.tree_moves.specs.Places.{entries_filled}
 use Rattle.tree_steps.specs.ChangedAt.{ChangedAt}
 use Rattle.tree_steps.proofs.InPlace.{record_seen, seen_with_entries, trees, with_entries}
 
@@ -107,28 +107,28 @@ within_place true n at e = same_Some n at e
 within_place false n at e = never at e
 
 place_filled : (u : NodeId) (es : List Entry) (at : ℕ) (e : Entry) → u ≡ nil_id → position_or_len (λ (y : Entry). is_id y.id u) es ≡ at
-    → map entry_row (slice_set es at e) ≡ filled (entry_row e) (map entry_row es)
+    → map entry_row (slice_set es at e) ≡ entries_filled (entry_row e) (map entry_row es)
 place_filled u [] at e nil way = refl
 place_filled u (x ∷ xs) at e nil way =
     elim (decide (is_id x.id u)) [
       | inl p ↦
           let first : zero ≡ at = sym (ap (λ b. cond (not b) (1 + position_or_len (λ (y : Entry). is_id y.id u) xs) 0) p) ∙ way in
           ap (λ n. map entry_row (slice_set (x ∷ xs) n e)) (sym first)
-          ∙ ap (λ b. cond b (entry_row e ∷ map entry_row xs) (entry_row x ∷ filled (entry_row e) (map entry_row xs))) (sym (ap (is_id x.id) (sym nil) ∙ p))
+          ∙ ap (λ b. cond b (entry_row e ∷ map entry_row xs) (entry_row x ∷ entries_filled (entry_row e) (map entry_row xs))) (sym (ap (is_id x.id) (sym nil) ∙ p))
       | inr p ↦
           let next : suc (position_or_len (λ (y : Entry). is_id y.id u) xs) ≡ at =
           omega (arith, ap (λ b. cond (not b) (1 + position_or_len (λ (y : Entry). is_id y.id u) xs) 0) p, way) in
           ap (λ n. map entry_row (slice_set (x ∷ xs) n e)) (sym next)
           ∙ ap (λ ys. entry_row x ∷ ys) (place_filled u xs (position_or_len (λ (y : Entry). is_id y.id u) xs) e nil refl)
-          ∙ ap (λ b. cond b (entry_row e ∷ map entry_row xs) (entry_row x ∷ filled (entry_row e) (map entry_row xs))) (sym (ap (is_id x.id) (sym nil) ∙ p))
+          ∙ ap (λ b. cond b (entry_row e ∷ map entry_row xs) (entry_row x ∷ entries_filled (entry_row e) (map entry_row xs))) (sym (ap (is_id x.id) (sym nil) ∙ p))
     ]
 
 pub fills_place : (u : NodeId) (es : List Entry) (at : ℕ) (e : Entry) → u ≡ nil_id → position (λ (y : Entry). is_id y.id u) es ≡ Some at
-    → map entry_row (slice_set es at e) ≡ filled (entry_row e) (map entry_row es)
+    → map entry_row (slice_set es at e) ≡ entries_filled (entry_row e) (map entry_row es)
 fills_place u es at e nil way =
     place_filled u es at e nil (within_place (nat_lt (position_or_len (λ (y : Entry). is_id y.id u) es) (length es)) (position_or_len (λ (y : Entry). is_id y.id u) es) at way)
 
-no_places : (u : NodeId) (es : List Entry) (e : Entry) → u ≡ nil_id → length es ≤ position_or_len (λ (y : Entry). is_id y.id u) es → map entry_row es ≡ filled (entry_row e) (map entry_row es)
+no_places : (u : NodeId) (es : List Entry) (e : Entry) → u ≡ nil_id → length es ≤ position_or_len (λ (y : Entry). is_id y.id u) es → map entry_row es ≡ entries_filled (entry_row e) (map entry_row es)
 no_places u [] e nil far = refl
 no_places u (x ∷ xs) e nil far =
     elim (decide (is_id x.id u)) [
@@ -140,10 +140,10 @@ no_places u (x ∷ xs) e nil far =
           = ap (λ b. cond (not b) (1 + position_or_len (λ (y : Entry). is_id y.id u) xs) 0) p in
           let rest : length xs ≤ position_or_len (λ (y : Entry). is_id y.id u) xs = omega (arith, far, next) in
           ap (λ ys. entry_row x ∷ ys) (no_places u xs e nil rest)
-          ∙ ap (λ b. cond b (entry_row e ∷ map entry_row xs) (entry_row x ∷ filled (entry_row e) (map entry_row xs))) (sym (ap (is_id x.id) (sym nil) ∙ p))
+          ∙ ap (λ b. cond b (entry_row e ∷ map entry_row xs) (entry_row x ∷ entries_filled (entry_row e) (map entry_row xs))) (sym (ap (is_id x.id) (sym nil) ∙ p))
     ]
 
-pub fills_none : (u : NodeId) (es : List Entry) (e : Entry) → u ≡ nil_id → position (λ (y : Entry). is_id y.id u) es ≡ None → map entry_row es ≡ filled (entry_row e) (map entry_row es)
+pub fills_none : (u : NodeId) (es : List Entry) (e : Entry) → u ≡ nil_id → position (λ (y : Entry). is_id y.id u) es ≡ None → map entry_row es ≡ entries_filled (entry_row e) (map entry_row es)
 fills_none u es e nil way = no_places u es e nil (far (nat_lt (position_or_len (λ (y : Entry). is_id y.id u) es) (length es)) refl way)
   where
     far : (b : Bool) → nat_lt (position_or_len (λ (y : Entry). is_id y.id u) es) (length es) ≡ b → cond b (Some (position_or_len (λ (y : Entry). is_id y.id u) es)) None ≡ None

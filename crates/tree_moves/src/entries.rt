@@ -4,7 +4,7 @@ ghost use Rattle.std.specs.Prelude.{◌≡◌, MatchOption, None, Some, map, pos
 ghost use Rattle.vault_model.specs.Join.{is_id};
 ghost use Rattle.vault_model.specs.SeenNodes.{entry_row, tree_seen};
 ghost use Rattle.tree_changes.specs.Changes.{changed_at, entry_at, on_entries, without_entry};
-ghost use Rattle.tree_moves.specs.Places.{filled};
+ghost use Rattle.tree_moves.specs.Places.{entries_filled};
 
 use outside_core::List;
 use tree_steps::{Change, change_at, is_same};
@@ -52,7 +52,8 @@ pub fn take_entry(root: &mut Group, group: Uuid, id: Uuid) -> Option<Entry>
 
 // Puts an entry into the place of the first without an id.
 fn fill_place(entries: &mut List<Entry>, entry: Entry)
-    ensures { map entry_row entries.new ≡ filled (entry_row entry) (map entry_row entries.old) }
+    ensures { map entry_row entries.new
+        ≡ entries_filled (entry_row entry) (map entry_row entries.old) }
 {
     match place_in(entries.as_slice(), Uuid::nil()) {
         Some(at) => {
@@ -74,11 +75,12 @@ impl Change for FillEntry {
     ghost use Rattle.std.specs.Prelude.{◌≡◌};
     ghost use Rattle.vault_model.specs.SeenNodes.{entry_row};
     ghost use Rattle.tree_changes.specs.Changes.{on_entries};
-    ghost use Rattle.tree_moves.specs.Places.{filled};
+    ghost use Rattle.tree_moves.specs.Places.{entries_filled};
 
     type Out = ();
 
-    ghost makes = { λ fill out old new. new ≡ on_entries (filled (entry_row fill.entry)) old };
+    ghost makes = { λ fill out old new.
+        new ≡ on_entries (entries_filled (entry_row fill.entry)) old };
 
     fn make(self, group: &mut Group) {
         fill_place(&mut group.entries, self.entry)
@@ -88,7 +90,7 @@ impl Change for FillEntry {
 /// Puts an entry into the place that is kept for it in the group of this id.
 pub(crate) fn fill_entry(root: &mut Group, group: Uuid, entry: Entry)
     ensures { tree_seen root.new
-        ≡ changed_at group (on_entries (filled (entry_row entry))) (tree_seen root.old) }
+        ≡ changed_at group (on_entries (entries_filled (entry_row entry))) (tree_seen root.old) }
 {
     change_at(root, group, FillEntry { entry });
 }

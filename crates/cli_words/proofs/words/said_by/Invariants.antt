@@ -6,5 +6,5 @@ use Rattle.cli_words.proofs.words.said_by.Given as goal
 
 abbrev pub invariant-loop-word : goal.invariant-loop-word
 invariant-loop-word l =
-    with_words (map string_bytes (drop l.word-index l.words)) (said_seen l.said)
-    ≡ with_words (map string_bytes l.words) nothing_said
+    with_words l.command (map string_bytes (drop l.word-index l.words)) (said_seen l.said)
+    ≡ with_words l.command (map string_bytes l.words) nothing_said

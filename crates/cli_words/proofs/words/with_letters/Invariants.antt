@@ -5,4 +5,5 @@ use Rattle.cli_words.proofs.words.with_letters.Given as goal
 
 abbrev pub invariant-loop-letter : goal.invariant-loop-letter
 invariant-loop-letter l =
-    with_letters (drop l.letter-index l.letters) (said_seen l.said) ≡ with_letters l.letters (said_seen l.initial.said)
+    with_letters l.command (drop l.letter-index l.letters) (said_seen l.said)
+    ≡ with_letters l.command l.letters (said_seen l.initial.said)

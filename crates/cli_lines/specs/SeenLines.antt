@@ -1,0 +1,13 @@
+-- What is seen of lines in memory.
+use Rattle.std.specs.Prelude.{ℕ, List, Option, option_map}
+use Rattle.secret_core.specs.Secret.{SecretBuffer}
+use Rattle.cli_lines.specs.declared.lines.Lines as declared
+use Rattle.cli_lines.specs.Lines.{Lines}
+
+-- The bytes of a line, if there is one.
+abbrev pub line_seen : Option SecretBuffer → Option (List ℕ)
+line_seen = option_map (λ line. line.bytes)
+
+-- The bytes of all lines.
+abbrev pub lines_seen : declared.Lines → Lines
+lines_seen lines = record { password = line_seen lines.password; more = line_seen lines.more }

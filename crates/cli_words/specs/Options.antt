@@ -1,0 +1,110 @@
+-- The commands by their names, and the options that each of them takes.
+use Rattle.std.specs.Prelude.{ℕ, Bool, true, false, not, ◌==◌, if◌then◌else◌, List, codes, Option, None, Some}
+use Rattle.std.specs.Str.{bytes_eq}
+use Rattle.std.specs.Option.{option_and_then}
+use Rattle.cli_words.specs.declared.options.CommandName.{CommandName}
+use Rattle.cli_words.specs.declared.options.CommandName.TheVariants as name
+use Rattle.cli_words.specs.declared.options.CommandOption.{CommandOption}
+use Rattle.cli_words.specs.declared.options.CommandOption.TheVariants.{Recursive, Flat, Quiet, Plain, NoPassword, KeyFile, Title, User, Url, Notes, EntryPassword}
+
+-- The command of a name.
+abbrev pub command_named : List ℕ → Option CommandName
+command_named word =
+    if bytes_eq word (codes "ls") then Some name.Ls
+    else (if bytes_eq word (codes "add") then Some name.Add
+    else (if bytes_eq word (codes "edit") then Some name.Edit
+    else None))
+
+-- The place of an option among all of them.
+abbrev pub place_of : CommandOption → ℕ
+place_of Recursive = 0
+place_of Flat = 1
+place_of Quiet = 2
+place_of Plain = 3
+place_of NoPassword = 4
+place_of KeyFile = 5
+place_of Title = 6
+place_of User = 7
+place_of Url = 8
+place_of Notes = 9
+place_of EntryPassword = 10
+
+-- Whether an option has a value; the others are flags.
+abbrev pub has_value : CommandOption → Bool
+has_value Recursive = false
+has_value Flat = false
+has_value Quiet = false
+has_value Plain = false
+has_value NoPassword = false
+has_value KeyFile = true
+has_value Title = true
+has_value User = true
+has_value Url = true
+has_value Notes = true
+has_value EntryPassword = false
+
+-- A command is `ls`.
+abbrev pub is_ls : CommandName → Bool
+is_ls name.Ls = true
+is_ls name.Add = false
+is_ls name.Edit = false
+
+-- A command is `edit`.
+abbrev pub is_edit : CommandName → Bool
+is_edit name.Ls = false
+is_edit name.Add = false
+is_edit name.Edit = true
+
+-- Whether a command takes an option: each takes those that open a database and `--quiet`.
+abbrev pub is_taken_by : CommandName → CommandOption → Bool
+is_taken_by command Recursive = is_ls command
+is_taken_by command Flat = is_ls command
+is_taken_by command Quiet = true
+is_taken_by command Plain = true
+is_taken_by command NoPassword = true
+is_taken_by command KeyFile = true
+is_taken_by command Title = is_edit command
+is_taken_by command User = not (is_ls command)
+is_taken_by command Url = not (is_ls command)
+is_taken_by command Notes = not (is_ls command)
+is_taken_by command EntryPassword = not (is_ls command)
+
+-- The option of a letter.
+abbrev pub option_of_letter : ℕ → Option CommandOption
+option_of_letter letter =
+    if letter == 82 then Some Recursive
+    else (if letter == 102 then Some Flat
+    else (if letter == 113 then Some Quiet
+    else (if letter == 107 then Some KeyFile
+    else (if letter == 116 then Some Title
+    else (if letter == 117 then Some User
+    else (if letter == 112 then Some EntryPassword
+    else None))))))
+
+-- The option of a long name.
+abbrev pub option_of_name : List ℕ → Option CommandOption
+option_of_name word =
+    if bytes_eq word (codes "recursive") then Some Recursive
+    else (if bytes_eq word (codes "flatten") then Some Flat
+    else (if bytes_eq word (codes "quiet") then Some Quiet
+    else (if bytes_eq word (codes "plain") then Some Plain
+    else (if bytes_eq word (codes "no-password") then Some NoPassword
+    else (if bytes_eq word (codes "key-file") then Some KeyFile
+    else (if bytes_eq word (codes "title") then Some Title
+    else (if bytes_eq word (codes "username") then Some User
+    else (if bytes_eq word (codes "url") then Some Url
+    else (if bytes_eq word (codes "notes") then Some Notes
+    else (if bytes_eq word (codes "password-prompt") then Some EntryPassword
+    else None))))))))))
+
+-- An option, if the command takes it.
+abbrev pub if_taken : CommandName → CommandOption → Option CommandOption
+if_taken command option = if is_taken_by command option then Some option else None
+
+-- The option of a command that has this letter.
+abbrev pub letter_option : CommandName → ℕ → Option CommandOption
+letter_option command letter = option_and_then (if_taken command) (option_of_letter letter)
+
+-- The option of a command that has this long name.
+abbrev pub name_option : CommandName → List ℕ → Option CommandOption
+name_option command word = option_and_then (if_taken command) (option_of_name word)

@@ -1,0 +1,167 @@
+//! The command that words are.
+ghost use Rattle.std.specs.Prelude.{◌≡◌, IfErr, IfOk, Ok, Some, map, string_bytes, true};
+ghost use Rattle.cli_answers.specs.Phases.{IsWordsStop, Returns};
+ghost use Rattle.cli_words.specs.Needs.{HasKey, needs_of};
+ghost use Rattle.cli_words.specs.SaidWords.{said_seen, text_seen};
+ghost use Rattle.cli_words.specs.Words as spec;
+ghost use Rattle.cli_words.specs.Words.{command_of};
+
+use crate::command::{Access, Asked, Command};
+use crate::options::{CommandName, CommandOption, command_named};
+use crate::words::{SaidWords, is_due, is_given, said_by, text_of};
+use cli_answers::{Reason, Stop, refused};
+use outside_core::{NoMemory, Text};
+use std::alloc::Global;
+
+// Reports whether nothing is due, and what opens the database fits it.
+fn is_whole(said: &SaidWords<'_>) -> bool
+    ensures { result ≡ spec.is_whole (said_seen said.now) }
+{
+    let no_password = is_given(said, CommandOption::NoPassword);
+    let has_key = is_given(said, CommandOption::KeyFile);
+    let fits = if is_given(said, CommandOption::Plain) {
+        !(no_password || has_key)
+    } else {
+        !no_password || has_key
+    };
+    !is_due(said) && fits
+}
+
+// Reports whether at least one value of an entry is given.
+fn has_change(said: &SaidWords<'_>) -> bool
+    ensures { result ≡ spec.has_change (said_seen said.now) }
+{
+    is_given(said, CommandOption::Title)
+        || is_given(said, CommandOption::User)
+        || is_given(said, CommandOption::Url)
+        || is_given(said, CommandOption::Notes)
+        || is_given(said, CommandOption::EntryPassword)
+}
+
+// A text of its own, where there is one.
+fn owned(alloc: Global, text: Option<&str>) -> Result<Option<Text>, NoMemory>
+    ensures { IfOk result (λ copy. copy ≡ text_seen text.entry) }
+{
+    match text {
+        Some(text) => Ok(Some(Text::of(alloc, text)?)),
+        None => Ok(None),
+    }
+}
+
+// How a database is opened.
+fn access_of(alloc: Global, said: &SaidWords<'_>) -> Result<Access, NoMemory>
+    ensures { IfOk result (λ access. access ≡ spec.access_of (said_seen said.now)) }
+{
+    Ok(Access {
+        plain: is_given(said, CommandOption::Plain),
+        quiet: is_given(said, CommandOption::Quiet),
+        key_file: owned(alloc, text_of(said, CommandOption::KeyFile))?,
+        no_password: is_given(said, CommandOption::NoPassword),
+    })
+}
+
+// The values that an entry is to have.
+fn asked_of(alloc: Global, said: &SaidWords<'_>) -> Result<Asked, NoMemory>
+    ensures { IfOk result (λ asked. asked ≡ spec.asked_of (said_seen said.now)) }
+{
+    Ok(Asked {
+        title: owned(alloc, text_of(said, CommandOption::Title))?,
+        user: owned(alloc, text_of(said, CommandOption::User))?,
+        url: owned(alloc, text_of(said, CommandOption::Url))?,
+        notes: owned(alloc, text_of(said, CommandOption::Notes))?,
+        password: is_given(said, CommandOption::EntryPassword),
+    })
+}
+
+// The command `ls` of a file.
+fn list_at(
+    alloc: Global,
+    said: &SaidWords<'_>,
+    file: &str,
+    group: Option<&str>,
+) -> Result<Command, NoMemory>
+    ensures { IfOk result (λ command. Ok command ≡ spec.list_at (said_seen said.now)
+        (Some file.now) (text_seen group.entry)) }
+{
+    Ok(Command::Ls {
+        access: access_of(alloc, said)?,
+        file: Text::of(alloc, file)?,
+        group: owned(alloc, group)?,
+        recursive: is_given(said, CommandOption::Recursive),
+        flat: is_given(said, CommandOption::Flat),
+    })
+}
+
+// The command `add` of an entry.
+fn add_at(alloc: Global, said: &SaidWords<'_>, file: &str, entry: &str) -> Result<Command, NoMemory>
+    ensures { IfOk result (λ command. Ok command ≡ spec.add_at (said_seen said.now)
+        (Some file.now) (Some entry.now)) }
+{
+    Ok(Command::Add {
+        access: access_of(alloc, said)?,
+        file: Text::of(alloc, file)?,
+        entry: Text::of(alloc, entry)?,
+        asked: asked_of(alloc, said)?,
+    })
+}
+
+// The command `edit` of an entry.
+fn edit_at(
+    alloc: Global,
+    said: &SaidWords<'_>,
+    file: &str,
+    entry: &str,
+) -> Result<Command, NoMemory>
+    ensures { IfOk result (λ command. Ok command
+        ≡ spec.edit_if true (said_seen said.now) file.now entry.now) }
+{
+    Ok(Command::Edit {
+        access: access_of(alloc, said)?,
+        file: Text::of(alloc, file)?,
+        entry: Text::of(alloc, entry)?,
+        asked: asked_of(alloc, said)?,
+    })
+}
+
+// The command of this name with what its other words say, which are whole.
+fn command_at(alloc: Global, command: CommandName, said: &SaidWords<'_>) -> Result<Command, Stop>
+    ensures told { Returns (λ command. command) result (spec.command_at command
+        (said_seen said.now) (said_seen said.now).first (said_seen said.now).second) }
+    ensures cause { IfErr result IsWordsStop }
+{
+    match (command, said.first, said.second) {
+        (CommandName::Ls, Some(file), group) => Ok(list_at(alloc, said, file, group)?),
+        (CommandName::Add, Some(file), Some(entry)) => Ok(add_at(alloc, said, file, entry)?),
+        (CommandName::Edit, Some(file), Some(entry)) if has_change(said) => {
+            Ok(edit_at(alloc, said, file, entry)?)
+        }
+        _ => Err(refused(alloc, Reason::WrongWords, "words")),
+    }
+}
+
+// The command of this name with these words after it.
+fn command_by(alloc: Global, command: CommandName, words: &[String]) -> Result<Command, Stop>
+    ensures told { Returns (λ command. command) result
+        (spec.command_by (Some command) (map string_bytes words.now)) }
+    ensures cause { IfErr result IsWordsStop }
+{
+    match said_by(command, words) {
+        Some(said) if is_whole(&said) => command_at(alloc, command, &said),
+        _ => Err(refused(alloc, Reason::WrongWords, "words")),
+    }
+}
+
+/// The command that the words are.
+pub fn read_words(alloc: Global, words: &[String]) -> Result<Command, Stop>
+    ensures told { Returns (λ command. command) result (command_of (map string_bytes words.now)) }
+    ensures has_key { IfOk result (λ command. HasKey (needs_of command).access) }
+    ensures cause { IfErr result IsWordsStop }
+{
+    let [name, words @ ..] = words else {
+        return Err(refused(alloc, Reason::WrongWords, "words"));
+    };
+    match command_named(name.as_str()) {
+        Some(command) => command_by(alloc, command, words),
+        None => Err(refused(alloc, Reason::WrongWords, "words")),
+    }
+}

@@ -1,0 +1,184 @@
+//! The commands by their names, and the options that each of them takes.
+ghost use Rattle.std.specs.Prelude.{◌≡◌, ◌<◌, IfSome};
+ghost use Rattle.cli_words.specs.Options as spec;
+
+/// A command by its name.
+#[derive(Clone, Copy)]
+pub enum CommandName {
+    /// `ls`
+    Ls,
+    /// `add`
+    Add,
+    /// `edit`
+    Edit,
+}
+
+/// An option of a command.
+#[derive(Clone, Copy)]
+pub enum CommandOption {
+    /// `--recursive`, `-R`
+    Recursive,
+    /// `--flatten`, `-f`
+    Flat,
+    /// `--quiet`, `-q`
+    Quiet,
+    /// `--plain`
+    Plain,
+    /// `--no-password`
+    NoPassword,
+    /// `--key-file FILE`, `-k FILE`
+    KeyFile,
+    /// `--title TEXT`, `-t TEXT`
+    Title,
+    /// `--username TEXT`, `-u TEXT`
+    User,
+    /// `--url TEXT`
+    Url,
+    /// `--notes TEXT`
+    Notes,
+    /// `--password-prompt`, `-p`
+    EntryPassword,
+}
+
+/// How many options there are.
+pub(crate) const OPTIONS: usize = 11;
+
+/// The command of a name.
+pub(crate) fn command_named(name: &str) -> Option<CommandName>
+    ensures { result ≡ spec.command_named name.now }
+{
+    match name {
+        "ls" => Some(CommandName::Ls),
+        "add" => Some(CommandName::Add),
+        "edit" => Some(CommandName::Edit),
+        _ => None,
+    }
+}
+
+/// The place of an option among all of them.
+pub(crate) fn place_of(option: CommandOption) -> usize
+    ensures is { result ≡ spec.place_of option }
+    ensures most { result < 11 }
+{
+    match option {
+        CommandOption::Recursive => 0,
+        CommandOption::Flat => 1,
+        CommandOption::Quiet => 2,
+        CommandOption::Plain => 3,
+        CommandOption::NoPassword => 4,
+        CommandOption::KeyFile => 5,
+        CommandOption::Title => 6,
+        CommandOption::User => 7,
+        CommandOption::Url => 8,
+        CommandOption::Notes => 9,
+        CommandOption::EntryPassword => 10,
+    }
+}
+
+/// Reports whether an option has a value.
+pub(crate) fn has_value(option: CommandOption) -> bool
+    ensures { result ≡ spec.has_value option }
+{
+    match option {
+        CommandOption::KeyFile => true,
+        CommandOption::Title => true,
+        CommandOption::User => true,
+        CommandOption::Url => true,
+        CommandOption::Notes => true,
+        _ => false,
+    }
+}
+
+/// Reports whether a command takes an option.
+pub(crate) fn is_taken_by(command: CommandName, option: CommandOption) -> bool
+    ensures { result ≡ spec.is_taken_by command option }
+{
+    match option {
+        CommandOption::Recursive => is_ls(command),
+        CommandOption::Flat => is_ls(command),
+        CommandOption::Title => is_edit(command),
+        CommandOption::User => !is_ls(command),
+        CommandOption::Url => !is_ls(command),
+        CommandOption::Notes => !is_ls(command),
+        CommandOption::EntryPassword => !is_ls(command),
+        _ => true,
+    }
+}
+
+// Reports whether a command is `ls`.
+fn is_ls(command: CommandName) -> bool
+    ensures { result ≡ spec.is_ls command }
+{
+    match command {
+        CommandName::Ls => true,
+        _ => false,
+    }
+}
+
+// Reports whether a command is `edit`.
+fn is_edit(command: CommandName) -> bool
+    ensures { result ≡ spec.is_edit command }
+{
+    match command {
+        CommandName::Edit => true,
+        _ => false,
+    }
+}
+
+// The option of a letter.
+fn option_of_letter(letter: u8) -> Option<CommandOption>
+    ensures is { result ≡ spec.option_of_letter letter }
+    ensures ascii { IfSome result (λ option. letter < 128) }
+{
+    match letter {
+        b'R' => Some(CommandOption::Recursive),
+        b'f' => Some(CommandOption::Flat),
+        b'q' => Some(CommandOption::Quiet),
+        b'k' => Some(CommandOption::KeyFile),
+        b't' => Some(CommandOption::Title),
+        b'u' => Some(CommandOption::User),
+        b'p' => Some(CommandOption::EntryPassword),
+        _ => None,
+    }
+}
+
+// The option of a long name.
+fn option_of_name(name: &str) -> Option<CommandOption>
+    ensures { result ≡ spec.option_of_name name.now }
+{
+    match name {
+        "recursive" => Some(CommandOption::Recursive),
+        "flatten" => Some(CommandOption::Flat),
+        "quiet" => Some(CommandOption::Quiet),
+        "plain" => Some(CommandOption::Plain),
+        "no-password" => Some(CommandOption::NoPassword),
+        "key-file" => Some(CommandOption::KeyFile),
+        "title" => Some(CommandOption::Title),
+        "username" => Some(CommandOption::User),
+        "url" => Some(CommandOption::Url),
+        "notes" => Some(CommandOption::Notes),
+        "password-prompt" => Some(CommandOption::EntryPassword),
+        _ => None,
+    }
+}
+
+/// The option of a command that has this letter.
+pub(crate) fn letter_option(command: CommandName, letter: u8) -> Option<CommandOption>
+    ensures is { result ≡ spec.letter_option command letter }
+    ensures ascii { IfSome result (λ option. letter < 128) }
+{
+    match option_of_letter(letter) {
+        Some(option) if is_taken_by(command, option) => Some(option),
+        _ => None,
+    }
+}
+
+/// The option of a command that has this long name.
+pub(crate) fn name_option(command: CommandName, name: &str) -> Option<CommandOption>
+    ensures { result ≡ spec.name_option command name.now }
+{
+    match option_of_name(name) {
+        Some(option) if is_taken_by(command, option) => Some(option),
+        _ => None,
+    }
+}
