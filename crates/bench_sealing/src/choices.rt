@@ -2,10 +2,11 @@
 
 ghost use Rattle.std.specs.Prelude.{◌≡◌, ◌≤◌, IfOk, IfSome, length};
 ghost use Rattle.key_core.specs.Kdf.{IsChecked};
+ghost use Rattle.kdbx_frame.specs.Fields.{header_limit};
 ghost use Rattle.kdbx_frame.specs.Settings.{IsInOrder, IsVersion4};
 
 use crate::fault::Fault;
-use kdbx_frame::{Cipher, FileVersion, Settings};
+use kdbx_frame::{Cipher, FileVersion, HEADER_LIMIT, Settings};
 use key_core::{ArgonKind, Kdf, check_kdf};
 use outside_core::Bytes;
 use std::alloc::Global;
@@ -18,6 +19,22 @@ pub struct Choices<'a> {
     pub cipher: &'a str,
     pub kdf: &'a str,
     pub public: &'a str,
+}
+
+/// The number of a word.
+pub fn number_of(word: &str) -> Result<u64, Fault> {
+    match word.parse::<u64>() {
+        Ok(number) => Ok(number),
+        Err(_) => Err(Fault::BadWord),
+    }
+}
+
+/// The number of a word, where it has 32 bits.
+pub fn short_number_of(word: &str) -> Result<u32, Fault> {
+    match word.parse::<u32>() {
+        Ok(number) => Ok(number),
+        Err(_) => Err(Fault::BadWord),
+    }
 }
 
 // The version of a word.
@@ -41,22 +58,6 @@ fn cipher_of(word: &str) -> Result<Cipher, Fault> {
     }
 }
 
-// The number of a word.
-fn number_of(word: &str) -> Result<u64, Fault> {
-    match word.parse::<u64>() {
-        Ok(number) => Ok(number),
-        Err(_) => Err(Fault::BadWord),
-    }
-}
-
-// The lanes of a word.
-fn lanes_of(word: &str) -> Result<u32, Fault> {
-    match word.parse::<u32>() {
-        Ok(number) => Ok(number),
-        Err(_) => Err(Fault::BadWord),
-    }
-}
-
 // As many zeros.
 fn zeros(alloc: Global, count: u64) -> Result<Bytes, Fault> {
     let mut bytes = Bytes::new(alloc);
@@ -77,22 +78,29 @@ fn argon_of(alloc: Global, kind: ArgonKind, costs: &str) -> Result<Kdf, Fault> {
     let Some((bytes, lanes)) = rest.split_once('/') else {
         return Err(Fault::BadWord);
     };
+    let passes = number_of(passes)?;
+    let bytes = number_of(bytes)?;
+    let lanes = short_number_of(lanes)?;
+    let salt = zeros(alloc, 32)?;
     Ok(Kdf::Argon {
         kind,
-        passes: number_of(passes)?,
-        bytes: number_of(bytes)?,
-        lanes: lanes_of(lanes)?,
-        salt: zeros(alloc, 32)?,
+        passes,
+        bytes,
+        lanes,
+        salt,
     })
 }
 
 // The key derivation of a name and costs.
 fn named_kdf(alloc: Global, name: &str, costs: &str) -> Result<Kdf, Fault> {
     match name {
-        "aes" => Ok(Kdf::Aes {
-            rounds: number_of(costs)?,
-            seed: [0; 32],
-        }),
+        "aes" => {
+            let rounds = number_of(costs)?;
+            Ok(Kdf::Aes {
+                rounds,
+                seed: [0; 32],
+            })
+        }
         "argon2d" => argon_of(alloc, ArgonKind::D, costs),
         "argon2id" => argon_of(alloc, ArgonKind::Id, costs),
         _ => Err(Fault::BadWord),
@@ -107,37 +115,28 @@ fn kdf_of(alloc: Global, word: &str) -> Result<Kdf, Fault>
         return Err(Fault::BadWord);
     };
     let kdf = named_kdf(alloc, name, costs)?;
-    match check_kdf(&kdf) {
-        Ok(()) => Ok(kdf),
-        Err(_) => Err(Fault::BadWord),
-    }
+    let Ok(()) = check_kdf(&kdf) else {
+        return Err(Fault::BadWord);
+    };
+    Ok(kdf)
 }
 
-// The public data of a word.
-fn public_of(alloc: Global, word: &str) -> Result<Option<Bytes>, Fault> {
+// The public data of a word: no longer than a header, if any.
+fn public_of(alloc: Global, word: &str) -> Result<Option<Bytes>, Fault>
+    ensures { IfOk result (λ public. IfSome public (λ bytes. length bytes ≤ header_limit)) }
+{
     if word == "-" {
         return Ok(None);
     }
     let bytes = zeros(alloc, number_of(word)?)?;
+    if bytes.len() > HEADER_LIMIT {
+        return Err(Fault::BadWord);
+    }
     Ok(Some(bytes))
 }
 
-// Public data that are not longer than a header.
-fn checked_public(public: Option<Bytes>) -> Result<Option<Bytes>, Fault>
-    ensures { IfOk result (λ public. IfSome public (λ bytes. length bytes ≤ 65536)) }
-{
-    match public {
-        Some(bytes) => {
-            if bytes.len() > 65_536 {
-                return Err(Fault::BadWord);
-            }
-            Ok(Some(bytes))
-        }
-        None => Ok(None),
-    }
-}
-
 /// The settings that are chosen.
+#[tactic(auto, using(kdbx_frame::proofs::Versions::any_of_version))]
 pub fn settings_of(alloc: Global, choices: &Choices<'_>) -> Result<Settings, Fault>
     ensures in_order { IfOk result IsInOrder }
     ensures version { IfOk result (λ settings. IsVersion4 settings.version) }
@@ -145,7 +144,7 @@ pub fn settings_of(alloc: Global, choices: &Choices<'_>) -> Result<Settings, Fau
     let version = version_of(choices.version)?;
     let cipher = cipher_of(choices.cipher)?;
     let kdf = kdf_of(alloc, choices.kdf)?;
-    let public = checked_public(public_of(alloc, choices.public)?)?;
+    let public = public_of(alloc, choices.public)?;
     Ok(Settings {
         version,
         cipher,

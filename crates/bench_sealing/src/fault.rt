@@ -1,6 +1,7 @@
 //! What goes wrong.
 
 use doc_read::DocFail;
+use doc_write::WriteFail;
 use kdbx_open::OpenFail;
 use kdbx_seal::SealFail;
 use std::alloc::AllocError;
@@ -12,6 +13,8 @@ pub enum Fault {
     BadWord,
     /// The text is no document.
     NotRead(DocFail),
+    /// The document is not written by itself.
+    NotWritten(WriteFail),
     /// The document needs a later version than the one that was asked for.
     TooOld,
     /// There were no random bytes.
@@ -31,5 +34,17 @@ pub enum Fault {
 impl From<AllocError> for Fault {
     fn from(_none: AllocError) -> Fault {
         Fault::NoMemory
+    }
+}
+
+impl From<DocFail> for Fault {
+    fn from(fail: DocFail) -> Fault {
+        Fault::NotRead(fail)
+    }
+}
+
+impl From<WriteFail> for Fault {
+    fn from(fail: WriteFail) -> Fault {
+        Fault::NotWritten(fail)
     }
 }

@@ -5,50 +5,41 @@
 //! Empty lines and lines that begin with `#` are passed over.
 //!
 //! With the words `TIMES VERSION CIPHER KDF PUBLIC PASSWORD DOCUMENT FILE` it seals the document of
-//! one file as another file, as often as asked, and prints how much memory the document takes; with
-//! `TIMES PASSWORD FILE` it opens a file as often.
+//! one file as another file, as often as asked, and prints how much memory the process held before;
+//! with `TIMES PASSWORD FILE` it opens a file as often.
 #![tactic(auto)]
 
 mod choices;
+mod disk;
 mod fault;
-mod files;
 mod rows;
 mod sealing;
 mod texts;
 
-use crate::choices::{Choices, settings_of};
+use crate::choices::{Choices, settings_of, short_number_of};
+use crate::disk::{open_often, seal_often};
 use crate::fault::Fault;
-use crate::files::{open_often, seal_often};
 use crate::rows::{Row, answer};
-use crate::sealing::read;
-use crate::texts::expanded;
-use outside_host::{HostDice, HostFiles};
-use std::alloc::AllocGlobal;
+use crate::sealing::{Target, read};
 use std::env;
 use std::fs::{self, Files};
 use std::io::{self, BufRead, BufReader};
 use std::process::ExitCode;
 use std::random::RandomSource;
 
-/// What comes of a row whose document is in a file with this text.
-fn found(rt: &impl AllocGlobal, row: &Row<'_>, text: &str) -> Result<String, Fault> {
-    let text = expanded(rt.alloc(), text)?;
-    answer(rt.alloc(), row, text)
-}
-
 /// Prints what comes of a line of the input, which has this number.
 fn judge(rt: &(impl Files + Print + AllocGlobal), number: usize, line: &str) -> io::Result<()> {
     let Some((words, wanted)) = line.split_once(" = ") else {
         return println!(rt; "line {number}: no answer is given");
     };
-    let row = Row::of(words);
-    let text = fs::read_to_string(rt, row.document)?;
-    match found(rt, &row, text.as_str()) {
-        Ok(text) => {
-            if text.as_str() == wanted {
+    let row = Row::of(rt.alloc(), words)?;
+    let text = fs::read_to_string(rt, row.document())?;
+    match answer(rt.alloc(), &row, text.as_str()) {
+        Ok(found) => {
+            if found.as_str() == wanted {
                 println!(rt; "line {number}: ok")
             } else {
-                println!(rt; "line {number}: {text}")
+                println!(rt; "line {number}: {found}")
             }
         }
         Err(fault) => println!(rt; "line {number}: {fault:?}"),
@@ -66,19 +57,8 @@ fn resident(rt: &(impl Files + AllocGlobal)) -> u64 {
     }
 }
 
-/// A file, and the password that it is under; `-` is the empty one.
-#[derive(Clone, Copy)]
-struct Target<'a> {
-    name: &'a str,
-    password: &'a str,
-}
-
-/// How often something is to be done.
-fn times_of(word: &str) -> Result<u32, Fault> {
-    word.parse::<u32>().map_err(|_| Fault::BadWord)
-}
-
-/// Seals the document of a text as often as asked, and gives how much memory the document takes.
+/// Seals the document of a text as often as asked, and gives how much memory the process held once
+/// it had read it.
 fn run_seal(
     rt: &(impl Files + RandomSource + AllocGlobal),
     times: &str,
@@ -86,22 +66,11 @@ fn run_seal(
     text: Vec<u8>,
     target: &Target<'_>,
 ) -> Result<u64, Fault> {
-    let times = times_of(times)?;
+    let times = short_number_of(times)?;
     let doc = read(rt.alloc(), text)?;
     let settings = settings_of(rt.alloc(), choices)?;
     let taken = resident(rt);
-    let mut files = HostFiles::new(rt, rt.alloc());
-    let mut dice = HostDice::new(rt);
-    seal_often(
-        rt.alloc(),
-        &doc,
-        &settings,
-        target.password,
-        &mut files,
-        &mut dice,
-        target.name,
-        times,
-    )?;
+    seal_often(rt, &doc, &settings, target, times)?;
     Ok(taken)
 }
 
@@ -111,13 +80,12 @@ fn run_open(
     times: &str,
     target: &Target<'_>,
 ) -> Result<u64, Fault> {
-    let times = times_of(times)?;
-    let mut files = HostFiles::new(rt, rt.alloc());
-    open_often(rt.alloc(), &mut files, target.name, target.password, times)?;
+    let times = short_number_of(times)?;
+    open_often(rt, target, times)?;
     Ok(0)
 }
 
-/// Prints what was done.
+/// Prints what was done, and gives the status of the process.
 fn print(rt: &impl Print, done: Result<u64, Fault>) -> io::Result<ExitCode> {
     match done {
         Ok(taken) => {
@@ -131,52 +99,48 @@ fn print(rt: &impl Print, done: Result<u64, Fault>) -> io::Result<ExitCode> {
     }
 }
 
-/// Answers the rows of standard input.
-fn run_rows(rt: &(impl Files + Input + Print + AllocGlobal)) -> io::Result<ExitCode> {
-    let alloc = rt.alloc();
-    for (index, line) in BufReader::new(alloc, rt.reader())?.lines(alloc).enumerate() {
-        let line = line?;
-        if line.is_empty() || line.starts_with('#') {
-            continue;
-        }
-        judge(rt, index.saturating_add(1), &line)?;
-    }
-    Ok(ExitCode::SUCCESS)
-}
-
-fn main(rt: HostRuntime) -> io::Result<ExitCode> {
-    let words: Vec<String> = env::args(&rt)?.skip(1).collect(rt.alloc())?;
-    match words.as_slice() {
-        [] => run_rows(&rt),
-        [
-            times,
-            version,
-            cipher,
-            kdf,
-            public,
-            password,
-            document,
-            name,
-        ] => {
+/// Does what the words ask for.
+fn perform(
+    rt: &(impl Files + RandomSource + Print + AllocGlobal),
+    words: &[String],
+) -> io::Result<ExitCode> {
+    match words {
+        [times, version, cipher, kdf, public, password, document, name] => {
             let choices = Choices {
-                version,
-                cipher,
-                kdf,
-                public,
+                version: version.as_str(),
+                cipher: cipher.as_str(),
+                kdf: kdf.as_str(),
+                public: public.as_str(),
             };
-            let text = fs::read(&rt, document.as_str())?;
-            let target = Target { name, password };
-            print(&rt, run_seal(&rt, times, &choices, text, &target))
+            let text = fs::read(rt, document.as_str())?;
+            let target = Target::new(name.as_str(), password.as_str());
+            print(rt, run_seal(rt, times.as_str(), &choices, text, &target))
         }
         [times, password, name] => {
-            let target = Target { name, password };
-            print(&rt, run_open(&rt, times, &target))
+            let target = Target::new(name.as_str(), password.as_str());
+            print(rt, run_open(rt, times.as_str(), &target))
         }
         _ => {
-            println!(&rt;
+            println!(rt;
                 "usage: bench_sealing [TIMES [VERSION CIPHER KDF PUBLIC] PASSWORD [DOCUMENT] FILE]"
             )?;
             Ok(ExitCode::from(1))
         }
     }
+}
+
+fn main(rt: HostRuntime) -> io::Result<ExitCode> {
+    let alloc = rt.alloc();
+    let words: Vec<String> = env::args(&rt)?.skip(1).collect(alloc)?;
+    if !words.is_empty() {
+        return perform(&rt, words.as_slice());
+    }
+    for (index, line) in BufReader::new(alloc, rt.reader())?.lines(alloc).enumerate() {
+        let line = line?;
+        if line.is_empty() || line.starts_with('#') {
+            continue;
+        }
+        judge(&rt, index.saturating_add(1), &line)?;
+    }
+    Ok(ExitCode::SUCCESS)
 }

@@ -6,13 +6,14 @@ ghost use Rattle.kdbx_frame.specs.Settings.{IsInOrder, IsVersion4};
 
 use crate::choices::{Choices, settings_of};
 use crate::fault::Fault;
-use crate::sealing::{open, read, seal};
-use doc_write::write_doc;
+use crate::sealing::{Target, open, read, seal};
+use crate::texts::expanded;
+use doc_write::{WriteFail, write_doc};
 use kdbx_frame::Settings;
 use outside_objects::{CountingDice, MemoryFiles};
 use secret_core::Secret;
 use sha2::{Digest, Sha256};
-use std::alloc::Global;
+use std::alloc::{AllocError, Global};
 use stream_core::InnerStream;
 use vault_model::{Doc, DocForm};
 
@@ -22,74 +23,67 @@ const NAME: &str = "vault";
 /// What the file was before.
 const OLD: &[u8] = b"an older file";
 
-/// A row: what is chosen, a password, a file with a document, and the number of the store's call
-/// that fails. `-` is the empty password, and that no call fails.
-#[derive(Clone, Copy)]
+/// A row: version, cipher, key derivation, public data, password, a file with a document, and the
+/// number of the store's call that fails. `-` is the empty password, and that no call fails.
+#[derive(Drop)]
 pub struct Row<'a> {
-    pub choices: Choices<'a>,
-    pub password: &'a str,
-    pub document: &'a str,
-    pub failing: &'a str,
-}
-
-// The word after the ones before it, which is empty where it is missing.
-fn next_word<'a>(words: &mut std::str::SplitWhitespace<'a>) -> &'a str {
-    match words.next() {
-        Some(word) => word,
-        None => "",
-    }
+    words: Vec<&'a str>,
 }
 
 impl<'a> Row<'a> {
-    /// The row that a line writes: version, cipher, key derivation, public data, password, document,
-    /// failing call.
-    pub fn of(line: &'a str) -> Row<'a> {
-        let mut words = line.split_whitespace();
-        let choices = Choices {
-            version: next_word(&mut words),
-            cipher: next_word(&mut words),
-            kdf: next_word(&mut words),
-            public: next_word(&mut words),
-        };
-        Row {
-            choices,
-            password: next_word(&mut words),
-            document: next_word(&mut words),
-            failing: next_word(&mut words),
+    /// The row that a line writes.
+    pub fn of(alloc: Global, line: &'a str) -> Result<Row<'a>, AllocError> {
+        let words = line.split_whitespace().collect(alloc)?;
+        Ok(Row { words })
+    }
+
+    // The word of this index, which is empty where it is missing.
+    fn word(&self, index: usize) -> &'a str {
+        match self.words.get(index) {
+            Some(word) => *word,
+            None => "",
         }
     }
 
-    // The password.
-    fn password(&self) -> &'a str {
-        if self.password == "-" {
-            ""
-        } else {
-            self.password
+    // What is chosen for the file.
+    fn choices(&self) -> Choices<'a> {
+        Choices {
+            version: self.word(0),
+            cipher: self.word(1),
+            kdf: self.word(2),
+            public: self.word(3),
         }
     }
-}
 
-// A store with the old file, one of whose calls fails if the row says so.
-fn store_of(alloc: Global, row: &Row<'_>) -> Result<MemoryFiles, Fault> {
-    let mut files = MemoryFiles::new(alloc);
-    if files.put(NAME, OLD).is_err() {
-        return Err(Fault::NoMemory);
+    // The file in memory, under the password.
+    fn target(&self) -> Target<'a> {
+        Target::new(NAME, self.word(4))
     }
-    if let Ok(call) = row.failing.parse::<u64>() {
-        if files.fail_at(call).is_err() {
+
+    /// The file with the document.
+    pub fn document(&self) -> &'a str {
+        self.word(5)
+    }
+
+    // A store with the old file, one of whose calls fails if the row says so.
+    fn store(&self, alloc: Global) -> Result<MemoryFiles, Fault> {
+        let mut files = MemoryFiles::new(alloc);
+        if files.put(NAME, OLD).is_err() {
             return Err(Fault::NoMemory);
         }
+        if let Ok(call) = self.word(6).parse::<u64>() {
+            if files.fail_at(call).is_err() {
+                return Err(Fault::NoMemory);
+            }
+        }
+        Ok(files)
     }
-    Ok(files)
 }
 
 // The text of a document by itself.
-fn text_of(alloc: Global, doc: &Doc) -> Result<Secret, Fault> {
+fn text_of(alloc: Global, doc: &Doc) -> Result<Secret, WriteFail> {
     let mut stream = InnerStream::Clear;
-    match write_doc(alloc, doc, DocForm::Plain, None, &mut stream) {
-        Ok(text) => Ok(text),
-        Err(_) => Err(Fault::NoMemory),
-    }
+    write_doc(alloc, doc, DocForm::Plain, None, &mut stream)
 }
 
 // Whether two documents have the same text.
@@ -109,30 +103,31 @@ fn digest_of(alloc: Global, files: &MemoryFiles) -> Result<String, Fault> {
     Ok(format!(in alloc; "{len} {digits}")?)
 }
 
-// What there is to say of a document that was sealed: the file's length and its SHA-256, once it is
-// opened again and holds the document.
+// What comes of a document that was sealed: the file's length and its SHA-256, once it is opened
+// again and holds the document.
 fn sealed(
     alloc: Global,
+    target: &Target<'_>,
     files: &mut MemoryFiles,
-    row: &Row<'_>,
     doc: &Doc,
 ) -> Result<String, Fault> {
-    let again = open(alloc, files, NAME, row.password())?;
+    let again = open(alloc, target, files)?;
     if !same(alloc, doc, &again)? {
         return Err(Fault::NotTheSame);
     }
     digest_of(alloc, files)
 }
 
-// What there is to say of one that was not: the refusal, while the old file is as it was.
+// What comes of one that was not: the refusal, while the old file is as it was.
 fn refused(alloc: Global, files: &MemoryFiles, fault: Fault) -> Result<String, Fault> {
-    if files.bytes(NAME) != Some(OLD) {
-        return Err(Fault::Changed);
+    if files.bytes(NAME) == Some(OLD) {
+        Ok(format!(in alloc; "{fault:?}")?)
+    } else {
+        Err(Fault::Changed)
     }
-    Ok(format!(in alloc; "{fault:?}")?)
 }
 
-// What there is to say of a document that is to be sealed with these settings.
+// What comes of a document that is to be sealed with these settings.
 fn answer_with(
     alloc: Global,
     row: &Row<'_>,
@@ -142,25 +137,18 @@ fn answer_with(
     requires in_order { IsInOrder settings.now }
     requires version { IsVersion4 settings.now.version }
 {
-    let mut files = store_of(alloc, row)?;
+    let target = row.target();
+    let mut files = row.store(alloc)?;
     let mut dice = CountingDice::new(alloc);
-    match seal(
-        alloc,
-        doc,
-        settings,
-        row.password(),
-        &mut files,
-        &mut dice,
-        NAME,
-    ) {
-        Ok(()) => sealed(alloc, &mut files, row, doc),
+    match seal(alloc, doc, settings, &target, &mut files, &mut dice) {
+        Ok(()) => sealed(alloc, &target, &mut files, doc),
         Err(fault) => refused(alloc, &files, fault),
     }
 }
 
-/// What there is to say of a row, whose document has this text.
-pub fn answer(alloc: Global, row: &Row<'_>, text: Vec<u8>) -> Result<String, Fault> {
-    let doc = read(alloc, text)?;
-    let settings = settings_of(alloc, &row.choices)?;
+/// What comes of a row, where the file with the document has this text.
+pub fn answer(alloc: Global, row: &Row<'_>, text: &str) -> Result<String, Fault> {
+    let doc = read(alloc, expanded(alloc, text)?)?;
+    let settings = settings_of(alloc, &row.choices())?;
     answer_with(alloc, row, &settings, &doc)
 }

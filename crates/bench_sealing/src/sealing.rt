@@ -1,11 +1,12 @@
 //! Sealing a document, and opening its file.
 
-ghost use Rattle.std.specs.Prelude.{◌≡◌, IsTrue};
+ghost use Rattle.std.specs.Prelude.{◌≡◌, OnOk};
 ghost use Rattle.kdbx_frame.specs.Settings.{IsInOrder, IsVersion4};
-ghost use Rattle.vault_making.specs.NeededVersion.{later};
+ghost use Rattle.vault_making.specs.NeededVersion.{later, needed_version};
+ghost use Rattle.vault_model.specs.SeenDoc.{doc_seen};
 
 use crate::fault::Fault;
-use doc_read::{DocFail, ReadDoc, read_parts, resolve};
+use doc_read::{ReadDoc, read_parts, resolve};
 use kdbx_frame::{FileVersion, Settings};
 use kdbx_open::{Opened, open_file};
 use kdbx_seal::{draw, seal_file};
@@ -16,59 +17,83 @@ use stream_core::InnerStream;
 use vault_making::needed;
 use vault_model::{Doc, DocForm};
 
-// The document that a text by itself is. The text is dropped before the document is made.
-fn read_plain(alloc: Global, text: Vec<u8>) -> Result<ReadDoc, DocFail> {
-    let mut stream = InnerStream::Clear;
-    let parts = read_parts(alloc, text.as_slice(), DocForm::Plain, &mut stream)?;
-    drop(text);
-    resolve(alloc, &List::new(alloc), parts)
+/// A file by its name, and the password that it is under.
+#[derive(Clone, Copy)]
+pub struct Target<'a> {
+    name: &'a str,
+    password: &'a str,
 }
 
-/// The document that a text by itself is.
+impl<'a> Target<'a> {
+    /// The file of a name, under the password of a word; `-` is the empty one.
+    pub fn new(name: &'a str, word: &'a str) -> Target<'a> {
+        if word == "-" {
+            return Target {
+                name,
+                password: "",
+            };
+        }
+        Target {
+            name,
+            password: word,
+        }
+    }
+}
+
+/// The document that a text by itself is. The text is dropped before the document is made.
 pub fn read(alloc: Global, text: Vec<u8>) -> Result<Doc, Fault> {
-    match read_plain(alloc, text) {
-        Ok(
-            ReadDoc {
-                doc,
-                header_hash: _,
-            },
-        ) => Ok(doc),
-        Err(fail) => Err(Fault::NotRead(fail)),
-    }
+    let parts = read_parts(
+        alloc,
+        text.as_slice(),
+        DocForm::Plain,
+        &mut InnerStream::Clear,
+    )?;
+    drop(text);
+    let ReadDoc {
+        doc,
+        header_hash: _,
+    } = resolve(alloc, &List::new(alloc), parts)?;
+    Ok(doc)
 }
 
-// Whether a file of a version keeps all of a document that needs another one.
-fn keeps(version: FileVersion, needed: FileVersion) -> bool
-    ensures { IsTrue result → later needed version ≡ version }
+// Refuses a file of a version that does not keep all of what needs another one.
+fn check_version(needed: FileVersion, version: FileVersion) -> Result<(), Fault>
+    ensures { OnOk result (later needed version ≡ version) }
 {
-    match needed {
-        FileVersion::V31 => true,
-        FileVersion::V40 => version != FileVersion::V31,
-        FileVersion::V41 => version == FileVersion::V41,
+    match (needed, version) {
+        (FileVersion::V31, _) => Ok(()),
+        (FileVersion::V40, FileVersion::V40) => Ok(()),
+        (FileVersion::V40, FileVersion::V41) => Ok(()),
+        (FileVersion::V41, FileVersion::V41) => Ok(()),
+        _ => Err(Fault::TooOld),
     }
 }
 
-/// Seals a document as the file of a name under a password.
+// Refuses a file of a version that does not keep all of a document.
+fn check_document(doc: &Doc, version: FileVersion) -> Result<(), Fault>
+    ensures { OnOk result (later (needed_version (doc_seen doc.now)) version ≡ version) }
+{
+    check_version(needed(doc), version)
+}
+
+/// Seals a document as a file under a password.
 pub fn seal<F: FileStore, D: Dice>(
     alloc: Global,
     doc: &Doc,
     settings: &Settings,
-    password: &str,
+    target: &Target<'_>,
     files: &mut F,
     dice: &mut D,
-    name: &str,
 ) -> Result<(), Fault>
     requires in_order { IsInOrder settings.now }
     requires version { IsVersion4 settings.now.version }
 {
-    if !keeps(settings.version, needed(doc)) {
-        return Err(Fault::TooOld);
-    }
+    check_document(doc, settings.version)?;
     let Ok(draws) = draw(settings, dice) else {
         return Err(Fault::NoBytes);
     };
-    let mut key = composite(Some(password.as_bytes()), None);
-    let result = seal_file(alloc, doc, settings, &key, draws, files, name);
+    let mut key = composite(Some(target.password.as_bytes()), None);
+    let result = seal_file(alloc, doc, settings, &key, draws, files, target.name);
     key.clear();
     key.release();
     match result {
@@ -77,19 +102,10 @@ pub fn seal<F: FileStore, D: Dice>(
     }
 }
 
-/// The document that the file of a name holds under a password.
-pub fn open<F: FileStore>(
-    alloc: Global,
-    files: &mut F,
-    name: &str,
-    password: &str,
-) -> Result<Doc, Fault> {
-    match open_file(
-        alloc,
-        files,
-        name,
-        composite(Some(password.as_bytes()), None),
-    ) {
+/// The document that a file holds under a password.
+pub fn open<F: FileStore>(alloc: Global, target: &Target<'_>, files: &mut F) -> Result<Doc, Fault> {
+    let key = composite(Some(target.password.as_bytes()), None);
+    match open_file(alloc, files, target.name, key) {
         Ok(
             Opened {
                 doc,
