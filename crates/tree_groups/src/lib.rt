@@ -5,6 +5,7 @@ mod groups;
 mod levels;
 mod making;
 mod new_groups;
+mod paths;
 
 pub use groups::put_group;
 pub use levels::{LEVELS, fits, levels_below};

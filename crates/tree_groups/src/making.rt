@@ -8,9 +8,10 @@ ghost use Rattle.tree_changes.specs.After.{Changes, after_make_group, after_new_
 use crate::groups::put_group;
 use crate::levels::{LEVELS, levels_below};
 use crate::new_groups::new_group;
+use crate::paths::is_taken;
 use std::alloc::Global;
 use tree_changes::TreeFail;
-use tree_core::{find_group_of, is_group_path};
+use tree_core::find_group_of;
 use tree_steps::{before_last, is_free, name_after, path_of_new};
 use uuid::Uuid;
 use vault_model::{Doc, Stamp};
@@ -32,7 +33,7 @@ fn make_of(alloc: Global, doc: &mut Doc, path: &str, id: Uuid, now: Stamp) -> Re
         return Err(TreeFail::NoSuchPath);
     };
     let new_path = path_of_new(alloc, path)?;
-    if is_group_path(doc, new_path.as_slice()) {
+    if is_taken(doc, new_path.as_slice()) {
         return Err(TreeFail::NameTaken);
     }
     if levels_below(&doc.root, group, LEVELS).unwrap_or(0) == 0 {
