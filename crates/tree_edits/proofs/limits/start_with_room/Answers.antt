@@ -1,6 +1,33 @@
-use Rattle.std.proofs.Common.{◌≡◌, ◌≢◌, arith, omega, refl, sym}
+use Rattle.std.proofs.Common.{◌≡◌, ◌≢◌, ◌<◌, ◌≤◌, ◌-◌, length, arith, sym, ◌∙◌}
 use Rattle.tree_edits.proofs.Suffixes.{room_next, starts_first, starts_full, whole_room}
 use Rattle.tree_edits.proofs.limits.start_with_room.Goals as goal
+
+pub loop-start-init : goal.loop-start-init
+loop-start-init c =
+    let len = c.len.ensures in
+    let least = c.requires in
+    record {
+      low = omega (arith, len, least);
+      within = omega (arith, len);
+      room = whole_room c.args.limit c.args.history.now c.len.result len;
+    }
+
+pub loop-start-preserved : goal.loop-start-preserved
+loop-start-preserved c =
+    let test = c.loop-start-test.true in
+    let within = c.loop-start.invariant.within in
+    let some : c.loop-start.start ≢ 0 = omega (arith, test) in
+    record {
+      low = omega (arith, test);
+      within = omega (arith, within);
+      room = room_next c.args.limit c.args.history.now c.loop-start.start c.loop-start.room c.in-Some.rest c.index-history.result some within c.index-history.is c.loop-start.invariant.room
+          (sym c.in-Some.is ∙ c.room_after_content.ensures);
+    }
+
+pub returns-in_default : goal.returns-in_default
+returns-in_default c =
+    starts_full c.args.limit c.args.history.now c.args.least c.loop-start.start c.loop-start.room c.index-history.result c.loop-start-test.true c.loop-start.invariant.within c.index-history.is
+    c.loop-start.invariant.room (sym c.in_default.is ∙ c.room_after_content.ensures)
 
 pub returns : goal.returns
 returns c =
