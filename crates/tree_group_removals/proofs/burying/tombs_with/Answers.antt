@@ -11,5 +11,5 @@ returns c =
     let g = tree_seen c.args.group.now in
     let sorted = c.sort_tombs.new.tombs.items in
     let moved = subst (λ (ts : List Tombstone). IsPermutation ts sorted) c.in_ok-all.ensures c.in_ok-sort_tombs.ensures.moved in
-    copied c.as_slice.result.now sorted (tree_buried c.args.now g c.args.tombs.now) c.copy_tombs.result c.as_slice.ensures
+    copied c.as_slice.result.now sorted (tree_buried c.args.now g c.args.tombs.now) c.copy_tombs.result c.as_slice.ensures.value
     (tombs_sorted c.args.now g c.args.tombs.now sorted c.requires moved c.in_ok-sort_tombs.ensures.sorted) c.copy_tombs.ensures
