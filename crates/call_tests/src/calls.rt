@@ -14,7 +14,7 @@ pub(crate) struct Outside {
     pub(crate) err: MemorySink,
 }
 
-/// What a call comes to: its status, and what it writes.
+/// What a call results in: its status, and what it writes.
 #[derive(Clone, Copy)]
 pub(crate) struct Outcome<'a> {
     pub(crate) status: u8,
@@ -62,7 +62,7 @@ pub(crate) fn call(alloc: Global, words: &[&str], outside: &mut Outside) -> Resu
     ))
 }
 
-/// Makes a call, and compares what it comes to.
+/// Makes a call, and compares its result.
 pub(crate) fn comes_to(
     rt: &(impl Abort + AllocGlobal),
     words: &[&str],

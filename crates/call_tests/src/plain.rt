@@ -26,7 +26,7 @@ const OLD_TITLE: &[u8] =
 const NESTED: &[u8] =
     b"<KeePassFile><Root><Group><UUID>AQEBAQEBAQEBAQEBAQEBAQ==</UUID><Name>Root</Name><Entry><UUID>AgICAgICAgICAgICAgICAg==</UUID><String><Key>Title</Key><Value>Bank</Value></String></Entry><Group><UUID>BAQEBAQEBAQEBAQEBAQEBA==</UUID><Name>Work</Name><Entry><UUID>AwMDAwMDAwMDAwMDAwMDAw==</UUID><String><Key>Title</Key><Value>Mail</Value></String></Entry><Group><UUID>BQUFBQUFBQUFBQUFBQUFBQ==</UUID><Name>Sub</Name><Entry><UUID>BgYGBgYGBgYGBgYGBgYGBg==</UUID><String><Key>Title</Key><Value>Deep</Value></String></Entry></Group></Group><Group><UUID>BwcHBwcHBwcHBwcHBwcHBw==</UUID><Name>Home</Name></Group></Group></Root></KeePassFile>";
 
-/// A call over a file, which comes to this status, text and line.
+/// A call over a file, which gives this status, text and line.
 fn over(
     rt: &(impl Abort + AllocGlobal),
     words: &[&str],

@@ -102,7 +102,7 @@ error_line subject text = codes "keepass: " ++ subject ++ codes ": " ++ text ++ 
 abbrev pub refusal_of : Reason → List ℕ → Refusal
 refusal_of reason subject = record { reason = reason; subject = subject }
 
--- The stop is this refusal, or want of memory.
+-- The stop is this refusal, or that memory ran out.
 abbrev pub Refuses : Stop → Refusal → Type 0
 Refuses (Refused given) refusal = given ≡ refusal
 Refuses (FileFault name) refusal = ⊥

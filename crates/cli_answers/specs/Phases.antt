@@ -10,7 +10,7 @@ use Rattle.cli_answers.specs.declared.answers.Stop.TheVariants.{Refused, FileFau
 
 -- ---- how the code relates to it
 
--- What a stop says of what is defined: its refusal; a fault and want of memory say nothing.
+-- What a stop says of what is defined: its refusal; a fault and running out of memory say nothing.
 abbrev pub meaning_of : Stop → Meaning Refusal
 meaning_of (Refused refusal) = exact refusal
 meaning_of (FileFault name) = free
@@ -115,7 +115,7 @@ IsFault (FileFault given) name = given ≡ name
 IsFault InputFault name = ⊥
 IsFault NoMemory name = Unit {0}
 
--- A stop for want of memory.
+-- A stop because memory ran out.
 abbrev pub IsMemoryStop : Stop → Type 0
 IsMemoryStop (Refused refusal) = ⊥
 IsMemoryStop (FileFault name) = ⊥

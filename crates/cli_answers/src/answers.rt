@@ -258,7 +258,7 @@ pub fn line(alloc: Global, subject: &str, text: &str) -> Result<Bytes, NoMemory>
     Ok(line)
 }
 
-/// A stop by an answer about this subject, or by want of memory.
+/// A stop by an answer about this subject, or because memory ran out.
 pub fn refused(alloc: Global, reason: Reason, subject: &str) -> Stop
     ensures { Refuses result (refusal_of reason subject.now) }
 {

@@ -38,7 +38,7 @@ fn resolve_among(
 }
 
 /// The tree of a draft, with the bytes of the binaries that its file keeps apart, which only KDBX 4
-/// has, or else of the document's own. The only refusal is want of memory.
+/// has, or else of the document's own. The only refusal is that memory ran out.
 ///
 /// An attachment that refers to no binary has no bytes, and the tree says the first such reference.
 pub fn resolve_tree(

@@ -17,12 +17,13 @@ markup_refusal (form offset) = Err (Form offset)
 markup_refusal (depth offset) = Err (Depth offset)
 markup_refusal _ = Err NoMemory
 
--- What a refusal says of what is defined: that this is its refusal, but want of memory says nothing.
+-- What a refusal says of what is defined: that this is its refusal, but running out of memory says
+-- nothing.
 abbrev pub meaning_of : DocFail → Meaning DocFail
 meaning_of NoMemory = free
 meaning_of e = exact e
 
--- a refusal is the defined one; want of memory says nothing
+-- a refusal is the defined one; running out of memory says nothing
 abbrev pub Fails : {Y : Type 0} → DocFail → Result Y DocFail → Type 0
 Fails e defined = results.Fails (meaning_of e) defined
 

@@ -15,7 +15,7 @@ pub fn parts_are_kept()
         → are_kept parts ≡ true }
 {}
 
-/// The definition of a document never answers with want of memory: each refusal of a text is
+/// The definition of a document never answers that memory ran out: each refusal of a text is
 /// another one.
 pub fn documents_never_lack_memory()
     ensures { (s : Setting) (given : List (List ℕ × Bool)) (text : List ℕ)

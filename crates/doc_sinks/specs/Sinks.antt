@@ -15,7 +15,7 @@ abbrev pub chunk_len : Chunk → ℕ
 chunk_len (plain bytes) = length bytes
 chunk_len (hidden bytes) = coded_len (length bytes)
 
--- a count with those of a chunk; the last number of 64 bits stands for every larger one
+-- a count with those of a chunk; the last number of 64 bits is given for every larger one
 abbrev pub count_with : ℕ → Chunk → ℕ
 count_with n c = min (n + chunk_len c) 18446744073709551615
 

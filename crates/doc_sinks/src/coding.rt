@@ -1,5 +1,5 @@
 //! Bytes in base64, and bytes that a stream hides, put into secret memory group by group: what is
-//! clear stands in no other memory.
+//! clear is in no other memory.
 
 ghost use Rattle.std.specs.Prelude.{◌≡◌, ◌+◌, ◌-◌, ◌^◌, ◌≤◌, ◌++◌, length, min};
 ghost use Rattle.doc_sinks.specs.Chunks.{base64};

@@ -7,7 +7,7 @@ use crate::coding::coded_len;
 use crate::sink::TextSink;
 use markup_core::escaped_bytes_len;
 
-/// How many bytes were put; the last number stands for every larger one.
+/// How many bytes were put; the last number is given for every larger one.
 #[derive(Drop)]
 pub struct TextCounter {
     pub len: usize,

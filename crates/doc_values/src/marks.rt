@@ -12,7 +12,7 @@ use secret_core::Secret;
 use std::alloc::Global;
 use text_core::{append_unescaped, decode_base64, spells_word, unescaped};
 
-/// A text, and after it the text for which raw markup stands.
+/// A text, and after it the text that raw markup stands for.
 pub fn appended(alloc: Global, text: Secret, raw: &str) -> Result<Secret, DocFail>
     ensures { Returns (λ t. t.bytes) result (Ok (text.bytes ++ escapes.unescaped raw.now)) }
 {
@@ -33,7 +33,7 @@ pub fn no_text(alloc: Global) -> Result<Secret, DocFail>
     }
 }
 
-/// The text for which raw markup stands.
+/// The text that raw markup stands for.
 pub fn resolved(alloc: Global, raw: &str) -> Result<Secret, DocFail>
     ensures { Returns (λ t. t.bytes) result (Ok (escapes.unescaped raw.now)) }
 {

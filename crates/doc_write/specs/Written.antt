@@ -1,5 +1,5 @@
 -- What writing a document gives: its text, or why it is not written.
-use Rattle.std.specs.Prelude.{◌≡◌, ℕ, ◌+◌, nat_lt, if◌then◌else◌, Bool, Option, List, [], length, codes, min, Result, Ok, Err}
+use Rattle.std.specs.Prelude.{◌≡◌, ℕ, ◌+◌, ◌≤◌, nat_lt, if◌then◌else◌, Bool, Option, List, [], length, codes, min, Result, Ok, Err}
 use Rattle.stream_core.specs.InnerStream.{Keystream}
 use Rattle.secret_core.specs.Secret.{SecretBuffer}
 use Rattle.vault_model.specs.Tree.{BareDoc}
@@ -29,7 +29,7 @@ pool_len _ pool = 0
 abbrev pub written_len : DocForm → Keystream → Option (List ℕ) → BareDoc → ℕ
 written_len form k hash d = length (spelled_document form k hash d) + pool_len form (pool_of d)
 
--- a number, of which the last one of 64 bits stands for every larger one
+-- a number; the last one of 64 bits is given for every larger one
 abbrev pub up_to_u64 : ℕ → ℕ
 up_to_u64 n = min n 18446744073709551615
 
@@ -48,8 +48,20 @@ write_outcome form k hash d =
     then Err (TooMany (up_to_u64 (tree_nodes d.tree)))
     else text_or form k hash d
 
--- a call returns what is defined; want of memory says nothing
+-- a call returns what is defined; running out of memory says nothing
 abbrev pub Writes : Result SecretBuffer WriteFail → Result (List ℕ) WriteFail → Type 0
 Writes (Ok text) defined = defined ≡ Ok text.bytes
 Writes (Err NoMemory) defined = Unit {0}
 Writes (Err e) defined = defined ≡ Err e
+
+-- A document is written, and its text has this length; with the pool it is within the limit.
+pub record IsMeasured (form : DocForm) (k : Keystream) (hash : Option (List ℕ)) (d : BareDoc)
+    (len : ℕ) : Type 0 where
+  pub outcome : write_outcome form k hash d ≡ Ok (spelled_document form k hash d)
+  pub text : len ≡ length (spelled_document form k hash d)
+  pub limit : len + pool_len form (pool_of d) ≤ 134086656
+
+-- The length of the text that is written of a document, or why it is not written.
+abbrev pub Measures : DocForm → Keystream → Option (List ℕ) → BareDoc → Result ℕ WriteFail → Type 0
+Measures form k hash d (Ok len) = IsMeasured form k hash d len
+Measures form k hash d (Err e) = write_outcome form k hash d ≡ Err e

@@ -1,6 +1,6 @@
 //! How many nodes a document has, and how much room its pool takes.
 
-ghost use Rattle.std.specs.Prelude.{◌≡◌, ◌+◌, map, min};
+ghost use Rattle.std.specs.Prelude.{◌≡◌, ◌+◌, ◌≤◌, length, map, min};
 ghost use Rattle.doc_forms.specs.SeenDocuments.{pool_item};
 ghost use Rattle.doc_spelling.specs.Ranges.{count_all, entry_nodes, tree_nodes};
 ghost use Rattle.doc_write.specs.Written.{binary_len, pool_len};
@@ -13,7 +13,8 @@ use vault_model::{DocForm, Entry, Group, PoolItem};
 /// whether it is hidden.
 const FIELD: usize = 6;
 
-/// Adds the numbers of entries and of history items; the last `u64` stands for every larger number.
+/// Adds the numbers of entries and of history items; the last `u64` is given for every larger
+/// number.
 fn count_entries(count: u64, entries: &[Entry]) -> u64
     ensures { result ≡ min (count + count_all entry_nodes (map entry_row entries.now)) u64.MAX }
 {
@@ -27,7 +28,7 @@ fn count_entries(count: u64, entries: &[Entry]) -> u64
 }
 
 /// Adds the number of groups, entries and history items of a group with all below it; the last
-/// `u64` stands for every larger number.
+/// `u64` is given for every larger number.
 pub(crate) fn count_nodes(count: u64, group: &Group) -> u64
     ensures { result ≡ min (count + tree_nodes (tree_seen group.now)) u64.MAX }
 {
@@ -38,8 +39,8 @@ pub(crate) fn count_nodes(count: u64, group: &Group) -> u64
     count
 }
 
-/// How many bytes a pool takes, each binary with its inner field; the last `usize` stands for every
-/// larger number.
+/// How many bytes a pool takes, each binary with its inner field; the last `usize` is given for
+/// every larger number.
 fn binaries_len(items: &[PoolItem]) -> usize
     ensures { result ≡ min (count_all binary_len (map pool_item items.now)) usize.MAX }
 {
@@ -52,10 +53,12 @@ fn binaries_len(items: &[PoolItem]) -> usize
 
 /// How many bytes the pool takes that the file of a document in this form keeps apart from it.
 pub(crate) fn apart_len(form: DocForm, pool: &Pool<'_>) -> usize
-    ensures { result ≡ min (pool_len form pool.now) usize.MAX }
+    ensures len { result ≡ min (pool_len form pool.now) usize.MAX }
+    ensures few { length pool.now ≤ usize.MAX }
 {
+    let items = pool.items();
     match form {
         DocForm::Plain | DocForm::V3 => 0,
-        DocForm::V4 => binaries_len(pool.items()),
+        DocForm::V4 => binaries_len(items),
     }
 }

@@ -12,5 +12,5 @@ mod metas;
 mod versions;
 mod writing;
 
-pub use doc_pool::pool_of;
-pub use writing::{WriteFail, write_doc};
+pub use doc_pool::{Pool, pool_of};
+pub use writing::{WriteFail, append_doc, doc_len, write_doc};

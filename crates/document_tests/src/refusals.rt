@@ -6,7 +6,7 @@ use std::alloc::{AllocError, Global};
 use std::process::Abort;
 use std::test::Fail;
 
-/// What a reader comes to.
+/// What a reader answers.
 #[derive(Clone, Copy, Debug, PartialEq, Eq)]
 enum Verdict {
     Finished,
@@ -15,7 +15,7 @@ enum Verdict {
     Unended,
 }
 
-/// A text with what a reader is to come to.
+/// A text with what a reader is to answer.
 type Row<'a> = (&'a [u8], Verdict);
 
 const GOOD: Verdict = Verdict::Finished;
@@ -277,7 +277,7 @@ fn utf8(rt: HostRuntime) {
     );
 }
 
-/// What a reader comes to on this many elements open in one another, and then these bytes.
+/// What a reader answers on this many elements open in one another, and then these bytes.
 fn reached_in(alloc: Global, count: usize, rest: &[u8]) -> Result<Verdict, AllocError> {
     let mut text = Vec::new(alloc);
     for _ in 0..count {

@@ -26,7 +26,7 @@ use Rattle.join_laws.proofs.Tables.{gathered_singles}
 use Rattle.join_laws.proofs.Unite.{get-unite_all}
 use Rattle.tree_core.specs.Finding.{entry_found, group_found, has_entry_path}
 use Rattle.tree_changes.specs.declared.fails.TreeFail.TheVariants.{AlreadyThere, IdTaken, NameTaken}
-use Rattle.tree_changes.specs.After.{AfterRemoval, Holding, edited_entry, entry_deleted, entry_moved_to, entry_named, entry_recycled, is_recycled, named, needs_bin, refuse_if, time_after, with_bin, with_bin_made}
+use Rattle.tree_changes.specs.After.{AfterRemoval, Holding, edited_entry, entry_deleted, entry_moved_to, entry_named, entry_recycled, is_recycled, named_or_refusal, needs_bin, refuse_if, time_after, with_bin, with_bin_made}
 use Rattle.tree_changes.specs.Changes.{changed_at, entry_at, group_with, has_group, holder, is_free, own_entry, without, without_entry}
 use Rattle.tree_changes.specs.Histories.{with_version}
 use Rattle.tree_changes.specs.NewNodes.{edited_version, empty_bin, new_entry, new_fields}
@@ -55,9 +55,9 @@ record Found (d : BareDoc) (held : Holding) : Type 0 where
 
 found : (path : List ℕ) (d : BareDoc) (held : Holding) → entry_named path d ≡ Ok held → Found d held
 found path d held h =
-    let id = bind_ok (named (entry_found d path)) _ held h in
-    let group = bind_ok (named (holder id.0 d.tree)) _ held id.1.1 in
-    let entry = bind_ok (named (entry_at group.0 id.0 d.tree)) _ held group.1.1 in
+    let id = bind_ok (named_or_refusal (entry_found d path)) _ held h in
+    let group = bind_ok (named_or_refusal (holder id.0 d.tree)) _ held id.1.1 in
+    let entry = bind_ok (named_or_refusal (entry_at group.0 id.0 d.tree)) _ held group.1.1 in
     let is = same_ok _ held entry.1.1 in
     let at = found_at group.0 id.0 d.tree entry.0 (named_ok (entry_at group.0 id.0 d.tree) entry.0 entry.1.0) in
     let key = own_id id.0 at.0 entry.0 at.1.1 in
@@ -71,7 +71,7 @@ found path d held h =
 
 pub add_grows : AddGrows
 add_grows path id values now d e isd ise h =
-    let group = bind_ok (named (group_found d (before_last path))) _ e h in
+    let group = bind_ok (named_or_refusal (group_found d (before_last path))) _ e h in
     let path_free = bind_ok (refuse_if (has_entry_path d (new_path path)) NameTaken) _ e group.1.1 in
     let id_free = bind_ok (refuse_if (not (is_free id d)) (IdTaken id)) _ e path_free.1.1 in
     let is = same_ok _ e id_free.1.1 in
@@ -135,7 +135,7 @@ entry_moved_stays d e isd ise held f to now has h =
 pub move_entry_grows : MoveEntryGrows
 move_entry_grows path goal now d e isd ise h =
     let held = bind_ok (entry_named path d) _ e h in
-    let group = bind_ok (named (group_found d goal)) _ e held.1.1 in
+    let group = bind_ok (named_or_refusal (group_found d goal)) _ e held.1.1 in
     let other = bind_ok (refuse_if (is_id held.0.group group.0) AlreadyThere) _ e group.1.1 in
     stays_grow d e isd ise
     (entry_moved_stays d e isd ise held.0 (found path d held.0 held.1.0) group.0 now (named_group d goal group.0 (named_ok (group_found d goal) group.0 group.1.0)) other.1.1)

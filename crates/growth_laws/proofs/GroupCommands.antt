@@ -11,7 +11,7 @@ use Rattle.vault_model.proofs.Tests.{apart, decide, is_false}
 use Rattle.join_laws.proofs.Joins.{meta_joins}
 use Rattle.tree_core.specs.Finding.{group_found, has_group_path, without_slashes}
 use Rattle.tree_changes.specs.declared.fails.TreeFail.TheVariants.{AlreadyThere, IdTaken, IntoItself, NameTaken, RootFixed, TooDeep}
-use Rattle.tree_changes.specs.After.{AfterRemoval, after_new_group, bin_level, group_deleted, group_moved_to, group_named, group_recycled, is_parent, is_recycled, named, needs_bin, recycled, refuse_if, time_after, with_bin_made}
+use Rattle.tree_changes.specs.After.{AfterRemoval, after_new_group, after_recycling, bin_level, group_deleted, group_moved_to, group_named, group_recycled, is_parent, is_recycled, named_or_refusal, needs_bin, refuse_if, time_after, with_bin_made}
 use Rattle.tree_changes.specs.Changes.{changed_at, child_with, group_moved, group_with, has_group, is_free, level_of, parent_of, placed_of, tree_buried, without_group}
 use Rattle.tree_changes.specs.NewNodes.{empty_bin, empty_group}
 use Rattle.tree_changes.specs.NewPaths.{after_last, before_last, new_path}
@@ -38,7 +38,7 @@ use Rattle.growth_laws.proofs.Steps.{put_group_stays}
 
 new_group_grows : (path : List ℕ) (id : NodeId) (now : ℕ) (d e : BareDoc) → IsDoc d → IsDoc e → after_new_group path id now d ≡ Ok e → Stays d e
 new_group_grows path id now d e isd ise h =
-    let group = bind_ok (named (group_found d (before_last path))) _ e h in
+    let group = bind_ok (named_or_refusal (group_found d (before_last path))) _ e h in
     let path_free = bind_ok (refuse_if (has_group_path d (new_path path)) NameTaken) _ e group.1.1 in
     let fits = bind_ok (refuse_if (nat_lt LEVELS (level_of group.0 d.tree + 1)) TooDeep) _ e path_free.1.1 in
     let id_free = bind_ok (refuse_if (not (is_free id d)) (IdTaken id)) _ e fits.1.1 in
@@ -90,7 +90,7 @@ own_named path d g h = of (group_found d path) (named_ok (option_and_then (λ id
 pub move_group_grows : MoveGroupGrows
 move_group_grows path goal now d e isd ise h =
     let moving = bind_ok (group_named path d) _ e h in
-    let group = bind_ok (named (group_found d goal)) _ e moving.1.1 in
+    let group = bind_ok (named_or_refusal (group_found d goal)) _ e moving.1.1 in
     let elsewhere = bind_ok (refuse_if (is_parent group.0 (parent_of (id_of moving.0) d.tree)) AlreadyThere) _ e group.1.1 in
     let below = bind_ok (refuse_if (is_id (id_of moving.0) (id_of d.tree)) RootFixed) _ e elsewhere.1.1 in
     let i = in_group d isd moving.0 (own_named path d moving.0 moving.1.0) (refuse_ok (is_id (id_of moving.0) (id_of d.tree)) RootFixed below.0 below.1.0) in
@@ -121,7 +121,7 @@ group_recycled_stays d a isd isa g i bin now goes needed h =
     let fits = bind_ok (refuse_if (nat_lt LEVELS (bin_level d + height g)) TooDeep) _ a outside.1.1 in
     of bin needed fits.1.1
   where
-    of : (o : Option NodeId) → is_some o ≡ needs_bin d → (with_bin_made o now d >>= λ ready. (group_moved_to ready.meta.bin.value.id g now ready >>= recycled)) ≡ Ok a → Stays d a.doc
+    of : (o : Option NodeId) → is_some o ≡ needs_bin d → (with_bin_made o now d >>= λ ready. (group_moved_to ready.meta.bin.value.id g now ready >>= after_recycling)) ≡ Ok a → Stays d a.doc
     of None q k =
         let moved = bind_ok (group_moved_to d.meta.bin.value.id g now d) _ a k in
         let is = ap (λ (x : AfterRemoval). x.doc) (same_ok _ a moved.1.1) in

@@ -5,7 +5,7 @@ use Rattle.std.specs.FinMap.{get, contains_key, same_map}
 use Rattle.std.specs.List.{list_any}
 use Rattle.vault_model.specs.Db.{NodeId, Place, place_cmp, Db, holds, parent_or, Sound}
 use Rattle.vault_model.specs.Join.{is_id, stats_join, state_join, latest, above, stamp, is_from, is_held, buried, own, ids, path, kept, join}
-use Rattle.vault_model.specs.Unite.{greater, gather, merged, unite}
+use Rattle.vault_model.specs.Unite.{greater, gather, join_options, unite}
 use Rattle.vault_model.proofs.Ids.{same_id}
 use Rattle.join_laws.proofs.Facts.{join_entries, join_groups, join_places, join_tombs, join_root, held_by, held_id, trail_head, trail_keeps}
 use Rattle.join_laws.proofs.Joins.{places_joins, state_joins, versions_joins}
@@ -58,7 +58,7 @@ module _ (m n : Db) (sound : Sound n) (grows : Grows m n) where
       ]
 
   latest_is : (u : NodeId) → holds n u ≡ true → latest both u ≡ get n.places u
-  latest_is u h = ap (merged (greater place_cmp) (get m.places u)) (merged_none places_joins (get n.places u)) ∙ grows.places u h
+  latest_is u h = ap (join_options (greater place_cmp) (get m.places u)) (merged_none places_joins (get n.places u)) ∙ grows.places u h
 
   above_holds : (u : NodeId) → holds n u ≡ true → holds n (above both u) ≡ true
   above_holds u h = ap (λ o. holds n (parent_or u o)) (latest_is u h) ∙ at (get n.places u) refl
@@ -95,14 +95,14 @@ module _ (m n : Db) (sound : Sound n) (grows : Grows m n) where
   same_entries = same_map id_order.total id_order.same (join both).entries n.entries (λ u.
       column (get (join both).entries u) (get n.entries u) (kept both u) (gather (unite stats_join) (map (λ (x : Db). get x.entries u) both)) u
       (join_entries both u) (kept_is u)
-      (λ h. ap (merged (unite stats_join) (get m.entries u)) (merged_none versions_joins (get n.entries u)) ∙ grows.entries u h)
+      (λ h. ap (join_options (unite stats_join) (get m.entries u)) (merged_none versions_joins (get n.entries u)) ∙ grows.entries u h)
       (λ h. none_of (get n.entries u) (or_false (contains_key n.entries u) (contains_key n.groups u) h).0))
 
   same_groups : (join both).groups ≡ n.groups
   same_groups = same_map id_order.total id_order.same (join both).groups n.groups (λ u.
       column (get (join both).groups u) (get n.groups u) (kept both u) (gather state_join (map (λ (x : Db). get x.groups u) both)) u
       (join_groups both u) (kept_is u)
-      (λ h. ap (merged state_join (get m.groups u)) (merged_none state_joins (get n.groups u)) ∙ grows.groups u h)
+      (λ h. ap (join_options state_join (get m.groups u)) (merged_none state_joins (get n.groups u)) ∙ grows.groups u h)
       (λ h. none_of (get n.groups u) (or_false (contains_key n.entries u) (contains_key n.groups u) h).1))
 
   same_places : (join both).places ≡ n.places
@@ -118,7 +118,7 @@ module _ (m n : Db) (sound : Sound n) (grows : Grows m n) where
         | inl h ↦ ap (λ b. cond (not b) (gather max (map (λ (x : Db). get x.tombs u) both)) None) h ∙ sym (sound.alive u h)
         | inr h ↦
             ap (λ b. cond (not b) (gather max (map (λ (x : Db). get x.tombs u) both)) None) h
-            ∙ ap (merged max (get m.tombs u)) (merged_none max_join (get n.tombs u)) ∙ grows.tombs u h
+            ∙ ap (join_options max (get m.tombs u)) (merged_none max_join (get n.tombs u)) ∙ grows.tombs u h
       ])
 
   same_meta : (join both).meta ≡ n.meta

@@ -6,7 +6,7 @@ use Rattle.time_core.specs.Times.{last_stamp}
 use Rattle.vault_model.proofs.Tests.{decide}
 use Rattle.tree_changes.specs.declared.fails.TreeFail.{TreeFail}
 use Rattle.tree_changes.specs.declared.fails.TreeFail.TheVariants.{StampLimit}
-use Rattle.tree_changes.specs.After.{named, refuse_if, time_after}
+use Rattle.tree_changes.specs.After.{named_or_refusal, refuse_if, time_after}
 
 abbrev value : {A E : Type 0} → A → Result A E → A
 value x (Ok y) = y
@@ -22,7 +22,7 @@ pub bind_ok : {A B E : Type 0} (r : Result A E) (next : A → Result B E) (y : B
 bind_ok (Ok x) next y h = (x, (refl, h))
 bind_ok (Err e) next y h = cc h
 
-pub named_ok : {A : Type 0} (o : Option A) (x : A) → named o ≡ Ok x → o ≡ Some x
+pub named_ok : {A : Type 0} (o : Option A) (x : A) → named_or_refusal o ≡ Ok x → o ≡ Some x
 named_ok None x h = cc h
 named_ok (Some y) x h = ap Some (same_ok y x h)
 

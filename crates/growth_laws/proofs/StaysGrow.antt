@@ -15,7 +15,7 @@ use Rattle.vault_model.specs.Proper.{rises}
 use Rattle.vault_model.specs.SeenNodes.{entry_time}
 use Rattle.vault_model.specs.Shape.{GroupRecord, shared_of, versions_of}
 use Rattle.vault_model.specs.Tree.{BareDoc, IsDoc, db_in, shape_of}
-use Rattle.vault_model.specs.Unite.{greater, merged, unite}
+use Rattle.vault_model.specs.Unite.{greater, join_options, unite}
 use Rattle.vault_model.proofs.Ids.{same_id}
 use Rattle.vault_model.proofs.Orders.{id_order}
 use Rattle.vault_model.proofs.Tests.{and_true, apart, decide, from_map, in_map, is_false, none_of, or_cases, or_false, or_left, or_right, some_of}
@@ -94,33 +94,33 @@ module _ (d e : BareDoc) (isd : IsDoc d) (ise : IsDoc e) (stays : Stays d e) whe
   group_now : (u : NodeId) (r : GroupRecord) (a : GroupAfter u r e) → get n.groups u ≡ Some a.after.state
   group_now u r a = db_groups (shape_of e) u ∙ ap (option_map (λ (g : GroupRecord). g.state)) (group_is e ise u a.after a.row)
 
-  entries_grew : (u : NodeId) (o : Option Versions) → get m.entries u ≡ o → holds n u ≡ true → merged (unite stats_join) o (get n.entries u) ≡ get n.entries u
+  entries_grew : (u : NodeId) (o : Option Versions) → get m.entries u ≡ o → holds n u ≡ true → join_options (unite stats_join) o (get n.entries u) ≡ get n.entries u
   entries_grew u None q h = refl
   entries_grew u (Some v) q h =
       let x = entry_at d isd u v q in
       elim (stays.entries u x.0 x.1.0) [
         | inl a ↦
             let now = db_entries (shape_of e) u ∙ ap (option_map versions_of) (entry_is e ise u a.after a.row) in
-            ap (λ w. merged (unite stats_join) (Some w) (get n.entries u)) (sym x.1.1) ∙ ap (merged (unite stats_join) (Some (versions_of x.0))) now ∙ ap Some a.more ∙ sym now
+            ap (λ w. join_options (unite stats_join) (Some w) (get n.entries u)) (sym x.1.1) ∙ ap (join_options (unite stats_join) (Some (versions_of x.0))) now ∙ ap Some a.more ∙ sym now
         | inr b ↦ buried_gone u (entry_time x.0) b h
       ]
 
-  groups_grew : (u : NodeId) (o : Option GroupState) → get m.groups u ≡ o → holds n u ≡ true → merged state_join o (get n.groups u) ≡ get n.groups u
+  groups_grew : (u : NodeId) (o : Option GroupState) → get m.groups u ≡ o → holds n u ≡ true → join_options state_join o (get n.groups u) ≡ get n.groups u
   groups_grew u None q h = refl
   groups_grew u (Some s) q h =
       let r = group_at d isd u s q in
       elim (stays.groups u r.0 r.1.0) [
         | inl a ↦
             let now = group_now u r.0 a in
-            ap (λ w. merged state_join (Some w) (get n.groups u)) (sym r.1.1) ∙ ap (merged state_join (Some r.0.state)) now ∙ ap Some a.more ∙ sym now
+            ap (λ w. join_options state_join (Some w) (get n.groups u)) (sym r.1.1) ∙ ap (join_options state_join (Some r.0.state)) now ∙ ap Some a.more ∙ sym now
         | inr b ↦ buried_gone u r.0.state.modified b h
       ]
 
-  places_grew : (u : NodeId) (o : Option Place) → get m.places u ≡ o → holds n u ≡ true → merged (greater place_cmp) o (get n.places u) ≡ get n.places u
+  places_grew : (u : NodeId) (o : Option Place) → get m.places u ≡ o → holds n u ≡ true → join_options (greater place_cmp) o (get n.places u) ≡ get n.places u
   places_grew u None q h = refl
   places_grew u (Some p) q h =
       elim (stays.places u p q) [
-        | inl a ↦ ap (merged (greater place_cmp) (Some p)) a.is ∙ ap Some a.later ∙ sym a.is
+        | inl a ↦ ap (join_options (greater place_cmp) (Some p)) a.is ∙ ap Some a.later ∙ sym a.is
         | inr b ↦ buried_gone u 0 b h
       ]
 
@@ -131,7 +131,7 @@ module _ (d e : BareDoc) (isd : IsDoc d) (ise : IsDoc e) (stays : Stays d e) whe
       let b = stays.tombs t.0 t.1.0 in
       buried_gone u t.0.deleted (record { tomb = b.tomb; is = b.is; id = b.id ∙ t.1.1.0; late = b.late }) h
 
-  tombs_grew : (u : NodeId) (o : Option ℕ) → get m.tombs u ≡ o → merged max o (get n.tombs u) ≡ get n.tombs u
+  tombs_grew : (u : NodeId) (o : Option ℕ) → get m.tombs u ≡ o → join_options max o (get n.tombs u) ≡ get n.tombs u
   tombs_grew u None q = refl
   tombs_grew u (Some time) q =
       let t = tomb_at d isd u time q in
@@ -140,7 +140,7 @@ module _ (d e : BareDoc) (isd : IsDoc d) (ise : IsDoc e) (stays : Stays d e) whe
       let late = b.late in
       let was = t.1.1.1 in
       let most : max time b.tomb.deleted ≡ b.tomb.deleted = omega (arith, late, was) in
-      ap (merged max (Some time)) now ∙ ap Some most ∙ sym now
+      ap (join_options max (Some time)) now ∙ ap Some most ∙ sym now
 
   -- the stamp of what is gone
   stamp_of_entry : (u : NodeId) (v : Versions) (time : ℕ) → get m.entries u ≡ Some v → newest (Some v) ≤ time → holds n u ≡ false → stamp (m ∷ n ∷ []) u ≤ time

@@ -35,7 +35,7 @@ abbrev pub of_document : DocFail → OpenFail
 of_document document.NoMemory = NoMemory
 of_document fail = Doc fail
 
--- Want of memory is the outermost answer, and inside no other.
+-- Running out of memory is the outermost answer, and inside no other.
 pub record MemoryIsOutermost {X : Type 0} (result : Result X OpenFail) : Type 0 where
   pub file : IsErrOf result (File read.NoMemory) → ⊥
   pub frame : IsErrOf result (Frame frame.NoMemory) → ⊥

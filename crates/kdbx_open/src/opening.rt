@@ -93,8 +93,8 @@ fn open_named<F: FileStore>(
 /// # Errors
 ///
 /// The first of [`OpenFail`]. A file has at most 134,217,728 bytes. Each refusal but FileFault of
-/// the store and want of memory comes only where the file and the key are so, and there unless
-/// memory runs out or the store fails; FileFault only where the store's count of faults rose, and
+/// the store and NoMemory comes only where the file and the key are so, and there unless memory
+/// runs out or the store fails; FileFault only where the store's count of faults rose, and
 /// NoSuchFile only where its count of absences rose.
 pub fn open_file<F: FileStore>(
     alloc: Global,

@@ -5,7 +5,8 @@ use Rattle.key_core.specs.declared.kdf.KdfFail.TheVariants as kdf
 use Rattle.kdbx_parts.specs.declared.fail.FrameFail.{FrameFail}
 use Rattle.kdbx_parts.specs.declared.fail.FrameFail.TheVariants.{NoMemory, KdfLimit}
 
--- What a refusal says of what is defined: that this is its refusal, but want of memory says nothing.
+-- What a refusal says of what is defined: that this is its refusal, but running out of memory says
+-- nothing.
 abbrev pub meaning_of : FrameFail → Meaning FrameFail
 meaning_of NoMemory = free
 meaning_of fail = exact fail

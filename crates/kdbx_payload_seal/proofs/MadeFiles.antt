@@ -27,7 +27,8 @@ use Rattle.kdbx_spelling.specs.Header.{header_with, settings_with, spelled_heade
 use Rattle.kdbx_spelling.specs.Inner.{FitsField, inner_with, spelled_inner}
 use Rattle.kdbx_spelling.proofs.HeaderReading.{header_again}
 use Rattle.kdbx_spelling.proofs.InnerReading.{inner_again}
-use Rattle.kdbx_payload_seal.specs.Made.{blocks_to_end, content_of, file_of, made, made_payload, pieces, pieces_of, written_keystream}
+use Rattle.kdbx_payload_seal.specs.Answers.{IsSealedWith}
+use Rattle.kdbx_payload_seal.specs.Made.{blocks_to_end, content_of, file_of, made_payload, made_with, pieces, pieces_of, written_keystream}
 
 -- The pieces put end to end are the content.
 pieces_joined : (f n : ℕ) (xs : List ℕ) → 0 < n → length xs ≤ f → concat_contents (pieces_of f n xs) ≡ xs
@@ -118,20 +119,19 @@ payload_again s d pool text len small =
     (ap (λ (t : List ℕ). Ok (record { settings = settings_with s d; pool = pool; stream = written_keystream d.stream; text = t }))
     (drop_at inner text (length inner) refl)))
 
-pub made_is_sealed : (s : Settings) (d : Draws) (composite : List ℕ) (pool : List Binary) (text : List ℕ)
-    → IsVersion4 s.version → IsInOrder s → AreDrawn s d → AllByRecursion FitsField pool → length (spelled_header s d) + 64 ≤ header_limit
-    → deciphered_text s.cipher (key_of (header_with s d) composite) d.iv (content_of (key_of (header_with s d) composite) s d pool text)
-    ≡ Some (spelled_inner d.stream pool ++ text)
-    → SealedPayload (made s d composite pool text) composite (made_payload s d pool text)
-unfolding made payload_of
-made_is_sealed s d composite pool text is order drawn small within undone =
+pub made_is_sealed : (s : Settings) (d : Draws) (composite plain : List ℕ)
+    → IsVersion4 s.version → IsInOrder s → AreDrawn s d → length (spelled_header s d) + 64 ≤ header_limit
+    → deciphered_text s.cipher (key_of (header_with s d) composite) d.iv (content_of (key_of (header_with s d) composite) s d plain) ≡ Some plain
+    → IsSealedWith s d composite plain
+unfolding made_with payload_of
+made_is_sealed s d composite plain is order drawn within undone pool text small same =
     let base = base_of (header_with s d) composite in
     let key = key_of (header_with s d) composite in
     let header = spelled_header s d in
-    let content = content_of key s d pool text in
-    let plain = spelled_inner d.stream pool ++ text in
+    let content = content_of key s d plain in
     let payload = made_payload s d pool text in
     let body = blocks_to_end base 0 (pieces content) in
     is_sealed (file_of base header content) composite payload
     (each _ _ (header_with s d) payload (ap frame_or_refusal (header_again s d (header_mac base header) body is order drawn (mac_len base header) within))
-    (each _ _ plain payload (hidden_again s d base key content plain undone) (payload_again s d pool text drawn.stream.len small)))
+    (each _ _ plain payload (hidden_again s d base key content plain undone)
+    (ap (payload_in (settings_with s d)) same ∙ payload_again s d pool text drawn.stream.len small)))

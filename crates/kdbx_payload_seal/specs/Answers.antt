@@ -1,10 +1,17 @@
 -- What an answer of sealing says of the store and of the header.
 use Rattle.std.specs.Prelude.{◌≡◌, ℕ, ◌<◌, ◌≤◌, List, Option, None, option_map, Result, Ok, Err}
 use Rattle.std.specs.FinMap as map
+use Rattle.std.specs.List.{AllByRecursion}
 use Rattle.outside_core.specs.Files.{FileMap}
 use Rattle.outside_core.specs.declared.fails.FileFail.{FileFail}
 use Rattle.outside_core.specs.declared.fails.FileFail.TheVariants as file
+use Rattle.kdbx_frame.specs.declared.settings.Settings.{Settings}
 use Rattle.kdbx_frame.specs.Fields.{header_limit}
+use Rattle.kdbx_inner.specs.Inner.{Binary}
+use Rattle.kdbx_payload.specs.Sealed.{SealedPayload}
+use Rattle.kdbx_spelling.specs.declared.draws.Draws.{Draws}
+use Rattle.kdbx_spelling.specs.Inner.{FitsField}
+use Rattle.kdbx_payload_seal.specs.Made.{made_payload, made_with, plain_content}
 use Rattle.kdbx_payload_seal.specs.declared.fail.SealPayloadFail.{SealPayloadFail}
 use Rattle.kdbx_payload_seal.specs.declared.fail.SealPayloadFail.TheVariants.{TooLarge, FileFault, NoMemory}
 
@@ -34,3 +41,10 @@ LeavesNoDraft (Err (TooLarge n)) draft = Unit {0}
 LeavesNoDraft (Err FileFault) draft = draft ≡ None
 LeavesNoDraft (Err NoMemory) draft = draft ≡ None
 LeavesNoDraft (Ok _) draft = draft ≡ None
+
+-- The file that is made of a content is sealed, with the attached files and the text of which the
+-- content is.
+abbrev pub IsSealedWith : Settings → Draws → List ℕ → List ℕ → Type 0
+IsSealedWith s d composite plain = (pool : List Binary) (text : List ℕ)
+    → AllByRecursion FitsField pool → plain ≡ plain_content d pool text
+    → SealedPayload (made_with s d composite plain) composite (made_payload s d pool text)

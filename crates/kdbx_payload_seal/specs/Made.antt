@@ -34,18 +34,25 @@ abbrev pub file_of : List ℕ → List ℕ → List ℕ → List ℕ
 file_of base header content =
     header ++ sha256 header ++ header_mac base header ++ blocks_to_end base 0 (pieces content)
 
--- The content of a file under the key of its cipher: inner fields with the attached files, and the
--- text of the document, enciphered.
-abbrev pub content_of : List ℕ → Settings → Draws → List Binary → List ℕ → List ℕ
-content_of key s d pool text = enciphered_text s.cipher key d.iv
-    (spelled_inner d.stream pool ++ text)
+-- The content of a file before it is enciphered: inner fields with the attached files, and the text
+-- of the document.
+abbrev pub plain_content : Draws → List Binary → List ℕ → List ℕ
+plain_content d pool text = spelled_inner d.stream pool ++ text
+
+-- A content enciphered under the key of its file's cipher.
+abbrev pub content_of : List ℕ → Settings → Draws → List ℕ → List ℕ
+content_of key s d plain = enciphered_text s.cipher key d.iv plain
+
+-- The file of these settings with these draws, under a composite key, that has this content.
+unfoldable pub made_with : Settings → Draws → List ℕ → List ℕ → List ℕ
+made_with s d composite plain =
+    file_of (base_of (header_with s d) composite) (spelled_header s d)
+    (content_of (key_of (header_with s d) composite) s d plain)
 
 -- The file of these settings with these draws, under a composite key, that has these attached files
 -- and this text of a document.
-unfoldable pub made : Settings → Draws → List ℕ → List Binary → List ℕ → List ℕ
-made s d composite pool text =
-    file_of (base_of (header_with s d) composite) (spelled_header s d)
-    (content_of (key_of (header_with s d) composite) s d pool text)
+abbrev pub made : Settings → Draws → List ℕ → List Binary → List ℕ → List ℕ
+made s d composite pool text = made_with s d composite (plain_content d pool text)
 
 -- The keystream of a written file, which hides values in its document: ChaCha20 under a stream key.
 abbrev pub written_keystream : List ℕ → Keystream

@@ -1,4 +1,4 @@
-//! A text under a cipher, enciphered where it stands.
+//! A text under a cipher, enciphered in place.
 
 ghost use Rattle.std.specs.Prelude.{◌≡◌, ◌≤◌, ◌%◌, ◌^◌, Some, length, take};
 ghost use Rattle.block_core.specs.Cbc.{cbc_deciphered, cbc_enciphered};

@@ -1,31 +1,26 @@
 //! Sealing a payload.
 
-ghost use Rattle.std.specs.Prelude.{◌≡◌, ◌+◌, ◌≤◌, ◌^◌, ◌++◌, ℕ, IfOk, IfSome, IsSome, IsErrOf, OnOk, None, Some, length, map};
-ghost use Rattle.std.specs.List.{AllByRecursion};
+ghost use Rattle.std.specs.Prelude.{◌≡◌, ◌+◌, ◌≤◌, ◌^◌, ◌++◌, ℕ, IfSome, IsSome, IsErrOf, OnOk, None, Some, length};
 ghost use Rattle.key_core.specs.Kdf.{IsChecked};
 ghost use Rattle.outside_core.specs.Counts.{HasCause};
 ghost use Rattle.kdbx_frame.specs.Settings.{IsInOrder, IsVersion4};
-ghost use Rattle.kdbx_inner.specs.Seen.{binary_seen};
-ghost use Rattle.kdbx_payload.specs.Sealed.{SealedPayload};
 ghost use Rattle.kdbx_spelling.specs.Draws.{AreDrawn};
 ghost use Rattle.kdbx_spelling.specs.Header.{spelled_header};
-ghost use Rattle.kdbx_spelling.specs.Inner.{FitsField, spelled_inner};
-ghost use Rattle.kdbx_payload_seal.specs.Answers.{JudgesEnd, LeavesNoDraft, Puts};
-ghost use Rattle.kdbx_payload_seal.specs.Made.{file_of, made, made_payload};
-ghost use Rattle.kdbx_payload_seal.specs.Parts.{AreSmall, IsUndone, parts_base, parts_content, parts_file, parts_key};
+ghost use Rattle.kdbx_payload_seal.specs.Answers.{IsSealedWith, JudgesEnd, LeavesNoDraft, Puts};
+ghost use Rattle.kdbx_payload_seal.specs.Made.{file_of, made_with};
+ghost use Rattle.kdbx_payload_seal.specs.Parts.{IsUndone, parts_base, parts_file, parts_key};
 
 use crate::SealPayloadFail;
 use crate::blocks::append_blocks;
 use crate::ciphering::encipher;
 use kdbx_frame::{HEADER_LIMIT, Settings};
 use kdbx_payload::header_mac;
-use kdbx_writing::{Draws, inner_len, with_salt, write_header, write_inner};
+use kdbx_writing::{Draws, with_salt, write_header};
 use key_core::{FileKeys, file_keys, transform};
-use outside_core::{FileFail, FileStore, List, NoMemory};
+use outside_core::{FileFail, FileStore};
 use secret_core::{Key, Key64, Secret};
 use sha2::{Digest, Sha256};
 use std::alloc::Global;
-use vault_model::PoolItem;
 
 /// How many bytes of a file its header may reach into, with its hash and its MAC.
 const LIMIT: u64 = HEADER_LIMIT as u64;
@@ -76,50 +71,34 @@ fn put_file<F: FileStore>(
     files.publish()
 }
 
-// What a file is made from, but for its text and the composite key.
+// What a file is made from, but for its content and the composite key.
 #[derive(Clone, Copy)]
 struct Parts<'a> {
     settings: &'a Settings,
     draws: &'a Draws,
     header: &'a [u8],
-    pool: &'a List<PoolItem>,
-}
-
-// The content of a file under the key of its cipher, in memory that is reserved once. The text is
-// dropped.
-fn content_of(alloc: Global, key: &Key, parts: &Parts, text: Secret) -> Result<Secret, NoMemory>
-    requires { AreSmall parts.now text.bytes }
-    ensures bytes { IfOk result (λ s. s.bytes ≡ parts_content key.now parts.now text.bytes) }
-    ensures undone { IfOk result (λ s. IsUndone key.now parts.now text.bytes s.bytes) }
-{
-    let stream = parts.draws.stream.bytes();
-    let mut content = Secret::with_room(alloc, inner_len(stream, parts.pool) + text.len() + 16)?;
-    write_inner(&mut content, stream, parts.pool);
-    content.extend(text.lend(0, text.len()));
-    let iv = parts.draws.iv.bytes();
-    Ok(encipher(parts.settings.cipher, key, iv, content))
 }
 
 // Puts a file under a name, under the file's keys.
 fn put_with_file_keys<F: FileStore>(
-    alloc: Global,
     keys: &FileKeys,
     parts: &Parts,
-    text: Secret,
+    plain: Secret,
     files: &mut F,
     name: &str,
 ) -> Result<(), FileFail>
-    requires { AreSmall parts.now text.bytes }
+    requires spare { 16 ≤ plain.spare }
+    requires limit { length plain.bytes ≤ 2 ^ 38 }
     ensures files { Puts result (F.files files.old) (F.files files.new) name.now
-        (parts_file keys.now.base keys.now.cipher parts.now text.bytes) }
-    ensures undone { OnOk result (IsUndone keys.now.cipher parts.now text.bytes
-        (parts_content keys.now.cipher parts.now text.bytes)) }
-    ensures no_draft { OnOk result (F.draft_name files.new ≡ None) }
+        (parts_file keys.now.base keys.now.cipher parts.now plain.bytes) }
+    ensures undone { IsUndone keys.now.cipher parts.now plain.bytes }
+    ensures no_draft { F.draft_name files.new ≡ None }
     ensures not_missing { ¬ IsErrOf result FileFail.NoSuchFile }
     ensures faults { HasCause FileFail.Failed (F.faults files.old) (F.faults files.new) result }
     ensures absences { F.absences files.old ≤ F.absences files.new }
 {
-    let content = content_of(alloc, &keys.cipher, parts, text)?;
+    let iv = parts.draws.iv.bytes();
+    let content = encipher(parts.settings.cipher, &keys.cipher, iv, plain);
     put_file(
         files,
         name,
@@ -135,17 +114,18 @@ fn put_with_composite<F: FileStore>(
     alloc: Global,
     composite: &Key,
     parts: &Parts,
-    text: Secret,
+    plain: Secret,
     files: &mut F,
     name: &str,
 ) -> Result<(), FileFail>
     requires checked { IsChecked parts.now.settings.now.kdf }
-    requires small { AreSmall parts.now text.bytes }
+    requires spare { 16 ≤ plain.spare }
+    requires limit { length plain.bytes ≤ 2 ^ 38 }
     ensures files { Puts result (F.files files.old) (F.files files.new) name.now
         (parts_file (parts_base parts.now composite.now) (parts_key parts.now composite.now)
-        parts.now text.bytes) }
-    ensures undone { OnOk result (IsUndone (parts_key parts.now composite.now) parts.now text.bytes
-        (parts_content (parts_key parts.now composite.now) parts.now text.bytes)) }
+        parts.now plain.bytes) }
+    ensures undone { OnOk result
+        (IsUndone (parts_key parts.now composite.now) parts.now plain.bytes) }
     ensures no_draft { OnOk result (F.draft_name files.new ≡ None) }
     ensures not_missing { ¬ IsErrOf result FileFail.NoSuchFile }
     ensures faults { HasCause FileFail.Failed (F.faults files.old) (F.faults files.new) result }
@@ -156,14 +136,15 @@ fn put_with_composite<F: FileStore>(
         return Err(FileFail::NoMemory);
     };
     let mut keys = file_keys(transformed, parts.draws.seed.bytes());
-    let result = put_with_file_keys(alloc, &keys, parts, text, files, name);
+    let result = put_with_file_keys(&keys, parts, plain, files, name);
     keys.clear();
     keys.release();
     result
 }
 
-/// Seals a text with attached files as the KDBX 4 file of a name, under a composite key. The draws
-/// and the text are dropped.
+/// Seals a content as the KDBX 4 file of a name, under a composite key: inner fields with attached
+/// files, and the text of a document after them. It is enciphered where it is, so it needs room for
+/// its padding. The draws and the content are dropped.
 ///
 /// At Ok the store has the file that is made of them, and all else as it was. After a refusal the
 /// files are as they were, and but for TooLarge there is no draft. The keys that were derived were
@@ -173,28 +154,24 @@ fn put_with_composite<F: FileStore>(
 ///
 /// The first of [`SealPayloadFail`] but for NoMemory: TooLarge before a key is derived, after which
 /// the store is as it was; FileFault only where the store's count of faults rose.
-#[tactic(auto, unfolding(crate::specs::Made::made))]
+#[tactic(auto, unfolding(crate::specs::Made::made_with))]
 pub fn seal_payload<F: FileStore>(
     alloc: Global,
     settings: &Settings,
     draws: Draws,
     composite: &Key,
-    pool: &List<PoolItem>,
-    text: Secret,
+    plain: Secret,
     files: &mut F,
     name: &str,
 ) -> Result<(), SealPayloadFail>
     requires in_order { IsInOrder settings.now }
     requires version { IsVersion4 settings.now.version }
     requires drawn { AreDrawn settings.now draws }
-    requires small { AllByRecursion FitsField (map binary_seen pool.now) }
-    requires limit { length (spelled_inner draws.stream (map binary_seen pool.now))
-        + length text.bytes ≤ 2 ^ 37 }
+    requires spare { 16 ≤ plain.spare }
+    requires limit { length plain.bytes ≤ 2 ^ 38 }
     ensures files { Puts result (F.files files.old) (F.files files.new) name.now
-        (made settings.now draws composite.now (map binary_seen pool.now) text.bytes) }
-    ensures sealed { OnOk result (SealedPayload
-        (made settings.now draws composite.now (map binary_seen pool.now) text.bytes) composite.now
-        (made_payload settings.now draws (map binary_seen pool.now) text.bytes)) }
+        (made_with settings.now draws composite.now plain.bytes) }
+    ensures sealed { OnOk result (IsSealedWith settings.now draws composite.now plain.bytes) }
     ensures end { JudgesEnd result (length (spelled_header settings.now draws) + 64) }
     ensures too_large { (n : ℕ) → IsErrOf result (SealPayloadFail.TooLarge n)
         → files.new ≡ files.old }
@@ -215,9 +192,8 @@ pub fn seal_payload<F: FileStore>(
         settings,
         draws: &draws,
         header: header.as_slice(),
-        pool,
     };
-    match put_with_composite(alloc, composite, &parts, text, files, name) {
+    match put_with_composite(alloc, composite, &parts, plain, files, name) {
         Ok(()) => Ok(()),
         Err(refusal) => {
             files.discard();

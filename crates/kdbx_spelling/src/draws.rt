@@ -25,7 +25,7 @@ pub struct Draws {
     pub start: Fresh<32>,
 }
 
-// Draws n bytes into the front.
+// Draws the first n bytes.
 fn draw_front<D: Dice, const N: usize>(dice: &mut D, n: usize) -> Result<Fresh<N>, DiceFail>
     requires { n ≤ N }
     ensures stream { IfOk result (λ fresh. D.stream dice.old

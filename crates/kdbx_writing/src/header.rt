@@ -77,7 +77,7 @@ fn put_public(out: &mut Bytes, public: &Option<Bytes>) -> Result<(), NoMemory>
 /// The header of a file of these settings, with what was drawn for the file.
 ///
 /// Where it ends within the limit it is read as what it was written from
-/// ([`kdbx_spelling::laws::headers_read_back`]). The only refusal is want of memory.
+/// ([`kdbx_spelling::laws::headers_read_back`]). The only refusal is that memory ran out.
 #[tactic(auto, unfolding(kdbx_spelling::specs::Header::spelled_header))]
 pub fn write_header(alloc: Global, settings: &Settings, draws: &Draws) -> Result<Bytes, NoMemory>
     requires in_order { IsInOrder settings.now }

@@ -8,7 +8,6 @@ ghost use Rattle.kdbx_spelling.specs.Fields.{spelled_field};
 ghost use Rattle.kdbx_spelling.specs.Inner.{FitsField, binary_field, spelled_inner};
 ghost use Rattle.kdbx_writing.specs.Pools.{pool_bytes};
 
-use outside_core::List;
 use secret_core::Secret;
 use vault_model::PoolItem;
 
@@ -66,7 +65,7 @@ fn put_pool(out: &mut Secret, pool: &[PoolItem])
 ///
 /// They are read as what they were written from
 /// ([`kdbx_spelling::laws::inner_fields_read_back`]).
-pub fn write_inner(out: &mut Secret, key: &[u8; 64], pool: &List<PoolItem>)
+pub fn write_inner(out: &mut Secret, key: &[u8; 64], pool: &[PoolItem])
     requires small { AllByRecursion FitsField (map binary_seen pool.now) }
     requires spare { length (spelled_inner key.now (map binary_seen pool.now)) ≤ out.old.spare }
     ensures bytes { out.new.bytes
@@ -76,7 +75,7 @@ pub fn write_inner(out: &mut Secret, key: &[u8; 64], pool: &List<PoolItem>)
 {
     put_field(out, 1, &3u32.to_le_bytes());
     put_field(out, 2, key);
-    put_pool(out, pool.as_slice());
+    put_pool(out, pool);
     put_field(out, 0, &[]);
 }
 
@@ -95,9 +94,9 @@ fn pool_len(pool: &[PoolItem]) -> usize
 }
 
 /// How many bytes `write_inner` puts.
-pub fn inner_len(key: &[u8; 64], pool: &List<PoolItem>) -> usize
+pub fn inner_len(key: &[u8; 64], pool: &[PoolItem]) -> usize
     requires { length (spelled_inner key.now (map binary_seen pool.now)) < 2 ^ 62 }
     ensures { result ≡ length (spelled_inner key.now (map binary_seen pool.now)) }
 {
-    key.len() + 19 + pool_len(pool.as_slice())
+    key.len() + 19 + pool_len(pool)
 }

@@ -8,7 +8,7 @@ use Rattle.cli_answers.specs.declared.answers.Stop.{Stop}
 use Rattle.outside_core.specs.Results.{◌>>=◌}
 use Rattle.cli_answers.specs.Phases.{Returns}
 use Rattle.cli_lines.specs.Lines.{HasLines, Lines, lines_of}
-use Rattle.cli_words.specs.Needs.{needs_of}
+use Rattle.cli_words.specs.Needs.{Needs, needs_of}
 use Rattle.cli_words.specs.declared.command.Command.{Command}
 use Rattle.keepass_call.specs.declared.execute.Output.{Output}
 use Rattle.keepass_call.specs.Databases.{database_of}
@@ -36,3 +36,18 @@ output_given words command lines doc (Ok done) c p d gives = record {
   gives = gives;
 }
 output_given words command lines doc (Err stop) c p d gives = tt
+
+-- The same, where what the command asks for has another name.
+pub given_by_needs : (words : List (List ℕ)) (input : List ℕ) (files : FileMap) (command : Command) (needs : Needs) (lines : Lines) (doc : BareDoc) (result : Result Output Stop)
+    → known_command words ≡ Ok command → needs ≡ needs_of command → (lines_of needs input).answer ≡ Ok lines → database_of needs lines.password files ≡ Ok doc
+    → Returns (λ done. done) result (output_of command doc) → Returns (λ done. done) result (answer_of words input files)
+given_by_needs words input files command needs lines doc result c same p d =
+    given_all words input files command lines doc result c (subst (λ (n : Needs). (lines_of n input).answer ≡ Ok lines) same p)
+    (subst (λ (n : Needs). database_of n lines.password files ≡ Ok doc) same d)
+
+pub output_by_needs : (words : List (List ℕ)) (command : Command) (needs : Needs) (lines : Lines) (doc : BareDoc) (result : Result Output Stop)
+    → known_command words ≡ Ok command → needs ≡ needs_of command → HasLines needs lines → SomeDatabase needs lines.password doc
+    → Returns (λ done. done) result (output_of command doc) → IfOk result (IsOfSomeFile words)
+output_by_needs words command needs lines doc result c same p d =
+    output_given words command lines doc result c (subst (λ (n : Needs). HasLines n lines) same p)
+    (subst (λ (n : Needs). SomeDatabase n lines.password doc) same d)

@@ -5,7 +5,7 @@ use Rattle.cli_answers.specs.declared.answers.Stop.{Stop}
 use Rattle.cli_answers.specs.declared.answers.Stop.TheVariants.{Refused, FileFault, InputFault, NoMemory}
 use Rattle.cli_words.specs.declared.command.Command.{Command}
 use Rattle.keepass_call.specs.declared.execute.Output.{Output}
-use Rattle.cli_words.specs.Needs.{asks_line, needs_of}
+use Rattle.cli_words.specs.Needs.{Needs, asks_line, needs_of}
 use Rattle.cli_lines.specs.Lines.{lines_of}
 use Rattle.keepass_call.specs.Outcome.{asked_by, left_behind}
 use Rattle.cli_lines.proofs.Inputs.{left_alone}
@@ -16,6 +16,12 @@ use Rattle.cli_answers.specs.Phases.{IsLeft, IsLineStop, IsWordsStop, Leaves, Re
 pub asked_so : (words : Result Command Refusal) (command : Command) (before : Option (List ℕ)) (input : List ℕ) → words ≡ Ok command
     → TellsInput (asked_by words) before input → TellsInput (asks_line (needs_of command)) before input
 asked_so words command before input is t = subst (λ (w : Result Command Refusal). TellsInput (asked_by w) before input) is t
+
+-- the same of what the command asks for, under another name
+pub asked_needs : (words : Result Command Refusal) (command : Command) (needs : Needs) (before : Option (List ℕ)) (input : List ℕ) → words ≡ Ok command
+    → needs ≡ needs_of command → TellsInput (asked_by words) before input → TellsInput (asks_line needs) before input
+asked_needs words command needs before input is same t =
+    subst (λ (n : Needs). TellsInput (asks_line n) before input) (sym same) (asked_so words command before input is t)
 
 -- what a call leaves that stops at its words
 pub words_leave : (stop : Stop) (words : Result Command Refusal) (before : Option (List ℕ)) (input : List ℕ) → IsWordsStop stop → Stops stop words

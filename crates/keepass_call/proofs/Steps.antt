@@ -7,7 +7,7 @@ use Rattle.cli_answers.specs.declared.answers.Refusal.{Refusal}
 use Rattle.cli_answers.specs.declared.answers.Stop.{Stop}
 use Rattle.cli_answers.specs.declared.answers.Stop.TheVariants.{Refused, FileFault, InputFault, NoMemory}
 use Rattle.cli_words.specs.declared.command.Command.{Command}
-use Rattle.cli_words.specs.Needs.{files_named, files_of, needs_of}
+use Rattle.cli_words.specs.Needs.{Needs, files_named, files_of, needs_of}
 use Rattle.cli_answers.specs.Phases.{IsCaused, IsFileStop, IsPlainStop}
 
 pub rose_before : (before mid now : ℕ) → before ≤ mid → Increased mid now → Increased before now
@@ -38,6 +38,12 @@ at_words command words f f' a a' i i' (Refused refusal) is h = h
 at_words command words f f' a a' i i' (FileFault name) is h = subst (λ (w : Result Command Refusal). Increased f f' × Contains (files_named w) name) (sym is) h
 at_words command words f f' a a' i i' InputFault is h = absurd h
 at_words command words f f' a a' i i' NoMemory is h = tt
+
+-- the same of what the command asks for, under another name
+pub at_needs : (command : Command) (needs : Needs) (words : Result Command Refusal) (f f' a a' i i' : ℕ) (stop : Stop) → words ≡ Ok command
+    → needs ≡ needs_of command → IsFileStop (files_of needs) f f' a a' stop → IsCaused (files_named words) f f' a a' i i' stop
+at_needs command needs words f f' a a' i i' stop is same h =
+    at_words command words f f' a a' i i' stop is (subst (λ (n : Needs). IsFileStop (files_of n) f f' a a' stop) same h)
 
 -- a stop without a missing file, as a stop of the call
 pub plainly : {X : Type 0} (result : Result X Stop) (names : List (List ℕ)) (f f' a a' i i' : ℕ) → IfErr result IsPlainStop → IfErr result (IsCaused names f f' a a' i i')

@@ -8,8 +8,8 @@ use Rattle.cli_words.specs.Needs.{files_named}
 -- after.
 pub record IsCall (words : List (List ℕ)) (result : ℕ) (before now : Seen) (counts counts' : Counts)
     : Type 0 where
-  -- Where the status is 0, or nothing failed and memory did not run out, all is as the outcome says
-  -- to which the words come.
+  -- Where the status is 0, or nothing failed and memory did not run out, all is as the outcome of
+  -- the words says.
   pub as_said : WhereTold words before (λ input files. (result ≡ 0)
       ⊎ ((result ≢ 9) × NoFaults counts counts')
       → IsAsSaid (outcome words input files) result before now)

@@ -1,4 +1,4 @@
--- What a call comes to: its phases one after another, and all that is seen of it.
+-- What a call results in: its phases one after another, and all that is seen of it.
 use Rattle.std.specs.Prelude.{◌≡◌, ◌≢◌, ℕ, List, [], ◌++◌, Contains, Option, None, Some, option_map, ◌⊎◌, Result, Ok, Err, codes, Bool, false}
 use Rattle.outside_core.specs.Counts.{Increased}
 use Rattle.outside_core.specs.Files.{FileMap}
@@ -65,8 +65,8 @@ left_behind (Err refusal) input = input
 abbrev pub left_of : List (List ℕ) → List ℕ → List ℕ
 left_of words input = left_behind (known_command words) input
 
--- What a call comes to where nothing of the outside fails: its status, what it prints, its line on
--- standard error, the files after it, and what is left of the input.
+-- What a call results in where nothing of the outside fails: its status, what it prints, its line
+-- on standard error, the files after it, and what is left of the input.
 pub record Outcome : Type 0 where
   pub status : ℕ
   pub text : List ℕ
@@ -94,7 +94,7 @@ ended files left (Err refusal) =
       left = left;
     }
 
--- What the words come to over this input and these files.
+-- What the words result in over this input and these files.
 abbrev pub outcome : List (List ℕ) → List ℕ → FileMap → Outcome
 outcome words input files = ended files (left_of words input) (answer_of words input files)
 
@@ -165,8 +165,8 @@ pub record IsAsSaid (said : Outcome) (result : ℕ) (before now : Seen) : Type 0
   pub left : IsLeft before.left now.left said.left
   pub stream : now.stream ≡ before.stream
 
--- A status that may be in the place of the outcome's: want of memory, or a fault of an object
--- whose count rose.
+-- A status that may be in the place of the outcome's: that of running out of memory, or of a fault
+-- of an object whose count rose.
 abbrev pub IsOther : ℕ → Counts → Counts → Type 0
 IsOther result before now =
     (result ≡ 9)
@@ -192,7 +192,7 @@ pub record AgreesUpToFailure (names : List (List ℕ)) (said : Outcome) (result 
       ⊎ TellsFault names result before now counts counts'
   pub files : (now.files ≡ before.files) ⊎ (now.files ≡ Some said.files)
 
--- A refusal is the one that the words come to, or it reports a fault whose count rose.
+-- A refusal is the outcome's, or it reports a fault whose count rose.
 abbrev pub IsRefused : List (List ℕ) → Outcome → ℕ → Seen → Seen → Counts → Counts → Type 0
 IsRefused names said result before now counts counts' =
     result ≢ 0 → result ≢ 9 → result ≢ 10

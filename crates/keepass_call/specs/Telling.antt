@@ -1,4 +1,4 @@
--- How a call reports what it came to.
+-- How a call reports its result.
 use Rattle.std.specs.Prelude.{◌≡◌, ℕ, List, Option, codes, ◌⊎◌}
 use Rattle.outside_core.specs.Counts.{Increased}
 use Rattle.outside_core.specs.Streams.{GainsPrefix}
@@ -14,8 +14,8 @@ abbrev pub IsUnwritten : SinkFail → ℕ → Type 0
 IsUnwritten sink.Failed status = status ≡ 10
 IsUnwritten sink.NoMemory status = status ≡ 9
 
--- A text was written, and the status is 0; or want of memory came, or a fault of standard output,
--- and a prefix of it was written.
+-- A text was written, and the status is 0; or memory ran out or standard output failed, and a
+-- prefix of it was written.
 abbrev pub IsPrinted : List ℕ → ℕ → (written written' : Option (List ℕ)) → (faults faults' : ℕ)
     → Type 0
 IsPrinted text result written written' faults faults' =
@@ -23,15 +23,14 @@ IsPrinted text result written written' faults faults' =
     ⊎ (((result ≡ 9) ⊎ ((result ≡ 10) × Increased faults faults'))
     × GainsPrefix written written' text)
 
--- A line was written and its status given; or want of memory came, or a fault of standard error.
+-- A line was written and its status given; or memory ran out, or standard error failed.
 abbrev pub TellsLine : ℕ → List ℕ → ℕ → (errors errors' : Option (List ℕ)) → (faults faults' : ℕ)
     → Type 0
 TellsLine own line result errors errors' faults faults' =
     ((result ≡ own) × Gains errors errors' line) ⊎ (result ≡ 9)
     ⊎ ((result ≡ 10) × Increased faults faults')
 
--- The stop has its own status and its own line, or want of memory came, or a fault of standard
--- error.
+-- The stop has its own status and its own line, or memory ran out, or standard error failed.
 abbrev pub IsTold : Stop → ℕ → (errors errors' : Option (List ℕ)) → (faults faults' : ℕ) → Type 0
 IsTold (Refused refusal) = TellsLine (status_of refusal.reason)
     (error_line refusal.subject (reason_text refusal.reason))

@@ -135,7 +135,7 @@ fn tell_answer<E: Sink>(alloc: Global, err: &mut E, answer: &Reason, subject: &s
     }
 }
 
-// Tells on standard error why a call stopped, and gives its status.
+// Reports on standard error why a call stopped, and gives its status.
 fn tell<E: Sink>(alloc: Global, err: &mut E, stop: Stop) -> u8
     ensures { IsTold stop result (E.written err.old) (E.written err.new) (E.faults err.old)
         (E.faults err.new) }
@@ -154,11 +154,11 @@ fn tell<E: Sink>(alloc: Global, err: &mut E, stop: Stop) -> u8
 /// year 1. Gives the program's status.
 ///
 /// Where no object of the outside fails and memory does not run out, all that is seen of the call
-/// is what the outcome says to which its words come over its input and its files; they come to one
-/// alone. What is listed at status 0 is a document that the file holds: by itself, or sealed under
-/// the composite key of the line of input and the key file. Where an object fails, no file is
-/// changed, what was printed is a prefix of the outcome's text, and the status reports the
-/// failure. Words that can be carried out come to status 0 where nothing fails.
+/// is as the outcome of its words, its input and its files says; these have one outcome. What is
+/// listed at status 0 is a document that the file holds: by itself, or sealed under the composite
+/// key of the line of input and the key file. Where an object fails, no file is changed, what was
+/// printed is a prefix of the outcome's text, and the status reports the failure. Words that can be
+/// carried out give status 0 where nothing fails.
 pub fn keepass<F: FileStore, S: Source, O: Sink, E: Sink, D: Dice>(
     alloc: Global,
     words: &[String],

@@ -27,7 +27,7 @@ key_by bytes (Some root) = document_key (version_of root) (told_of root)
 unfoldable pub key_file_key : List ℕ → Result (List ℕ) KeyFileFail
 key_file_key bytes = key_by bytes (root_of (answers bytes))
 
--- this is answered, or want of memory
+-- this is answered, or that memory ran out
 abbrev pub Gives : Result (List ℕ) KeyFileFail → Result (List ℕ) KeyFileFail → Type 0
 Gives wanted (Err NoMemory) = Unit {0}
 Gives wanted result = result ≡ wanted

@@ -16,8 +16,8 @@ use secret_core::Key;
 use sha2::{Digest, Sha256};
 use std::alloc::Global;
 
-/// Transforms a composite key, which is lent. Only want of memory is refused: the key derivation
-/// function must have passed `check_kdf`.
+/// Transforms a composite key, which is lent. The only refusal is that memory ran out: the key
+/// derivation function must have passed `check_kdf`.
 pub fn transform(alloc: Global, composite: &Key, kdf: &Kdf) -> Result<Key, KdfFail>
     requires { IsChecked kdf.now }
     ensures key { IfOk result (λ key. key ≡ transformed_key kdf.now composite.now) }

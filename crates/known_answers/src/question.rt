@@ -16,7 +16,7 @@ pub enum Fault {
     BadWord(usize),
     /// What was deciphered again is not what was enciphered.
     NotUndone,
-    /// Cut at this offset, or by pieces of this length, it comes to another result.
+    /// Cut at this offset, or by pieces of this length, it gives another result.
     NotTheSameCut(usize),
     /// A damaged file is not refused as it must be.
     NotRefused,

@@ -1,4 +1,4 @@
--- What a reader's fields stand for: the answers that are left.
+-- What a reader's fields mean: the answers that are left.
 use Rattle.std.specs.Prelude.{ℕ, ◌+◌, ◌≡◌, ◌≤◌, ◌<◌, Bool, true, None, if◌then◌else◌, List, ◌∷◌, length}
 use Rattle.std.specs.Str.{IsCharBoundary}
 use Rattle.markup_grammar.specs.Answers.{Answer, stop, limit_depth, cut_short}

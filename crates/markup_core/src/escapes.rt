@@ -19,7 +19,7 @@ enum Part<'a> {
     Nothing,
 }
 
-/// How many bytes the text has for which raw markup stands: a run of text, or an attribute's value.
+/// How many bytes the text has that raw markup stands for: a run of text, or an attribute's value.
 pub fn unescaped_len(raw: &str) -> usize
     ensures { result ≡ length (spec.unescaped raw.now) }
 {

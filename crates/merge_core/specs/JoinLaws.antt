@@ -58,8 +58,8 @@ JoinOfJoins = (S : List Db) (Rs : List (List Db)) → Agreed S → AreParts Rs S
 abbrev pub Names : Plan → List Db → Type 0
 Names p S = IsWithin (leaves p) S × IsWithin S (leaves p)
 
--- every order and grouping of merges of an agreed set can be carried out, and comes to the join of
--- the set
+-- every order and grouping of merges of an agreed set can be carried out, and results in the join
+-- of the set
 abbrev pub PlansAgree : Type 0
 PlansAgree = (S : List Db) (p : Plan) → Agreed S → Names p S → IsAllowed p × (value p ≡ join S)
 

@@ -20,7 +20,7 @@ pub fn inherited()
     ensures join_of_joins { JoinOfJoins }
 {}
 
-/// Every order and grouping of merges of an agreed set can be carried out and comes to one
+/// Every order and grouping of merges of an agreed set can be carried out and results in one
 /// database, the join of the set; and so do the documents that it writes, where no level passes the
 /// limit on the way.
 pub fn plans()

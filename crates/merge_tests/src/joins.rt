@@ -1,5 +1,5 @@
 //! What is expected is worked out by hand from the rules of a merge: an entry has all versions of
-//! all copies, each version being told apart by its time and by what it says; a node is at its
+//! all copies, versions being distinguished by their time and by what they say; a node is at its
 //! latest place, of one time the one with the greater parent and then the greater previous parent;
 //! a node is deleted where a copy deleted it at or after its newest change in every copy.
 use crate::samples::{

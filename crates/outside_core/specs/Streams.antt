@@ -1,7 +1,7 @@
 -- Streams of bytes that are only partly known: what is left of one, what was written to one.
 use Rattle.std.specs.Prelude.{◌≡◌, ℕ, ◌≤◌, List, ◌++◌, Option, take, drop, length, option_map}
 
--- Some bytes are gone from the front of the stream, and the rest is left.
+-- A prefix of the stream is gone, and the rest is left.
 abbrev pub LosesPrefix : Option (List ℕ) → Option (List ℕ) → Type 0
 LosesPrefix before now = (gone : ℕ) × (now ≡ option_map (drop gone) before)
 

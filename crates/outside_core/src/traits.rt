@@ -102,7 +102,7 @@ pub trait Source {
     /// How often something went wrong; it sticks at 2^64 - 1.
     ghost faults: { Self → ℕ };
 
-    /// Reads the next bytes into the front of `out` and gives their number, which is 0 only for an
+    /// Reads the next bytes to the start of `out` and gives their number, which is 0 only for an
     /// empty `out` or at the end. What a refusal leaves to be read is open.
     fn read(&mut self, out: &mut [u8]) -> Result<usize, SourceFail>
         ensures bound { IfOk result (λ n. n ≤ length out.new) }
@@ -120,7 +120,7 @@ pub trait Sink {
     /// How often something went wrong; it sticks at 2^64 - 1.
     ghost faults: { Self → ℕ };
 
-    /// Takes the front of a piece, at least one byte of a piece that is not empty, and gives the
+    /// Takes a prefix of a piece, at least one byte of a piece that is not empty, and gives the
     /// number of bytes taken. After a refusal nothing of the piece was taken.
     fn write(&mut self, piece: &[u8]) -> Result<usize, SinkFail>
         ensures bound { IfOk result (λ n. n ≤ length piece.now) }
@@ -138,8 +138,8 @@ pub trait Dice {
     /// How often something went wrong; it sticks at 2^64 - 1.
     ghost faults: { Self → ℕ };
 
-    /// Fills `out` with the front of the stream. After a refusal `out` is not known, and some bytes
-    /// may be gone from the front of the stream.
+    /// Fills `out` with the next bytes of the stream. After a refusal `out` is not known, and a
+    /// prefix of the stream may be gone.
     fn fill(&mut self, out: &mut [u8]) -> Result<(), DiceFail>
         ensures ok { OnOk result (stream self.old
             ≡ option_map (λ rest. out.new ++ rest) (stream self.new)) }

@@ -110,7 +110,7 @@ impl<'a, R: Files> Model for HostFiles<'a, R> {
 }
 
 impl<'a, R: Files> HostFiles<'a, R> {
-    /// The files of the host that `rt` stands for.
+    /// The files of the host that `rt` gives access to.
     pub fn new(rt: &'a R, alloc: Global) -> HostFiles<'a, R>
         ensures { result ≡ record { draft_name = None; faults = 0; absences = 0 } }
     {
@@ -124,7 +124,7 @@ impl<'a, R: Files> HostFiles<'a, R> {
         }
     }
 
-    /// Counts a fault, and gives the refusal that stands for it.
+    /// Counts a fault, and gives the refusal that reports it.
     fn fault(&mut self) -> FileFail
         ensures refusal { result ≡ FileFail.Failed }
         ensures counted { self.new ≡ record self.old { faults = increment self.old.faults } }

@@ -120,7 +120,7 @@ impl MemoryFiles {
     }
 
     /// Puts a file under a name, in the place of any of that name. It is no call that can be made
-    /// to fail; a refusal is want of memory and changes nothing.
+    /// to fail; a refusal means that memory ran out, and changes nothing.
     pub fn put(&mut self, name: &str, bytes: &[u8]) -> Result<(), FileFail>
         ensures ok { OnOk result (self.new ≡ record self.old {
           store = record self.old.store {
@@ -141,7 +141,7 @@ impl MemoryFiles {
         self.store.bytes(name)
     }
 
-    /// Lets the call of this number fail. A refusal is want of memory and changes nothing.
+    /// Lets the call of this number fail. A refusal means that memory ran out, and changes nothing.
     pub fn fail_at(&mut self, call: u64) -> Result<(), SinkFail>
         ensures ok { OnOk result (self.new ≡ record self.old {
           failures = record self.old.failures
@@ -238,7 +238,8 @@ impl MemorySource {
         }
     }
 
-    /// Appends bytes to those that are left. A refusal is want of memory and changes nothing.
+    /// Appends bytes to those that are left. A refusal means that memory ran out, and changes
+    /// nothing.
     pub fn fill_with(&mut self, bytes: &[u8]) -> Result<(), SinkFail>
         ensures ok { OnOk result (self.new ≡ record self.old
             { bytes = self.old.bytes ++ bytes.now }) }
@@ -248,7 +249,7 @@ impl MemorySource {
         self.source.fill_with(bytes)
     }
 
-    /// Lets the call of this number fail. A refusal is want of memory and changes nothing.
+    /// Lets the call of this number fail. A refusal means that memory ran out, and changes nothing.
     pub fn fail_at(&mut self, call: u64) -> Result<(), SinkFail>
         ensures ok { OnOk result (self.new ≡ record self.old {
           failures = record self.old.failures
@@ -312,7 +313,7 @@ impl MemorySink {
         self.sink.written()
     }
 
-    /// Lets the call of this number fail. A refusal is want of memory and changes nothing.
+    /// Lets the call of this number fail. A refusal means that memory ran out, and changes nothing.
     pub fn fail_at(&mut self, call: u64) -> Result<(), SinkFail>
         ensures ok { OnOk result (self.new ≡ record self.old {
           failures = record self.old.failures
@@ -370,7 +371,8 @@ impl MemoryDice {
         }
     }
 
-    /// Appends bytes to those that are left. A refusal is want of memory and changes nothing.
+    /// Appends bytes to those that are left. A refusal means that memory ran out, and changes
+    /// nothing.
     pub fn fill_with(&mut self, bytes: &[u8]) -> Result<(), SinkFail>
         ensures ok { OnOk result (self.new ≡ record self.old
             { bytes = self.old.bytes ++ bytes.now }) }
@@ -380,7 +382,7 @@ impl MemoryDice {
         self.stream.fill_with(bytes)
     }
 
-    /// Lets the call of this number fail. A refusal is want of memory and changes nothing.
+    /// Lets the call of this number fail. A refusal means that memory ran out, and changes nothing.
     pub fn fail_at(&mut self, call: u64) -> Result<(), SinkFail>
         ensures ok { OnOk result (self.new ≡ record self.old {
           failures = record self.old.failures

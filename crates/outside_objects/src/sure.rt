@@ -1,4 +1,4 @@
-//! Objects in memory that never fail but for want of memory. They report all that they hold.
+//! Objects in memory that fail only when memory runs out. They report all that they hold.
 ghost use Rattle.std.specs.Prelude.{◌≡◌, ◌<◌, ◌≤◌, [], ◌++◌, length, take, drop, find, Some, IfErr, OnOk, OnErr};
 ghost use Rattle.std.specs.Option.{option_copied};
 ghost use Rattle.std.specs.Str.{bytes_eq};
@@ -24,7 +24,7 @@ fn find_file<'a>(files: &'a [StoredFile], name: &str) -> Option<&'a StoredFile>
     files.iter().find(|file| name == file.name.as_str())
 }
 
-/// Copies the front of `bytes` to the front of `out`, as far as both reach. Gives the number of
+/// Copies the first of `bytes` to the start of `out`, as far as both reach. Gives the number of
 /// bytes.
 pub(crate) fn copy_front(bytes: &[u8], out: &mut [u8]) -> usize
     ensures within { result ≤ length bytes.now }
@@ -83,8 +83,8 @@ impl SureFiles {
         }
     }
 
-    /// Puts a file under a name, in the place of any of that name. A refusal is want of memory and
-    /// changes nothing.
+    /// Puts a file under a name, in the place of any of that name. A refusal means that memory ran
+    /// out, and changes nothing.
     pub fn put(&mut self, name: &str, bytes: &[u8]) -> Result<(), FileFail>
         ensures ok { OnOk result (self.new ≡ record self.old
             { files = map.insert self.old.files name.now bytes.now }) }
@@ -197,7 +197,8 @@ impl SureSource {
         }
     }
 
-    /// Appends bytes to those that are left. A refusal is want of memory and changes nothing.
+    /// Appends bytes to those that are left. A refusal means that memory ran out, and changes
+    /// nothing.
     pub fn fill_with(&mut self, bytes: &[u8]) -> Result<(), SinkFail>
         ensures ok { OnOk result (self.new ≡ self.old ++ bytes.now) }
         ensures err { OnErr result (self.new ≡ self.old) }
@@ -214,7 +215,7 @@ impl SureSource {
         &self.bytes.as_slice()[self.read..]
     }
 
-    /// Moves the front of what is left to the front of `out`, as far as both reach. Gives the
+    /// Moves the first bytes of what is left to the start of `out`, as far as both reach. Gives the
     /// number of bytes.
     pub(crate) fn take_front(&mut self, out: &mut [u8]) -> usize
         ensures room { result ≤ length out.old }
@@ -238,7 +239,7 @@ impl Source for SureSource {
     }
 }
 
-/// A sink into memory whose calls never fail but for want of memory: its count of faults is 0 for
+/// A sink into memory whose calls fail only when memory runs out: its count of faults is 0 for
 /// ever.
 #[derive(Drop)]
 pub struct SureSink {

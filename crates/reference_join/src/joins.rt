@@ -256,7 +256,7 @@ fn joined_meta<'a>(alloc: Global, members: &[Database<'a>]) -> Result<LentMeta<'
 
 /// Copies of one database made one: the nodes are the kept ones, each with all that the members
 /// have of it, at its latest place, and what is not kept has its latest tombstone. The only refusal
-/// is want of memory.
+/// is that memory ran out.
 pub fn join<'a>(alloc: Global, members: &[Database<'a>]) -> Result<Database<'a>, NoMemory>
     requires { 0 < length members.now }
     ensures { IfOk result (λ d. database d ≡ join (databases members.now)) }
@@ -274,7 +274,7 @@ pub fn join<'a>(alloc: Global, members: &[Database<'a>]) -> Result<Database<'a>,
 }
 
 /// Whether the latest parents of a node lead to the root, in as many steps as ids are held. The
-/// only refusal is want of memory.
+/// only refusal is that memory ran out.
 pub fn is_rooted(alloc: Global, members: &[Database], id: &Uuid) -> Result<bool, NoMemory>
     requires { 0 < length members.now }
     ensures { IfOk result (λ b. b ≡ list_any (is_id (root_of (databases members.now)))

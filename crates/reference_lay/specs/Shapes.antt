@@ -19,7 +19,7 @@ meta_of m = record {
   view = m.view;
 }
 
--- the shape that a program's document stands for
+-- the shape that a program's document represents
 abbrev pub shape : LentShape → Shape
 shape s = record {
   root = s.root;

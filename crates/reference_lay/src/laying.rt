@@ -36,7 +36,7 @@ fn is_among(id: &Uuid, ids: &[Uuid]) -> bool
     false
 }
 
-/// Appends an id where it is wanted. A refusal is want of memory.
+/// Appends an id where it is wanted. A refusal means that memory ran out.
 fn push_if(order: &mut Vec<Uuid>, id: Uuid, is_wanted: bool) -> Result<(), NoMemory>
     ensures { OnOk result (order.new.items ≡ order.old.items ++ cond is_wanted (id ∷ []) []) }
 {
@@ -46,7 +46,8 @@ fn push_if(order: &mut Vec<Uuid>, id: Uuid, is_wanted: bool) -> Result<(), NoMem
     Ok(())
 }
 
-/// Appends those that were there before and still are, as they were. A refusal is want of memory.
+/// Appends those that were there before and still are, as they were. A refusal means that memory
+/// ran out.
 fn push_kept(order: &mut Vec<Uuid>, before: &[Uuid], present: &[Uuid]) -> Result<(), NoMemory>
     ensures { OnOk result (order.new.items ≡ order.old.items
         ++ filter (λ u. list_any (is_id u) present.now) before.now) }
@@ -58,7 +59,7 @@ fn push_kept(order: &mut Vec<Uuid>, before: &[Uuid], present: &[Uuid]) -> Result
     Ok(())
 }
 
-/// Appends those that were not there before, in their order. A refusal is want of memory.
+/// Appends those that were not there before, in their order. A refusal means that memory ran out.
 fn push_newcomers(order: &mut Vec<Uuid>, before: &[Uuid], present: &[Uuid]) -> Result<(), NoMemory>
     ensures { OnOk result (order.new.items ≡ order.old.items
         ++ filter (λ u. not (list_any (is_id u) before.now)) present.now) }
@@ -442,7 +443,7 @@ fn laid_meta<'a>(
 
 /// The document of a database over an older document: the order of siblings and how all was looked
 /// at are the older document's, newcomers come after by rising id, and of an entry's versions the
-/// greatest is current. The only refusal is want of memory.
+/// greatest is current. The only refusal is that memory ran out.
 pub fn lay<'a>(alloc: Global, laid: &Database<'a>, older: &Shape<'a>) -> Result<Shape<'a>, NoMemory>
     ensures { IfOk result (λ s. shape s ≡ lay (database laid.now) (shape older.now)) }
 {

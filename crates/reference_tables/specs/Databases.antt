@@ -17,7 +17,7 @@ shared_meta m = record {
   items = m.items;
 }
 
--- the database that a program's database stands for
+-- the database that a program's database represents
 abbrev pub database : Database → Db
 database d = record {
   root = d.root;

@@ -244,8 +244,8 @@ impl<'a> ItemTable<'a> {
         self.rows.as_slice()
     }
 
-    /// Puts an item at a key, in the place of any that was there. A refusal is want of memory and
-    /// changes nothing.
+    /// Puts an item at a key, in the place of any that was there. A refusal means that memory ran
+    /// out, and changes nothing.
     pub fn put(&mut self, key: LentKey<'a>, item: LentItem<'a>) -> Result<(), NoMemory>
         ensures ok { OnOk result (self.new ≡ map.insert self.old key.entry item.entry) }
         ensures err { OnErr result (self.new ≡ self.old) }
@@ -254,7 +254,8 @@ impl<'a> ItemTable<'a> {
         Ok(())
     }
 
-    /// Adds an item; where there is one of its key the later stays. A refusal is want of memory.
+    /// Adds an item; where there is one of its key the later stays. A refusal means that memory ran
+    /// out.
     fn add(&mut self, key: &LentKey<'a>, item: &LentItem<'a>) -> Result<(), NoMemory>
         ensures { OnOk result (self.new ≡ unite (greater later_item_cmp)
             (map.insert map.empty key.now item.now) self.old) }
@@ -268,7 +269,7 @@ impl<'a> ItemTable<'a> {
         Ok(())
     }
 
-    /// Adds items one by one. A refusal is want of memory.
+    /// Adds items one by one. A refusal means that memory ran out.
     pub fn add_all(&mut self, more: &ItemTable<'a>) -> Result<(), NoMemory>
         ensures { OnOk result (self.new ≡ unite (greater later_item_cmp) more.now self.old) }
     {
@@ -279,7 +280,7 @@ impl<'a> ItemTable<'a> {
     }
 }
 
-/// Adds an icon; where there is one of its id the later stays. A refusal is want of memory.
+/// Adds an icon; where there is one of its id the later stays. A refusal means that memory ran out.
 fn add_icon<'a>(
     icons: &mut Table<LentIcon<'a>>,
     id: Uuid,
@@ -296,7 +297,7 @@ fn add_icon<'a>(
     Ok(())
 }
 
-/// Adds icons one by one. A refusal is want of memory.
+/// Adds icons one by one. A refusal means that memory ran out.
 pub fn add_icons<'a>(
     icons: &mut Table<LentIcon<'a>>,
     more: &Table<LentIcon<'a>>,

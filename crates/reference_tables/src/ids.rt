@@ -14,7 +14,7 @@ pub fn is_same(first: &Uuid, second: &Uuid) -> bool
     first.cmp(second).is_eq()
 }
 
-/// Appends the ids of a table, by rising id. A refusal is want of memory.
+/// Appends the ids of a table, by rising id. A refusal means that memory ran out.
 pub fn push_ids<X>(ids: &mut Vec<Uuid>, from: &Table<X>) -> Result<(), NoMemory>
     ensures { OnOk result (ids.new.items ≡ ids.old.items ++ table.keys from.now) }
 {
@@ -24,8 +24,8 @@ pub fn push_ids<X>(ids: &mut Vec<Uuid>, from: &Table<X>) -> Result<(), NoMemory>
     Ok(())
 }
 
-/// Appends the ids of two tables, those of the first before those of the second. A refusal is want
-/// of memory.
+/// Appends the ids of two tables, those of the first before those of the second. A refusal means
+/// that memory ran out.
 pub fn push_both<X, Y>(
     ids: &mut Vec<Uuid>,
     first: &Table<X>,

@@ -122,7 +122,7 @@ fn later_settings<'a>(
 }
 
 impl<'a> LentMeta<'a> {
-    /// The same values, to be changed elsewhere. A refusal is want of memory.
+    /// The same values, to be changed elsewhere. A refusal means that memory ran out.
     pub fn again(&self, alloc: Global) -> Result<LentMeta<'a>, NoMemory>
         ensures { IfOk result (λ m. shared_meta m ≡ shared_meta self.now) }
     {
@@ -142,8 +142,8 @@ impl<'a> LentMeta<'a> {
         })
     }
 
-    /// Takes in the values of another copy, each where it is the later one. A refusal is want of
-    /// memory.
+    /// Takes in the values of another copy, each where it is the later one. A refusal means that
+    /// memory ran out.
     pub fn absorb(&mut self, other: &LentMeta<'a>) -> Result<(), NoMemory>
         ensures { OnOk result
             (shared_meta self.new ≡ meta_join (shared_meta other.now) (shared_meta self.old)) }

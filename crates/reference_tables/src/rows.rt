@@ -35,8 +35,8 @@ pub(crate) fn find<'r, K: Ord, X>(rows: &'r [(K, X)], key: &K) -> Option<&'r X>
     None
 }
 
-/// Puts a row in its place, or a value in the place of the one that is at the key. A refusal is
-/// want of memory and changes nothing.
+/// Puts a row in its place, or a value in the place of the one that is at the key. A refusal means
+/// that memory ran out, and changes nothing.
 pub(crate) fn put<K: Ord + Drop, X: Drop>(
     rows: &mut Vec<(K, X)>,
     key: K,

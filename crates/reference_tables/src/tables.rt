@@ -57,8 +57,8 @@ impl<X> Table<X> {
 }
 
 impl<X: Drop> Table<X> {
-    /// Puts a value at an id, in the place of any that was there. A refusal is want of memory and
-    /// changes nothing.
+    /// Puts a value at an id, in the place of any that was there. A refusal means that memory ran
+    /// out, and changes nothing.
     pub fn put(&mut self, id: Uuid, value: X) -> Result<(), NoMemory>
         ensures ok { OnOk result (self.new ≡ map.insert self.old id value) }
         ensures err { OnErr result (self.new ≡ self.old) }
@@ -68,7 +68,7 @@ impl<X: Drop> Table<X> {
     }
 }
 
-/// Puts a value at an id where there is one. A refusal is want of memory.
+/// Puts a value at an id where there is one. A refusal means that memory ran out.
 pub fn put_some<X: Drop>(filled: &mut Table<X>, id: Uuid, value: Option<X>) -> Result<(), NoMemory>
     ensures { OnOk result (filled.new ≡ put_some id value filled.old) }
 {

@@ -68,8 +68,8 @@ impl<'a> VersionTable<'a> {
         self.rows.as_slice()
     }
 
-    /// Puts a version in the place of any that has its mark. A refusal is want of memory and
-    /// changes nothing.
+    /// Puts a version in the place of any that has its mark. A refusal means that memory ran out,
+    /// and changes nothing.
     fn put(&mut self, mark: VersionKey<'a>, stats: Stats) -> Result<(), NoMemory>
         ensures ok { OnOk result (self.new ≡ map.insert self.old mark.entry stats) }
         ensures err { OnErr result (self.new ≡ self.old) }
@@ -78,8 +78,8 @@ impl<'a> VersionTable<'a> {
         Ok(())
     }
 
-    /// Adds a version; where there is one of its mark they are made one. A refusal is want of
-    /// memory and changes nothing.
+    /// Adds a version; where there is one of its mark they are made one. A refusal means that
+    /// memory ran out, and changes nothing.
     pub fn add(&mut self, mark: VersionKey<'a>, stats: Stats) -> Result<(), NoMemory>
         ensures ok { OnOk result (self.new ≡ unite stats_join
             (map.insert map.empty mark.entry stats) self.old) }
@@ -93,7 +93,7 @@ impl<'a> VersionTable<'a> {
         Ok(())
     }
 
-    /// Adds versions one by one. A refusal is want of memory.
+    /// Adds versions one by one. A refusal means that memory ran out.
     pub fn add_all(&mut self, more: &VersionTable<'a>) -> Result<(), NoMemory>
         ensures { OnOk result (self.new ≡ unite stats_join more.now self.old) }
     {

@@ -24,7 +24,7 @@ impl<const N: usize> Model for Fresh<N> {
 }
 
 impl<const N: usize> Fresh<N> {
-    /// Draws `n` bytes into the front; the rest is 0. With `n` 0 the dice are left alone.
+    /// Draws the first `n` bytes; the rest are 0. With `n` 0 the dice are not asked.
     ///
     /// The refusal is that of the dice, of which some bytes may be gone then.
     pub fn draw<D: Dice>(dice: &mut D, n: usize) -> Result<Fresh<N>, DiceFail>

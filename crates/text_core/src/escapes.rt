@@ -12,7 +12,7 @@ use outside_core::NoMemory;
 use secret_core::Secret;
 use std::alloc::Global;
 
-/// The text for which raw markup stands.
+/// The text that raw markup stands for.
 pub fn unescaped(alloc: Global, raw: &str) -> Result<Secret, NoMemory>
     ensures { IfOk result (λ text. text.bytes ≡ escapes.unescaped raw.now) }
 {
@@ -38,7 +38,7 @@ fn reserve(alloc: Global, text: &mut Secret, more: usize) -> Result<(), NoMemory
     Ok(())
 }
 
-/// Appends the text for which raw markup stands. A refusal leaves the text as it was.
+/// Appends the text that raw markup stands for. A refusal leaves the text as it was.
 pub fn append_unescaped(alloc: Global, text: &mut Secret, raw: &str) -> Result<(), NoMemory>
     ensures bytes { OnOk result (text.new.bytes ≡ text.old.bytes ++ escapes.unescaped raw.now) }
     ensures same { OnErr result (text.new.bytes ≡ text.old.bytes) }

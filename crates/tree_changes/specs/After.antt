@@ -22,8 +22,8 @@ use Rattle.tree_changes.specs.NewPaths.{after_last, before_last, new_path}
 
 -- ---- what a call answers
 
--- A call that changes a document: the document is the defined one, or it is as before and the answer
--- is the defined refusal, or want of memory.
+-- A call that changes a document: the document is the defined one, or it is as before and the
+-- answer is the defined refusal, or that memory ran out.
 abbrev pub Changes : Result BareDoc TreeFail → Result (Unit {0}) TreeFail → BareDoc → BareDoc
     → Type 0
 Changes after result old new =

@@ -6,8 +6,8 @@ ghost use Rattle.tree_changes.specs.declared.fails.TreeFail.TheVariants as fail;
 use outside_core::NoMemory;
 use uuid::Uuid;
 
-/// Why a document is not changed. Where several hold, the first of this list is the answer; want of
-/// memory may come in the place of any.
+/// Why a document is not changed. Where several hold, the first of this list is the answer;
+/// NoMemory may come in the place of any.
 #[derive(Clone, Copy)]
 pub enum TreeFail {
     /// A path, or the part of it that must name a group, names nothing.

@@ -15,7 +15,7 @@ use Rattle.vault_model.proofs.Tests.{decide, not_true}
 use Rattle.tree_core.specs.Finding.{group_found}
 use Rattle.tree_changes.specs.declared.fails.TreeFail.{TreeFail}
 use Rattle.tree_changes.specs.declared.fails.TreeFail.TheVariants.{AlreadyThere, IntoItself, NoMemory, NoSuchPath, RootFixed, TooDeep}
-use Rattle.tree_changes.specs.After.{Changes, after_move_group, group_moved_to, is_parent, named, refuse_if, time_after}
+use Rattle.tree_changes.specs.After.{Changes, after_move_group, group_moved_to, is_parent, named_or_refusal, refuse_if, time_after}
 use Rattle.tree_changes.specs.Changes.{group_moved, group_with, has_group, level_of, parent_of, placed_of}
 use Rattle.tree_changes.proofs.Around.{found_id}
 use Rattle.tree_changes.proofs.Binds.{names, names_none, passes, refuses}
@@ -134,17 +134,17 @@ found_moved d new u from to now time g there at parent h made =
 module _ (path goal : List ℕ) (now : ℕ) (d : BareDoc) where
   abbrev to_goal : Tree → Result BareDoc TreeFail
   to_goal moving = do
-    group ← named (group_found d goal)
+    group ← named_or_refusal (group_found d goal)
     _ ← refuse_if (is_parent group (parent_of (id_of moving) d.tree)) AlreadyThere
     _ ← refuse_if (is_id (id_of moving) (id_of d.tree)) RootFixed
     group_moved_to group moving now d
 
   pub no_group : group_found d path ≡ None → after_move_group path goal now d ≡ Err NoSuchPath
-  no_group off = ap (λ o. named (option_and_then (λ id. group_with id d.tree) o) >>= to_goal) off
+  no_group off = ap (λ o. named_or_refusal (option_and_then (λ id. group_with id d.tree) o) >>= to_goal) off
 
   module _ (u : NodeId) (g : Tree) (found : group_found d path ≡ Some u) (there : group_with u d.tree ≡ Some g) where
     goes : after_move_group path goal now d ≡ to_goal g
-    goes = ap (λ o. named (option_and_then (λ id. group_with id d.tree) o) >>= to_goal) found ∙ ap (λ o. named o >>= to_goal) there
+    goes = ap (λ o. named_or_refusal (option_and_then (λ id. group_with id d.tree) o) >>= to_goal) found ∙ ap (λ o. named_or_refusal o >>= to_goal) there
 
     pub no_goal : group_found d goal ≡ None → after_move_group path goal now d ≡ Err NoSuchPath
     no_goal off = goes ∙ names_none _ (group_found d goal) off

@@ -12,7 +12,7 @@ use Rattle.tree_core.specs.Finding.{group_found}
 use Rattle.tree_changes.specs.declared.fails.Removed.TheVariants.{Recycled}
 use Rattle.tree_changes.specs.declared.fails.TreeFail.{TreeFail}
 use Rattle.tree_changes.specs.declared.fails.TreeFail.TheVariants.{IdTaken, IntoItself, NoSuchPath, RootFixed, TooDeep}
-use Rattle.tree_changes.specs.After.{AfterRemoval, after_remove_group, bin_level, group_deleted, group_moved_to, group_recycled, has_group_in, is_in_bin, is_recycled, named, recycled, refuse_if, time_after, with_bin, with_bin_made}
+use Rattle.tree_changes.specs.After.{AfterRemoval, after_recycling, after_remove_group, bin_level, group_deleted, group_moved_to, group_recycled, has_group_in, is_in_bin, is_recycled, named_or_refusal, refuse_if, time_after, with_bin, with_bin_made}
 use Rattle.tree_changes.specs.Changes.{changed_at, child_with, group_moved, group_with, has_group, have_group, is_free, level_of, parent_of, placed_of, with_group}
 use Rattle.tree_changes.specs.NewNodes.{empty_bin}
 use Rattle.tree_changes.proofs.Around.{found_id}
@@ -47,7 +47,7 @@ module _ (d : BareDoc) (g : Tree) (now : ℕ) (bin : NodeId) (missing : has_grou
   ready since = record d { tree = changed_at (id_of d.tree) (with_group (empty_bin bin now)) d.tree; meta = with_bin bin since d.meta }
 
   abbrev into : BareDoc → Result AfterRemoval TreeFail
-  into with = group_moved_to with.meta.bin.value.id g now with >>= recycled
+  into with = group_moved_to with.meta.bin.value.id g now with >>= after_recycling
 
   abbrev deep : ℕ → Bool
   deep level = nat_lt LEVELS (level + height g)
@@ -83,7 +83,7 @@ module _ (d : BareDoc) (g : Tree) (now : ℕ) (bin : NodeId) (missing : has_grou
       new_since e h = goes ∙ ap (λ r. r >>= into) (made ∙ ap (λ (r : Result ℕ TreeFail). r >>= λ since. Ok (ready since)) h)
 
       module _ (since : ℕ) (is : time_after now d.meta.bin.changed ≡ Ok since) (outside : has_group bin g ≡ false) (two : level_of bin (ready since).tree ≡ 2) where
-        goes_into : group_recycled (Some bin) g now d ≡ (group_moved_to bin g now (ready since) >>= recycled)
+        goes_into : group_recycled (Some bin) g now d ≡ (group_moved_to bin g now (ready since) >>= after_recycling)
         goes_into = goes ∙ ap (λ r. r >>= into) (made ∙ ap (λ (r : Result ℕ TreeFail). r >>= λ s. Ok (ready s)) is)
 
         time_is : time_of_move bin g now (ready since).tree ≡ time_after now (placed_of g)
@@ -92,11 +92,11 @@ module _ (d : BareDoc) (g : Tree) (now : ℕ) (bin : NodeId) (missing : has_grou
             ∙ passes _ (deep (level_of bin (ready since).tree)) TooDeep (ap deep two ∙ le-ltb 128 (2 + height g) fits)
 
         pub new_time : (e : TreeFail) → time_after now (placed_of g) ≡ Err e → group_recycled (Some bin) g now d ≡ Err e
-        new_time e h = goes_into ∙ ap (λ r. r >>= recycled) (not_moved bin g now (ready since) e (time_is ∙ h))
+        new_time e h = goes_into ∙ ap (λ r. r >>= after_recycling) (not_moved bin g now (ready since) e (time_is ∙ h))
 
         pub new_done : (u from : NodeId) (time : ℕ) → time_after now (placed_of g) ≡ Ok time → id_of g ≡ u → parent_of u (ready since).tree ≡ Some from
             → group_recycled (Some bin) g now d ≡ Ok (record { removed = Recycled; doc = record (ready since) { tree = group_moved from bin time g (ready since).tree } })
-        new_done u from time h id parent = goes_into ∙ ap (λ r. r >>= recycled) (moved bin g now (ready since) time u from (time_is ∙ h) id parent)
+        new_done u from time h id parent = goes_into ∙ ap (λ r. r >>= after_recycling) (moved bin g now (ready since) time u from (time_is ∙ h) id parent)
 
 -- ---- a refusal where a bin is made
 
@@ -113,11 +113,11 @@ module _ (path : List ℕ) (bin : Option NodeId) (now : ℕ) (d : BareDoc) where
     if is_recycled (id_of g) d then group_recycled bin g now d else Ok (group_deleted g now d)
 
   pub no_group : group_found d path ≡ None → after_remove_group path bin now d ≡ Err NoSuchPath
-  no_group off = ap (λ o. named (option_and_then (λ id. group_with id d.tree) o) >>= removes) off
+  no_group off = ap (λ o. named_or_refusal (option_and_then (λ id. group_with id d.tree) o) >>= removes) off
 
   module _ (u : NodeId) (g : Tree) (found : group_found d path ≡ Some u) (there : group_with u d.tree ≡ Some g) where
     begins : after_remove_group path bin now d ≡ removes g
-    begins = ap (λ o. named (option_and_then (λ id. group_with id d.tree) o) >>= removes) found ∙ ap (λ o. named o >>= removes) there
+    begins = ap (λ o. named_or_refusal (option_and_then (λ id. group_with id d.tree) o) >>= removes) found ∙ ap (λ o. named_or_refusal o >>= removes) there
 
     id : id_of g ≡ u
     id = found_id u d.tree g there

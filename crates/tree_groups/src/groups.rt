@@ -33,8 +33,8 @@ impl Change for PutGroup {
     }
 }
 
-/// Puts a group after the others in the group of this id, where there is one. A refusal is want of
-/// memory, and changes nothing.
+/// Puts a group after the others in the group of this id, where there is one. A refusal means that
+/// memory ran out, and changes nothing.
 pub fn put_group(root: &mut Group, into: Uuid, group: Group) -> Option<Result<(), NoMemory>>
     ensures { MatchOption result
         ((has_group into (tree_seen root.old) ≡ false) × (tree_seen root.new ≡ tree_seen root.old))

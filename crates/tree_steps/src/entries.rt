@@ -35,8 +35,8 @@ impl Change for PutEntry {
     }
 }
 
-/// Puts an entry after the others of the group of this id, where there is one. A refusal is want of
-/// memory, and changes nothing.
+/// Puts an entry after the others of the group of this id, where there is one. A refusal means that
+/// memory ran out, and changes nothing.
 pub fn put_entry(root: &mut Group, group: Uuid, entry: Entry) -> Option<Result<(), NoMemory>>
     ensures { MatchOption result
         ((has_group group (tree_seen root.old) ≡ false) × (tree_seen root.new ≡ tree_seen root.old))

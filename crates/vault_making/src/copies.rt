@@ -136,8 +136,8 @@ fn copy_content(alloc: Global, content: &Content) -> Result<Content, NoMemory>
     })
 }
 
-/// A copy of a version, in which all that is seen of it is the same. The only refusal is want of
-/// memory.
+/// A copy of a version, in which all that is seen of it is the same. The only refusal is that
+/// memory ran out.
 ///
 /// Texts and fields are copied, each into memory of its own; the bytes of attachments are shared.
 pub fn copy_version(alloc: Global, v: &Version) -> Result<Version, NoMemory>

@@ -121,8 +121,8 @@ fn empty_root(alloc: Global, root: Uuid, now: Stamp) -> Result<Group, NoMemory>
 }
 
 /// The document of a new database: a root group named `Root`, all of whose times are now, with
-/// nothing in it, and settings as KeePass writes them for a new database. The only refusal is want
-/// of memory.
+/// nothing in it, and settings as KeePass writes them for a new database. The only refusal is that
+/// memory ran out.
 pub fn empty_doc(alloc: Global, root: Uuid, now: Stamp) -> Result<Doc, NoMemory>
     requires { root ≢ nil_id }
     ensures { IfOk result (λ doc. doc_seen doc ≡ empty_bare root now) }

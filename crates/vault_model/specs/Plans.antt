@@ -17,7 +17,7 @@ mutual
     none : Plans
     more : Plan → Plans → Plans
 
--- what a plan comes to, as a database
+-- what a plan results in, as a database
 abbrev mutual
   pub value : Plan → Db
   value (leaf d) = db_in d

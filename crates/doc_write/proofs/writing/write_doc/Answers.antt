@@ -1,21 +1,22 @@
-use Rattle.std.proofs.Common.{ap, refl}
-use Rattle.stream_core.specs.InnerStream.{keystream}
-use Rattle.doc_write.proofs.WrittenTexts.{none_spare, text_written, too_large}
+use Rattle.std.specs.Option.{option_copied}
+use Rattle.std.proofs.Common.{ℕ, List, ◌++◌, Ok, ap, arith, sym, ◌∙◌}
+use Rattle.doc_spelling.specs.Documents.{spelled_document}
+use Rattle.stream_core.specs.InnerStream.{Keystream, keystream}
+use Rattle.vault_model.specs.SeenDoc.{doc_seen}
 use Rattle.doc_write.proofs.writing.write_doc.Goals as goal
 
-pub returns-then-len-gt-BYTES-clause-text : goal.returns-then-len-gt-BYTES-clause-text
-returns-then-len-gt-BYTES-clause-text c =
-    too_large _ _ _ _ _ c.in_ok-pool.ensures _ _ _ _ c.count_nodes-nodes.ensures c.if-nodes-gt-NODES.false c.put_document.ensures.puts c.apart_len.ensures
-    c.saturating_add-len.ensures c.if-len-gt-BYTES.true
+pub append_doc-requires-clause-limit : goal.append_doc-requires-clause-limit
+append_doc-requires-clause-limit c =
+    let m = c.in_ok-len.ensures.text (keystream c.replace-stream.result) in
+    omega (arith, m.text, m.limit)
 
 pub returns-clause-text : goal.returns-clause-text
 returns-clause-text c =
-    text_written _ _ _ _ _ c.in_ok-pool.ensures _ _ _ _ c.count_nodes-nodes.ensures c.if-nodes-gt-NODES.false c.put_document.ensures.puts c.apart_len.ensures
-    c.saturating_add-len.ensures c.if-len-gt-BYTES.false _ _ c.in_ok-with_room.ensures.bytes c.in_ok-with_room.ensures.spare refl (ap keystream c.replace.ensures.value)
-    c.put_document-2.ensures.puts
-
-pub returns-clause-spare : goal.returns-clause-spare
-returns-clause-spare c =
-    none_spare _ (keystream c.args.stream.now) _ _ _ c.in_ok-pool.ensures _ _ _ _ c.count_nodes-nodes.ensures c.if-nodes-gt-NODES.false c.put_document.ensures.puts c.apart_len.ensures
-    c.saturating_add-len.ensures c.if-len-gt-BYTES.false _ _ c.in_ok-with_room.ensures.bytes c.in_ok-with_room.ensures.spare refl (ap keystream c.replace.ensures.value)
-    c.put_document-2.ensures.puts
+    let hash = option_copied c.args.header_hash in
+    let d = doc_seen c.args.doc.now in
+    let text : Keystream → List ℕ = λ k. spelled_document c.args.form k hash d in
+    let m = c.in_ok-len.ensures.text (keystream c.args.stream.now) in
+    m.outcome
+    ∙ ap Ok (sym (c.append_doc.ensures.bytes
+    ∙ ap (λ (b : List ℕ). b ++ text (keystream c.replace-stream.result)) c.in_ok-text.ensures.bytes
+    ∙ ap text (ap keystream c.replace-stream.ensures.value)))

@@ -1,0 +1,11 @@
+use Rattle.std.proofs.Common.{refl}
+use Rattle.doc_write.proofs.WrittenTexts.{put_bytes, put_spare}
+use Rattle.doc_write.proofs.writing.append_doc.Goals as goal
+
+pub returns-clause-bytes : goal.returns-clause-bytes
+returns-clause-bytes c =
+    put_bytes _ _ _ _ _ c.requires.pool _ _ refl refl c.requires.limit c.requires.room c.put_document.ensures.puts
+
+pub returns-clause-spare : goal.returns-clause-spare
+returns-clause-spare c =
+    put_spare _ _ _ _ _ c.requires.pool _ _ refl refl c.requires.limit c.requires.room c.put_document.ensures.puts

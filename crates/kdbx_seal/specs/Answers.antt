@@ -1,0 +1,84 @@
+-- What an answer of sealing says of the document and of the store.
+use Rattle.std.specs.Prelude.{◌≡◌, ℕ, ◌+◌, ◌≤◌, ◌^◌, List, length, nat_lt, if◌then◌else◌, Option, None, Some, Result, Ok, Err}
+use Rattle.std.specs.List.{AllByRecursion}
+use Rattle.secret_core.specs.Secret.{SecretBuffer}
+use Rattle.vault_model.specs.Tree.{BareDoc}
+use Rattle.vault_model.specs.declared.forms.DocForm.TheVariants.{V4}
+use Rattle.doc_spelling.specs.Ranges.{IsWritable}
+use Rattle.doc_write.specs.Written.{write_outcome}
+use Rattle.doc_write.specs.declared.writing.WriteFail.{WriteFail}
+use Rattle.doc_write.specs.declared.writing.WriteFail.TheVariants as write
+use Rattle.kdbx_frame.specs.declared.settings.Settings.{Settings}
+use Rattle.kdbx_frame.specs.Fields.{header_limit}
+use Rattle.kdbx_spelling.specs.declared.draws.Draws.{Draws}
+use Rattle.kdbx_spelling.specs.Header.{spelled_header}
+use Rattle.kdbx_spelling.specs.Inner.{FitsField}
+use Rattle.kdbx_payload_seal.specs.Made.{plain_content, written_keystream}
+use Rattle.kdbx_payload_seal.specs.declared.fail.SealPayloadFail.{SealPayloadFail}
+use Rattle.kdbx_payload_seal.specs.declared.fail.SealPayloadFail.TheVariants as payload
+use Rattle.kdbx_seal.specs.Made.{attached_files, document_text}
+use Rattle.kdbx_seal.specs.declared.fail.SealFail.{SealFail}
+use Rattle.kdbx_seal.specs.declared.fail.SealFail.TheVariants.{TooMany, TooLarge, FileFault, NoMemory}
+
+-- A refusal of writing the document, as one of sealing.
+abbrev pub of_writing : WriteFail → SealFail
+of_writing (write.TooMany n) = TooMany n
+of_writing (write.TooLarge n) = TooLarge n
+of_writing write.NoMemory = NoMemory
+
+-- A refusal of sealing the payload, as one of sealing.
+abbrev pub of_payload : SealPayloadFail → SealFail
+of_payload (payload.TooLarge n) = TooLarge n
+of_payload payload.FileFault = FileFault
+of_payload payload.NoMemory = NoMemory
+
+-- What writing a document gives, for the file with these draws.
+abbrev pub written_document : Draws → BareDoc → Result (List ℕ) WriteFail
+written_document draws d = write_outcome V4 (written_keystream draws.stream) None d
+
+-- The refusal of a document that is too large, or of a header that ends past the limit, if any.
+abbrev pub refusal_of : Result (List ℕ) WriteFail → ℕ → Option SealFail
+refusal_of (Ok text) end = if nat_lt header_limit end then Some (TooLarge end) else None
+refusal_of (Err fail) end = Some (of_writing fail)
+
+-- The same for a file of these settings with these draws that holds a document.
+abbrev pub size_refusal : Settings → Draws → BareDoc → Option SealFail
+size_refusal s draws d =
+    refusal_of (written_document draws d) (length (spelled_header s draws) + 64)
+
+-- A file is sealed, or the store is asked, only where nothing is too large; and what is refused as
+-- too large is so. Want of memory says nothing.
+abbrev pub Refuses : Result (Unit {0}) SealFail → Option SealFail → Type 0
+Refuses (Ok _) refusal = refusal ≡ None
+Refuses (Err FileFault) refusal = refusal ≡ None
+Refuses (Err NoMemory) refusal = Unit {0}
+Refuses (Err (TooMany n)) refusal = refusal ≡ Some (TooMany n)
+Refuses (Err (TooLarge n)) refusal = refusal ≡ Some (TooLarge n)
+
+-- There is no draft, unless something is too large.
+abbrev pub LeavesNoDraft : Result (Unit {0}) SealFail → Option (List ℕ) → Type 0
+LeavesNoDraft (Ok _) draft = draft ≡ None
+LeavesNoDraft (Err FileFault) draft = draft ≡ None
+LeavesNoDraft (Err NoMemory) draft = draft ≡ None
+LeavesNoDraft (Err (TooMany n)) draft = Unit {0}
+LeavesNoDraft (Err (TooLarge n)) draft = Unit {0}
+
+-- The content of a document's file, before it is enciphered.
+abbrev pub document_content : Draws → BareDoc → List ℕ
+document_content draws d = plain_content draws (attached_files d) (document_text draws d)
+
+-- The content of a document's file was written, with room for its padding; it is not too large, and a
+-- field has room for each attached file.
+pub record IsWritten (draws : Draws) (d : BareDoc) (content : SecretBuffer) : Type 0 where
+  pub bytes : content.bytes ≡ document_content draws d
+  pub spare : 16 ≤ content.spare
+  pub limit : length content.bytes ≤ 2 ^ 38
+  pub within : written_document draws d ≡ Ok (document_text draws d)
+  pub writable : IsWritable d
+  pub small : AllByRecursion FitsField (attached_files d)
+
+-- What writing it answers.
+abbrev pub WritesContent : Draws → BareDoc → Result SecretBuffer WriteFail → Type 0
+WritesContent draws d (Ok content) = IsWritten draws d content
+WritesContent draws d (Err write.NoMemory) = Unit {0}
+WritesContent draws d (Err fail) = written_document draws d ≡ Err fail
