@@ -47,7 +47,8 @@ fn text_in(text: &Option<Text>) -> Option<&str>
 
 // The values that an entry is to have.
 fn values_of<'a>(asked: &'a Asked, password: Option<&'a [u8]>) -> Values<'a>
-    ensures values { nodes.given_values result ≡ spec.values_of asked.now (nodes.lent_value password.entry) }
+    ensures values { nodes.given_values result
+        ≡ spec.values_of asked.now (nodes.lent_value password.entry) }
     ensures password { result.password ≡ password.entry }
 {
     Values {
@@ -116,8 +117,8 @@ pub fn add_entry(
 ) -> Result<Secret, Stop>
     requires { IfSome given.password (λ password. is_utf8 password.now ≡ true) }
     ensures told { CommandChanges result (after_add_command given.entry.file.now given.entry.quiet
-        path.now id (spec.values_of asked.now (nodes.lent_value given.entry.password)) given.entry.now
-        (doc_seen doc.old)) (doc_seen doc.old) (doc_seen doc.new) }
+        path.now id (spec.values_of asked.now (nodes.lent_value given.entry.password))
+        given.entry.now (doc_seen doc.old)) (doc_seen doc.old) (doc_seen doc.new) }
     ensures cause { IfErr result IsPlainStop }
 {
     let text = report(alloc, given.quiet, b"added", name_after(path).as_bytes())?;
@@ -146,7 +147,8 @@ fn entry_title<'a>(doc: &'a Doc, path: &str) -> &'a [u8]
 
 // The title that an entry has once it is edited.
 fn edited_title<'a>(doc: &'a Doc, path: &str, given: Option<&'a str>) -> &'a [u8]
-    ensures { result.now ≡ spec.edited_title (nodes.lent_value given.entry) path.now (doc_seen doc.now) }
+    ensures { result.now
+        ≡ spec.edited_title (nodes.lent_value given.entry) path.now (doc_seen doc.now) }
 {
     match given {
         Some(title) => title.as_bytes(),
@@ -166,8 +168,8 @@ pub fn edit_entry(
 ) -> Result<Secret, Stop>
     requires { IfSome given.password (λ password. is_utf8 password.now ≡ true) }
     ensures told { CommandChanges result (after_edit_command given.entry.file.now given.entry.quiet
-        path.now (spec.values_of asked.now (nodes.lent_value given.entry.password)) given.entry.now
-        (doc_seen doc.old)) (doc_seen doc.old) (doc_seen doc.new) }
+        path.now (spec.values_of asked.now (nodes.lent_value given.entry.password))
+        given.entry.now (doc_seen doc.old)) (doc_seen doc.old) (doc_seen doc.new) }
     ensures cause { IfErr result IsPlainStop }
 {
     let values = values_of(asked, given.password);
