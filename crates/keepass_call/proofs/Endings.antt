@@ -6,7 +6,7 @@ use Rattle.outside_core.specs.Counts.{Increased}
 use Rattle.outside_core.specs.Files.{FileMap}
 use Rattle.outside_core.specs.Streams.{GainsPrefix}
 use Rattle.cli_answers.specs.declared.answers.Reason.{Reason}
-use Rattle.cli_answers.specs.declared.answers.Reason.TheVariants.{WrongWords, NoSuchPath, DamagedOrWrongKey, DamagedBlock, WrongKeyOrDamaged, KeyFileHash, NotKdbx, EndsEarly, BadHeaderField, BadDictionary, Form, MissingElement, BadValue, NilId, DuplicateId, BinaryRef, BadKeyFile, LineForm, Version, UnknownId, StreamUnknown, Compressed, Variant, NoSuchFile, TooLarge, Depth, TooDeep, TooMany, KdfLimit, LineLimit, OutOfMemory, InputEnded}
+use Rattle.cli_answers.specs.declared.answers.Reason.TheVariants.{WrongWords, NoSuchPath, NameTaken, AlreadyThere, RootFixed, IntoItself, IdTaken, DamagedOrWrongKey, DamagedBlock, WrongKeyOrDamaged, KeyFileHash, NotKdbx, EndsEarly, BadHeaderField, BadDictionary, Form, MissingElement, BadValue, NilId, DuplicateId, BinaryRef, BadKeyFile, LineForm, Version, UnknownId, StreamUnknown, Compressed, Variant, NoSuchFile, TooLarge, Depth, TooDeep, TooMany, KdfLimit, StampLimit, LineLimit, OutOfMemory, InputEnded}
 use Rattle.cli_answers.specs.declared.answers.Refusal.{Refusal}
 use Rattle.cli_answers.specs.declared.answers.Stop.{Stop}
 use Rattle.cli_answers.specs.declared.answers.Stop.TheVariants.{Refused, FileFault, InputFault, NoMemory}
@@ -47,6 +47,11 @@ refute result counts counts' f g (inr other) = g other.0 other.1
 never_zero : (a : Reason) → status_of a ≡ 0 → ⊥
 never_zero WrongWords h = omega arith
 never_zero NoSuchPath h = omega arith
+never_zero NameTaken h = omega arith
+never_zero AlreadyThere h = omega arith
+never_zero RootFixed h = omega arith
+never_zero (IntoItself id) h = omega arith
+never_zero (IdTaken id) h = omega arith
 never_zero (DamagedOrWrongKey kept found) h = omega arith
 never_zero (DamagedBlock number) h = omega arith
 never_zero WrongKeyOrDamaged h = omega arith
@@ -74,6 +79,7 @@ never_zero Depth h = omega arith
 never_zero TooDeep h = omega arith
 never_zero TooMany h = omega arith
 never_zero KdfLimit h = omega arith
+never_zero StampLimit h = omega arith
 never_zero LineLimit h = omega arith
 never_zero OutOfMemory h = omega arith
 never_zero (InputEnded number) h = omega arith
@@ -81,6 +87,11 @@ never_zero (InputEnded number) h = omega arith
 never_ten : (a : Reason) → status_of a ≡ 10 → ⊥
 never_ten WrongWords h = omega arith
 never_ten NoSuchPath h = omega arith
+never_ten NameTaken h = omega arith
+never_ten AlreadyThere h = omega arith
+never_ten RootFixed h = omega arith
+never_ten (IntoItself id) h = omega arith
+never_ten (IdTaken id) h = omega arith
 never_ten (DamagedOrWrongKey kept found) h = omega arith
 never_ten (DamagedBlock number) h = omega arith
 never_ten WrongKeyOrDamaged h = omega arith
@@ -108,6 +119,7 @@ never_ten Depth h = omega arith
 never_ten TooDeep h = omega arith
 never_ten TooMany h = omega arith
 never_ten KdfLimit h = omega arith
+never_ten StampLimit h = omega arith
 never_ten LineLimit h = omega arith
 never_ten OutOfMemory h = omega arith
 never_ten (InputEnded number) h = omega arith
@@ -115,6 +127,11 @@ never_ten (InputEnded number) h = omega arith
 never_eleven : (a : Reason) → status_of a ≡ 11 → ⊥
 never_eleven WrongWords h = omega arith
 never_eleven NoSuchPath h = omega arith
+never_eleven NameTaken h = omega arith
+never_eleven AlreadyThere h = omega arith
+never_eleven RootFixed h = omega arith
+never_eleven (IntoItself id) h = omega arith
+never_eleven (IdTaken id) h = omega arith
 never_eleven (DamagedOrWrongKey kept found) h = omega arith
 never_eleven (DamagedBlock number) h = omega arith
 never_eleven WrongKeyOrDamaged h = omega arith
@@ -142,6 +159,7 @@ never_eleven Depth h = omega arith
 never_eleven TooDeep h = omega arith
 never_eleven TooMany h = omega arith
 never_eleven KdfLimit h = omega arith
+never_eleven StampLimit h = omega arith
 never_eleven LineLimit h = omega arith
 never_eleven OutOfMemory h = omega arith
 never_eleven (InputEnded number) h = omega arith
@@ -149,6 +167,11 @@ never_eleven (InputEnded number) h = omega arith
 seven_missing : (a : Reason) → status_of a ≡ 7 → a ≡ NoSuchFile
 seven_missing WrongWords h = absurd (omega arith)
 seven_missing NoSuchPath h = absurd (omega arith)
+seven_missing NameTaken h = absurd (omega arith)
+seven_missing AlreadyThere h = absurd (omega arith)
+seven_missing RootFixed h = absurd (omega arith)
+seven_missing (IntoItself id) h = absurd (omega arith)
+seven_missing (IdTaken id) h = absurd (omega arith)
 seven_missing (DamagedOrWrongKey kept found) h = absurd (omega arith)
 seven_missing (DamagedBlock number) h = absurd (omega arith)
 seven_missing WrongKeyOrDamaged h = absurd (omega arith)
@@ -176,6 +199,7 @@ seven_missing Depth h = absurd (omega arith)
 seven_missing TooDeep h = absurd (omega arith)
 seven_missing TooMany h = absurd (omega arith)
 seven_missing KdfLimit h = absurd (omega arith)
+seven_missing StampLimit h = absurd (omega arith)
 seven_missing LineLimit h = absurd (omega arith)
 seven_missing OutOfMemory h = absurd (omega arith)
 seven_missing (InputEnded number) h = absurd (omega arith)
