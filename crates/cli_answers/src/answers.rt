@@ -107,7 +107,7 @@ pub enum Stop {
     Refused(Refusal),
     /// The store failed at the file of this name.
     FileFault(Text),
-    /// The input failed.
+    /// The input or the dice failed.
     InputFault,
     /// Memory ran out.
     NoMemory,
