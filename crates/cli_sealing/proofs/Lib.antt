@@ -1,0 +1,2 @@
+pub mod DrawnParts
+pub mod Sealed
