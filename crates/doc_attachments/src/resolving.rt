@@ -2,8 +2,9 @@
 
 ghost use Rattle.doc_forms.specs.Attachments as spec;
 ghost use Rattle.doc_forms.specs.SeenDrafts.{attachment_seen, draft_seen, entry_seen, version_seen};
-ghost use Rattle.std.specs.Prelude.{◌≡◌, ◌++◌, IfOk, OnOk, map};
-ghost use Rattle.vault_model.specs.Seen.{bare_attachment, bare_content, bare_field};
+ghost use Rattle.doc_attachments.specs.Trees.{with_attachments};
+ghost use Rattle.std.specs.Prelude.{◌≡◌, IfOk, Ok, map};
+ghost use Rattle.vault_model.specs.Seen.{bare_attachment};
 ghost use Rattle.vault_model.specs.SeenNodes.{bare_version, entry_row, tree_seen};
 
 use crate::pools::{Pool, push};
@@ -12,7 +13,7 @@ use outside_core::{List, NoMemory, Text};
 use secret_core::Secret;
 use std::alloc::Global;
 use std::rc::Rc;
-use vault_model::{Attachment, Content, Entry, Field, Group, Version};
+use vault_model::{Attachment, Entry, Group, Version};
 
 /// An attachment with its bytes, which are shared. Where it refers to no binary, it has none.
 fn resolved_attachment(
@@ -54,33 +55,26 @@ fn resolved_attachments(
     Ok(resolved)
 }
 
-/// Fields as a version keeps them.
-fn kept_fields(alloc: Global, fields: Vec<Field>) -> Result<List<Field>, NoMemory>
-    ensures { IfOk result (λ l. l ≡ fields.items) }
-{
-    let mut kept = List::new(alloc);
-    for field in fields {
-        push(&mut kept, field)?;
-    }
-    Ok(kept)
-}
-
-/// Puts the fields and the attachments of a version into what it says, in the place of those there.
-fn put_lists(
+/// The attachments of a version with their bytes.
+fn attachments_of(
     alloc: Global,
     pool: &Pool<'_>,
-    content: &mut Content,
-    fields: Vec<Field>,
-    attachments: &[AttachmentDraft],
-) -> Result<(), NoMemory>
-    ensures { OnOk result (bare_content content.new ≡ record (bare_content content.old) {
-      fields = map bare_field fields.items;
-      attachments = map (spec.resolved_attachment pool.now) (map attachment_seen attachments.now);
-    }) }
+    draft: &VersionDraft,
+) -> Result<List<Attachment>, NoMemory>
+    ensures { IfOk result (λ l. map bare_attachment l
+        ≡ map (spec.resolved_attachment pool.now) (version_seen draft.now).attachments) }
 {
-    content.fields = kept_fields(alloc, fields)?;
-    content.attachments = resolved_attachments(alloc, pool, attachments)?;
-    Ok(())
+    resolved_attachments(alloc, pool, draft.attachments.as_slice())
+}
+
+/// A version with these attachments.
+fn version_of(draft: VersionDraft, attachments: List<Attachment>) -> Version
+    ensures { bare_version result
+        ≡ with_attachments (version_seen draft) (map bare_attachment attachments) }
+{
+    let mut version = draft.version;
+    version.content.attachments = attachments;
+    version
 }
 
 /// A version with the bytes of its attachments.
@@ -92,35 +86,37 @@ fn resolved_version(
     ensures { IfOk result (λ v. bare_version v
         ≡ spec.resolved_version pool.now (version_seen draft)) }
 {
-    let VersionDraft {
-        modified,
-        mut content,
-        fields,
-        attachments,
-        stats,
-    } = draft;
-    put_lists(alloc, pool, &mut content, fields, attachments.as_slice())?;
-    Ok(Version {
-        modified,
-        content,
-        stats,
-    })
+    match attachments_of(alloc, pool, &draft) {
+        Ok(attachments) => Ok(version_of(draft, attachments)),
+        Err(refusal) => Err(refusal),
+    }
 }
 
-/// Puts versions with the bytes of their attachments after the others.
-fn push_versions(
+/// Versions with the bytes of their attachments.
+fn resolved_versions(
     alloc: Global,
     pool: &Pool<'_>,
-    versions: &mut List<Version>,
     drafts: Vec<VersionDraft>,
-) -> Result<(), NoMemory>
-    ensures { OnOk result (map bare_version versions.new ≡ map bare_version versions.old
-        ++ map (spec.resolved_version pool.now) (map version_seen drafts.items)) }
+) -> Result<List<Version>, NoMemory>
+    ensures { IfOk result (λ l. map bare_version l
+        ≡ map (spec.resolved_version pool.now) (map version_seen drafts.items)) }
 {
+    let mut resolved = List::new(alloc);
     for draft in drafts {
-        push(versions, resolved_version(alloc, pool, draft)?)?;
+        push(&mut resolved, resolved_version(alloc, pool, draft)?)?;
     }
-    Ok(())
+    Ok(resolved)
+}
+
+/// Both of two that were made, or else a refusal.
+fn both<A: Drop, B: Drop>(
+    first: Result<A, NoMemory>,
+    second: Result<B, NoMemory>,
+) -> Result<(A, B), NoMemory>
+    ensures first { IfOk result (λ both. first ≡ Ok both.0) }
+    ensures second { IfOk result (λ both. second ≡ Ok both.1) }
+{
+    Ok((first?, second?))
 }
 
 /// An entry with the bytes of its attachments.
@@ -134,16 +130,18 @@ fn resolved_entry(alloc: Global, pool: &Pool<'_>, draft: EntryDraft) -> Result<E
         current,
         history,
     } = draft;
-    let current = resolved_version(alloc, pool, current)?;
-    let mut entry = Entry {
-        id,
-        placed,
-        previous,
-        current,
-        history: List::new(alloc),
-    };
-    push_versions(alloc, pool, &mut entry.history, history)?;
-    Ok(entry)
+    let current = resolved_version(alloc, pool, current);
+    let history = resolved_versions(alloc, pool, history);
+    match both(current, history) {
+        Ok((current, history)) => Ok(Entry {
+            id,
+            placed,
+            previous,
+            current,
+            history,
+        }),
+        Err(refusal) => Err(refusal),
+    }
 }
 
 /// Entries with the bytes of their attachments.
@@ -179,18 +177,20 @@ pub(crate) fn resolved_tree(
         entries,
         groups,
     } = draft;
-    let entries = resolved_entries(alloc, pool, entries)?;
     let mut resolved = List::new(alloc);
     for draft in groups {
         push(&mut resolved, resolved_tree(alloc, pool, draft)?)?;
     }
-    Ok(Group {
-        id,
-        placed,
-        previous,
-        state,
-        view,
-        entries,
-        groups: resolved,
-    })
+    match resolved_entries(alloc, pool, entries) {
+        Ok(entries) => Ok(Group {
+            id,
+            placed,
+            previous,
+            state,
+            view,
+            entries,
+            groups: resolved,
+        }),
+        Err(refusal) => Err(refusal),
+    }
 }

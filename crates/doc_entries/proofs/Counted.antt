@@ -1,7 +1,7 @@
 -- An element that has ended and is counted.
 use Rattle.std.proofs.Common.{◌≡◌, ℕ, ◌<◌, length, ap, sym, ◌∙◌, arith, Result, Ok, Err}
 use Rattle.outside_core.specs.Results.{◌>>=◌}
-use Rattle.markup_grammar.specs.Elements.{left}
+use Rattle.markup_grammar.specs.Elements.{inner, left}
 use Rattle.doc_forms.specs.declared.cursor.Cursor.{Cursor}
 use Rattle.doc_forms.specs.declared.fails.DocFail.{DocFail}
 use Rattle.doc_forms.specs.Children.{count_node}
@@ -30,8 +30,39 @@ counted_in {view = view} {new = new} {r = r} {known = known} finish steps counts
   setting = counts.setting ∙ steps.setting;
 }
 
+-- one that is refused before it ends
+pub refused_before : {X P Q Z : Type 0} {view : X → P} {any : Z → Q} {old new : Course} {rest : Rest P} {e : DocFail} (finish : P → Cursor → Result (Q × Cursor) DocFail)
+    → Steps view old new (Err e) rest → Steps any old new (Err e) (counted_rest rest finish)
+refused_before {old = old} {rest = rest} {e = e} finish steps = record {
+  gives = carried e (rest old.setting (inner (left old.answers)) old.cursor) _
+      (λ same. ap (λ d. d >>= λ x. count_node x.1 >>= λ after. finish x.0 after) same) steps.gives;
+  left = tt;
+  shorter = tt;
+  setting = steps.setting;
+}
+
+-- one that is one too many
+pub too_many : {X P Q Z : Type 0} {view : X → P} {any : Z → Q} {old mid new : Course} {rest : Rest P} {x : X} {e : DocFail} (finish : P → Cursor → Result (Q × Cursor) DocFail)
+    → Steps view old mid (Ok x) rest → Fails e (count_node mid.cursor) → new.setting ≡ mid.setting → Steps any old new (Err e) (counted_rest rest finish)
+too_many {view = view} {mid = mid} {x = x} {e = e} finish steps fails setting = record {
+  gives = rw steps.gives (carried e (count_node mid.cursor) (count_node mid.cursor >>= λ after. finish (view x) after) (λ same. ap (λ d. d >>= λ after. finish (view x) after) same) fails);
+  left = tt;
+  shorter = tt;
+  setting = setting ∙ steps.setting;
+}
+
 -- what is made where the walk is
-pub made_at : {X Q : Type 0} (view : X → Q) (r : Result X DocFail) (q : Q) (cursor : Cursor)
-    → Returns view r (Ok q) → Returns {Y = Q × Cursor} (λ y. (view y, cursor)) r (Ok (q, cursor))
-made_at view (Ok x) q cursor made = ap (λ d. d >>= λ q. Ok (q, cursor)) made
-made_at view (Err e) q cursor made = carried e (Ok q) (Ok (q, cursor)) (λ (never : Ok q ≡ Err e). cc) made
+pub made_at : {X Q : Type 0} (view : X → Q) (x : X) (q : Q) (cursor : Cursor)
+    → view x ≡ q → Returns {Y = Q × Cursor} (λ y. (view y, cursor)) (Ok x) (Ok (q, cursor))
+made_at {Q = Q} view x q cursor made = ap (λ (v : Q). let r : Result (Q × Cursor) DocFail = Ok (v, cursor) in r) (sym made)
+
+-- the same, of what a first step gave
+pub made_by : {A X Q : Type 0} (view : X → Q) (r : Result X DocFail) (d : Result A DocFail) (f : A → Q) (cursor : Cursor)
+    → Returns view r (d >>= λ a. Ok (f a)) → Returns {Y = Q × Cursor} (λ y. (view y, cursor)) r (d >>= λ a. Ok (f a, cursor))
+made_by {Q = Q} view (Ok x) (Ok a) f cursor made = ap (λ (s : Result Q DocFail). s >>= λ q. Ok (q, cursor)) made
+made_by view (Ok x) (Err e) f cursor made = cc
+made_by view (Err e) (Ok a) f cursor made = carried e (Ok (f a)) (Ok (f a, cursor)) (λ (never : Ok (f a) ≡ Err e). cc) made
+made_by {Q = Q} view (Err e) (Err d) f cursor made =
+    let was : Result Q DocFail = Err d in
+    let is : Result (Q × Cursor) DocFail = Err d in
+    carried e was is (λ (same : was ≡ Err e). cc) made

@@ -1,2 +1,3 @@
+pub mod AttachmentTexts
 pub mod EntrySteps
 pub mod SeenBuilders

@@ -2,6 +2,7 @@
 
 ghost use Rattle.std.specs.Prelude.{codes, Ok, option_map};
 ghost use Rattle.markup_grammar.specs.Attributes.{attribute_text};
+ghost use Rattle.doc_entries.specs.AttachmentTexts.{value_by_text};
 ghost use Rattle.doc_forms.specs.Children.{by_name};
 ghost use Rattle.doc_forms.specs.Entries.{ReadAttachment};
 ghost use Rattle.doc_forms.specs.Entries as spec;
@@ -12,7 +13,7 @@ ghost use Rattle.doc_walk.specs.Steps.{Steps};
 ghost use Rattle.doc_walk.specs.Tags.{child_step, contents_step};
 
 use doc_forms::{AttachmentDraft, DocFail, ElementText, SourceDraft};
-use doc_values::{Kind, SecretBytes, TextValue, is_marked, no_text, number64, resolved};
+use doc_values::{Kind, SecretBytes, TextValue, is_hidden, is_marked, no_text, number64, resolved};
 use doc_walk::{Parts, Tag, Walk, contents};
 use markup_core::Attrs;
 use outside_core::Text;
@@ -64,6 +65,28 @@ fn is_compressed(alloc: Global, attrs: &Attrs<'_>) -> Result<bool, DocFail>
     is_marked(alloc, attrs, "Compressed")
 }
 
+/// Puts what a `Value` with this start tag and this text says into its attachment.
+fn put_value(
+    attachment: &mut AttachmentDraft,
+    alloc: Global,
+    tag: &Tag<'_>,
+    text: ElementText,
+) -> Result<(), DocFail>
+    ensures { Returns (λ _. attachment_seen attachment.new) result
+        (value_by_text tag.now.offset tag.now.attrs.raw.now (attachment_seen attachment.old)
+        (text_seen text)) }
+{
+    let Some(source) = source_in(alloc, tag.offset, &tag.attrs, text)? else {
+        return Err(DocFail::BadValue(tag.offset));
+    };
+    if is_compressed(alloc, &tag.attrs)? {
+        return Err(DocFail::Compressed(tag.offset));
+    }
+    attachment.hidden = is_hidden(alloc, &tag.attrs)?;
+    attachment.source = source;
+    Ok(())
+}
+
 /// What is known of an entry's `Binary` before its end.
 #[derive(Drop)]
 struct AttachmentKnown {
@@ -80,15 +103,7 @@ fn attachment_value(
         (child_step spec.attachment_value (attachment_seen known.old.attachment) tag.now) }
 {
     let text = walk.element_text(tag)?;
-    let Some(source) = source_in(walk.alloc(), tag.offset, &tag.attrs, text)? else {
-        return Err(DocFail::BadValue(tag.offset));
-    };
-    if is_compressed(walk.alloc(), &tag.attrs)? {
-        return Err(DocFail::Compressed(tag.offset));
-    }
-    known.attachment.hidden = walk.is_hidden(tag)?;
-    known.attachment.source = source;
-    Ok(())
+    put_value(&mut known.attachment, walk.alloc(), tag, text)
 }
 
 impl Parts for AttachmentKnown {

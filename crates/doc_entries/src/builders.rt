@@ -1,6 +1,6 @@
 //! Entries and history items before their end, and the versions that they make.
 
-ghost use Rattle.std.specs.Prelude.{◌≡◌, ◌++◌, ◌∷◌, [], map, None, Ok};
+ghost use Rattle.std.specs.Prelude.{◌≡◌, [], map, None, Ok};
 ghost use Rattle.vault_model.specs.Db.{nil_id};
 ghost use Rattle.vault_model.specs.Seen.{bare_content, bare_field};
 ghost use Rattle.doc_entries.specs.SeenBuilders.{entry_known};
@@ -15,7 +15,7 @@ use doc_walk::{never, no_times};
 use outside_core::{List, Text};
 use std::alloc::Global;
 use uuid::Uuid;
-use vault_model::{Content, Field, Stats};
+use vault_model::{Content, Field, Stats, Version};
 
 /// What is known of an entry, or of a history item, before its end. Its content has neither times
 /// nor fields: they are beside it.
@@ -88,63 +88,37 @@ pub(crate) fn put_attachment(
     Ok(())
 }
 
-/// Appends a field to others.
-fn push(fields: &mut Vec<Field>, field: Field) -> Result<(), DocFail>
-    ensures { Returns (λ _. fields.new.items) result (Ok (fields.old.items ++ field ∷ [])) }
-{
-    match fields.push(field) {
-        Ok(()) => Ok(()),
-        Err(_) => Err(DocFail::NoMemory),
-    }
-}
-
-/// Fields in memory that has room for them alone. They are moved from the last one on, which moves
-/// no other.
-fn packed(alloc: Global, fields: List<Field>) -> Result<Vec<Field>, DocFail>
-    ensures { Returns (λ v. v.items) result (Ok fields) }
-{
-    let mut rest = fields;
-    let Ok(mut packed) = Vec::with_capacity(alloc, rest.len()) else {
-        return Err(DocFail::NoMemory);
-    };
-    while rest.len() > 0 {
-        let last = rest.len() - 1;
-        push(&mut packed, rest.remove(last))?;
-    }
-    packed.reverse();
-    Ok(packed)
-}
-
-/// The version that an entry or a history item makes.
+/// The version that an entry or a history item makes. Its fields take no more memory than they need.
 pub(crate) fn version_of(
-    alloc: Global,
     times: Times,
     content: Content,
     fields: KeyedList<Field>,
     attachments: KeyedList<AttachmentDraft>,
-) -> Result<VersionDraft, DocFail>
-    ensures { Returns version_seen result (Ok (spec.version_of (record {
+) -> VersionDraft
+    ensures { version_seen result ≡ spec.version_of (record {
       id = None;
       previous = nil_id;
       times = times;
       content = record (bare_content content) { fields = map bare_field fields };
       attachments = map attachment_seen attachments;
       history = [];
-    }))) }
+    }) }
 {
-    let fields = packed(alloc, fields.into_list())?;
     let mut content = content;
     content.created = times.created;
     content.expiry = times.expiry;
     content.expires = times.expires;
-    Ok(VersionDraft {
-        modified: times.modified,
-        content,
-        fields,
-        attachments: attachments.into_list(),
-        stats: Stats {
-            accessed: times.accessed,
-            usage: times.usage,
+    content.fields = fields.into_list();
+    content.fields.fit();
+    VersionDraft {
+        version: Version {
+            modified: times.modified,
+            content,
+            stats: Stats {
+                accessed: times.accessed,
+                usage: times.usage,
+            },
         },
-    })
+        attachments: attachments.into_list(),
+    }
 }

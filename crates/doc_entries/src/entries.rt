@@ -1,7 +1,7 @@
 //! Entries.
 
-ghost use Rattle.std.specs.Prelude.{◌≡◌, map, Ok};
-ghost use Rattle.doc_entries.specs.EntrySteps.{entry_step};
+ghost use Rattle.std.specs.Prelude.{◌≡◌};
+ghost use Rattle.doc_entries.specs.EntrySteps.{entry_step, whole_entry};
 ghost use Rattle.doc_entries.specs.SeenBuilders.{entry_known};
 ghost use Rattle.doc_forms.specs.Children.{by_name};
 ghost use Rattle.doc_forms.specs.Entries.{EntryParts};
@@ -17,7 +17,6 @@ use crate::versions::version_child;
 use doc_forms::{DocFail, EntryDraft};
 use doc_values::{IdValue, OwnId};
 use doc_walk::{Parts, Tag, Walk, contents};
-use std::alloc::Global;
 use uuid::Uuid;
 
 /// What is known of an `Entry` before its end.
@@ -47,9 +46,8 @@ impl Parts for EntryKnown {
 }
 
 /// The entry that the parts of an id make.
-fn entry_of(alloc: Global, id: Uuid, known: EntryBuilder) -> Result<EntryDraft, DocFail>
-    ensures { Returns entry_seen result
-        (Ok (spec.entry_of id (entry_known known))) }
+fn entry_of(id: Uuid, known: EntryBuilder) -> EntryDraft
+    ensures { entry_seen result ≡ spec.entry_of id (entry_known known) }
 {
     let EntryBuilder {
         id: _,
@@ -60,15 +58,30 @@ fn entry_of(alloc: Global, id: Uuid, known: EntryBuilder) -> Result<EntryDraft, 
         attachments,
         history,
     } = known;
-    let placed = times.placed;
-    let current = version_of(alloc, times, content, fields, attachments)?;
-    Ok(EntryDraft {
+    EntryDraft {
         id,
-        placed,
+        placed: times.placed,
         previous,
-        current,
+        current: version_of(times, content, fields, attachments),
         history,
-    })
+    }
+}
+
+/// The id of an entry that begins at the offset, when all that is in it has been read.
+fn id_of(offset: usize, known: &EntryBuilder) -> Result<Uuid, DocFail>
+    ensures { Returns (λ u. u) result (spec.node_id offset (entry_known known.now).id) }
+{
+    node_id(offset, known.id)
+}
+
+/// The entry that begins at the offset, when all that is in it has been read.
+fn whole_entry(offset: usize, known: EntryBuilder) -> Result<EntryDraft, DocFail>
+    ensures { Returns entry_seen result (whole_entry offset (entry_known known)) }
+{
+    match id_of(offset, &known) {
+        Ok(id) => Ok(entry_of(id, known)),
+        Err(refusal) => Err(refusal),
+    }
 }
 
 /// The entry whose start tag was given.
@@ -80,7 +93,5 @@ pub fn entry(walk: &mut Walk<'_>, tag: &Tag<'_>) -> Result<EntryDraft, DocFail>
     };
     contents(walk, tag, &mut draft)?;
     walk.count()?;
-    let known = draft.known;
-    let id = node_id(tag.offset, known.id)?;
-    entry_of(walk.alloc(), id, known)
+    whole_entry(tag.offset, draft.known)
 }

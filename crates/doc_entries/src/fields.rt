@@ -26,9 +26,10 @@ struct FieldDraft {
 fn no_field(alloc: Global) -> Result<Field, DocFail>
     ensures { Returns bare_field result (Ok spec.no_field) }
 {
+    let value = no_text(alloc)?;
     Ok(Field {
         key: Text::new(alloc),
-        value: no_text(alloc)?,
+        value,
         hidden: false,
     })
 }

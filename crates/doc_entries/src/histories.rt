@@ -39,6 +39,22 @@ impl Parts for ItemDraft {
     }
 }
 
+/// The version that the parts of a history item make.
+fn version_in(known: EntryBuilder) -> VersionDraft
+    ensures { version_seen result ≡ spec.version_of (entry_known known) }
+{
+    let EntryBuilder {
+        id: _,
+        previous: _,
+        times,
+        content,
+        fields,
+        attachments,
+        history: _,
+    } = known;
+    version_of(times, content, fields, attachments)
+}
+
 /// The history item whose start tag was given.
 fn history_item(walk: &mut Walk<'_>, tag: &Tag<'_>) -> Result<VersionDraft, DocFail>
     ensures { Steps version_seen walk.old walk.new result (history_item_step tag.now) }
@@ -48,16 +64,7 @@ fn history_item(walk: &mut Walk<'_>, tag: &Tag<'_>) -> Result<VersionDraft, DocF
     };
     contents(walk, tag, &mut draft)?;
     walk.count()?;
-    let EntryBuilder {
-        id: _,
-        previous: _,
-        times,
-        content,
-        fields,
-        attachments,
-        history: _,
-    } = draft.known;
-    version_of(walk.alloc(), times, content, fields, attachments)
+    Ok(version_in(draft.known))
 }
 
 /// Appends a version to others.

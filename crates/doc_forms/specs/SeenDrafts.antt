@@ -1,6 +1,6 @@
 -- What is seen of the parts of a document in memory: the same without memory.
 use Rattle.std.specs.Prelude.{List, [], ◌∷◌, map, option_map}
-use Rattle.vault_model.specs.Seen.{bare_content, bare_field}
+use Rattle.vault_model.specs.Seen.{bare_content}
 use Rattle.doc_forms.specs.declared.drafts.AttachmentDraft.{AttachmentDraft}
 use Rattle.doc_forms.specs.declared.drafts.Binary.{Binary}
 use Rattle.doc_forms.specs.declared.drafts.EntryDraft.{EntryDraft}
@@ -31,10 +31,10 @@ attachment_seen a = record { name = a.name; source = source_seen a.source; hidde
 -- a version
 abbrev pub version_seen : VersionDraft → ReadVersion
 version_seen v = record {
-  modified = v.modified;
-  content = record (bare_content v.content) { fields = map bare_field v.fields.items };
+  modified = v.version.modified;
+  content = bare_content v.version.content;
   attachments = map attachment_seen v.attachments;
-  stats = v.stats;
+  stats = v.version.stats;
 }
 
 -- an entry

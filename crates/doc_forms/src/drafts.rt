@@ -5,9 +5,7 @@ use outside_core::{List, Text};
 use secret_core::Secret;
 use std::rc::Rc;
 use uuid::Uuid;
-use vault_model::{
-    Content, Field, GroupContent, GroupState, GroupView, Meta, Stamp, Stats, Tombstone,
-};
+use vault_model::{GroupContent, GroupState, GroupView, Meta, Stamp, Tombstone, Version};
 
 /// Where an attachment's bytes are.
 #[derive(Drop)]
@@ -27,15 +25,11 @@ pub struct AttachmentDraft {
     pub hidden: bool,
 }
 
-/// A version of an entry. Its content has no fields and no attachments: they are kept beside it,
-/// the fields in memory that has room for them alone.
+/// A version of an entry. What it says has no attachments yet: they are kept beside it.
 #[derive(Drop)]
 pub struct VersionDraft {
-    pub modified: Stamp,
-    pub content: Content,
-    pub fields: Vec<Field>,
+    pub version: Version,
     pub attachments: List<AttachmentDraft>,
-    pub stats: Stats,
 }
 
 /// An entry.

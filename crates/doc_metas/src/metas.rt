@@ -1,6 +1,6 @@
 //! What a document says of its database.
 
-ghost use Rattle.std.specs.Prelude.{[], ◌∷◌, codes, drop};
+ghost use Rattle.std.specs.Prelude.{◌≡◌, [], ◌∷◌, codes, drop};
 ghost use Rattle.doc_forms.specs.Children.{by_name, container};
 ghost use Rattle.doc_forms.specs.Metas as spec;
 ghost use Rattle.doc_forms.specs.Metas.{MetaParts};
@@ -174,6 +174,13 @@ impl Parts for MetaDraft {
     }
 }
 
+/// Puts what is known of a `Meta` in its place.
+fn put_meta(into: &mut MetaBuilder, draft: MetaDraft)
+    ensures { meta_parts into.new ≡ meta_parts draft.known }
+{
+    *into = draft.known;
+}
+
 /// A `Meta`, whose start tag was given, put in its place.
 pub fn meta(walk: &mut Walk<'_>, tag: &Tag<'_>, into: &mut MetaBuilder) -> Result<(), DocFail>
     ensures { Steps (λ _. meta_parts into.new) walk.old walk.new result
@@ -182,7 +189,11 @@ pub fn meta(walk: &mut Walk<'_>, tag: &Tag<'_>, into: &mut MetaBuilder) -> Resul
     let mut draft = MetaDraft {
         known: no_meta(walk.alloc()),
     };
-    contents(walk, tag, &mut draft)?;
-    *into = draft.known;
-    Ok(())
+    match contents(walk, tag, &mut draft) {
+        Ok(()) => {
+            put_meta(into, draft);
+            Ok(())
+        }
+        Err(refusal) => Err(refusal),
+    }
 }

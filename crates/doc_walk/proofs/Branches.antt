@@ -76,3 +76,35 @@ refused_in {old = old} {rest = rest} {e = e} keep steps = record {
   shorter = tt;
   setting = steps.setting;
 }
+
+-- ---- an element that is read, and what comes of it
+
+-- what the rest of an element says, and what comes of that
+abbrev pub then_rest : {Y Q : Type 0} → Rest Y → (Y → Result Q DocFail) → Rest Q
+then_rest rest next s content cursor = rest s content cursor >>= λ x. next x.0 >>= λ q. Ok (q, x.1)
+
+-- as it is given or refused
+pub then_in : {X Y Q Z : Type 0} {view : X → Y} {shown : Z → Q} {old new : Course} {rest : Rest Y} {x : X} {r : Result Z DocFail} (next : Y → Result Q DocFail)
+    → Steps view old new (Ok x) rest → Returns shown r (next (view x)) → Steps shown old new r (then_rest rest next)
+then_in {new = new} {r = Ok z} next steps gives = record {
+  gives = ap (λ d. d >>= λ y. next y.0 >>= λ q. Ok (q, y.1)) steps.gives ∙ ap (λ d. d >>= λ q. Ok (q, new.cursor)) gives;
+  left = steps.left;
+  shorter = steps.shorter;
+  setting = steps.setting;
+}
+then_in {view = view} {new = new} {x = x} {r = Err e} next steps gives = record {
+  gives = rw steps.gives (carried e (next (view x)) (next (view x) >>= λ q. Ok (q, new.cursor)) (λ same. ap (λ d. d >>= λ q. Ok (q, new.cursor)) same) gives);
+  left = tt;
+  shorter = tt;
+  setting = steps.setting;
+}
+
+-- where the element itself is refused
+pub then_refused : {X Y Q Z : Type 0} {view : X → Y} {any : Z → Q} {old new : Course} {rest : Rest Y} {e : DocFail} (next : Y → Result Q DocFail)
+    → Steps view old new (Err e) rest → Steps any old new (Err e) (then_rest rest next)
+then_refused {old = old} {rest = rest} {e = e} next steps = record {
+  gives = carried e (rest old.setting (inner (left old.answers)) old.cursor) _ (λ same. ap (λ d. d >>= λ y. next y.0 >>= λ q. Ok (q, y.1)) same) steps.gives;
+  left = tt;
+  shorter = tt;
+  setting = steps.setting;
+}
