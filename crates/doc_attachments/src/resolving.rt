@@ -161,6 +161,7 @@ fn resolved_entries(
 }
 
 /// A group with all below it, with the bytes of its attachments.
+#[cycle(tree)]
 pub(crate) fn resolved_tree(
     alloc: Global,
     pool: &Pool<'_>,
@@ -177,20 +178,35 @@ pub(crate) fn resolved_tree(
         entries,
         groups,
     } = draft;
-    let mut resolved = List::new(alloc);
-    for draft in groups {
-        push(&mut resolved, resolved_tree(alloc, pool, draft)?)?;
-    }
-    match resolved_entries(alloc, pool, entries) {
-        Ok(entries) => Ok(Group {
+    let entries = resolved_entries(alloc, pool, entries);
+    let groups = resolved_groups(alloc, pool, groups);
+    match both(entries, groups) {
+        Ok(parts) => Ok(Group {
             id,
             placed,
             previous,
             state,
             view,
-            entries,
-            groups: resolved,
+            entries: parts.0,
+            groups: parts.1,
         }),
         Err(refusal) => Err(refusal),
     }
+}
+
+/// Groups with all below them, with the bytes of their attachments.
+#[cycle(tree)]
+fn resolved_groups(
+    alloc: Global,
+    pool: &Pool<'_>,
+    drafts: Vec<GroupDraft>,
+) -> Result<List<Group>, NoMemory>
+    ensures { IfOk result (λ l. map tree_seen l
+        ≡ map (spec.resolved_tree pool.now) (map draft_seen drafts.items)) }
+{
+    let mut resolved = List::new(alloc);
+    for draft in drafts {
+        push(&mut resolved, resolved_tree(alloc, pool, draft)?)?;
+    }
+    Ok(resolved)
 }

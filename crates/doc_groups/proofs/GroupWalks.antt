@@ -11,15 +11,15 @@ use Rattle.doc_forms.specs.Groups.{ReadTree, node, GroupParts, no_group, group, 
 use Rattle.doc_forms.specs.ElementTexts.{ElementText, Setting, text_at_end}
 use Rattle.doc_forms.specs.Children.{all_children, children_and_end, count_node}
 use Rattle.doc_forms.specs.Entries.{node_id}
-use Rattle.doc_forms.specs.Refusals.{Fails}
+use Rattle.doc_forms.specs.Refusals.{Fails, Returns}
 use Rattle.outside_core.specs.Results.{◌>>=◌}
 use Rattle.doc_forms.specs.SeenDrafts.{side_by_side, draft_seen}
-use Rattle.doc_walk.proofs.Pieces.{carried}
+use Rattle.doc_walk.proofs.Pieces.{carried, given_same, on_ok}
 use Rattle.doc_walk.specs.declared.walk.Tag.{Tag}
 use Rattle.doc_walk.specs.Steps.{Course, Rest, Steps}
 use Rattle.doc_walk.specs.Tags.{contents_step}
 use Rattle.doc_groups.proofs.Places.{one_more_seen}
-use Rattle.doc_groups.specs.GroupSteps.{group_step, id_at_end}
+use Rattle.doc_groups.specs.GroupSteps.{group_step, id_at_end, whole_group}
 
 -- ---- one step after another
 
@@ -83,16 +83,17 @@ pub begun : {X : Type 0} (levels : ℕ) (tag : Tag) (old mid : Course) (r : Resu
     → Steps (λ _. p) old mid r (contents_step (λ s. group_child s levels) first tag) → Steps (λ _. p) old mid r (children_step levels tag)
 begun levels tag old mid r first p new steps = subst (λ q. Steps (λ _. p) old mid r (contents_step (λ s. group_child s levels) q tag)) new steps
 
--- of a group whose children, end and id have been read
-pub whole_group : {X : Type 0} (levels : ℕ) (fits : Bool) (tag : Tag) (old mid new : Course) (x : X) (id : NodeId) (p : GroupParts) (draft : GroupDraft)
+-- of a group whose children and end have been read
+pub ended : {X : Type 0} (levels : ℕ) (fits : Bool) (tag : Tag) (old mid new : Course) (x : X) (p : GroupParts) (r : Result GroupDraft DocFail)
     → Steps (λ _. p) old mid (Ok x) (children_step levels tag)
-    → id_at_end fits tag.offset p.id mid.cursor ≡ Ok (id, new.cursor) → new.answers ≡ mid.answers → new.setting ≡ mid.setting
-    → draft_seen draft ≡ node id (record_of p) p.entries p.groups
-    → Steps draft_seen old new (Ok draft) (group_step levels fits tag)
-whole_group levels fits tag old mid new x id p draft steps ids answers setting made = record {
-  gives = sym (as_group levels fits tag old) ∙ (ap (λ d. d >>= closed fits tag.offset) steps.gives ∙ (ap (λ d. d >>= tree_of p) ids ∙ ap (λ (t : ReadTree). let r : Result (ReadTree × Cursor) DocFail = Ok (t, new.cursor) in r) (sym made)));
-  left = ap left answers ∙ steps.left;
-  shorter = omega (arith, ap length answers, steps.shorter);
+    → Returns {Y = ReadTree × Cursor} (λ d. (draft_seen d, new.cursor)) r (whole_group fits tag.offset p mid.cursor)
+    → new.answers ≡ mid.answers → new.setting ≡ mid.setting
+    → Steps draft_seen old new r (group_step levels fits tag)
+ended levels fits tag old mid new x p r steps gives answers setting = record {
+  gives = given_same (λ d. (draft_seen d, new.cursor)) r _ _
+      (sym (ap (λ d. d >>= closed fits tag.offset) steps.gives) ∙ as_group levels fits tag old) gives;
+  left = on_ok r (ap left answers ∙ steps.left);
+  shorter = on_ok r (omega (arith, ap length answers, steps.shorter));
   setting = setting ∙ steps.setting;
 }
 
@@ -105,18 +106,6 @@ children_refused levels fits tag old mid p e steps = record {
   left = tt;
   shorter = tt;
   setting = steps.setting;
-}
-
--- of one whose id is refused
-pub id_refused : {X : Type 0} (levels : ℕ) (fits : Bool) (tag : Tag) (old mid new : Course) (x : X) (p : GroupParts) (e : DocFail)
-    → Steps (λ _. p) old mid (Ok x) (children_step levels tag)
-    → Fails e (id_at_end fits tag.offset p.id mid.cursor) → new.setting ≡ mid.setting
-    → Steps draft_seen old new (Err e) (group_step levels fits tag)
-id_refused levels fits tag old mid new x p e steps fails setting = record {
-  gives = carried e (id_at_end fits tag.offset p.id mid.cursor) _ (λ same. sym (as_group levels fits tag old) ∙ (ap (λ d. d >>= closed fits tag.offset) steps.gives ∙ ap (λ d. d >>= tree_of p) same)) fails;
-  left = tt;
-  shorter = tt;
-  setting = setting ∙ steps.setting;
 }
 
 -- ---- the groups in a group

@@ -9,7 +9,7 @@ use Rattle.doc_forms.specs.ElementTexts.{Setting}
 use Rattle.doc_forms.specs.Children.{Child, all_children, by_name, count_node}
 use Rattle.doc_forms.specs.Documents.{FileParts, document_rows}
 use Rattle.doc_forms.specs.Entries.{entry, node_id}
-use Rattle.doc_forms.specs.Groups.{ReadTree, GroupParts, group}
+use Rattle.doc_forms.specs.Groups.{ReadTree, GroupParts, group, node, record_of}
 use Rattle.doc_walk.specs.declared.walk.Tag.{Tag}
 use Rattle.doc_walk.specs.Steps.{Rest}
 use Rattle.outside_core.specs.Results.{◌>>=◌}
@@ -25,6 +25,11 @@ id_at_end fits offset id cursor = do
   after ← (if fits then count_node cursor else Err (BadValue offset))
   u ← node_id offset id
   Ok (u, after)
+
+-- a group that begins at the offset, when its children and its end have been read
+abbrev pub whole_group : Bool → ℕ → GroupParts → Cursor → Result (ReadTree × Cursor) DocFail
+whole_group fits offset parts cursor = id_at_end fits offset parts.id cursor >>= λ y. Ok
+    (node y.0 (record_of parts) parts.entries parts.groups, y.1)
 
 -- an entry of a group, after those that are known
 abbrev pub entry_child : Setting → Child GroupParts

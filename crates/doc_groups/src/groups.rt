@@ -4,12 +4,12 @@ ghost use Rattle.std.specs.Prelude.{◌≡◌};
 ghost use Rattle.doc_forms.specs.Groups as spec;
 ghost use Rattle.doc_forms.specs.Refusals.{Returns};
 ghost use Rattle.doc_forms.specs.SeenDrafts.{draft_seen, group_parts_seen};
-ghost use Rattle.doc_groups.specs.GroupSteps.{group_step, id_at_end};
+ghost use Rattle.doc_groups.specs.GroupSteps.{group_step, id_at_end, whole_group};
 ghost use Rattle.doc_walk.specs.Steps.{Steps};
 ghost use Rattle.doc_walk.specs.Tags.{child_step, contents_step};
 
 use crate::group_children::read_child;
-use crate::new_groups::{add_group, draft_of, no_group};
+use crate::new_groups::{add_group, draft_of, id_of, no_group};
 use doc_entries::node_id;
 use doc_forms::{DocFail, GroupBuilder, GroupDraft};
 use doc_values::{appended, is_marked, no_text};
@@ -35,6 +35,24 @@ fn group_id(
     }
     walk.count()?;
     node_id(offset, id)
+}
+
+/// The group that begins at the offset, when all that is in it has been read.
+fn whole_group(
+    walk: &mut Walk<'_>,
+    offset: usize,
+    fits: bool,
+    known: GroupBuilder,
+) -> Result<GroupDraft, DocFail>
+    ensures gives { Returns (λ d. (draft_seen d, walk.new.cursor)) result
+        (whole_group fits offset (group_parts_seen known) walk.old.cursor) }
+    ensures answers { walk.new.answers ≡ walk.old.answers }
+    ensures setting { walk.new.setting ≡ walk.old.setting }
+{
+    match group_id(walk, offset, fits, id_of(&known)) {
+        Ok(id) => Ok(draft_of(id, known)),
+        Err(refusal) => Err(refusal),
+    }
 }
 
 /// Reads a child of a group, below which so many levels are allowed.
@@ -117,6 +135,5 @@ pub(crate) fn group(
 {
     let mut known = no_group(walk.alloc());
     group_children(&mut known, walk, tag, levels)?;
-    let id = group_id(walk, tag.offset, fits, known.id)?;
-    Ok(draft_of(id, known))
+    whole_group(walk, tag.offset, fits, known)
 }

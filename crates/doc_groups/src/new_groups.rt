@@ -45,6 +45,13 @@ pub(crate) fn no_group(alloc: Global) -> GroupBuilder
     }
 }
 
+/// The id of a group, as far as it is known.
+pub(crate) fn id_of(known: &GroupBuilder) -> Option<Uuid>
+    ensures { result ≡ (group_parts_seen known.now).id }
+{
+    known.id
+}
+
 /// The group of an id of which all is known.
 pub(crate) fn draft_of(id: Uuid, builder: GroupBuilder) -> GroupDraft
     ensures { draft_seen result ≡ spec.node id (spec.record_of (group_parts_seen builder))

@@ -61,6 +61,13 @@ fn no_file_parts(alloc: Global) -> FileBuilder
     }
 }
 
+/// What is known of a `KeePassFile` at its end.
+fn builder_of(draft: FileDraft) -> FileBuilder
+    ensures { file_parts result ≡ file_parts draft.file }
+{
+    draft.file
+}
+
 /// The `KeePassFile` whose start tag was given.
 pub(crate) fn file(walk: &mut Walk<'_>, tag: &Tag<'_>) -> Result<FileBuilder, DocFail>
     ensures { Steps file_parts walk.old walk.new result
@@ -70,5 +77,5 @@ pub(crate) fn file(walk: &mut Walk<'_>, tag: &Tag<'_>) -> Result<FileBuilder, Do
         file: no_file_parts(walk.alloc()),
     };
     let draft = read_whole(walk, tag, first)?;
-    Ok(draft.file)
+    Ok(builder_of(draft))
 }

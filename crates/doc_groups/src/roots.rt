@@ -58,6 +58,13 @@ fn no_root(alloc: Global) -> RootBuilder
     }
 }
 
+/// What is known of a `Root` at its end.
+fn builder_of(draft: RootDraft) -> RootBuilder
+    ensures { root_parts result ≡ root_parts draft.root }
+{
+    draft.root
+}
+
 /// The `Root` whose start tag was given.
 pub(crate) fn root(walk: &mut Walk<'_>, tag: &Tag<'_>) -> Result<RootBuilder, DocFail>
     ensures { Steps root_parts walk.old walk.new result
@@ -67,5 +74,5 @@ pub(crate) fn root(walk: &mut Walk<'_>, tag: &Tag<'_>) -> Result<RootBuilder, Do
         root: no_root(walk.alloc()),
     };
     let draft = read_whole(walk, tag, first)?;
-    Ok(draft.root)
+    Ok(builder_of(draft))
 }

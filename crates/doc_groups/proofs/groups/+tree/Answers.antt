@@ -5,7 +5,7 @@ use Rattle.doc_forms.specs.SeenTexts.{text_seen}
 use Rattle.doc_forms.specs.Groups.{group_child}
 use Rattle.doc_forms.specs.SeenDrafts.{group_parts_seen}
 use Rattle.doc_walk.proofs.Goes.{all_words, all_shown, all_child, all_refused, all_end, all_unended, all_form, all_depth}
-use Rattle.doc_groups.proofs.GroupWalks.{begun, whole_group, children_refused, id_refused}
+use Rattle.doc_groups.proofs.GroupWalks.{begun, ended, children_refused}
 use Rattle.doc_groups.proofs.groups.+tree.Goals as goal
 
 pub group_children-pieces-preserved-in-Continue-branch-3 : goal.group_children-pieces-preserved-in-Continue-branch-3
@@ -80,17 +80,9 @@ group_children-returns-in-Err-Depth t c =
 
 pub group-returns : goal.group-returns
 group-returns t c =
-    whole_group c.args.levels c.args.fits c.args.tag.now c.args.walk.now c.group_children.new.walk c.group_id.new.walk c.in_ok-group_children.field-0 c.in_ok-id.id (group_parts_seen c.group_children.new.known) c.draft_of.result
+    ended c.args.levels c.args.fits c.args.tag.now c.args.walk.now c.group_children.new.walk c.whole_group.new.walk c.in_ok-group_children.field-0 (group_parts_seen c.group_children.new.known) c.whole_group.result
     (begun c.args.levels c.args.tag.now c.args.walk.now c.group_children.new.walk (Ok c.in_ok-group_children.field-0) (group_parts_seen c.no_group-known.result) (group_parts_seen c.group_children.new.known) c.no_group-known.ensures c.in_ok-group_children.ensures)
-    c.in_ok-id.ensures.gives c.group_id.ensures.answers c.group_id.ensures.setting c.draft_of.ensures
-
-pub group-returns-in_err-id : goal.group-returns-in_err-id
-group-returns-in_err-id t c =
-    let p = err_from_is_err_and c.from_residual-in_err-id.result c.from_residual-in_err-id.ensures.1 in
-    rw (p.1, p.2)
-    (id_refused c.args.levels c.args.fits c.args.tag.now c.args.walk.now c.group_children.new.walk c.group_id.new.walk c.in_ok-group_children.field-0 (group_parts_seen c.group_children.new.known) c.in_err-id.field-0.0
-    (begun c.args.levels c.args.tag.now c.args.walk.now c.group_children.new.walk (Ok c.in_ok-group_children.field-0) (group_parts_seen c.no_group-known.result) (group_parts_seen c.group_children.new.known) c.no_group-known.ensures c.in_ok-group_children.ensures)
-    c.in_err-id.ensures.gives c.group_id.ensures.setting)
+    c.whole_group.ensures.gives c.whole_group.ensures.answers c.whole_group.ensures.setting
 
 pub group-returns-in_err-group_children : goal.group-returns-in_err-group_children
 group-returns-in_err-group_children t c =

@@ -1,0 +1,12 @@
+use Rattle.doc_forms.specs.declared.drafts.GroupDraft.TheViews.{out-GroupDraft}
+use Rattle.doc_attachments.proofs.GroupTrees.{tree_made}
+use Rattle.doc_attachments.proofs.resolving.+tree.Goals as goal
+
+pub resolved_tree-returns-in-Ok : goal.resolved_tree-returns-in-Ok
+resolved_tree-returns-in-Ok t c =
+    let draft = out-GroupDraft c.args.draft in
+    let entries = rw c.in-Ok.ensures.first at c.resolved_entries-entries.ensures in
+    let groups = rw c.in-Ok.ensures.second at c.resolved_groups-groups.ensures in
+    tree_made c.args.pool.now c.args.draft
+    (record { id = draft.id; placed = draft.placed; previous = draft.previous; state = draft.state; view = draft.view; entries = c.in-Ok.parts.0; groups = c.in-Ok.parts.1 })
+    (λ i. draft.id) (λ i. draft.placed) (λ i. draft.previous) (λ i. draft.state) (λ i. draft.view) entries groups
