@@ -254,6 +254,49 @@ fn joined_meta<'a>(alloc: Global, members: &[Database<'a>]) -> Result<LentMeta<'
     Ok(joined)
 }
 
+/// A database of this root and these shared values, without nodes.
+fn without_nodes<'a>(alloc: Global, root: Uuid, meta: LentMeta<'a>) -> Database<'a>
+    ensures { database result ≡ record {
+      root = root;
+      entries = table.empty;
+      groups = table.empty;
+      places = table.empty;
+      tombs = table.empty;
+      meta = shared meta;
+    } }
+{
+    Database {
+        root,
+        entries: Table::new(alloc),
+        groups: Table::new(alloc),
+        places: Table::new(alloc),
+        tombs: Table::new(alloc),
+        meta,
+    }
+}
+
+/// Puts the nodes and the tombstones of the join in the place of those there. The only refusal is
+/// want of memory.
+fn put_nodes<'a>(
+    alloc: Global,
+    members: &[Database<'a>],
+    joined: &mut Database<'a>,
+) -> Result<(), NoMemory>
+    requires { 0 < length members.now }
+    ensures { OnOk result (database joined.new ≡ record (join (databases members.now)) {
+      root = joined.old.root;
+      meta = shared joined.old.meta;
+    }) }
+{
+    let held = all_ids(alloc, members)?;
+    let known = known_ids(alloc, members)?;
+    joined.entries = joined_entries(alloc, members, &held, &known)?;
+    joined.groups = joined_groups(alloc, members, &held, &known)?;
+    joined.places = joined_places(alloc, members, &held, &known)?;
+    joined.tombs = joined_tombs(alloc, members, &held, &known)?;
+    Ok(())
+}
+
 /// Copies of one database made one: the nodes are the kept ones, each with all that the members
 /// have of it, at its latest place, and what is not kept has its latest tombstone. The only refusal
 /// is want of memory.
@@ -261,16 +304,12 @@ pub fn join<'a>(alloc: Global, members: &[Database<'a>]) -> Result<Database<'a>,
     requires { 0 < length members.now }
     ensures { IfOk result (λ d. database d ≡ join (databases members.now)) }
 {
-    let held = all_ids(alloc, members)?;
-    let known = known_ids(alloc, members)?;
-    Ok(Database {
-        root: members[0].root,
-        entries: joined_entries(alloc, members, &held, &known)?,
-        groups: joined_groups(alloc, members, &held, &known)?,
-        places: joined_places(alloc, members, &held, &known)?,
-        tombs: joined_tombs(alloc, members, &held, &known)?,
-        meta: joined_meta(alloc, members)?,
-    })
+    let meta = joined_meta(alloc, members)?;
+    let mut joined = without_nodes(alloc, members[0].root, meta);
+    match put_nodes(alloc, members, &mut joined) {
+        Ok(()) => Ok(joined),
+        Err(refusal) => Err(refusal),
+    }
 }
 
 /// Whether the latest parents of a node lead to the root, in as many steps as ids are held. The

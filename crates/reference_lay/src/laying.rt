@@ -440,18 +440,57 @@ fn laid_meta<'a>(
     })
 }
 
+/// A document of this root and of what it says of itself, without nodes.
+fn without_nodes<'a>(alloc: Global, root: Uuid, meta: ShapeMeta<'a>) -> Shape<'a>
+    ensures { shape result ≡ record {
+      root = root;
+      entries = table.empty;
+      groups = table.empty;
+      children = table.empty;
+      tombs = table.empty;
+      meta = meta_of meta;
+    } }
+{
+    Shape {
+        root,
+        entries: Table::new(alloc),
+        groups: Table::new(alloc),
+        children: Table::new(alloc),
+        tombs: Table::new(alloc),
+        meta,
+    }
+}
+
+/// Puts the nodes and the tombstones of a database, as they are laid, in the place of those there.
+/// The only refusal is want of memory.
+fn put_nodes<'a>(
+    alloc: Global,
+    laid: &Database<'a>,
+    older: &Shape<'a>,
+    into: &mut Shape<'a>,
+) -> Result<(), NoMemory>
+    ensures { OnOk result (shape into.new ≡ record (lay (database laid.now) (shape older.now)) {
+      root = into.old.root;
+      meta = meta_of into.old.meta;
+    }) }
+{
+    into.entries = laid_entries(alloc, laid)?;
+    into.groups = laid_groups(alloc, laid, older)?;
+    into.children = all_children(alloc, laid, older)?;
+    into.tombs = same_tombs(alloc, &laid.tombs)?;
+    Ok(())
+}
+
 /// The document of a database over an older document: the order of siblings and how all was looked
 /// at are the older document's, newcomers come after by rising id, and of an entry's versions the
 /// greatest is current. The only refusal is want of memory.
 pub fn lay<'a>(alloc: Global, laid: &Database<'a>, older: &Shape<'a>) -> Result<Shape<'a>, NoMemory>
     ensures { IfOk result (λ s. shape s ≡ lay (database laid.now) (shape older.now)) }
 {
-    Ok(Shape {
-        root: laid.root,
-        entries: laid_entries(alloc, laid)?,
-        groups: laid_groups(alloc, laid, older)?,
-        children: all_children(alloc, laid, older)?,
-        tombs: same_tombs(alloc, &laid.tombs)?,
-        meta: laid_meta(alloc, &laid.meta, &older.meta)?,
-    })
+    let meta = laid_meta(alloc, &laid.meta, &older.meta)?;
+    let mut shape = without_nodes(alloc, laid.root, meta);
+    match put_nodes(alloc, laid, older, &mut shape) {
+        Ok(()) => Ok(shape),
+        Err(refusal) => Err(refusal),
+    }
 }

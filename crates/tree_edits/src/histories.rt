@@ -16,7 +16,6 @@ use vault_making::copy_version;
 use vault_model::{Entry, Stats, Version, compare_content};
 
 // Orders versions by when they were made and then by what they say.
-#[tactic(auto, unfolding(vault_model::specs::Db::mark_cmp))]
 fn compare_marks(one: &Version, other: &Version) -> Ordering
     ensures { result ≡ mark_cmp (bare_version one.now).mark (bare_version other.now).mark }
 {
