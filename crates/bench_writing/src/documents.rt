@@ -18,22 +18,26 @@ use vault_model::{Doc, DocForm};
 /// The key of the stream that hides values.
 const STREAM_KEY: &[u8] = b"stream key";
 
-/// The hash of a header, where a document names one.
-const HASH: [u8; 32] = [0; 32];
-
 /// How a document is written.
 #[derive(Clone, Copy)]
 pub struct Manner {
     pub form: DocForm,
+    /// The hash of a header, for a document that names one.
+    pub hash: [u8; 32],
     /// Whether a stream hides its values, or the clear one.
     pub hidden: bool,
 }
 
-/// By itself.
-pub const PLAIN: Manner = Manner {
-    form: DocForm::Plain,
-    hidden: false,
-};
+impl Manner {
+    /// In a form, with a hash of zeros.
+    pub fn of(form: DocForm, hidden: bool) -> Manner {
+        Manner {
+            form,
+            hash: [0; 32],
+            hidden,
+        }
+    }
+}
 
 /// The stream that hides values, which is ChaCha20, or the clear one.
 fn stream_of(hidden: bool) -> InnerStream
@@ -65,23 +69,21 @@ pub fn read(alloc: Global, text: Vec<u8>) -> Result<Doc, Fault> {
 }
 
 /// The text of a document.
-pub fn write(alloc: Global, doc: &Doc, manner: Manner) -> Result<Secret, WriteFail> {
+pub fn write(alloc: Global, doc: &Doc, manner: &Manner) -> Result<Secret, WriteFail> {
     let mut stream = stream_of(manner.hidden);
-    write_doc(alloc, doc, manner.form, Some(&HASH), &mut stream)
+    write_doc(alloc, doc, manner.form, Some(&manner.hash), &mut stream)
+}
+
+/// The text of a document by itself.
+fn write_plain(alloc: Global, doc: &Doc) -> Result<Secret, Fault> {
+    Ok(write(alloc, doc, &Manner::of(DocForm::Plain, false))?)
 }
 
 /// The text of a document by itself, once it was written for a file of KDBX 4, its values hidden,
 /// and read again with its pool.
 pub fn write_again(alloc: Global, doc: &Doc) -> Result<Secret, Fault> {
     let pool = pool_of(alloc, doc)?;
-    let text = write(
-        alloc,
-        doc,
-        Manner {
-            form: DocForm::V4,
-            hidden: true,
-        },
-    )?;
+    let text = write(alloc, doc, &Manner::of(DocForm::V4, true))?;
     let mut stream = stream_of(true);
     let again = read_doc(
         alloc,
@@ -90,7 +92,7 @@ pub fn write_again(alloc: Global, doc: &Doc) -> Result<Secret, Fault> {
         &pool,
         &mut stream,
     )?;
-    Ok(write(alloc, &again.doc, PLAIN)?)
+    write_plain(alloc, &again.doc)
 }
 
 /// The text of a document by itself with one entry more, the last of the root.
@@ -113,7 +115,7 @@ pub fn write_with_another(alloc: Global, doc: &mut Doc) -> Result<Secret, Fault>
         &values,
         now,
     ) {
-        Ok(()) => Ok(write(alloc, doc, PLAIN)?),
+        Ok(()) => write_plain(alloc, doc),
         Err(_) => Err(Fault::NotAdded),
     }
 }

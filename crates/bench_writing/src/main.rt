@@ -18,7 +18,7 @@
 mod documents;
 mod faults;
 
-use crate::documents::{Manner, PLAIN, read, write, write_again, write_with_another};
+use crate::documents::{Manner, read, write, write_again, write_with_another};
 use crate::faults::Fault;
 use anyhow::bail;
 use secret_core::Secret;
@@ -33,36 +33,41 @@ use vault_model::{Doc, DocForm};
 #[derive(Clone, Copy)]
 enum Task {
     Nothing,
-    Written(Manner),
+    /// In a form, and whether a stream hides its values.
+    Written(DocForm, bool),
     Again,
     Another,
 }
 
-/// How a document is written within a file.
-fn within(form: DocForm, hidden: bool) -> Option<Task> {
-    Some(Task::Written(Manner { form, hidden }))
-}
+/// The words, each with its task.
+const TASKS: [(&str, Task); 10] = [
+    ("read", Task::Nothing),
+    ("text", Task::Written(DocForm::Plain, false)),
+    ("length", Task::Written(DocForm::Plain, false)),
+    ("plain", Task::Written(DocForm::Plain, false)),
+    ("v3", Task::Written(DocForm::V3, false)),
+    ("v4", Task::Written(DocForm::V4, false)),
+    ("v3-hidden", Task::Written(DocForm::V3, true)),
+    ("v4-hidden", Task::Written(DocForm::V4, true)),
+    ("again", Task::Again),
+    ("another", Task::Another),
+];
 
 /// The task of a word, if it is one.
 fn task_of(word: &str) -> Option<Task> {
-    match word {
-        "read" => Some(Task::Nothing),
-        "text" | "length" | "plain" => Some(Task::Written(PLAIN)),
-        "v3" => within(DocForm::V3, false),
-        "v4" => within(DocForm::V4, false),
-        "v3-hidden" => within(DocForm::V3, true),
-        "v4-hidden" => within(DocForm::V4, true),
-        "again" => Some(Task::Again),
-        "another" => Some(Task::Another),
-        _ => None,
+    for (name, task) in TASKS {
+        if name == word {
+            return Some(task);
+        }
     }
+    None
 }
 
 /// The text that a task makes of a document.
 fn written(alloc: Global, task: Task, doc: &mut Doc) -> Result<Secret, Fault> {
     match task {
         Task::Nothing => Ok(Secret::with_room(alloc, 0)?),
-        Task::Written(manner) => Ok(write(alloc, doc, manner)?),
+        Task::Written(form, hidden) => Ok(write(alloc, doc, &Manner::of(form, hidden))?),
         Task::Again => write_again(alloc, doc),
         Task::Another => write_with_another(alloc, doc),
     }
