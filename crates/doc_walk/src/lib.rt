@@ -7,7 +7,7 @@ mod custom_items;
 mod element_times;
 mod walk;
 
-pub use containers::{Parts, contents, hold};
+pub use containers::{Parts, contents, hold, read_counted, read_whole};
 pub use custom_items::custom_data;
 pub use element_times::{never, no_times, times};
 pub use walk::{Tag, Walk};
