@@ -1,16 +1,13 @@
 //! Steps over values of any type: what is known given back, appended, or put in its place.
 
-ghost use Rattle.std.specs.Prelude.{◌≡◌, ◌∷◌, ◌++◌, [], Ok, Some};
+ghost use Rattle.std.specs.Prelude.{◌≡◌, ◌∷◌, ◌++◌, [], Ok, Err, Some, MatchResult};
 ghost use Rattle.std.specs.Result.{result_map_both};
 ghost use Rattle.doc_forms.specs.Refusals.{Returns};
-ghost use Rattle.doc_walk.specs.Steps.{Steps};
-ghost use Rattle.doc_walk.specs.Tags.{contents_step};
 
 use doc_forms::DocFail;
-use doc_walk::{Parts, Tag, Walk, contents};
 
 /// What is known after a step of reading, unless it was refused.
-pub(crate) fn known_after<T: Drop>(read: Result<(), DocFail>, known: T) -> Result<T, DocFail>
+pub fn known_after<T: Drop>(read: Result<(), DocFail>, known: T) -> Result<T, DocFail>
     ensures { result ≡ result_map_both (λ _. known) (λ e. e) read }
 {
     match read {
@@ -19,8 +16,19 @@ pub(crate) fn known_after<T: Drop>(read: Result<(), DocFail>, known: T) -> Resul
     }
 }
 
+/// What is kept with what was read, unless that was refused.
+pub fn kept_with<A: Drop, B: Drop>(kept: A, read: Result<B, DocFail>) -> Result<(A, B), DocFail>
+    ensures { MatchResult result (λ both. (both.0 ≡ kept) × (read ≡ Ok both.1))
+        (λ e. read ≡ Err e) }
+{
+    match read {
+        Ok(read) => Ok((kept, read)),
+        Err(e) => Err(e),
+    }
+}
+
 /// Appends an item to others.
-pub(crate) fn append<T: Drop>(list: &mut Vec<T>, item: T) -> Result<(), DocFail>
+pub fn append<T: Drop>(list: &mut Vec<T>, item: T) -> Result<(), DocFail>
     ensures { Returns (λ _. list.new.items) result (Ok (list.old.items ++ item ∷ [])) }
 {
     match list.push(item) {
@@ -30,23 +38,8 @@ pub(crate) fn append<T: Drop>(list: &mut Vec<T>, item: T) -> Result<(), DocFail>
 }
 
 /// Puts a value in its place.
-pub(crate) fn put<T: Drop>(place: &mut Option<T>, value: T)
+pub fn put<T: Drop>(place: &mut Option<T>, value: T)
     ensures { place.new ≡ Some value }
 {
     *place = Some(value);
-}
-
-/// Reads all children of the element whose start tag was given, of which this is known at first,
-/// and its end.
-pub(crate) fn read_whole<P: Parts>(
-    walk: &mut Walk<'_>,
-    tag: &Tag<'_>,
-    first: P,
-) -> Result<P, DocFail>
-    ensures { Steps P.seen walk.old walk.new result
-        (contents_step P.child (P.seen first) tag.now) }
-{
-    let mut parts = first;
-    contents(walk, tag, &mut parts)?;
-    Ok(parts)
 }
