@@ -135,6 +135,9 @@ pub(crate) fn group(
     ensures { Steps draft_seen walk.old walk.new result (group_step levels fits tag.now) }
 {
     let mut known = no_group(walk.alloc());
-    group_children(&mut known, walk, tag, levels)?;
-    whole_group(walk, tag.offset, fits, known)
+    let read = group_children(&mut known, walk, tag, levels);
+    match kept_with(known, read) {
+        Ok(both) => whole_group(walk, tag.offset, fits, both.0),
+        Err(refusal) => Err(refusal),
+    }
 }
