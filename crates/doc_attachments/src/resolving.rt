@@ -27,7 +27,10 @@ fn both<A: Drop, B: Drop>(
 }
 
 /// What was kept with what was made, or else a refusal.
-fn kept_with<A: Drop, B: Drop>(kept: A, made: Result<B, NoMemory>) -> Result<(A, B), NoMemory>
+pub(crate) fn kept_with<A: Drop, B: Drop>(
+    kept: A,
+    made: Result<B, NoMemory>,
+) -> Result<(A, B), NoMemory>
     ensures kept { IfOk result (λ both. both.0 ≡ kept) }
     ensures made { IfOk result (λ both. made ≡ Ok both.1) }
 {
@@ -218,16 +221,20 @@ pub(crate) fn resolved_tree(
     } = draft;
     let entries = resolved_entries(alloc, pool, entries);
     let groups = resolved_groups(alloc, pool, groups);
-    match both(entries, groups) {
-        Ok(parts) => Ok(Group {
-            id,
-            placed,
-            previous,
-            state,
-            view,
-            entries: parts.0,
-            groups: parts.1,
-        }),
+    match kept_with(state, both(entries, groups)) {
+        Ok(parts) => {
+            let (state, nodes) = parts;
+            let (entries, groups) = nodes;
+            Ok(Group {
+                id,
+                placed,
+                previous,
+                state,
+                view,
+                entries,
+                groups,
+            })
+        }
         Err(refusal) => Err(refusal),
     }
 }

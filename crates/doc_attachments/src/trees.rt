@@ -8,7 +8,7 @@ ghost use Rattle.std.specs.Prelude.{◌≡◌, IfOk, map};
 
 use crate::missing::{Missing, missing_in};
 use crate::pools::{Pool, number_binaries};
-use crate::resolving::resolved_tree;
+use crate::resolving::{kept_with, resolved_tree};
 use doc_forms::{Binary, GroupDraft};
 use outside_core::{List, NoMemory};
 use std::alloc::Global;
@@ -24,7 +24,8 @@ pub struct ResolvedTree {
 
 /// The tree of a draft, with the bytes of the binaries of a pool.
 fn resolve_in(alloc: Global, pool: &Pool<'_>, draft: GroupDraft) -> Result<ResolvedTree, NoMemory>
-    ensures { IfOk result (λ tree. tree_and_missing tree ≡ resolved_in pool.now (draft_seen draft)) }
+    ensures { IfOk result (λ tree. tree_and_missing tree
+        ≡ resolved_in pool.now (draft_seen draft)) }
 {
     let missing = missing_in(pool, &draft);
     match resolved_tree(alloc, pool, draft) {
@@ -42,8 +43,11 @@ fn resolve_among(
     ensures { IfOk result (λ tree. tree_and_missing tree
         ≡ resolved_in (map binary_seen binaries.now) (draft_seen draft)) }
 {
-    match Pool::new(alloc, binaries) {
-        Ok(pool) => resolve_in(alloc, &pool, draft),
+    match kept_with(draft, Pool::new(alloc, binaries)) {
+        Ok(both) => {
+            let (draft, pool) = both;
+            resolve_in(alloc, &pool, draft)
+        }
         Err(refusal) => Err(refusal),
     }
 }
@@ -57,8 +61,12 @@ fn resolve_given(
     ensures { IfOk result (λ tree. tree_and_missing tree
         ≡ resolved_in (binaries_from 0 (map pool_item given.now)) (draft_seen draft)) }
 {
-    match number_binaries(alloc, given.as_slice()) {
-        Ok(binaries) => resolve_among(alloc, binaries.as_slice(), draft),
+    let binaries = number_binaries(alloc, given.as_slice());
+    match kept_with(draft, binaries) {
+        Ok(both) => {
+            let (draft, binaries) = both;
+            resolve_among(alloc, binaries.as_slice(), draft)
+        }
         Err(refusal) => Err(refusal),
     }
 }
