@@ -69,15 +69,6 @@ module _ (pool : List ReadBinary) (read : ReadTree) (tombs : List Tombstone) (pa
   by_parts =
       λ i. refusal_of (sym are.duplicate i) (sym are.missing i) >>= λ _. Ok (sym are.tree i, sym are.tombs_are i)
 
-  -- where nothing is refused
-  pub sound_parts : (u : Unit {0}) → refusal_of parts.duplicate parts.missing ≡ Ok u → sound_tree pool read tombs ≡ Ok (tree_seen parts.root, parts.tombs)
-  sound_parts u h = by_parts ∙ ap (λ r. r >>= λ _. Ok (tree_seen parts.root, parts.tombs)) h
-
-  -- where something is
-  pub refused_parts : (e : DocFail) → refusal_of parts.duplicate parts.missing ≡ Err e → Fails e (sound_tree pool read tombs)
-  refused_parts e h =
-      fails_with e (sound_tree pool read tombs) (by_parts ∙ ap (λ r. r >>= λ _. Ok (tree_seen parts.root, parts.tombs)) h)
-
 -- a tree of which all is known, where nothing is refused
 pub sound_of : (parts kept : TreeParts) (refused : Result (Unit {0}) DocFail) (u : Unit {0})
     → refused ≡ refusal_of parts.duplicate parts.missing → kept ≡ parts → refused ≡ Ok u → tree_of_parts parts ≡ Ok (tree_seen kept.root, kept.tombs)

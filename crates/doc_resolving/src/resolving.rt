@@ -27,7 +27,8 @@ use vault_model::{Doc, DocForm, Group, PoolItem, Tombstone};
 
 /// What was kept with what was made, or else a refusal.
 fn kept_with<A: Drop, B: Drop, E: Drop>(kept: A, made: Result<B, E>) -> Result<(A, B), E>
-    ensures { MatchResult result (λ both. (both.0 ≡ kept) × (made ≡ Ok both.1)) (λ e. made ≡ Err e) }
+    ensures { MatchResult result (λ both. (both.0 ≡ kept) × (made ≡ Ok both.1))
+        (λ e. made ≡ Err e) }
 {
     match made {
         Ok(made) => Ok((kept, made)),
@@ -250,8 +251,8 @@ fn resolved_file(
         (Some (file_parts file))) }
 {
     let FileBuilder { meta, root } = file;
-    match root {
-        Some(root) => resolved_root(alloc, form, given, meta, root),
+    match found_with(meta, root) {
+        Some(both) => resolved_root(alloc, form, given, both.0, both.1),
         None => Err(DocFail::MissingElement(RequiredElement::Root, 0)),
     }
 }
