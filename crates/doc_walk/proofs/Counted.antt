@@ -1,5 +1,5 @@
 -- An element that has ended and is counted.
-use Rattle.std.proofs.Common.{◌≡◌, length, refl, ap, ◌∙◌, arith, Result, Ok, Err}
+use Rattle.std.proofs.Common.{◌≡◌, length, ap, ◌∙◌, arith, Result, Ok, Err}
 use Rattle.outside_core.specs.Results.{◌>>=◌}
 use Rattle.markup_grammar.specs.Elements.{innermost, open_contents}
 use Rattle.doc_forms.specs.declared.cursor.Cursor.{Cursor}
@@ -52,15 +52,3 @@ too_many {view = view} {mid = mid} {x = x} {e = e} steps fails setting = record 
   shorter = tt;
   setting = setting ∙ steps.setting;
 }
-
--- ---- what comes of an element that was counted
-
-after_count : {P Q : Type 0} (p : P) (count : Result Cursor DocFail) (finish : P → Cursor → Result (Q × Cursor) DocFail)
-    → ((count >>= with_cursor p) >>= λ y. finish y.0 y.1) ≡ (count >>= λ after. finish p after)
-after_count p (Ok after) finish = refl
-after_count p (Err e) finish = refl
-
-pub finished_count : {P Q : Type 0} (d : Result (P × Cursor) DocFail) (finish : P → Cursor → Result (Q × Cursor) DocFail)
-    → ((d >>= λ x. count_node x.1 >>= with_cursor x.0) >>= λ y. finish y.0 y.1) ≡ (d >>= λ x. count_node x.1 >>= λ after. finish x.0 after)
-finished_count (Ok x) finish = after_count x.0 (count_node x.1) finish
-finished_count (Err e) finish = refl
