@@ -4,7 +4,6 @@ use Rattle.outside_core.specs.Results.{◌>>=◌}
 use Rattle.vault_model.specs.Db.{NodeId}
 use Rattle.doc_forms.specs.declared.cursor.Cursor.{Cursor}
 use Rattle.doc_forms.specs.declared.fails.DocFail.{DocFail}
-use Rattle.doc_forms.specs.ElementTexts.{Setting}
 use Rattle.doc_forms.specs.Children.{by_name, children_and_end, count_node}
 use Rattle.doc_forms.specs.Entries.{EntryParts, ReadEntry, ReadVersion, entry_of, entry_rows, history_item_rows, no_entry, node_id, version_of}
 use Rattle.doc_forms.specs.Refusals.{Fails}
