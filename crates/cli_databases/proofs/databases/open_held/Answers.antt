@@ -1,5 +1,5 @@
-use Rattle.keepass_call.proofs.Steps.{later_at_file}
-use Rattle.keepass_call.proofs.databases.open_held.Goals as goal
+use Rattle.cli_databases.proofs.Stops.{later_at_file}
+use Rattle.cli_databases.proofs.databases.open_held.Goals as goal
 
 pub returns-clause-cause : goal.returns-clause-cause
 returns-clause-cause g c =

@@ -7,7 +7,7 @@ use Rattle.doc_forms.specs.Documents.{DocumentAndHash}
 use Rattle.kdbx_open.specs.Opening.{FileContents}
 use Rattle.kdbx_open.specs.Sealed.{IsHeld}
 use Rattle.cli_words.specs.Needs.{Needs}
-use Rattle.keepass_call.specs.Databases.{plain_document}
+use Rattle.cli_databases.specs.Databases.{plain_document}
 
 -- Some bytes are a plain document.
 pub record SomePlain (doc : BareDoc) : Type 0 where

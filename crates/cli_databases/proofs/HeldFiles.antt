@@ -1,4 +1,4 @@
--- What a call gives on files that hold what it uses, both ways.
+-- What a database is and what its files hold, both ways.
 use Rattle.std.proofs.Common.{◌≡◌, ◌≤◌, ℕ, List, length, refl, sym, ◌∙◌, ap, subst, Bool, true, false, cond, nat_lt, nat_le, Option, Some, None, IfSome, Result, Ok, Err}
 use Rattle.std.proofs.lemmas.Bool.{le-leb, leb-true, ltb-false}
 use Rattle.std.specs.FinMap as map
@@ -20,15 +20,11 @@ use Rattle.kdbx_open.proofs.SealedFiles.{both, is_sealed}
 use Rattle.secret_core.specs.declared.files.ReadFail.TheVariants.{TooLarge as FileTooLarge}
 use Rattle.cli_answers.specs.declared.answers.Reason.TheVariants.{TooLarge}
 use Rattle.cli_answers.specs.declared.answers.Refusal.{Refusal}
-use Rattle.cli_words.specs.declared.command.Command.{Command}
-use Rattle.keepass_call.specs.declared.execute.Output.{Output}
-use Rattle.keepass_call.specs.Databases.{document_or_refusal, database_of, held_in, key_in, key_of, key_or_refusal, of_file, document_of_vault, plain_document, plain_of, sealed_in}
-use Rattle.keepass_call.specs.Held.{GivesKey, Holds, HoldsBy, IsCarried, IsPlain, IsSealed, IsThere}
+use Rattle.cli_databases.specs.Databases.{document_or_refusal, database_of, held_in, key_in, key_of, key_or_refusal, of_file, document_of_vault, plain_document, plain_of, sealed_in}
+use Rattle.cli_databases.specs.Held.{GivesKey, Holds, HoldsBy, IsPlain, IsSealed, IsThere}
 use Rattle.cli_answers.specs.Messages.{refusal_of}
-use Rattle.keepass_call.specs.Outcome.{answer_of, known_command, output_of}
 use Rattle.outside_core.specs.Results.{◌>>=◌}
-use Rattle.cli_lines.specs.Lines.{Lines, lines_of}
-use Rattle.cli_words.specs.Needs.{Needs, needs_of}
+use Rattle.cli_words.specs.Needs.{Needs}
 
 -- ---- a file that was used
 
@@ -127,7 +123,7 @@ opened_by : (name : List ℕ) (r : Result FileContents OpenFail) (doc : BareDoc)
 opened_by name (Ok vault) doc h = (vault, (refl, cc))
 opened_by name (Err fail) doc h = cc
 
-in_turn : {A B : Type 0} (phase : Result A Refusal) (next : A → Result B Refusal) (y : B) → (phase >>= next) ≡ Ok y
+pub in_turn : {A B : Type 0} (phase : Result A Refusal) (next : A → Result B Refusal) (y : B) → (phase >>= next) ≡ Ok y
     → (x : A) × ((phase ≡ Ok x) × (next x ≡ Ok y))
 in_turn (Ok x) next y h = (x, (refl, h))
 in_turn (Err refusal) next y h = cc
@@ -178,49 +174,10 @@ holding : (plain : Bool) (key_file : Option (List ℕ)) (file : List ℕ) (passw
 holding true key_file file password files doc h = plain_given file files doc h
 holding false key_file file password files doc h = sealed_given key_file file password files doc h
 
-database_held : (needs : Needs) (password : Option (List ℕ)) (files : FileMap) (doc : BareDoc)
+pub database_held : (needs : Needs) (password : Option (List ℕ)) (files : FileMap) (doc : BareDoc)
     → database_of needs password files ≡ Ok doc → Holds needs password files doc
 database_held needs password files doc h = held needs.access.plain needs.access.key_file needs.file password files doc h
 
-database_given : (needs : Needs) (password : Option (List ℕ)) (files : FileMap) (doc : BareDoc)
+pub database_given : (needs : Needs) (password : Option (List ℕ)) (files : FileMap) (doc : BareDoc)
     → Holds needs password files doc → database_of needs password files ≡ Ok doc
 database_given needs password files doc h = holding needs.access.plain needs.access.key_file needs.file password files doc h
-
--- what a call gave rests on what its files hold
-pub is_carried : (words : List (List ℕ)) (input : List ℕ) (files : FileMap) (done : Output) → answer_of words input files ≡ Ok done → IsCarried words input files done
-unfolding answer_of
-is_carried words input files done h =
-    let c = in_turn (known_command words) _ done h in
-    let l = in_turn (lines_of (needs_of c.0) input).answer _ done c.1.1 in
-    let d = in_turn (database_of (needs_of c.0) l.0.password files) _ done l.1.1 in
-    record {
-      command = c.0;
-      is_command = c.1.0;
-      lines = l.0;
-      are_lines = l.1.0;
-      doc = d.0;
-      holds = database_held (needs_of c.0) l.0.password files d.0 d.1.0;
-      gives = d.1.1;
-    }
-
-each : {A B : Type 0} (phase : Result A Refusal) (next : A → Result B Refusal) (x : A) (y : B) → phase ≡ Ok x → next x ≡ Ok y → (phase >>= next) ≡ Ok y
-each phase next x y p q = ap (λ r. r >>= next) p ∙ q
-
--- and what rests on what files hold is given
-pub is_given : (words : List (List ℕ)) (input : List ℕ) (files : FileMap) (done : Output) → IsCarried words input files done → answer_of words input files ≡ Ok done
-unfolding answer_of
-is_given words input files done h =
-    each (known_command words) _ h.command done h.is_command
-    (each (lines_of (needs_of h.command) input).answer _ h.lines done h.are_lines
-    (each (database_of (needs_of h.command) h.lines.password files) _ h.doc done
-    (database_given (needs_of h.command) h.lines.password files h.doc h.holds) h.gives))
-
--- what a call gives is what its last phase gives, where each before it gave something
-pub each_is : (words : List (List ℕ)) (input : List ℕ) (files : FileMap) (command : Command) (lines : Lines) (doc : BareDoc)
-    → known_command words ≡ Ok command → (lines_of (needs_of command) input).answer ≡ Ok lines → database_of (needs_of command) lines.password files ≡ Ok doc
-    → answer_of words input files ≡ output_of command doc
-unfolding answer_of
-each_is words input files command lines doc c p d =
-    ap (λ r. r >>= λ command. (lines_of (needs_of command) input).answer >>= λ lines. database_of (needs_of command) lines.password files >>= λ doc. output_of command doc) c
-    ∙ ap (λ r. r >>= λ lines. database_of (needs_of command) lines.password files >>= λ doc. output_of command doc) p
-    ∙ ap (λ r. r >>= λ doc. output_of command doc) d
