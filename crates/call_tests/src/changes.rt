@@ -13,14 +13,15 @@ use std::test::Fail;
 const DELETED: &[u8] =
     b"<KeePassFile><Root><Group><UUID>AQEBAQEBAQEBAQEBAQEBAQ==</UUID><Name>Root</Name></Group><DeletedObjects><DeletedObject><UUID>AAECAwQFRgeICQoLDA0ODw==</UUID><DeletionTime>2024-01-01T00:00:00Z</DeletionTime></DeletedObject></DeletedObjects></Root></KeePassFile>";
 
-/// The file P has this length and this SHA-256, in hexadecimal.
-fn holds(
+/// The file of this name has this length and this SHA-256, in hexadecimal.
+pub(crate) fn holds(
     rt: &(impl Abort + AllocGlobal),
     outside: &Outside,
+    name: &str,
     length: usize,
     digits: &str,
 ) -> Result<(), Fail> {
-    let Some(bytes) = outside.files.bytes("P") else {
+    let Some(bytes) = outside.files.bytes(name) else {
         panic!(rt; "no file");
     };
     assert_eq!(rt; bytes.len(), length);
@@ -54,6 +55,7 @@ fn an_entry_is_added(rt: HostRuntime) -> Result<(), Fail> {
     holds(
         &rt,
         &outside,
+        "P",
         5240,
         "3e05d2c624a24848d1ce1db3ea68de2e713594fa4c4720f0457e3855a8b46363",
     )
@@ -74,6 +76,7 @@ fn an_entry_is_edited_twice(rt: HostRuntime) -> Result<(), Fail> {
     holds(
         &rt,
         &outside,
+        "P",
         5110,
         "10f83d14c5b7cc8b4f59ef01a26bd7852af58d276ed58ef08908a82c2836a7a0",
     )?;
@@ -82,6 +85,7 @@ fn an_entry_is_edited_twice(rt: HostRuntime) -> Result<(), Fail> {
     holds(
         &rt,
         &outside,
+        "P",
         5985,
         "3610950e1dd7ddc32ea0e6f31262818bd74f4d11bd82248f0b9914165cae1552",
     )
@@ -112,8 +116,8 @@ fn a_change_that_is_refused_changes_no_file(rt: HostRuntime) -> Result<(), Fail>
         ),
         (
             &["add", "P", "Work/Wifi"],
-            1,
-            b"keepass: words: wrong words\n",
+            12,
+            b"keepass: input: line 1 missing\n",
         ),
         (
             &["add", "--plain", "-p", "P", "Work/Wifi"],
@@ -219,6 +223,7 @@ fn a_file_that_was_written_stays_where_the_output_fails(rt: HostRuntime) -> Resu
     holds(
         &rt,
         &outside,
+        "P",
         5217,
         "2256c4bc566e48b403abe4507f6f7651f6efdeed26c2e8ce67e4b2f93a456296",
     )

@@ -6,7 +6,6 @@ use Rattle.outside_core.specs.Files.{FileMap}
 use Rattle.key_core.specs.KeyFile.{key_file_key}
 use Rattle.key_core.specs.Keys.{composite_key}
 use Rattle.key_core.specs.declared.key_file.KeyFileFail.{KeyFileFail}
-use Rattle.vault_model.specs.Tree.{BareDoc}
 use Rattle.doc_forms.specs.Documents.{DocumentAndHash}
 use Rattle.doc_forms.specs.declared.fails.DocFail.{DocFail}
 use Rattle.kdbx_open.specs.Causes.{file_limit}
@@ -20,7 +19,7 @@ use Rattle.kdbx_open.proofs.SealedFiles.{both, is_sealed}
 use Rattle.secret_core.specs.declared.files.ReadFail.TheVariants.{TooLarge as FileTooLarge}
 use Rattle.cli_answers.specs.declared.answers.Reason.TheVariants.{TooLarge}
 use Rattle.cli_answers.specs.declared.answers.Refusal.{Refusal}
-use Rattle.cli_databases.specs.Databases.{document_or_refusal, database_of, held_in, key_in, key_of, key_or_refusal, of_file, document_of_vault, plain_document, plain_of, sealed_in}
+use Rattle.cli_databases.specs.Databases.{Opened, document_or_refusal, database_of, held_in, held_under, key_in, key_of, key_or_refusal, of_file, opened_plain, opened_under, plain_document, plain_of, sealed_in, vault_or_refusal}
 use Rattle.cli_databases.specs.Held.{GivesKey, Holds, HoldsBy, IsPlain, IsSealed, IsThere}
 use Rattle.cli_answers.specs.Messages.{refusal_of}
 use Rattle.outside_core.specs.Results.{◌>>=◌}
@@ -54,19 +53,19 @@ given name files made x bytes there gives =
 
 -- ---- plain documents
 
-built_by : (name : List ℕ) (r : Result DocumentAndHash DocFail) (doc : BareDoc) → document_or_refusal name r ≡ Ok doc → (read : DocumentAndHash) × ((r ≡ Ok read) × (read.0 ≡ doc))
-built_by name (Ok read) doc h = (read, (refl, cc))
-built_by name (Err fail) doc h = cc
+built_by : (name : List ℕ) (r : Result DocumentAndHash DocFail) (o : Opened) → document_or_refusal name r ≡ Ok o → (read : DocumentAndHash) × ((r ≡ Ok read) × (opened_plain read.0 ≡ o))
+built_by name (Ok read) o h = (read, (refl, cc))
+built_by name (Err fail) o h = cc
 
-plain_held : (file : List ℕ) (files : FileMap) (doc : BareDoc) → plain_of file (map.get files file) ≡ Ok doc → IsPlain file files doc
-plain_held file files doc h =
-    let u = used file files (λ bytes. document_or_refusal file (plain_document bytes)) doc (map.get files file) refl h in
-    let b = built_by file (plain_document u.bytes) doc u.gives in
+plain_held : (file : List ℕ) (files : FileMap) (o : Opened) → plain_of file (map.get files file) ≡ Ok o → IsPlain file files o
+plain_held file files o h =
+    let u = used file files (λ bytes. document_or_refusal file (plain_document bytes)) o (map.get files file) refl h in
+    let b = built_by file (plain_document u.bytes) o u.gives in
     record { bytes = u.bytes; there = u.there; read = b.0; says = b.1.0; is = b.1.1 }
 
-plain_given : (file : List ℕ) (files : FileMap) (doc : BareDoc) → IsPlain file files doc → plain_of file (map.get files file) ≡ Ok doc
-plain_given file files doc h =
-    given file files (λ bytes. document_or_refusal file (plain_document bytes)) doc h.bytes h.there (ap (document_or_refusal file) h.says ∙ ap Ok h.is)
+plain_given : (file : List ℕ) (files : FileMap) (o : Opened) → IsPlain file files o → plain_of file (map.get files file) ≡ Ok o
+plain_given file files o h =
+    given file files (λ bytes. document_or_refusal file (plain_document bytes)) o h.bytes h.there (ap (document_or_refusal file) h.says ∙ ap Ok h.is)
 
 -- ---- key files
 
@@ -119,65 +118,66 @@ opening_given : (file : Option (List ℕ)) (composite : List ℕ) (vault : FileC
 opening_given file composite vault bytes is within sealed =
     opened_of_held file composite vault (subst (λ (f : Option (List ℕ)). IfSome f (λ b. length b ≤ file_limit)) (sym is) within) (bytes, (is, sealed))
 
-opened_by : (name : List ℕ) (r : Result FileContents OpenFail) (doc : BareDoc) → document_of_vault name r ≡ Ok doc → (vault : FileContents) × ((r ≡ Ok vault) × (vault.doc ≡ doc))
-opened_by name (Ok vault) doc h = (vault, (refl, cc))
-opened_by name (Err fail) doc h = cc
+opened_by : (name composite : List ℕ) (r : Result FileContents OpenFail) (o : Opened) → vault_or_refusal name composite r ≡ Ok o
+    → (vault : FileContents) × ((r ≡ Ok vault) × (opened_under composite vault ≡ o))
+opened_by name composite (Ok vault) o h = (vault, (refl, cc))
+opened_by name composite (Err fail) o h = cc
 
 pub in_turn : {A B : Type 0} (phase : Result A Refusal) (next : A → Result B Refusal) (y : B) → (phase >>= next) ≡ Ok y
     → (x : A) × ((phase ≡ Ok x) × (next x ≡ Ok y))
 in_turn (Ok x) next y h = (x, (refl, h))
 in_turn (Err refusal) next y h = cc
 
-sealed_by : (file : List ℕ) (files : FileMap) (password key : Option (List ℕ)) (doc : BareDoc) → sealed_in file files password key ≡ Ok doc
-    → (vault : FileContents) × ((opening_of (map.get files file) (composite_key password key) ≡ Ok vault) × (vault.doc ≡ doc))
-unfolding sealed_in
-sealed_by file files password key doc h = opened_by file (opening_of (map.get files file) (composite_key password key)) doc h
+under_by : (file : List ℕ) (files : FileMap) (composite : List ℕ) (o : Opened) → held_under file files composite ≡ Ok o
+    → (vault : FileContents) × ((opening_of (map.get files file) composite ≡ Ok vault) × (opened_under composite vault ≡ o))
+unfolding held_under
+under_by file files composite o h = opened_by file composite (opening_of (map.get files file) composite) o h
 
-sealed_held : (key_file : Option (List ℕ)) (file : List ℕ) (password : Option (List ℕ)) (files : FileMap) (doc : BareDoc)
-    → held_in false key_file file password files ≡ Ok doc → IsSealed key_file file password files doc
-sealed_held key_file file password files doc h =
-    let k = in_turn (key_of key_file files) (sealed_in file files password) doc h in
-    let v = sealed_by file files password k.0 doc k.1.1 in
-    let o = opening_held (map.get files file) (composite_key password k.0) v.0 v.1.0 in
+sealed_held : (key_file : Option (List ℕ)) (file : List ℕ) (password : Option (List ℕ)) (files : FileMap) (o : Opened)
+    → held_in false key_file file password files ≡ Ok o → IsSealed key_file file password files o
+sealed_held key_file file password files o h =
+    let k = in_turn (key_of key_file files) (sealed_in file files password) o h in
+    let v = under_by file files (composite_key password k.0) o k.1.1 in
+    let b = opening_held (map.get files file) (composite_key password k.0) v.0 v.1.0 in
     record {
       key = k.0;
       gives_key = key_held key_file files k.0 k.1.0;
-      bytes = o.0;
-      there = record { found = o.1.0.0; within = o.1.0.1 };
+      bytes = b.0;
+      there = record { found = b.1.0.0; within = b.1.0.1 };
       vault = v.0;
-      sealed = o.1.1;
+      sealed = b.1.1;
       is = v.1.1;
     }
 
-sealed_again : (file : List ℕ) (files : FileMap) (password key : Option (List ℕ)) (vault : FileContents) → opening_of (map.get files file) (composite_key password key) ≡ Ok vault
-    → sealed_in file files password key ≡ Ok vault.doc
-unfolding sealed_in
-sealed_again file files password key vault h = ap (document_of_vault file) h
+under_again : (file : List ℕ) (files : FileMap) (composite : List ℕ) (vault : FileContents) → opening_of (map.get files file) composite ≡ Ok vault
+    → held_under file files composite ≡ Ok (opened_under composite vault)
+unfolding held_under
+under_again file files composite vault h = ap (vault_or_refusal file composite) h
 
-sealed_given : (key_file : Option (List ℕ)) (file : List ℕ) (password : Option (List ℕ)) (files : FileMap) (doc : BareDoc)
-    → IsSealed key_file file password files doc → held_in false key_file file password files ≡ Ok doc
-sealed_given key_file file password files doc s =
+sealed_given : (key_file : Option (List ℕ)) (file : List ℕ) (password : Option (List ℕ)) (files : FileMap) (o : Opened)
+    → IsSealed key_file file password files o → held_in false key_file file password files ≡ Ok o
+sealed_given key_file file password files o s =
     ap (λ r. r >>= sealed_in file files password) (key_given key_file files s.key s.gives_key)
-    ∙ sealed_again file files password s.key s.vault
+    ∙ under_again file files (composite_key password s.key) s.vault
     (opening_given (map.get files file) (composite_key password s.key) s.vault s.bytes s.there.found s.there.within s.sealed)
     ∙ ap Ok s.is
 
 -- ---- databases
 
-held : (plain : Bool) (key_file : Option (List ℕ)) (file : List ℕ) (password : Option (List ℕ)) (files : FileMap) (doc : BareDoc)
-    → held_in plain key_file file password files ≡ Ok doc → HoldsBy plain key_file file password files doc
-held true key_file file password files doc h = plain_held file files doc h
-held false key_file file password files doc h = sealed_held key_file file password files doc h
+held : (plain : Bool) (key_file : Option (List ℕ)) (file : List ℕ) (password : Option (List ℕ)) (files : FileMap) (o : Opened)
+    → held_in plain key_file file password files ≡ Ok o → HoldsBy plain key_file file password files o
+held true key_file file password files o h = plain_held file files o h
+held false key_file file password files o h = sealed_held key_file file password files o h
 
-holding : (plain : Bool) (key_file : Option (List ℕ)) (file : List ℕ) (password : Option (List ℕ)) (files : FileMap) (doc : BareDoc)
-    → HoldsBy plain key_file file password files doc → held_in plain key_file file password files ≡ Ok doc
-holding true key_file file password files doc h = plain_given file files doc h
-holding false key_file file password files doc h = sealed_given key_file file password files doc h
+holding : (plain : Bool) (key_file : Option (List ℕ)) (file : List ℕ) (password : Option (List ℕ)) (files : FileMap) (o : Opened)
+    → HoldsBy plain key_file file password files o → held_in plain key_file file password files ≡ Ok o
+holding true key_file file password files o h = plain_given file files o h
+holding false key_file file password files o h = sealed_given key_file file password files o h
 
-pub database_held : (needs : Needs) (password : Option (List ℕ)) (files : FileMap) (doc : BareDoc)
-    → database_of needs password files ≡ Ok doc → Holds needs password files doc
-database_held needs password files doc h = held needs.access.plain needs.access.key_file needs.file password files doc h
+pub database_held : (needs : Needs) (password : Option (List ℕ)) (files : FileMap) (o : Opened)
+    → database_of needs password files ≡ Ok o → Holds needs password files o
+database_held needs password files o h = held needs.access.plain needs.access.key_file needs.file password files o h
 
-pub database_given : (needs : Needs) (password : Option (List ℕ)) (files : FileMap) (doc : BareDoc)
-    → Holds needs password files doc → database_of needs password files ≡ Ok doc
-database_given needs password files doc h = holding needs.access.plain needs.access.key_file needs.file password files doc h
+pub database_given : (needs : Needs) (password : Option (List ℕ)) (files : FileMap) (o : Opened)
+    → Holds needs password files o → database_of needs password files ≡ Ok o
+database_given needs password files o h = holding needs.access.plain needs.access.key_file needs.file password files o h

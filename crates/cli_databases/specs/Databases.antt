@@ -1,4 +1,4 @@
--- The databases of a call: what the file that its command names holds.
+-- The databases of a call: what the file that its command names holds, and what it is sealed with.
 use Rattle.std.specs.Prelude.{◌≡◌, ℕ, Bool, true, false, List, [], length, nat_le, cond, Option, None, Some, Result, Ok, Err}
 use Rattle.std.specs.FinMap as map
 use Rattle.outside_core.specs.Files.{FileMap}
@@ -23,6 +23,7 @@ use Rattle.kdbx_open.specs.declared.fail.OpenFail.TheVariants as sealed
 use Rattle.kdbx_open.specs.Causes.{file_limit}
 use Rattle.kdbx_open.specs.Files.{opening_of}
 use Rattle.kdbx_open.specs.Opening.{FileContents}
+use Rattle.cli_databases.specs.declared.databases.Sealing.{Sealing}
 use Rattle.cli_answers.specs.declared.answers.Reason.{Reason}
 use Rattle.cli_answers.specs.declared.answers.Reason.TheVariants as answer
 use Rattle.cli_answers.specs.declared.answers.Reason.TheVariants.{NoSuchFile, TooLarge, OutOfMemory}
@@ -96,6 +97,25 @@ key_answer (key.KeyFileForm place) = answer.BadKeyFile place
 key_answer (key.KeyFileHash kept found) = answer.KeyFileHash kept found
 key_answer key.NoMemory = OutOfMemory
 
+-- ---- databases
+
+-- A database that was opened: its document, and what its file is sealed with, unless it is a plain
+-- document.
+pub record Opened : Type 0 where
+  pub doc : BareDoc
+  pub sealing : Option Sealing
+
+-- A plain document.
+abbrev pub opened_plain : BareDoc → Opened
+opened_plain doc = record { doc = doc; sealing = None }
+
+-- What a file holds that was opened under a composite key.
+abbrev pub opened_under : List ℕ → FileContents → Opened
+opened_under composite vault = record {
+  doc = vault.doc;
+  sealing = Some (record { settings = vault.settings; composite = composite });
+}
+
 -- ---- files
 
 -- What is made of the bytes of the file of this name, which is there and not too large.
@@ -109,13 +129,13 @@ of_file name made (Some bytes) = cond (nat_le (length bytes) file_limit) (made b
 unfoldable pub plain_document : List ℕ → Result DocumentAndHash DocFail
 plain_document text = document (record { form = Plain; keystream = NoKeystream }) [] text
 
--- The document that the file of this name holds, or the refusal.
-abbrev pub document_or_refusal : List ℕ → Result DocumentAndHash DocFail → Result BareDoc Refusal
-document_or_refusal name (Ok read) = Ok read.0
+-- The plain document that the file of this name holds, or the refusal.
+abbrev pub document_or_refusal : List ℕ → Result DocumentAndHash DocFail → Result Opened Refusal
+document_or_refusal name (Ok read) = Ok (opened_plain read.0)
 document_or_refusal name (Err fail) = Err (refusal_of (document_answer fail) name)
 
 -- What a file of this name holds as a plain document.
-abbrev pub plain_of : List ℕ → Option (List ℕ) → Result BareDoc Refusal
+abbrev pub plain_of : List ℕ → Option (List ℕ) → Result Opened Refusal
 plain_of name = of_file name (λ bytes. document_or_refusal name (plain_document bytes))
 
 -- The key that the key file of this name gives, or the refusal.
@@ -132,25 +152,29 @@ abbrev pub key_of : Option (List ℕ) → FileMap → Result (Option (List ℕ))
 key_of None files = Ok None
 key_of (Some name) files = key_in name (map.get files name) >>= λ key. Ok (Some key)
 
--- What is held by the file of this name, by what opening it answers.
-abbrev pub document_of_vault : List ℕ → Result FileContents OpenFail → Result BareDoc Refusal
-document_of_vault name (Ok vault) = Ok vault.doc
-document_of_vault name (Err fail) = Err (refusal_of (open_answer fail) name)
+-- The database that the file of this name is under a composite key, by what opening it answers.
+abbrev pub vault_or_refusal : List ℕ → List ℕ → Result FileContents OpenFail → Result Opened Refusal
+vault_or_refusal name composite (Ok vault) = Ok (opened_under composite vault)
+vault_or_refusal name composite (Err fail) = Err (refusal_of (open_answer fail) name)
+
+-- What a file holds under a composite key.
+unfoldable pub held_under : List ℕ → FileMap → List ℕ → Result Opened Refusal
+held_under file files composite =
+    vault_or_refusal file composite (opening_of (map.get files file) composite)
 
 -- What a file holds under the composite key of a password and a key file's key.
-unfoldable pub sealed_in : List ℕ → FileMap → Option (List ℕ) → Option (List ℕ)
-    → Result BareDoc Refusal
-sealed_in file files password key = document_of_vault file
-    (opening_of (map.get files file) (composite_key password key))
+abbrev pub sealed_in : List ℕ → FileMap → Option (List ℕ) → Option (List ℕ)
+    → Result Opened Refusal
+sealed_in file files password key = held_under file files (composite_key password key)
 
--- The document that a file holds: by itself, or else sealed, the key file being read first.
+-- What a file holds: a document by itself, or else sealed, the key file being read first.
 abbrev pub held_in : Bool → Option (List ℕ) → List ℕ → Option (List ℕ) → FileMap
-    → Result BareDoc Refusal
+    → Result Opened Refusal
 held_in true key_file file password files = plain_of file (map.get files file)
 held_in false key_file file password files = key_of key_file files >>= sealed_in file files password
 
 -- The database that a command asks for, whose password is given.
-abbrev pub database_of : Needs → Option (List ℕ) → FileMap → Result BareDoc Refusal
+abbrev pub database_of : Needs → Option (List ℕ) → FileMap → Result Opened Refusal
 database_of needs password files =
     held_in needs.access.plain needs.access.key_file needs.file password files
 

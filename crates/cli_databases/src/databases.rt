@@ -1,13 +1,14 @@
 //! The databases of a call.
-ghost use Rattle.std.specs.Prelude.{◌≡◌, ◌≢◌, ◌≤◌, ◌⊎◌, [], ◌∷◌, ◌++◌, IfErr, IfOk, IsSome, Some, false, option_map};
+ghost use Rattle.std.specs.Prelude.{◌≡◌, ◌≢◌, ◌≤◌, ◌⊎◌, [], ◌∷◌, ◌++◌, IfErr, IfOk, IfSome, IsSome, Some, false, option_map};
 ghost use Rattle.std.specs.FinMap as map;
 ghost use Rattle.outside_core.specs.Files.{FileMap};
 ghost use Rattle.key_core.specs.KeyFile.{key_file_key};
-ghost use Rattle.vault_model.specs.SeenDoc.{doc_seen};
 ghost use Rattle.doc_forms.specs.Refusals as reader;
 ghost use Rattle.doc_forms.specs.SeenDocuments.{read_seen};
+ghost use Rattle.kdbx_frame.specs.Settings.{IsInOrder};
 ghost use Rattle.cli_databases.specs.Databases as spec;
-ghost use Rattle.cli_databases.specs.Databases.{IsUnopened, IsUnread, document_or_refusal, database_of, held_in, key_in, key_or_refusal, plain_document, plain_of, sealed_in};
+ghost use Rattle.cli_databases.specs.Databases.{IsUnopened, IsUnread, document_or_refusal, database_of, held_in, held_under, key_in, key_or_refusal, plain_document, plain_of, sealed_in};
+ghost use Rattle.cli_databases.specs.SeenOpened.{opened_seen};
 ghost use Rattle.cli_databases.specs.SomeFiles.{IsSealedUnder, IsSomeKey, SomeDatabase, SomeHolds, SomeKey, SomePlain};
 ghost use Rattle.key_core.specs.Keys.{composite_key};
 ghost use Rattle.cli_lines.specs.Lines.{CanOpen};
@@ -18,8 +19,8 @@ ghost use Rattle.cli_words.specs.SeenNeeds.{needs_seen};
 use cli_answers::{Reason, Stop, refused};
 use cli_words::{Access, Needs};
 use doc_read::{DocFail, ReadDoc, read_parts, resolve};
-use kdbx_frame::FrameFail;
-use kdbx_open::{FILE_LIMIT, OpenFail, Opened, open_file};
+use kdbx_frame::{FrameFail, Settings};
+use kdbx_open::{FILE_LIMIT, OpenFail, open_file};
 use key_core::{KeyFileFail, composite, read_key_file};
 use mac_core::BlockFail;
 use outside_core::{FileStore, List, NoMemory, Text};
@@ -27,6 +28,36 @@ use secret_core::{Key, ReadFail, Secret, read_file};
 use std::alloc::Global;
 use stream_core::InnerStream;
 use vault_model::{Doc, DocForm};
+
+/// What the file of a database is sealed with.
+pub struct Sealing {
+    /// The settings of the file, which are in order.
+    pub settings: Settings,
+    /// The composite key that opened it, which must be cleared and released.
+    pub composite: Key,
+}
+
+/// A database that was opened.
+pub struct Opened {
+    /// Its document.
+    pub doc: Doc,
+    /// What its file is sealed with, unless it is a plain document.
+    pub sealing: Option<Sealing>,
+}
+
+/// Clears and releases the composite key of a database, where it has one.
+pub fn release_key(sealing: Option<Sealing>) {
+    if let Some(
+        Sealing {
+            settings: _,
+            mut composite,
+        },
+    ) = sealing
+    {
+        composite.clear();
+        composite.release();
+    }
+}
 
 // What is refused when a file is not read.
 fn unread(alloc: Global, fail: ReadFail, name: &str) -> Stop
@@ -140,10 +171,12 @@ fn read_plain(alloc: Global, text: Secret) -> Result<ReadDoc, DocFail>
 }
 
 // The plain document in these bytes of a file.
-fn build(alloc: Global, name: &str, bytes: Secret) -> Result<Doc, Stop>
-    ensures gives { Returns doc_seen result
+fn build(alloc: Global, name: &str, bytes: Secret) -> Result<Opened, Stop>
+    ensures gives { Returns opened_seen result
         (document_or_refusal name.now (plain_document bytes.bytes)) }
-    ensures some_file { IfOk result (λ doc. SomePlain (doc_seen doc)) }
+    ensures some_file { IfOk result (λ opened. SomePlain (opened_seen opened)) }
+    ensures in_order { IfOk result (λ opened. IfSome opened.sealing (λ sealing.
+        IsInOrder sealing.settings)) }
     ensures cause { IfErr result IsPlainStop }
 {
     match read_plain(alloc, bytes) {
@@ -152,17 +185,19 @@ fn build(alloc: Global, name: &str, bytes: Secret) -> Result<Doc, Stop>
                 doc,
                 header_hash: _,
             },
-        ) => Ok(doc),
+        ) => Ok(Opened { doc, sealing: None }),
         Err(DocFail::NoMemory) => Err(Stop::NoMemory),
         Err(fail) => Err(refused(alloc, document_answer(fail), name)),
     }
 }
 
 // The plain document in a file.
-fn open_plain<F: FileStore>(alloc: Global, files: &mut F, name: &str) -> Result<Doc, Stop>
+fn open_plain<F: FileStore>(alloc: Global, files: &mut F, name: &str) -> Result<Opened, Stop>
     ensures told { (m : FileMap) → F.files files.old ≡ Some m
-        → Returns doc_seen result (plain_of name.now (map.get m name.now)) }
-    ensures some_file { IfOk result (λ doc. SomePlain (doc_seen doc)) }
+        → Returns opened_seen result (plain_of name.now (map.get m name.now)) }
+    ensures some_file { IfOk result (λ opened. SomePlain (opened_seen opened)) }
+    ensures in_order { IfOk result (λ opened. IfSome opened.sealing (λ sealing.
+        IsInOrder sealing.settings)) }
     ensures cause { IfErr result (IsFileStop (name.now ∷ []) (F.faults files.old)
         (F.faults files.new) (F.absences files.old) (F.absences files.new)) }
     ensures faults { F.faults files.old ≤ F.faults files.new }
@@ -238,22 +273,20 @@ fn key_of<F: FileStore>(
     }
 }
 
-// The document that a file holds sealed under the composite key of a password and a key file's key,
-// of which there is one at least. The composite key is cleared and released.
-#[tactic(auto, unfolding(crate::specs::Databases::sealed_in))]
-fn open_sealed<F: FileStore>(
+// What a file holds sealed under a composite key, which goes on with what was opened, and is
+// cleared and released otherwise.
+#[tactic(auto, unfolding(crate::specs::Databases::held_under))]
+fn open_under<F: FileStore>(
     alloc: Global,
     files: &mut F,
     name: &str,
-    password: Option<&[u8]>,
-    key: Option<Key>,
-) -> Result<Doc, Stop>
-    requires { IsSome password ⊎ IsSome key }
+    composite: Key,
+) -> Result<Opened, Stop>
     ensures told { (m : FileMap) → F.files files.old ≡ Some m
-        → Returns doc_seen result (sealed_in name.now m (option_map (λ p. p.now) password.entry)
-        key) }
-    ensures some_file { IfOk result (λ doc. IsSealedUnder
-        (composite_key (option_map (λ p. p.now) password.entry) key) (doc_seen doc)) }
+        → Returns opened_seen result (held_under name.now m composite) }
+    ensures some_file { IfOk result (λ opened. IsSealedUnder composite (opened_seen opened)) }
+    ensures in_order { IfOk result (λ opened. IfSome opened.sealing (λ sealing.
+        IsInOrder sealing.settings)) }
     ensures cause { IfErr result (IsFileStop (name.now ∷ []) (F.faults files.old)
         (F.faults files.new) (F.absences files.old) (F.absences files.new)) }
     ensures faults { F.faults files.old ≤ F.faults files.new }
@@ -261,21 +294,49 @@ fn open_sealed<F: FileStore>(
     ensures draft_name { F.draft_name files.new ≡ F.draft_name files.old }
     ensures draft_bytes { F.draft_bytes files.new ≡ F.draft_bytes files.old }
 {
-    let composite = composite(password, key);
     match open_file(alloc, files, name, composite) {
         Ok(
-            Opened {
+            kdbx_open::Opened {
                 doc,
-                settings: _,
-                mut composite,
+                settings,
+                composite,
             },
-        ) => {
-            composite.clear();
-            composite.release();
-            Ok(doc)
-        }
+        ) => Ok(Opened {
+            doc,
+            sealing: Some(Sealing {
+                settings,
+                composite,
+            }),
+        }),
         Err(fail) => Err(unopened(alloc, fail, name)),
     }
+}
+
+// What a file holds sealed under the composite key of a password and a key file's key, of which
+// there is one at least.
+fn open_sealed<F: FileStore>(
+    alloc: Global,
+    files: &mut F,
+    name: &str,
+    password: Option<&[u8]>,
+    key: Option<Key>,
+) -> Result<Opened, Stop>
+    requires { IsSome password ⊎ IsSome key }
+    ensures told { (m : FileMap) → F.files files.old ≡ Some m
+        → Returns opened_seen result (sealed_in name.now m
+        (option_map (λ p. p.now) password.entry) key) }
+    ensures some_file { IfOk result (λ opened. IsSealedUnder
+        (composite_key (option_map (λ p. p.now) password.entry) key) (opened_seen opened)) }
+    ensures in_order { IfOk result (λ opened. IfSome opened.sealing (λ sealing.
+        IsInOrder sealing.settings)) }
+    ensures cause { IfErr result (IsFileStop (name.now ∷ []) (F.faults files.old)
+        (F.faults files.new) (F.absences files.old) (F.absences files.new)) }
+    ensures faults { F.faults files.old ≤ F.faults files.new }
+    ensures files { F.files files.new ≡ F.files files.old }
+    ensures draft_name { F.draft_name files.new ≡ F.draft_name files.old }
+    ensures draft_bytes { F.draft_bytes files.new ≡ F.draft_bytes files.old }
+{
+    open_under(alloc, files, name, composite(password, key))
 }
 
 // The name that is given, if one is.
@@ -288,20 +349,22 @@ fn name_in(name: &Option<Text>) -> Option<&str>
     }
 }
 
-// The document that a file holds: by itself, or else sealed.
+// What a file holds: a document by itself, or else sealed.
 fn open_held<F: FileStore>(
     alloc: Global,
     files: &mut F,
     access: &Access,
     file: &str,
     password: Option<&[u8]>,
-) -> Result<Doc, Stop>
+) -> Result<Opened, Stop>
     requires { access.now.plain ≡ false → IsSome password ⊎ IsSome access.now.key_file }
     ensures told { (m : FileMap) → F.files files.old ≡ Some m
-        → Returns doc_seen result (held_in access.now.plain access.now.key_file file.now
+        → Returns opened_seen result (held_in access.now.plain access.now.key_file file.now
         (option_map (λ p. p.now) password.entry) m) }
-    ensures some_file { IfOk result (λ doc. SomeHolds access.now.plain access.now.key_file
-        (option_map (λ p. p.now) password.entry) (doc_seen doc)) }
+    ensures some_file { IfOk result (λ opened. SomeHolds access.now.plain access.now.key_file
+        (option_map (λ p. p.now) password.entry) (opened_seen opened)) }
+    ensures in_order { IfOk result (λ opened. IfSome opened.sealing (λ sealing.
+        IsInOrder sealing.settings)) }
     ensures cause { IfErr result (IsFileStop (key_files access.now.key_file ++ file.now ∷ [])
         (F.faults files.old) (F.faults files.new) (F.absences files.old) (F.absences files.new)) }
     ensures faults { F.faults files.old ≤ F.faults files.new }
@@ -316,19 +379,23 @@ fn open_held<F: FileStore>(
     open_sealed(alloc, files, file, password, key)
 }
 
-/// Opens the database that a command asks for, with the password that is given for it.
+/// Opens the database that a command asks for, with the password that is given for it. The
+/// composite key of a sealed one goes on with it, and must be cleared and released; after a refusal
+/// it was.
 pub fn open<F: FileStore>(
     alloc: Global,
     files: &mut F,
     needs: Needs<'_>,
     password: Option<&[u8]>,
-) -> Result<Doc, Stop>
+) -> Result<Opened, Stop>
     requires { CanOpen needs.access.now (option_map (λ p. p.now) password) }
     ensures told { (m : FileMap) → F.files files.old ≡ Some m
-        → Returns doc_seen result (database_of (needs_seen needs.entry)
+        → Returns opened_seen result (database_of (needs_seen needs.entry)
         (option_map (λ p. p.now) password.entry) m) }
-    ensures some_file { IfOk result (λ doc. SomeDatabase (needs_seen needs.entry)
-        (option_map (λ p. p.now) password.entry) (doc_seen doc)) }
+    ensures some_file { IfOk result (λ opened. SomeDatabase (needs_seen needs.entry)
+        (option_map (λ p. p.now) password.entry) (opened_seen opened)) }
+    ensures in_order { IfOk result (λ opened. IfSome opened.sealing (λ sealing.
+        IsInOrder sealing.settings)) }
     ensures cause { IfErr result (IsFileStop (files_of (needs_seen needs.entry))
         (F.faults files.old) (F.faults files.new) (F.absences files.old) (F.absences files.new)) }
     ensures faults { F.faults files.old ≤ F.faults files.new }

@@ -3,4 +3,4 @@
 
 mod databases;
 
-pub use databases::open;
+pub use databases::{Opened, Sealing, open, release_key};

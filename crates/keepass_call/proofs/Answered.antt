@@ -15,10 +15,11 @@ use Rattle.cli_writing.specs.Writing.{IsSame, KeepsDraft, KeepsFiles, Store}
 use Rattle.keepass_call.specs.declared.execute.Output.{Output}
 use Rattle.keepass_call.specs.declared.task.Task as memory
 use Rattle.keepass_call.specs.Commands.{writes}
-use Rattle.keepass_call.specs.Endings.{Ending, Ends, EndsRefused, IsOfSomeDice, IsQuiet, carried_out}
-use Rattle.keepass_call.specs.Outcome.{IsOfSomeFile, World, answer_of}
+use Rattle.keepass_call.specs.Endings.{Ending, Ends, EndsRefused, IsOfDice, IsOfSomeDice, carried_out}
+use Rattle.keepass_call.specs.Outcome.{IsOfSomeFile, IsOfTask, World, answer_of}
 use Rattle.keepass_call.specs.SeenChange.{output_text}
-use Rattle.keepass_call.specs.Tasks.{HasSomeFile, Task, known_command, task_of, writes_by}
+use Rattle.cli_words.specs.Words.{command_of}
+use Rattle.keepass_call.specs.Tasks.{HasSomeFile, Task, draws, draws_by, task_of, writes_by}
 
 same_store : (before mid : Store) → IsSame before mid → mid ≡ before
 same_store before mid h =
@@ -66,15 +67,19 @@ draft_after before mid now s h = subst (λ (m : Store). KeepsDraft m now) (same_
 
 -- ---- the dice
 
--- The words write where their command does.
-pub writes_so : (words : Result Command Refusal) (command : Command) (dice : Option (List ℕ)) (d : List ℕ) → words ≡ Ok command
-    → TellsStream (writes_by words) dice d → TellsStream (writes command) dice d
-writes_so words command dice d is t = subst (λ (w : Result Command Refusal). TellsStream (writes_by w) dice d) is t
+-- The words draw where their command does.
+pub draws_so : (words : Result Command Refusal) (command : Command) (dice : Option (List ℕ)) (d : List ℕ) → words ≡ Ok command
+    → TellsStream (draws_by words) dice d → TellsStream (draws command) dice d
+draws_so words command dice d is t = subst (λ (w : Result Command Refusal). TellsStream (draws_by w) dice d) is t
 
-pub quiet_after : (words : Result Command Refusal) (command : Command) (before mid now : Store) (dice dice' : Option (List ℕ)) → words ≡ Ok command
-    → IsSame before mid → (writes command ≡ false → IsQuiet mid now dice dice') → writes_by words ≡ false → IsQuiet before now dice dice'
-quiet_after words command before mid now dice dice' is s h e =
-    subst (λ (m : Store). IsQuiet m now dice dice') (same_store before mid s) (h (sym (ap writes_by is) ∙ e))
+pub unwritten_after : (words : Result Command Refusal) (command : Command) (before mid now : Store) → words ≡ Ok command
+    → IsSame before mid → (writes command ≡ false → IsSame mid now) → writes_by words ≡ false → IsSame before now
+unwritten_after words command before mid now is s h e =
+    subst (λ (m : Store). IsSame m now) (same_store before mid s) (h (sym (ap writes_by is) ∙ e))
+
+pub undrawn_after : (words : Result Command Refusal) (command : Command) (dice dice' : Option (List ℕ)) → words ≡ Ok command
+    → (draws command ≡ false → dice' ≡ dice) → draws_by words ≡ false → dice' ≡ dice
+undrawn_after words command dice dice' is h e = h (sym (ap draws_by is) ∙ e)
 
 -- ---- what is left of the input
 
@@ -92,12 +97,21 @@ stop_leaves (FileFault name) before now left h = h
 stop_leaves InputFault before now left h = tt
 stop_leaves NoMemory before now left h = tt
 
--- ---- some file
+-- ---- what was printed and written
 
-pub prints_some : (words : List (List ℕ)) (time : ℕ) (task : Task) (result : Result Output Stop) → HasSomeFile words task
-    → IfOk result (λ output. IsOfSomeDice time task (output_text output)) → IfOk result (λ output. IsOfSomeFile words time (output_text output))
-prints_some words time task (Ok output) f h = record { task = task; has_file = f; of_dice = h }
-prints_some words time task (Err stop) f h = tt
+pub of_task : (words : List (List ℕ)) (time : ℕ) (world : World) (task : Task) (result : Result Output Stop) (before mid now : Store)
+    → task_of words world.input world.files ≡ Ok task → IsSame before mid
+    → IfOk result (λ output. IsOfDice time task world.dice (output_text output) mid now)
+    → IfOk result (λ output. IsOfTask words time world (output_text output) before now)
+of_task words time world task (Ok output) before mid now t s h =
+    record { task = task; gives = t; of_dice = subst (λ (m : Store). IsOfDice time task world.dice (output_text output) m now) (same_store before mid s) h }
+of_task words time world task (Err stop) before mid now t s h = tt
+
+pub prints_some : (words : List (List ℕ)) (time : ℕ) (task : Task) (result : Result Output Stop) (before mid now : Store) → HasSomeFile words task → IsSame before mid
+    → IfOk result (λ output. IsOfSomeDice time task (output_text output) mid now) → IfOk result (λ output. IsOfSomeFile words time (output_text output) before now)
+prints_some words time task (Ok output) before mid now f s h =
+    record { task = task; has_file = f; of_dice = subst (λ (m : Store). IsOfSomeDice time task (output_text output) m now) (same_store before mid s) h }
+prints_some words time task (Err stop) before mid now f s h = tt
 
 -- ---- causes
 

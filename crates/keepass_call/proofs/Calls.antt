@@ -10,18 +10,20 @@ use Rattle.cli_answers.specs.declared.answers.Refusal.{Refusal}
 use Rattle.cli_answers.specs.declared.answers.Stop.{Stop}
 use Rattle.cli_answers.specs.declared.answers.Stop.TheVariants.{Refused, FileFault, InputFault, NoMemory}
 use Rattle.cli_answers.specs.Messages.{error_line, reason_text, status_of}
-use Rattle.cli_answers.specs.Phases.{IsCaused, IsLeft, Leaves}
+use Rattle.cli_answers.specs.Phases.{IsCaused, IsLeft, Leaves, StreamAnswer}
 use Rattle.cli_words.specs.Needs.{files_named}
-use Rattle.cli_writing.specs.Writing.{KeepsDraft, KeepsFiles}
+use Rattle.cli_writing.specs.Writing.{IsSame, KeepsDraft, KeepsFiles}
 use Rattle.keepass_call.specs.declared.execute.Output.{Output}
 use Rattle.keepass_call.specs.Call.{IsCall}
-use Rattle.keepass_call.specs.Endings.{Ending, Ends, EndsRefused, EndsSo, IsQuiet, Stores}
+use Rattle.keepass_call.specs.Endings.{Ending, Ends, EndsRefused, EndsSo, Stores}
 use Rattle.keepass_call.specs.Held.{IsAuthentic, IsComplete}
-use Rattle.keepass_call.specs.Outcome.{Counts, Gains, IsAsSaid, IsCut, IsOfSomeFile, IsRefused, IsSafe, NoFaults, Outcome, PrintsOfSomeFile, Seen, Tells, TellsFault, WhereTold, World, answer_of, ended, outcome}
+use Rattle.keepass_call.specs.Outcome.{Counts, Gains, IsAsSaid, IsCut, IsOfSomeFile, IsOfTask, IsRefused, IsSafe, NoFaults, Outcome, PrintsOfSomeFile, Seen, Tells, TellsFault, WhereTold, World, answer_of, ended, outcome}
 use Rattle.keepass_call.specs.SeenChange.{output_text}
-use Rattle.keepass_call.specs.Tasks.{known_command, left_of, writes_by}
+use Rattle.cli_words.specs.Words.{command_of}
+use Rattle.keepass_call.specs.Tasks.{draws_by, left_of, writes_by}
 use Rattle.keepass_call.specs.Telling.{IsPrinted, IsTold}
-use Rattle.keepass_call.proofs.HeldTasks.{is_carried, is_given}
+use Rattle.keepass_call.proofs.Answered.{answer_is}
+use Rattle.keepass_call.proofs.HeldTasks.{is_given, is_task}
 
 -- ---- what is written
 
@@ -137,9 +139,11 @@ pub record Printed (words : List (List ℕ)) (time : ℕ) (printed : List ℕ) (
   pub errors : now.errors ≡ before.errors
   pub wrote : IsPrinted printed result before.written now.written counts.out counts'.out
   pub draft : KeepsDraft before.store now.store
-  pub reads_only : writes_by (known_command words) ≡ false → IsQuiet before.store now.store before.stream now.stream
+  pub held : WhereTold words before (λ w. IsOfTask words time w printed before.store now.store)
+  pub unwritten : writes_by (command_of words) ≡ false → IsSame before.store now.store
+  pub undrawn : draws_by (command_of words) ≡ false → now.stream ≡ before.stream
   pub stream : LosesPrefix before.stream now.stream
-  pub some_file : IsOfSomeFile words time printed
+  pub some_file : IsOfSomeFile words time printed before.store now.store
 
 -- The outcome of words that end so.
 outcome_is : (words : List (List ℕ)) (time : ℕ) (w : World) (e : Ending) → (answer_of words time w).answer ≡ Ok e
@@ -218,12 +222,24 @@ module _ (words : List (List ℕ)) (time : ℕ) (printed : List ℕ) (result : �
   authentic : WhereTold words before (λ w. result ≡ 0 → IsAuthentic words time w before now)
   authentic w t zero =
       let g = p.gives w t in
-      (g.0.ending, (is_carried words time w g.0.ending g.0.is, subst (λ (x : List ℕ). Gains before.written now.written x) g.0.text (gained zero), g.0.store))
+      let h = p.held w t in
+      record {
+        task = h.task;
+        is_task = is_task words w h.task h.gives;
+        change = h.of_dice.change;
+        makes = h.of_dice.makes;
+        text = subst (λ (x : List ℕ). Gains before.written now.written x) h.of_dice.text (gained zero);
+        reads_back = h.of_dice.reads_back;
+        ending = g.0.ending;
+        ends = ap (λ (a : StreamAnswer Ending). a.answer) (sym (answer_is words time w h.task h.gives)) ∙ g.0.is;
+        file = g.0.store;
+      }
 
   pub printed_call : IsCall words time result before now counts counts'
   printed_call = record {
     safe = safe;
-    reads_only = p.reads_only;
+    reads_only = p.unwritten;
+    draws_nothing = p.undrawn;
     as_said = as_said;
     refused = λ w t some nine ten. absurd (never some nine ten);
     cut = cut;
@@ -241,9 +257,10 @@ pub record Stopped (words : List (List ℕ)) (time : ℕ) (stop : Stop) (result 
   pub kept : KeepsFiles before.store now.store
   pub written : now.written ≡ before.written
   pub draft : KeepsDraft before.store now.store
-  pub reads_only : writes_by (known_command words) ≡ false → IsQuiet before.store now.store before.stream now.stream
+  pub unwritten : writes_by (command_of words) ≡ false → IsSame before.store now.store
+  pub undrawn : draws_by (command_of words) ≡ false → now.stream ≡ before.stream
   pub stream : LosesPrefix before.stream now.stream
-  pub caused : IsCaused (files_named (known_command words)) counts.files counts'.files counts.absences counts'.absences counts.input counts'.input
+  pub caused : IsCaused (files_named (command_of words)) counts.files counts'.files counts.absences counts'.absences counts.input counts'.input
       counts.dice counts'.dice stop
   pub told : IsTold stop result before.errors now.errors counts.err counts'.err
 
@@ -292,7 +309,7 @@ module _ (words : List (List ℕ)) (time result : ℕ) (before now : Seen) (coun
   stopped_said NoMemory s w t when = absurd (untold s.told when)
 
   stopped_refused : (stop : Stop) → Stopped words time stop result before now counts counts'
-      → WhereTold words before (λ w. IsRefused (files_named (known_command words)) (outcome words time w) result before now counts counts')
+      → WhereTold words before (λ w. IsRefused (files_named (command_of words)) (outcome words time w) result before now counts counts')
   stopped_refused (Refused refusal) s w t some nine ten =
       elim s.told [ inl own ↦ inl (refused_so refusal s w t own.0 own.1) | inr other ↦ absurd (neither other nine ten) ]
   stopped_refused (FileFault name) s w t some nine ten =
@@ -366,7 +383,8 @@ module _ (words : List (List ℕ)) (time result : ℕ) (before now : Seen) (coun
       draft = s.draft;
       stream = s.stream;
     };
-    reads_only = s.reads_only;
+    reads_only = s.unwritten;
+    draws_nothing = s.undrawn;
     as_said = stopped_said stop s;
     refused = stopped_refused stop s;
     cut = λ w t when. record { text = no_front before.written now.written (outcome words time w).text s.written; store = inl s.kept };

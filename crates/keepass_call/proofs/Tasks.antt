@@ -4,7 +4,6 @@ use Rattle.std.specs.Prelude.{◌⊎◌, ◌||◌, not, Contains, IfErr, IsSome,
 use Rattle.outside_core.specs.Counts.{Increased}
 use Rattle.outside_core.specs.Files.{FileMap}
 use Rattle.outside_core.specs.Results.{◌>>=◌}
-use Rattle.vault_model.specs.Tree.{BareDoc}
 use Rattle.cli_answers.specs.declared.answers.Refusal.{Refusal}
 use Rattle.cli_answers.specs.declared.answers.Stop.{Stop}
 use Rattle.cli_answers.specs.declared.answers.Stop.TheVariants.{Refused, FileFault, InputFault, NoMemory}
@@ -14,47 +13,55 @@ use Rattle.cli_lines.proofs.Inputs.{left_alone}
 use Rattle.cli_words.specs.Needs.{HasKey, Needs, asks_line, asks_password, files_named, files_of, needs_of}
 use Rattle.cli_words.specs.declared.command.Access.{Access}
 use Rattle.cli_words.specs.declared.command.Command.{Command}
-use Rattle.cli_databases.specs.Databases.{database_of}
+use Rattle.cli_databases.specs.Databases.{Opened, database_of}
 use Rattle.cli_databases.specs.SomeFiles.{SomeDatabase}
+use Rattle.cli_databases.proofs.SomeOpened.{sealed_unless_plain}
 use Rattle.keepass_call.specs.declared.task.Task as memory
-use Rattle.keepass_call.specs.Tasks.{HasSomeFile, Task, asked_by, known_command, left_behind, task_of, task_with}
+use Rattle.cli_words.specs.Words.{command_of}
+use Rattle.keepass_call.specs.Tasks.{HasSomeFile, Task, asked_by, left_behind, task_of, task_with}
 
 -- ---- what words ask for
 
 -- Where each phase gives something, that is the task.
-pub task_is : (words : List (List ℕ)) (input : List ℕ) (files : FileMap) (command : Command) (lines : Lines) (doc : BareDoc)
-    → known_command words ≡ Ok command → (lines_of (needs_of command) input).answer ≡ Ok lines → database_of (needs_of command) lines.password files ≡ Ok doc
-    → task_of words input files ≡ Ok (task_with command lines doc)
+pub task_is : (words : List (List ℕ)) (input : List ℕ) (files : FileMap) (command : Command) (lines : Lines) (opened : Opened)
+    → command_of words ≡ Ok command → (lines_of (needs_of command) input).answer ≡ Ok lines → database_of (needs_of command) lines.password files ≡ Ok opened
+    → task_of words input files ≡ Ok (task_with command lines opened)
 unfolding task_of
-task_is words input files command lines doc c p d =
-    ap (λ r. r >>= λ command. (lines_of (needs_of command) input).answer >>= λ lines. database_of (needs_of command) lines.password files >>= λ doc. Ok (task_with command lines doc)) c
-    ∙ ap (λ r. r >>= λ lines. database_of (needs_of command) lines.password files >>= λ doc. Ok (task_with command lines doc)) p
-    ∙ ap (λ r. r >>= λ doc. Ok (task_with command lines doc)) d
+task_is words input files command lines opened c p d =
+    ap (λ r. r >>= λ command. (lines_of (needs_of command) input).answer >>= λ lines. database_of (needs_of command) lines.password files >>= λ opened. Ok (task_with command lines opened)) c
+    ∙ ap (λ r. r >>= λ lines. database_of (needs_of command) lines.password files >>= λ opened. Ok (task_with command lines opened)) p
+    ∙ ap (λ r. r >>= λ opened. Ok (task_with command lines opened)) d
 
 -- The same, where what the command asks for has another name.
-pub task_by_needs : (words : List (List ℕ)) (input : List ℕ) (files : FileMap) (command : Command) (needs : Needs) (lines : Lines) (doc : BareDoc)
-    → known_command words ≡ Ok command → needs ≡ needs_of command → (lines_of needs input).answer ≡ Ok lines → database_of needs lines.password files ≡ Ok doc
-    → task_of words input files ≡ Ok (task_with command lines doc)
-task_by_needs words input files command needs lines doc c same p d =
-    task_is words input files command lines doc c (subst (λ (n : Needs). (lines_of n input).answer ≡ Ok lines) same p)
-    (subst (λ (n : Needs). database_of n lines.password files ≡ Ok doc) same d)
+pub task_by_needs : (words : List (List ℕ)) (input : List ℕ) (files : FileMap) (command : Command) (needs : Needs) (lines : Lines) (opened : Opened)
+    → command_of words ≡ Ok command → needs ≡ needs_of command → (lines_of needs input).answer ≡ Ok lines → database_of needs lines.password files ≡ Ok opened
+    → task_of words input files ≡ Ok (task_with command lines opened)
+task_by_needs words input files command needs lines opened c same p d =
+    task_is words input files command lines opened c (subst (λ (n : Needs). (lines_of n input).answer ≡ Ok lines) same p)
+    (subst (λ (n : Needs). database_of n lines.password files ≡ Ok opened) same d)
 
-pub has_file_by_needs : (words : List (List ℕ)) (command : Command) (needs : Needs) (lines : Lines) (doc : BareDoc)
-    → known_command words ≡ Ok command → needs ≡ needs_of command → HasLines needs lines → SomeDatabase needs lines.password doc
-    → HasSomeFile words (task_with command lines doc)
-has_file_by_needs words command needs lines doc c same p d = record {
+pub has_file_by_needs : (words : List (List ℕ)) (command : Command) (needs : Needs) (lines : Lines) (opened : Opened)
+    → command_of words ≡ Ok command → needs ≡ needs_of command → HasLines needs lines → SomeDatabase needs lines.password opened
+    → HasSomeFile words (task_with command lines opened)
+has_file_by_needs words command needs lines opened c same p d = record {
   is_command = c;
   has_lines = subst (λ (n : Needs). HasLines n lines) same p;
-  holds = subst (λ (n : Needs). SomeDatabase n lines.password doc) same d;
+  holds = subst (λ (n : Needs). SomeDatabase n lines.password opened) same d;
 }
+
+-- The database is sealed unless it is a plain document.
+pub sealed_by_needs : (command : Command) (needs : Needs) (password : Option (List ℕ)) (opened : Opened) → needs ≡ needs_of command
+    → SomeDatabase needs password opened → is_some opened.sealing ≡ not (needs_of command).access.plain
+sealed_by_needs command needs password opened same h =
+    sealed_unless_plain needs.access.plain needs.access.key_file password opened h ∙ ap (λ (n : Needs). not n.access.plain) same
 
 -- The lines were refused.
 pub lines_refused : (stop : Stop) (words : List (List ℕ)) (input : List ℕ) (files : FileMap) (command : Command) (needs : Needs) (before now : Option (List ℕ))
-    → known_command words ≡ Ok command → needs ≡ needs_of command → RefusesAskedStream stop before now (lines_of needs input) → Stops stop (task_of words input files)
+    → command_of words ≡ Ok command → needs ≡ needs_of command → RefusesAskedStream stop before now (lines_of needs input) → Stops stop (task_of words input files)
 unfolding task_of
 lines_refused (Refused refusal) words input files command needs before now c same h =
-    ap (λ r. r >>= λ command. (lines_of (needs_of command) input).answer >>= λ lines. database_of (needs_of command) lines.password files >>= λ doc. Ok (task_with command lines doc)) c
-    ∙ ap (λ r. r >>= λ lines. database_of (needs_of command) lines.password files >>= λ doc. Ok (task_with command lines doc))
+    ap (λ r. r >>= λ command. (lines_of (needs_of command) input).answer >>= λ lines. database_of (needs_of command) lines.password files >>= λ opened. Ok (task_with command lines opened)) c
+    ∙ ap (λ r. r >>= λ lines. database_of (needs_of command) lines.password files >>= λ opened. Ok (task_with command lines opened))
     (subst (λ (n : Needs). (lines_of n input).answer ≡ Err refusal) same h.0)
 lines_refused (FileFault name) words input files command needs before now c same h = tt
 lines_refused InputFault words input files command needs before now c same h = tt
@@ -62,14 +69,14 @@ lines_refused NoMemory words input files command needs before now c same h = tt
 
 -- The database was refused.
 pub database_refused : (stop : Stop) (words : List (List ℕ)) (input : List ℕ) (files : FileMap) (command : Command) (needs : Needs) (lines : Lines)
-    → known_command words ≡ Ok command → needs ≡ needs_of command → (lines_of needs input).answer ≡ Ok lines
+    → command_of words ≡ Ok command → needs ≡ needs_of command → (lines_of needs input).answer ≡ Ok lines
     → Stops stop (database_of needs lines.password files) → Stops stop (task_of words input files)
 unfolding task_of
 database_refused (Refused refusal) words input files command needs lines c same p h =
-    ap (λ r. r >>= λ command. (lines_of (needs_of command) input).answer >>= λ lines. database_of (needs_of command) lines.password files >>= λ doc. Ok (task_with command lines doc)) c
-    ∙ ap (λ r. r >>= λ lines. database_of (needs_of command) lines.password files >>= λ doc. Ok (task_with command lines doc))
+    ap (λ r. r >>= λ command. (lines_of (needs_of command) input).answer >>= λ lines. database_of (needs_of command) lines.password files >>= λ opened. Ok (task_with command lines opened)) c
+    ∙ ap (λ r. r >>= λ lines. database_of (needs_of command) lines.password files >>= λ opened. Ok (task_with command lines opened))
     (subst (λ (n : Needs). (lines_of n input).answer ≡ Ok lines) same p)
-    ∙ ap (λ r. r >>= λ doc. Ok (task_with command lines doc)) (subst (λ (n : Needs). database_of n lines.password files ≡ Err refusal) same h)
+    ∙ ap (λ r. r >>= λ opened. Ok (task_with command lines opened)) (subst (λ (n : Needs). database_of n lines.password files ≡ Err refusal) same h)
 database_refused (FileFault name) words input files command needs lines c same p h = tt
 database_refused InputFault words input files command needs lines c same p h = tt
 database_refused NoMemory words input files command needs lines c same p h = tt

@@ -25,6 +25,12 @@ writes (Ls access file group recursive flat) = false
 writes (Add access file entry asked) = true
 writes (Edit access file entry asked) = true
 
+-- A command draws an id.
+abbrev pub draws_id : Command → Bool
+draws_id (Ls access file group recursive flat) = false
+draws_id (Add access file entry asked) = true
+draws_id (Edit access file entry asked) = false
+
 -- The lines of the group that is listed, or that the path names none of the file's groups.
 abbrev pub listing_of : List ℕ → (recursive flat : Bool) → Option Tree → Result Change Refusal
 listing_of file recursive flat None = Err (refusal_of NoSuchPath file)

@@ -1,13 +1,16 @@
 -- How a command ends: what is printed, the file that is written, and what is left of the dice.
-use Rattle.std.specs.Prelude.{◌≡◌, ℕ, Bool, List, Option, None, Some, Result, Ok, Err}
-use Rattle.outside_core.specs.Results.{◌>>=◌}
+use Rattle.std.specs.Prelude.{◌≡◌, ℕ, Bool, true, false, List, Option, None, Some, Result, Ok, Err}
 use Rattle.vault_model.specs.Tree.{BareDoc}
 use Rattle.cli_answers.specs.declared.answers.Refusal.{Refusal}
 use Rattle.cli_answers.specs.declared.answers.Stop.{Stop}
 use Rattle.cli_answers.specs.declared.answers.Stop.TheVariants.{Refused, FileFault, InputFault, NoMemory}
 use Rattle.cli_answers.specs.Phases.{IsLeft, StreamAnswer, then_left, with_left}
 use Rattle.cli_words.specs.Needs.{needs_of}
-use Rattle.cli_writing.specs.Writing.{HasFile, IsSame, NewFile, Store, plain_file}
+use Rattle.cli_databases.specs.declared.databases.Sealing.{Sealing}
+use Rattle.cli_writing.specs.Held.{HoldsPlain, IsWritten}
+use Rattle.cli_writing.specs.Writing.{HasFile, IsSame, NewFile, RefusesFile, Store, WritesFile, plain_file}
+use Rattle.cli_sealing.specs.Held.{HoldsSealed}
+use Rattle.cli_sealing.specs.Sealing.{sealed_file, settings_for}
 use Rattle.keepass_call.specs.declared.execute.Output.{Output}
 use Rattle.keepass_call.specs.Commands.{Change, change_of}
 use Rattle.keepass_call.specs.SeenChange.{output_text}
@@ -28,17 +31,45 @@ ending_with text file = record { text = text; file = Some file }
 abbrev pub ending_without : List ℕ → Ending
 ending_without text = record { text = text; file = None }
 
+-- The file of a database that has this document now, over the dice: a plain document, or sealed as
+-- it was.
+abbrev pub new_file : List ℕ → Option Sealing → BareDoc → List ℕ → StreamAnswer NewFile
+new_file name None doc dice = with_left (plain_file name doc) dice
+new_file name (Some sealing) doc dice =
+    sealed_file name sealing.settings sealing.composite doc dice
+
 -- What a command ends with that prints this text and has this document after it, if another one.
-abbrev pub ended_with : List ℕ → List ℕ → Option BareDoc → Result Ending Refusal
-ended_with name text None = Ok (ending_without text)
-ended_with name text (Some doc) = plain_file name doc >>= λ file. Ok (ending_with text file)
+abbrev pub ended_with : List ℕ → Option Sealing → List ℕ → Option BareDoc → List ℕ
+    → StreamAnswer Ending
+ended_with name sealing text None dice = with_left (Ok (ending_without text)) dice
+ended_with name sealing text (Some doc) dice = then_left (new_file name sealing doc dice)
+    (λ file left. with_left (Ok (ending_with text file)) left)
 
 -- What a task is carried out to at a moment: what the command makes of its document, over the dice,
 -- and then the file. What is left of the dice is defined after a refusal too.
 unfoldable pub carried_out : ℕ → Task → List ℕ → StreamAnswer Ending
 carried_out time task dice =
-    then_left (change_of time task.command task.lines.more task.doc dice) (λ change left.
-    with_left (ended_with (needs_of task.command).file change.text change.doc) left)
+    then_left (change_of time task.command task.lines.more task.opened.doc dice) (λ change left.
+    ended_with (needs_of task.command).file task.opened.sealing change.text change.doc left)
+
+-- What a database is sealed with, if it is written again.
+abbrev pub kept_sealing : Bool → Option Sealing → Option Sealing
+kept_sealing true sealing = sealing
+kept_sealing false sealing = None
+
+-- ---- what a written file holds
+
+-- Bytes hold a document as a database holds it: by itself, or sealed as it was.
+abbrev pub HoldsNew : Option Sealing → BareDoc → List ℕ → Type 0
+HoldsNew None doc bytes = HoldsPlain doc bytes
+HoldsNew (Some sealing) doc bytes =
+    HoldsSealed (settings_for sealing.settings doc) sealing.composite doc bytes
+
+-- The file of this name holds the document that is written, if one is, and every other file is as
+-- before. Otherwise nothing changed.
+abbrev pub ReadsBack : List ℕ → Option Sealing → Option BareDoc → Store → Store → Type 0
+ReadsBack name sealing None before now = IsSame before now
+ReadsBack name sealing (Some doc) before now = IsWritten (HoldsNew sealing doc) name before now
 
 -- ---- how the code relates to it
 
@@ -61,14 +92,28 @@ pub record EndsRefused (refusal : Refusal) (defined : Result Ending Refusal) (be
   pub is : defined ≡ Err refusal
   pub same : IsSame before now
 
--- A command that prints this text wrote its file as is defined, or stopped.
-abbrev pub EndsWith : List ℕ → Result (Unit {0}) Stop → Result Ending Refusal → Store → Store
-    → Type 0
-EndsWith printed (Ok _) defined before now = EndsSo printed defined before now
-EndsWith printed (Err (Refused refusal)) defined before now = EndsRefused refusal defined before now
-EndsWith printed (Err (FileFault name)) defined before now = Unit {0}
-EndsWith printed (Err InputFault) defined before now = Unit {0}
-EndsWith printed (Err NoMemory) defined before now = Unit {0}
+-- The defined file was written, and of the dice is left what is defined; or writing stopped.
+abbrev pub WritesNew : Result (Unit {0}) Stop → StreamAnswer NewFile → (before now : Store)
+    → (dice dice' : Option (List ℕ)) → Type 0
+WritesNew (Ok _) defined before now dice dice' =
+    WritesFile defined.answer before now × IsLeft dice dice' defined.left
+WritesNew (Err (Refused refusal)) defined before now dice dice' =
+    RefusesFile refusal defined.answer before now × IsLeft dice dice' defined.left
+WritesNew (Err (FileFault name)) defined before now dice dice' = Unit {0}
+WritesNew (Err InputFault) defined before now dice dice' = Unit {0}
+WritesNew (Err NoMemory) defined before now dice dice' = Unit {0}
+
+-- A command that prints this text wrote its file as is defined, if it writes one, and left of the
+-- dice what is defined; or it stopped.
+abbrev pub EndsWith : List ℕ → Result (Unit {0}) Stop → StreamAnswer Ending → (before now : Store)
+    → (dice dice' : Option (List ℕ)) → Type 0
+EndsWith printed (Ok _) defined before now dice dice' =
+    EndsSo printed defined.answer before now × IsLeft dice dice' defined.left
+EndsWith printed (Err (Refused refusal)) defined before now dice dice' =
+    EndsRefused refusal defined.answer before now × IsLeft dice dice' defined.left
+EndsWith printed (Err (FileFault name)) defined before now dice dice' = Unit {0}
+EndsWith printed (Err InputFault) defined before now dice dice' = Unit {0}
+EndsWith printed (Err NoMemory) defined before now dice dice' = Unit {0}
 
 -- A command was carried out as is defined, and left of the dice what is defined, or stopped.
 abbrev pub Ends : Result Output Stop → StreamAnswer Ending → (before now : Store)
@@ -81,15 +126,18 @@ Ends (Err (FileFault name)) defined before now dice dice' = Unit {0}
 Ends (Err InputFault) defined before now dice dice' = Unit {0}
 Ends (Err NoMemory) defined before now dice dice' = Unit {0}
 
--- The store and the dice are as they were.
-pub record IsQuiet (before now : Store) (dice dice' : Option (List ℕ)) : Type 0 where
-  pub store : IsSame before now
-  pub stream : dice' ≡ dice
+-- What was printed is what the command of a task makes of its document with these dice, and the
+-- document that it makes stands in the file that was written, if one is written.
+pub record IsOfDice (time : ℕ) (task : Task) (dice printed : List ℕ) (before now : Store) : Type 0
+  where
+    pub change : Change
+    pub makes : (change_of time task.command task.lines.more task.opened.doc dice).answer
+        ≡ Ok change
+    pub text : printed ≡ change.text
+    pub reads_back : ReadsBack (needs_of task.command).file task.opened.sealing change.doc before
+        now
 
--- What was printed is what the command of a task makes of its document with some bytes drawn,
--- whatever the dice report.
-pub record IsOfSomeDice (time : ℕ) (task : Task) (printed : List ℕ) : Type 0 where
-  pub dice : List ℕ
-  pub change : Change
-  pub gives : (change_of time task.command task.lines.more task.doc dice).answer ≡ Ok change
-  pub text : printed ≡ change.text
+-- The same with some dice, whatever they report.
+abbrev pub IsOfSomeDice : ℕ → Task → List ℕ → Store → Store → Type 0
+IsOfSomeDice time task printed before now =
+    (dice : List ℕ) × IsOfDice time task dice printed before now

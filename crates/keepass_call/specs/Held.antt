@@ -1,33 +1,45 @@
 -- What a call that was carried out rests on: files that hold what was used of them, speaking of all
 -- their bytes.
-use Rattle.std.specs.Prelude.{◌≡◌, ℕ, List, Option, ◌⊎◌, Ok}
-use Rattle.vault_model.specs.Tree.{BareDoc}
-use Rattle.cli_words.specs.declared.command.Command.{Command}
+use Rattle.std.specs.Prelude.{◌≡◌, ℕ, List, ◌⊎◌, Ok}
 use Rattle.cli_words.specs.Needs.{needs_of}
-use Rattle.cli_lines.specs.Lines.{Lines, lines_of}
+use Rattle.cli_words.specs.Words.{command_of}
+use Rattle.cli_lines.specs.Lines.{lines_of}
 use Rattle.cli_databases.specs.Held.{Holds}
-use Rattle.keepass_call.specs.Endings.{Ending, Stores, carried_out}
+use Rattle.keepass_call.specs.Commands.{Change, change_of}
+use Rattle.keepass_call.specs.Endings.{Ending, ReadsBack, Stores, carried_out}
 use Rattle.keepass_call.specs.Outcome.{Counts, Gains, NoFaults, Seen, World}
-use Rattle.keepass_call.specs.Tasks.{known_command, task_with}
+use Rattle.keepass_call.specs.Tasks.{Task}
 
--- The words are a command, the lines that are due are there, the database holds a document by them,
--- and on that the command ends so.
+-- The words are the task's command, its lines are those that are due, and the file holds its
+-- database by them.
+pub record IsTask (words : List (List ℕ)) (world : World) (task : Task) : Type 0 where
+  pub is_command : command_of words ≡ Ok task.command
+  pub are_lines : (lines_of (needs_of task.command) world.input).answer ≡ Ok task.lines
+  pub holds : Holds (needs_of task.command) task.lines.password world.files task.opened
+
+-- The words are a task that ends so.
 pub record IsCarried (words : List (List ℕ)) (time : ℕ) (world : World) (ending : Ending) : Type 0
   where
-    pub command : Command
-    pub is_command : known_command words ≡ Ok command
-    pub lines : Lines
-    pub are_lines : (lines_of (needs_of command) world.input).answer ≡ Ok lines
-    pub doc : BareDoc
-    pub holds : Holds (needs_of command) lines.password world.files doc
-    pub gives : (carried_out time (task_with command lines doc) world.dice).answer ≡ Ok ending
+    pub task : Task
+    pub is_task : IsTask words world task
+    pub gives : (carried_out time task world.dice).answer ≡ Ok ending
 
--- What was printed is what the command gives on a document that the database holds, and so is the
--- file that was written.
-abbrev pub IsAuthentic : List (List ℕ) → ℕ → World → Seen → Seen → Type 0
-IsAuthentic words time world before now = (ending : Ending)
-    × (IsCarried words time world ending × Gains before.written now.written ending.text
-    × Stores ending.file before.store now.store)
+-- What was printed is what the command makes of the document that the file holds; and where it
+-- writes, the file that it is defined to write was written, and holds the document that the same
+-- change makes: by itself, or sealed under the composite key that opened the old one.
+pub record IsAuthentic (words : List (List ℕ)) (time : ℕ) (world : World) (before now : Seen) :
+    Type 0 where
+  pub task : Task
+  pub is_task : IsTask words world task
+  pub change : Change
+  pub makes : (change_of time task.command task.lines.more task.opened.doc world.dice).answer
+      ≡ Ok change
+  pub text : Gains before.written now.written change.text
+  pub reads_back : ReadsBack (needs_of task.command).file task.opened.sealing change.doc
+      before.store now.store
+  pub ending : Ending
+  pub ends : (carried_out time task world.dice).answer ≡ Ok ending
+  pub file : Stores ending.file before.store now.store
 
 -- Where the words can be carried out and no count of faults rose, the status is 0, or memory ran
 -- out.

@@ -7,8 +7,9 @@ use Rattle.cli_answers.specs.declared.answers.Refusal.{Refusal}
 use Rattle.cli_answers.specs.Messages.{status_of, reason_text, error_line}
 use Rattle.cli_answers.specs.Phases.{IsLeft, StreamAnswer, TellsStream, then_left, with_left}
 use Rattle.cli_writing.specs.Writing.{KeepsDraft, KeepsFiles, NewFile, Store, store}
-use Rattle.keepass_call.specs.Endings.{Ending, IsOfSomeDice, Stores, carried_out}
-use Rattle.keepass_call.specs.Tasks.{HasSomeFile, Task, asked_by, known_command, left_of, task_of, writes_by}
+use Rattle.keepass_call.specs.Endings.{Ending, IsOfDice, IsOfSomeDice, Stores, carried_out}
+use Rattle.cli_words.specs.Words.{command_of}
+use Rattle.keepass_call.specs.Tasks.{HasSomeFile, Task, asked_by, draws_by, left_of, task_of}
 
 -- ---- what is defined
 
@@ -109,11 +110,11 @@ abbrev pub Gains : Option (List ℕ) → Option (List ℕ) → List ℕ → Type
 Gains before now text = now ≡ option_map (λ w. w ++ text) before
 
 -- The outside reports this world: the files; what is left of the input, where the words ask for a
--- line; and the dice, where the words are a command that writes.
+-- line; and the dice, where the words are a command that draws.
 pub record Tells (words : List (List ℕ)) (before : Seen) (world : World) : Type 0 where
   pub files : before.store.files ≡ Some world.files
-  pub input : TellsStream (asked_by (known_command words)) before.left world.input
-  pub dice : TellsStream (writes_by (known_command words)) before.stream world.dice
+  pub input : TellsStream (asked_by (command_of words)) before.left world.input
+  pub dice : TellsStream (draws_by (command_of words)) before.stream world.dice
 
 -- This holds of the world that the outside reports, if it reports one.
 abbrev pub WhereTold : List (List ℕ) → Seen → (World → Type 0) → Type 0
@@ -166,15 +167,26 @@ pub record IsSafe (result : ℕ) (before now : Seen) (counts counts' : Counts) :
   pub draft : KeepsDraft before.store now.store
   pub stream : LosesPrefix before.stream now.stream
 
--- ---- of some files
+-- ---- what was printed and written
 
--- This is what the words print on a document that some file holds, with some bytes drawn.
-pub record IsOfSomeFile (words : List (List ℕ)) (time : ℕ) (printed : List ℕ) : Type 0 where
+-- This is what the words print over a world, whose dice are these, and the file that was written,
+-- if one is, holds the document that they make.
+pub record IsOfTask (words : List (List ℕ)) (time : ℕ) (world : World) (printed : List ℕ)
+    (before now : Store) : Type 0 where
+  pub task : Task
+  pub gives : task_of words world.input world.files ≡ Ok task
+  pub of_dice : IsOfDice time task world.dice printed before now
+
+-- This is what the words print on a document that some file holds, with some bytes drawn, and the
+-- file that was written, if one is, holds the document that they make of it.
+pub record IsOfSomeFile (words : List (List ℕ)) (time : ℕ) (printed : List ℕ) (before now : Store) :
+    Type 0 where
   pub task : Task
   pub has_file : HasSomeFile words task
-  pub of_dice : IsOfSomeDice time task printed
+  pub of_dice : IsOfSomeDice time task printed before now
 
 -- What was printed is so.
-abbrev pub PrintsOfSomeFile : List (List ℕ) → ℕ → (written written' : Option (List ℕ)) → Type 0
-PrintsOfSomeFile words time written written' = (printed : List ℕ)
-    × (IsOfSomeFile words time printed × Gains written written' printed)
+abbrev pub PrintsOfSomeFile : List (List ℕ) → ℕ → (before now : Seen) → Type 0
+PrintsOfSomeFile words time before now = (printed : List ℕ)
+    × (IsOfSomeFile words time printed before.store now.store
+    × Gains before.written now.written printed)

@@ -1,7 +1,7 @@
 -- What is seen of a command's change, and of a task, in memory.
 use Rattle.std.specs.Prelude.{ℕ, Bool, true, false, List, Option, None, Some}
-use Rattle.vault_model.specs.SeenDoc.{doc_seen}
 use Rattle.vault_model.specs.Tree.{BareDoc}
+use Rattle.cli_databases.specs.SeenOpened.{opened_seen}
 use Rattle.cli_lines.specs.SeenLines.{lines_seen}
 use Rattle.keepass_call.specs.declared.execute.Change as declared
 use Rattle.keepass_call.specs.declared.execute.Output.{Output}
@@ -25,10 +25,10 @@ abbrev pub change_seen : declared.Change → BareDoc → Change
 change_seen change doc =
     record { text = output_text change.output; doc = doc_if change.is_written doc }
 
--- A task by its lines' bytes and its document's nodes.
+-- A task by its lines' bytes and the nodes of its database's document.
 abbrev pub task_seen : memory.Task → Task
 task_seen task = record {
   command = task.command;
   lines = lines_seen task.lines;
-  doc = doc_seen task.doc;
+  opened = opened_seen task.opened;
 }

@@ -1,5 +1,5 @@
 //! What each command makes of its database.
-ghost use Rattle.std.specs.Prelude.{◌≡◌, ℕ, List, Ok, Some, IfErr, IfOk, false, true};
+ghost use Rattle.std.specs.Prelude.{◌≡◌, ◌≤◌, ℕ, List, Ok, Some, IfErr, IfOk, false, true};
 ghost use Rattle.outside_core.specs.Streams.{LosesPrefix};
 ghost use Rattle.vault_model.specs.SeenDoc.{doc_seen};
 ghost use Rattle.tree_changes.specs.NewNodes.{lent_value};
@@ -7,7 +7,7 @@ ghost use Rattle.cli_answers.specs.Phases.{IsPlainStop, IsStreamStop, Returns, R
 ghost use Rattle.cli_changes.specs.Entries.{after_edit_command, values_of};
 ghost use Rattle.cli_lines.specs.Lines.{IsTextLine};
 ghost use Rattle.cli_listing.specs.Listing.{tree_listed};
-ghost use Rattle.keepass_call.specs.Commands.{add_change, change_of, listing_of, new_document, writes};
+ghost use Rattle.keepass_call.specs.Commands.{add_change, change_of, draws_id, listing_of, new_document, writes};
 ghost use Rattle.keepass_call.specs.SeenChange.{change_seen, output_text};
 
 use cli_answers::{Reason, Stop, refused};
@@ -110,6 +110,7 @@ fn add<'a, D: Dice>(
     ensures written { IfOk result (λ change. change.is_written ≡ true) }
     ensures stream { LosesPrefix (D.stream dice.old) (D.stream dice.new) }
     ensures cause { IfErr result (IsStreamStop (D.faults dice.old) (D.faults dice.new)) }
+    ensures faults { D.faults dice.old ≤ D.faults dice.new }
 {
     let id = match draw_id(dice) {
         Ok(id) => id,
@@ -172,7 +173,7 @@ pub fn perform<'a, D: Dice>(
     now: u64,
 ) -> Result<Change, Stop>
     requires { IsTextLine (lent_value line) }
-    ensures told { (d : List ℕ) → TellsStream (writes command.now) (D.stream dice.old) d
+    ensures told { (d : List ℕ) → TellsStream (draws_id command.now) (D.stream dice.old) d
         → ReturnsAskedStream (λ change. change_seen change (doc_seen doc.new)) result
         (D.stream dice.old) (D.stream dice.new)
         (change_of now command.now (lent_value line.entry) (doc_seen doc.old) d) }
@@ -180,9 +181,10 @@ pub fn perform<'a, D: Dice>(
         × ((change_of now command.now (lent_value line.entry) (doc_seen doc.old) d).answer
         ≡ Ok (change_seen change (doc_seen doc.new)))) }
     ensures written { IfOk result (λ change. change.is_written ≡ writes command.now) }
-    ensures quiet { writes command.now ≡ false → D.stream dice.new ≡ D.stream dice.old }
+    ensures undrawn { draws_id command.now ≡ false → D.stream dice.new ≡ D.stream dice.old }
     ensures stream { LosesPrefix (D.stream dice.old) (D.stream dice.new) }
     ensures cause { IfErr result (IsStreamStop (D.faults dice.old) (D.faults dice.new)) }
+    ensures faults { D.faults dice.old ≤ D.faults dice.new }
 {
     match command {
         Command::Ls {

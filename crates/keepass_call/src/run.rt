@@ -4,12 +4,13 @@ ghost use Rattle.outside_core.specs.Streams.{LosesPrefix};
 ghost use Rattle.cli_answers.specs.Messages.{error_line, reason_text, status_of};
 ghost use Rattle.cli_answers.specs.Phases.{IsCaused, Leaves, TellsStream};
 ghost use Rattle.cli_words.specs.Needs.{files_named};
-ghost use Rattle.cli_writing.specs.Writing.{KeepsDraft, KeepsFiles, store};
+ghost use Rattle.cli_writing.specs.Writing.{IsSame, KeepsDraft, KeepsFiles, store};
 ghost use Rattle.keepass_call.specs.Call.{IsCall};
-ghost use Rattle.keepass_call.specs.Endings.{Ends, IsQuiet};
-ghost use Rattle.keepass_call.specs.Outcome.{IsOfSomeFile, World, answer_of, counts, seen};
+ghost use Rattle.keepass_call.specs.Endings.{Ends};
+ghost use Rattle.keepass_call.specs.Outcome.{IsOfSomeFile, IsOfTask, World, answer_of, counts, seen};
 ghost use Rattle.keepass_call.specs.SeenChange.{output_text};
-ghost use Rattle.keepass_call.specs.Tasks.{asked_by, known_command, left_of, writes_by};
+ghost use Rattle.cli_words.specs.Words.{command_of};
+ghost use Rattle.keepass_call.specs.Tasks.{asked_by, draws_by, left_of, writes_by};
 ghost use Rattle.keepass_call.specs.Telling.{IsPrinted, IsTold, IsUnwritten, TellsLine};
 
 use crate::carrying::carry_out;
@@ -41,18 +42,29 @@ fn answer<F: FileStore, S: Source, D: Dice>(
     now: u64,
 ) -> Result<Output, Stop>
     ensures told { (world : World) → F.files files.old ≡ Some world.files
-        → TellsStream (asked_by (known_command (map string_bytes words.now))) (S.left input.old)
+        → TellsStream (asked_by (command_of (map string_bytes words.now))) (S.left input.old)
         world.input
-        → TellsStream (writes_by (known_command (map string_bytes words.now)))
+        → TellsStream (draws_by (command_of (map string_bytes words.now)))
         (D.stream dice.old) world.dice
         → Ends result (answer_of (map string_bytes words.now) now world)
         (store (F.files files.old) (F.draft_name files.old) (F.draft_bytes files.old))
         (store (F.files files.new) (F.draft_name files.new) (F.draft_bytes files.new))
         (D.stream dice.old) (D.stream dice.new) }
+    ensures held { (world : World) → F.files files.old ≡ Some world.files
+        → TellsStream (asked_by (command_of (map string_bytes words.now))) (S.left input.old)
+        world.input
+        → TellsStream (draws_by (command_of (map string_bytes words.now)))
+        (D.stream dice.old) world.dice
+        → IfOk result (λ output. IsOfTask (map string_bytes words.now) now world
+        (output_text output)
+        (store (F.files files.old) (F.draft_name files.old) (F.draft_bytes files.old))
+        (store (F.files files.new) (F.draft_name files.new) (F.draft_bytes files.new))) }
     ensures some_file { IfOk result (λ output. IsOfSomeFile (map string_bytes words.now) now
-        (output_text output)) }
+        (output_text output)
+        (store (F.files files.old) (F.draft_name files.old) (F.draft_bytes files.old))
+        (store (F.files files.new) (F.draft_name files.new) (F.draft_bytes files.new))) }
     ensures left { (i : List ℕ)
-        → TellsStream (asked_by (known_command (map string_bytes words.now))) (S.left input.old) i
+        → TellsStream (asked_by (command_of (map string_bytes words.now))) (S.left input.old) i
         → Leaves result (S.left input.old) (S.left input.new)
         (left_of (map string_bytes words.now) i) }
     ensures kept { OnErr result (KeepsFiles
@@ -61,13 +73,14 @@ fn answer<F: FileStore, S: Source, D: Dice>(
     ensures draft { KeepsDraft
         (store (F.files files.old) (F.draft_name files.old) (F.draft_bytes files.old))
         (store (F.files files.new) (F.draft_name files.new) (F.draft_bytes files.new)) }
-    ensures quiet { writes_by (known_command (map string_bytes words.now)) ≡ false → IsQuiet
+    ensures unwritten { writes_by (command_of (map string_bytes words.now)) ≡ false → IsSame
         (store (F.files files.old) (F.draft_name files.old) (F.draft_bytes files.old))
-        (store (F.files files.new) (F.draft_name files.new) (F.draft_bytes files.new))
-        (D.stream dice.old) (D.stream dice.new) }
+        (store (F.files files.new) (F.draft_name files.new) (F.draft_bytes files.new)) }
+    ensures undrawn { draws_by (command_of (map string_bytes words.now)) ≡ false
+        → D.stream dice.new ≡ D.stream dice.old }
     ensures stream { LosesPrefix (D.stream dice.old) (D.stream dice.new) }
     ensures cause { IfErr result (IsCaused
-        (files_named (known_command (map string_bytes words.now))) (F.faults files.old)
+        (files_named (command_of (map string_bytes words.now))) (F.faults files.old)
         (F.faults files.new) (F.absences files.old) (F.absences files.new) (S.faults input.old)
         (S.faults input.new) (D.faults dice.old) (D.faults dice.new)) }
 {

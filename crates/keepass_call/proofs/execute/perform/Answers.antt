@@ -31,8 +31,8 @@ returns-in-Add-clause-some_dice g c = rw c.in-Add.is c.add.ensures.some_dice
 pub returns-in-Add-clause-written : goal.returns-in-Add-clause-written
 returns-in-Add-clause-written g c = rw c.in-Add.is c.add.ensures.written
 
-pub returns-in-Add-clause-quiet : goal.returns-in-Add-clause-quiet
-returns-in-Add-clause-quiet g c = λ e. (let no : true ≡ false = rw c.in-Add.is at e in cc)
+pub returns-in-Add-clause-undrawn : goal.returns-in-Add-clause-undrawn
+returns-in-Add-clause-undrawn g c = λ e. (let no : true ≡ false = rw c.in-Add.is at e in cc)
 
 pub returns-in-Edit-clause-told : goal.returns-in-Edit-clause-told
 returns-in-Edit-clause-told g c = λ d t.

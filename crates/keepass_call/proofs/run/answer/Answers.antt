@@ -3,8 +3,8 @@ use Rattle.std.specs.Prelude.{string_bytes}
 use Rattle.std.proofs.lemmas.Result.{err_from_is_err_and}
 use Rattle.cli_writing.specs.Writing.{store}
 use Rattle.keepass_call.specs.SeenChange.{task_seen}
-use Rattle.keepass_call.specs.Tasks.{known_command}
-use Rattle.keepass_call.proofs.Answered.{comes_to, command_caused, draft_after, early_caused, ends_left, kept_after, prints_some, quiet_after, stop_leaves, stops_early, writes_so}
+use Rattle.cli_words.specs.Words.{command_of}
+use Rattle.keepass_call.proofs.Answered.{comes_to, command_caused, draft_after, draws_so, early_caused, ends_left, kept_after, of_task, prints_some, stop_leaves, stops_early, undrawn_after, unwritten_after}
 use Rattle.keepass_call.proofs.Changes.{loses_none}
 use Rattle.keepass_call.proofs.run.answer.Goals as goal
 
@@ -13,11 +13,20 @@ returns-clause-told g c = λ world isF isS isD.
     comes_to (map string_bytes c.args.words.now) c.args.now world (task_seen c.in_ok-task.task) c.carry_out.result _ _ _ _ _
     (c.in_ok-task.ensures.told world.files world.input isF isS)
     (record { files = c.in_ok-task.ensures.files; draft_name = c.in_ok-task.ensures.draft_name; draft_bytes = c.in_ok-task.ensures.draft_bytes })
-    (c.carry_out.ensures.told world.dice (writes_so _ _ _ _ c.in_ok-task.ensures.command isD))
+    (c.carry_out.ensures.told world.dice (draws_so _ _ _ _ c.in_ok-task.ensures.command isD))
+
+pub returns-clause-held : goal.returns-clause-held
+returns-clause-held g c = λ world isF isS isD.
+    of_task (map string_bytes c.args.words.now) c.args.now world (task_seen c.in_ok-task.task) c.carry_out.result _ _ _
+    (c.in_ok-task.ensures.told world.files world.input isF isS)
+    (record { files = c.in_ok-task.ensures.files; draft_name = c.in_ok-task.ensures.draft_name; draft_bytes = c.in_ok-task.ensures.draft_bytes })
+    (c.carry_out.ensures.of_dice world.dice (draws_so _ _ _ _ c.in_ok-task.ensures.command isD))
 
 pub returns-clause-some_file : goal.returns-clause-some_file
 returns-clause-some_file g c =
-    prints_some (map string_bytes c.args.words.now) c.args.now (task_seen c.in_ok-task.task) c.carry_out.result c.in_ok-task.ensures.some_file c.carry_out.ensures.some_dice
+    prints_some (map string_bytes c.args.words.now) c.args.now (task_seen c.in_ok-task.task) c.carry_out.result _ _ _ c.in_ok-task.ensures.some_file
+    (record { files = c.in_ok-task.ensures.files; draft_name = c.in_ok-task.ensures.draft_name; draft_bytes = c.in_ok-task.ensures.draft_bytes })
+    c.carry_out.ensures.some_dice
 
 pub returns-clause-left : goal.returns-clause-left
 returns-clause-left g c = λ i isS. ends_left c.carry_out.result _ _ _ (c.in_ok-task.ensures.left i isS)
@@ -35,15 +44,20 @@ returns-clause-draft g c =
     (store (g.F.FileStore.files c.carry_out.new.files) (g.F.FileStore.draft_name c.carry_out.new.files) (g.F.FileStore.draft_bytes c.carry_out.new.files))
     (record { files = c.in_ok-task.ensures.files; draft_name = c.in_ok-task.ensures.draft_name; draft_bytes = c.in_ok-task.ensures.draft_bytes }) c.carry_out.ensures.draft
 
-pub returns-clause-quiet : goal.returns-clause-quiet
-returns-clause-quiet g c =
-    quiet_after (known_command (map string_bytes c.args.words.now)) c.in_ok-task.task.command _ _ _ _ _ c.in_ok-task.ensures.command
+pub returns-clause-unwritten : goal.returns-clause-unwritten
+returns-clause-unwritten g c =
+    unwritten_after (command_of (map string_bytes c.args.words.now)) c.in_ok-task.task.command _ _ _ c.in_ok-task.ensures.command
     (record { files = c.in_ok-task.ensures.files; draft_name = c.in_ok-task.ensures.draft_name; draft_bytes = c.in_ok-task.ensures.draft_bytes })
-    c.carry_out.ensures.quiet
+    c.carry_out.ensures.unwritten
+
+pub returns-clause-undrawn : goal.returns-clause-undrawn
+returns-clause-undrawn g c =
+    undrawn_after (command_of (map string_bytes c.args.words.now)) c.in_ok-task.task.command _ _ c.in_ok-task.ensures.command
+    c.carry_out.ensures.undrawn
 
 pub returns-clause-cause : goal.returns-clause-cause
 returns-clause-cause g c =
-    command_caused c.carry_out.result c.in_ok-task.task.command (known_command (map string_bytes c.args.words.now)) _ _ _ _ _ _ _ _ _ c.in_ok-task.ensures.command
+    command_caused c.carry_out.result c.in_ok-task.task.command (command_of (map string_bytes c.args.words.now)) _ _ _ _ _ _ _ _ _ c.in_ok-task.ensures.command
     c.in_ok-task.ensures.faults c.carry_out.ensures.cause
 
 pub returns-in_err-task-clause-told : goal.returns-in_err-task-clause-told
