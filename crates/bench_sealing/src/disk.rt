@@ -6,7 +6,9 @@ ghost use Rattle.kdbx_frame.specs.Settings.{IsInOrder, IsVersion4};
 use crate::fault::Fault;
 use crate::sealing::{Target, open, seal};
 use kdbx_frame::Settings;
+use outside_core::FileStore;
 use outside_host::{HostDice, HostFiles};
+use std::alloc::Global;
 use std::fs::Files;
 use std::random::RandomSource;
 use vault_model::Doc;
@@ -30,6 +32,20 @@ pub fn seal_often(
     Ok(())
 }
 
+// Why a file was not opened, if it was not.
+fn outcome(opened: &Result<Doc, Fault>) -> Result<(), Fault> {
+    match opened {
+        Ok(_) => Ok(()),
+        Err(fault) => Err(*fault),
+    }
+}
+
+// Opens a file under a password, and lets its document go.
+fn open_once<F: FileStore>(alloc: Global, target: &Target<'_>, files: &mut F) -> Result<(), Fault> {
+    let opened = open(alloc, target, files);
+    outcome(&opened)
+}
+
 /// Opens a file under a password, as often as asked.
 pub fn open_often(
     rt: &(impl Files + AllocGlobal),
@@ -38,7 +54,7 @@ pub fn open_often(
 ) -> Result<(), Fault> {
     let mut files = HostFiles::new(rt, rt.alloc());
     for _ in 0..times {
-        let _doc = open(rt.alloc(), target, &mut files)?;
+        open_once(rt.alloc(), target, &mut files)?;
     }
     Ok(())
 }

@@ -83,20 +83,32 @@ fn seal_document(
     }
 }
 
+/// Seals the document that was read as often as asked, and gives how much memory the process held
+/// before.
+fn seal_read(
+    rt: &(impl Files + RandomSource + AllocGlobal),
+    times: u32,
+    choices: &Choices<'_>,
+    doc: &Result<Doc, Fault>,
+    target: &Target<'_>,
+) -> Result<u64, Fault> {
+    match doc {
+        Ok(doc) => seal_document(rt, times, choices, doc, target),
+        Err(fault) => Err(*fault),
+    }
+}
+
 /// Seals the document of a text as often as asked, and gives how much memory the process held once
 /// it had read it.
 fn seal_text(
     rt: &(impl Files + RandomSource + AllocGlobal),
-    times: &str,
+    times: u32,
     choices: &Choices<'_>,
     text: Vec<u8>,
     target: &Target<'_>,
 ) -> Result<u64, Fault> {
-    let doc = read(rt.alloc(), text)?;
-    match short_number_of(times) {
-        Ok(times) => seal_document(rt, times, choices, &doc, target),
-        Err(fault) => Err(fault),
-    }
+    let doc = read(rt.alloc(), text);
+    seal_read(rt, times, choices, &doc, target)
 }
 
 /// Seals the document of a file as often as asked.
@@ -107,6 +119,7 @@ fn run_seal(
     document: &str,
     target: &Target<'_>,
 ) -> Result<u64, Fault> {
+    let times = short_number_of(times)?;
     match fs::read(rt, document) {
         Ok(text) => seal_text(rt, times, choices, text, target),
         Err(_) => Err(Fault::NoFile),

@@ -106,6 +106,14 @@ fn same(alloc: Global, one: &Doc, other: &Doc) -> Result<bool, Fault> {
     }
 }
 
+// Whether what was opened is a document.
+fn is_same(alloc: Global, opened: &Result<Doc, Fault>, doc: &Doc) -> Result<bool, Fault> {
+    match opened {
+        Ok(again) => same(alloc, doc, again),
+        Err(fault) => Err(*fault),
+    }
+}
+
 // Whether the file holds a document.
 fn holds(
     alloc: Global,
@@ -113,10 +121,8 @@ fn holds(
     files: &mut MemoryFiles,
     doc: &Doc,
 ) -> Result<bool, Fault> {
-    match open(alloc, target, files) {
-        Ok(again) => same(alloc, doc, &again),
-        Err(fault) => Err(fault),
-    }
+    let opened = open(alloc, target, files);
+    is_same(alloc, &opened, doc)
 }
 
 // The length and the SHA-256 of the file.
@@ -188,12 +194,39 @@ fn answer_with(
     }
 }
 
-// The document of a row, whose text this is.
-fn document_of(alloc: Global, row: &Row<'_>, text: Vec<u8>) -> Result<Doc, Fault> {
-    let mut doc = read(alloc, text)?;
-    match row.extend(alloc, &mut doc) {
-        Ok(()) => Ok(doc),
-        Err(fault) => Err(fault),
+// The document that the text of a file stands for.
+fn document_of(alloc: Global, text: &str) -> Result<Doc, Fault> {
+    let text = expanded(alloc, text)?;
+    read(alloc, text)
+}
+
+// What comes of a row with these settings, where the file with the document holds this one.
+fn answer_of_document(
+    alloc: Global,
+    row: &Row<'_>,
+    settings: &Settings,
+    doc: &mut Doc,
+) -> Result<String, Fault>
+    requires in_order { IsInOrder settings.now }
+    requires version { IsVersion4 settings.now.version }
+{
+    row.extend(alloc, doc)?;
+    answer_with(alloc, row, settings, doc)
+}
+
+// What comes of a row with these settings and what was read for it.
+fn answer_of_read(
+    alloc: Global,
+    row: &Row<'_>,
+    settings: &Settings,
+    doc: &mut Result<Doc, Fault>,
+) -> Result<String, Fault>
+    requires in_order { IsInOrder settings.now }
+    requires version { IsVersion4 settings.now.version }
+{
+    match doc {
+        Ok(doc) => answer_of_document(alloc, row, settings, doc),
+        Err(fault) => Err(*fault),
     }
 }
 
@@ -207,11 +240,8 @@ fn answer_of_text(
     requires in_order { IsInOrder settings.now }
     requires version { IsVersion4 settings.now.version }
 {
-    let text = expanded(alloc, text)?;
-    match document_of(alloc, row, text) {
-        Ok(doc) => answer_with(alloc, row, settings, &doc),
-        Err(fault) => Err(fault),
-    }
+    let mut doc = document_of(alloc, text);
+    answer_of_read(alloc, row, settings, &mut doc)
 }
 
 /// What comes of a row, where the file with the document has this text.

@@ -1,10 +1,10 @@
 //! The texts of documents.
 
 use crate::fault::Fault;
-use std::alloc::Global;
+use std::alloc::{AllocError, Global};
 
 // Puts the base64 of as many letters A at the end.
-fn put_letters(out: &mut Vec<u8>, count: u32) -> Result<(), Fault> {
+fn put_letters(out: &mut Vec<u8>, count: u32) -> Result<(), AllocError> {
     for _ in 0..count / 3 {
         out.extend_from_slice(b"QUFB")?;
     }
@@ -17,7 +17,7 @@ fn put_letters(out: &mut Vec<u8>, count: u32) -> Result<(), Fault> {
 }
 
 // Puts two parts at the end, between which there is the base64 of as many letters A.
-fn put_parts(out: &mut Vec<u8>, before: &str, count: u32, after: &str) -> Result<(), Fault> {
+fn put_parts(out: &mut Vec<u8>, before: &str, count: u32, after: &str) -> Result<(), AllocError> {
     out.extend_from_slice(before.as_bytes())?;
     put_letters(out, count)?;
     out.extend_from_slice(after.as_bytes())?;
@@ -29,7 +29,7 @@ fn with_letters(alloc: Global, before: &str, count: u32, after: &str) -> Result<
     let mut out = Vec::new(alloc);
     match put_parts(&mut out, before, count, after) {
         Ok(()) => Ok(out),
-        Err(fault) => Err(fault),
+        Err(_) => Err(Fault::NoMemory),
     }
 }
 
