@@ -16,12 +16,15 @@ changed() {
 }
 
 # called NAME STATUS WORD...: calls the program with the input in input.txt, and compares its status with STATUS, and
-# what it prints with want-out.txt and want-err.txt. FILE, if it is there, must stay as it is.
+# what it prints with want-out.txt and want-err.txt. FILE, if it is there, must stay as it is, its permissions and time of change too.
 called() {
-  local name=$1 status=$2 got
+  local name=$1 status=$2 got stamp
   shift 2
   rm -f before
-  if [ -e FILE ]; then cp FILE before; fi
+  if [ -e FILE ]; then
+    cp FILE before
+    stamp=$(stat -c '%i %a %y' FILE)
+  fi
   "$program" "$@" >out.txt 2>err.txt <input.txt
   got=$?
   if [ "$got" = "$status" ] && cmp -s out.txt want-out.txt && cmp -s err.txt want-err.txt; then
@@ -32,7 +35,7 @@ called() {
     diff want-out.txt out.txt
     diff want-err.txt err.txt
   fi
-  if [ -e before ] && ! cmp -s before FILE; then
+  if [ -e before ] && ! { cmp -s before FILE && [ "$(stat -c '%i %a %y' FILE)" = "$stamp" ]; } || [ -e FILE.part ]; then
     failed=$((failed + 1))
     echo "FAILED: $name: the file was changed"
   fi
