@@ -15,6 +15,59 @@ use std::alloc::Global;
 use std::rc::Rc;
 use vault_model::{Attachment, Entry, Group, Version};
 
+/// Both of two that were made, or else a refusal.
+fn both<A: Drop, B: Drop>(
+    first: Result<A, NoMemory>,
+    second: Result<B, NoMemory>,
+) -> Result<(A, B), NoMemory>
+    ensures first { IfOk result (λ both. first ≡ Ok both.0) }
+    ensures second { IfOk result (λ both. second ≡ Ok both.1) }
+{
+    Ok((first?, second?))
+}
+
+/// What was kept with what was made, or else a refusal.
+pub(crate) fn kept_with<A: Drop, B: Drop>(
+    kept: A,
+    made: Result<B, NoMemory>,
+) -> Result<(A, B), NoMemory>
+    ensures kept { IfOk result (λ both. both.0 ≡ kept) }
+    ensures made { IfOk result (λ both. made ≡ Ok both.1) }
+{
+    Ok((kept, made?))
+}
+
+/// The bytes of an attachment, which are shared. Where it refers to no binary, it has none.
+fn resolved_bytes(
+    alloc: Global,
+    pool: &Pool<'_>,
+    draft: &AttachmentDraft,
+) -> Result<Rc<Secret>, NoMemory>
+    ensures { IfOk result (λ b. b.value.bytes
+        ≡ (spec.resolved_attachment pool.now (attachment_seen draft.now)).bytes) }
+{
+    match &draft.source {
+        SourceDraft::OwnBytes(bytes) => Ok(bytes.clone()?),
+        SourceDraft::PoolNumber(_, number) => match pool.get(*number) {
+            Some(binary) => Ok(binary.bytes.clone()?),
+            None => Ok(Rc::new(alloc, Secret::with_room(alloc, 0)?)?),
+        },
+    }
+}
+
+/// Whether an attachment is hidden, as its binary or its own element says.
+fn is_hidden(pool: &Pool<'_>, draft: &AttachmentDraft) -> bool
+    ensures { result ≡ (spec.resolved_attachment pool.now (attachment_seen draft.now)).hidden }
+{
+    match draft.source {
+        SourceDraft::OwnBytes(_) => draft.hidden,
+        SourceDraft::PoolNumber(_, number) => match pool.get(number) {
+            Some(binary) => binary.hidden,
+            None => draft.hidden,
+        },
+    }
+}
+
 /// An attachment with its bytes, which are shared. Where it refers to no binary, it has none.
 fn resolved_attachment(
     alloc: Global,
@@ -24,19 +77,17 @@ fn resolved_attachment(
     ensures { IfOk result (λ a. bare_attachment a
         ≡ spec.resolved_attachment pool.now (attachment_seen draft.now)) }
 {
-    let name = Text::of(alloc, draft.name.as_str())?;
-    let (bytes, hidden) = match &draft.source {
-        SourceDraft::OwnBytes(bytes) => (bytes.clone()?, draft.hidden),
-        SourceDraft::PoolNumber(_, number) => match pool.get(*number) {
-            Some(binary) => (binary.bytes.clone()?, binary.hidden),
-            None => (Rc::new(alloc, Secret::with_room(alloc, 0)?)?, draft.hidden),
-        },
-    };
-    Ok(Attachment {
-        name,
-        bytes,
-        hidden,
-    })
+    let name = Text::of(alloc, draft.name.as_str());
+    let bytes = resolved_bytes(alloc, pool, draft);
+    let hidden = is_hidden(pool, draft);
+    match both(name, bytes) {
+        Ok((name, bytes)) => Ok(Attachment {
+            name,
+            bytes,
+            hidden,
+        }),
+        Err(refusal) => Err(refusal),
+    }
 }
 
 /// Attachments with their bytes.
@@ -86,8 +137,9 @@ fn resolved_version(
     ensures { IfOk result (λ v. bare_version v
         ≡ spec.resolved_version pool.now (version_seen draft)) }
 {
-    match attachments_of(alloc, pool, &draft) {
-        Ok(attachments) => Ok(version_of(draft, attachments)),
+    let attachments = attachments_of(alloc, pool, &draft);
+    match kept_with(draft, attachments) {
+        Ok((draft, attachments)) => Ok(version_of(draft, attachments)),
         Err(refusal) => Err(refusal),
     }
 }
@@ -106,17 +158,6 @@ fn resolved_versions(
         push(&mut resolved, resolved_version(alloc, pool, draft)?)?;
     }
     Ok(resolved)
-}
-
-/// Both of two that were made, or else a refusal.
-fn both<A: Drop, B: Drop>(
-    first: Result<A, NoMemory>,
-    second: Result<B, NoMemory>,
-) -> Result<(A, B), NoMemory>
-    ensures first { IfOk result (λ both. first ≡ Ok both.0) }
-    ensures second { IfOk result (λ both. second ≡ Ok both.1) }
-{
-    Ok((first?, second?))
 }
 
 /// An entry with the bytes of its attachments.
@@ -180,16 +221,20 @@ pub(crate) fn resolved_tree(
     } = draft;
     let entries = resolved_entries(alloc, pool, entries);
     let groups = resolved_groups(alloc, pool, groups);
-    match both(entries, groups) {
-        Ok(parts) => Ok(Group {
-            id,
-            placed,
-            previous,
-            state,
-            view,
-            entries: parts.0,
-            groups: parts.1,
-        }),
+    match kept_with(state, both(entries, groups)) {
+        Ok(parts) => {
+            let (state, nodes) = parts;
+            let (entries, groups) = nodes;
+            Ok(Group {
+                id,
+                placed,
+                previous,
+                state,
+                view,
+                entries,
+                groups,
+            })
+        }
         Err(refusal) => Err(refusal),
     }
 }

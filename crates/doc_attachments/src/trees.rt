@@ -1,14 +1,14 @@
 //! A tree with the bytes of its attachments, which the binaries of its file give.
 
 ghost use Rattle.doc_attachments.specs.Trees.{tree_and_missing};
-ghost use Rattle.doc_forms.specs.Attachments.{pool_from, resolved_in};
+ghost use Rattle.doc_forms.specs.Attachments.{binaries_from, pool_from, resolved_in};
 ghost use Rattle.doc_forms.specs.SeenDocuments.{pool_item};
 ghost use Rattle.doc_forms.specs.SeenDrafts.{binary_seen, draft_seen};
 ghost use Rattle.std.specs.Prelude.{◌≡◌, IfOk, map};
 
 use crate::missing::{Missing, missing_in};
 use crate::pools::{Pool, number_binaries};
-use crate::resolving::resolved_tree;
+use crate::resolving::{kept_with, resolved_tree};
 use doc_forms::{Binary, GroupDraft};
 use outside_core::{List, NoMemory};
 use std::alloc::Global;
@@ -22,6 +22,18 @@ pub struct ResolvedTree {
     pub missing: Missing,
 }
 
+/// The tree of a draft, with the bytes of the binaries of a pool.
+fn resolve_in(alloc: Global, pool: &Pool<'_>, draft: GroupDraft) -> Result<ResolvedTree, NoMemory>
+    ensures { IfOk result (λ tree. tree_and_missing tree
+        ≡ resolved_in pool.now (draft_seen draft)) }
+{
+    let missing = missing_in(pool, &draft);
+    match resolved_tree(alloc, pool, draft) {
+        Ok(root) => Ok(ResolvedTree { root, missing }),
+        Err(refusal) => Err(refusal),
+    }
+}
+
 /// The tree of a draft, with the bytes of these binaries.
 fn resolve_among(
     alloc: Global,
@@ -31,10 +43,32 @@ fn resolve_among(
     ensures { IfOk result (λ tree. tree_and_missing tree
         ≡ resolved_in (map binary_seen binaries.now) (draft_seen draft)) }
 {
-    let pool = Pool::new(alloc, binaries)?;
-    let missing = missing_in(&pool, &draft);
-    let root = resolved_tree(alloc, &pool, draft)?;
-    Ok(ResolvedTree { root, missing })
+    match kept_with(draft, Pool::new(alloc, binaries)) {
+        Ok(both) => {
+            let (draft, pool) = both;
+            resolve_in(alloc, &pool, draft)
+        }
+        Err(refusal) => Err(refusal),
+    }
+}
+
+/// The tree of a draft, with the bytes of the binaries that its file keeps apart.
+fn resolve_given(
+    alloc: Global,
+    given: &List<PoolItem>,
+    draft: GroupDraft,
+) -> Result<ResolvedTree, NoMemory>
+    ensures { IfOk result (λ tree. tree_and_missing tree
+        ≡ resolved_in (binaries_from 0 (map pool_item given.now)) (draft_seen draft)) }
+{
+    let binaries = number_binaries(alloc, given.as_slice());
+    match kept_with(draft, binaries) {
+        Ok(both) => {
+            let (draft, binaries) = both;
+            resolve_among(alloc, binaries.as_slice(), draft)
+        }
+        Err(refusal) => Err(refusal),
+    }
 }
 
 /// The tree of a draft, with the bytes of the binaries that its file keeps apart, which only KDBX 4
@@ -53,10 +87,7 @@ pub fn resolve_tree(
         (draft_seen draft)) }
 {
     match form {
-        DocForm::V4 => {
-            let binaries = number_binaries(alloc, given.as_slice())?;
-            resolve_among(alloc, binaries.as_slice(), draft)
-        }
+        DocForm::V4 => resolve_given(alloc, given, draft),
         _ => resolve_among(alloc, own.as_slice(), draft),
     }
 }

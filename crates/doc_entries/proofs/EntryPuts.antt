@@ -1,5 +1,5 @@
 -- A thing put into a list that rises by keys, and what is seen of it.
-use Rattle.std.proofs.Common.{◌≡◌, ℕ, List, [], ◌∷◌, map, refl, ap, sym, ◌∙◌}
+use Rattle.std.proofs.Common.{◌≡◌, ℕ, List, [], ◌∷◌, ◌++◌, map, refl, ap, sym, ◌∙◌}
 use Rattle.std.specs.declared.cmp.Ordering.{Ordering}
 use Rattle.std.specs.declared.cmp.Ordering.TheVariants.{Less, Equal, Greater}
 use Rattle.vault_model.specs.Orders.{bytes_cmp}
@@ -24,6 +24,11 @@ put_seen seen key x [] = refl
 put_seen seen key x (y ∷ ys) =
     placed_seen seen (bytes_cmp (key (seen x)) (key (seen y))) x y ys (put (λ a. key (seen a)) x ys)
     ∙ ap (λ after. put_beside (bytes_cmp (key (seen x)) (key (seen y))) (seen x) (seen y) (map seen ys) after) (put_seen seen key x ys)
+
+-- as many are seen where one more is put after them
+pub one_more_seen : {A B : Type 0} (seen : A → B) (xs : List A) (x : A) → map seen (xs ++ x ∷ []) ≡ map seen xs ++ seen x ∷ []
+one_more_seen seen [] x = refl
+one_more_seen seen (y ∷ xs) x = ap (λ more. seen y ∷ more) (one_more_seen seen xs x)
 
 -- an entry with one field more, seen
 pub field_put : (p : EntryBuilder) (f : Field) (fields : List Field) → put (λ (g : Field). g.key) f p.fields ≡ fields

@@ -1,3 +1,3 @@
 mod AttachmentValues
-mod Counted
+mod EndSteps
 mod EntryPuts

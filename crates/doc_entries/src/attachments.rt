@@ -2,6 +2,7 @@
 
 ghost use Rattle.std.specs.Prelude.{codes, Ok, option_map};
 ghost use Rattle.markup_grammar.specs.Attributes.{attribute_text};
+ghost use Rattle.markup_grammar.specs.Escapes.{unescaped};
 ghost use Rattle.doc_entries.specs.AttachmentTexts.{value_by_text};
 ghost use Rattle.doc_forms.specs.Children.{by_name};
 ghost use Rattle.doc_forms.specs.Entries.{ReadAttachment};
@@ -9,12 +10,13 @@ ghost use Rattle.doc_forms.specs.Entries as spec;
 ghost use Rattle.doc_forms.specs.Refusals.{Returns};
 ghost use Rattle.doc_forms.specs.SeenDrafts.{attachment_seen, source_seen};
 ghost use Rattle.doc_forms.specs.SeenTexts.{text_seen};
+ghost use Rattle.doc_forms.specs.Values.{bytes_in, number64};
 ghost use Rattle.doc_walk.specs.Steps.{Steps};
 ghost use Rattle.doc_walk.specs.Tags.{child_step, contents_step};
 
 use doc_forms::{AttachmentDraft, DocFail, ElementText, SourceDraft};
 use doc_values::{Kind, SecretBytes, TextValue, is_hidden, is_marked, no_text, number64, resolved};
-use doc_walk::{Parts, Tag, Walk, contents};
+use doc_walk::{Parts, Tag, Walk, read_whole};
 use markup_core::Attrs;
 use outside_core::Text;
 use secret_core::Secret;
@@ -31,6 +33,29 @@ fn own_source(alloc: Global, bytes: Secret) -> Result<SourceDraft, DocFail>
     }
 }
 
+/// The bytes of an attachment whose `Value` has this text.
+fn source_in_text(alloc: Global, text: ElementText) -> Result<Option<SourceDraft>, DocFail>
+    ensures { Returns (λ o. option_map source_seen o) result
+        (Ok (option_map spec.own_bytes (bytes_in (text_seen text)))) }
+{
+    match SecretBytes::from_text(alloc, text)? {
+        Some(bytes) => Ok(Some(own_source(alloc, bytes)?)),
+        None => Ok(None),
+    }
+}
+
+/// The binary to which a `Value` that begins at an offset refers by this text.
+fn source_in_pool(alloc: Global, offset: usize, raw: &str) -> Result<Option<SourceDraft>, DocFail>
+    ensures { Returns (λ o. option_map source_seen o) result
+        (Ok (option_map (spec.pool_number offset) (number64 (unescaped raw.now)))) }
+{
+    let digits = resolved(alloc, raw)?;
+    match number64(digits.lend(0, digits.len())) {
+        Some(number) => Ok(Some(SourceDraft::PoolNumber(offset, number))),
+        None => Ok(None),
+    }
+}
+
 /// Where the bytes of an attachment are whose `Value` begins at an offset and has this text.
 fn source_in(
     alloc: Global,
@@ -42,16 +67,9 @@ fn source_in(
         (Ok (spec.source_in offset (attribute_text attrs.now.raw.now (codes "Ref"))
         (text_seen text))) }
 {
-    let Some(raw) = attrs.get("Ref") else {
-        return match SecretBytes::from_text(alloc, text)? {
-            Some(bytes) => Ok(Some(own_source(alloc, bytes)?)),
-            None => Ok(None),
-        };
-    };
-    let digits = resolved(alloc, raw)?;
-    match number64(digits.lend(0, digits.len())) {
-        Some(number) => Ok(Some(SourceDraft::PoolNumber(offset, number))),
-        None => Ok(None),
+    match attrs.get("Ref") {
+        Some(raw) => source_in_pool(alloc, offset, raw),
+        None => source_in_text(alloc, text),
     }
 }
 
@@ -79,11 +97,11 @@ fn put_value(
     let Some(source) = source_in(alloc, tag.offset, &tag.attrs, text)? else {
         return Err(DocFail::BadValue(tag.offset));
     };
+    attachment.source = source;
     if is_compressed(alloc, &tag.attrs)? {
         return Err(DocFail::Compressed(tag.offset));
     }
     attachment.hidden = is_hidden(alloc, &tag.attrs)?;
-    attachment.source = source;
     Ok(())
 }
 
@@ -138,9 +156,11 @@ pub(crate) fn attachment(walk: &mut Walk<'_>, tag: &Tag<'_>) -> Result<Attachmen
     ensures { Steps attachment_seen walk.old walk.new result
         (contents_step (λ s. by_name s (spec.attachment_rows s)) spec.no_attachment tag.now) }
 {
-    let mut known = AttachmentKnown {
+    let first = AttachmentKnown {
         attachment: no_attachment(walk.alloc())?,
     };
-    contents(walk, tag, &mut known)?;
-    Ok(known.attachment)
+    match read_whole(walk, tag, first) {
+        Ok(known) => Ok(known.attachment),
+        Err(refusal) => Err(refusal),
+    }
 }

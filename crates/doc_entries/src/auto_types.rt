@@ -9,7 +9,7 @@ ghost use Rattle.doc_walk.specs.Tags.{contents_step};
 
 use doc_forms::DocFail;
 use doc_values::{Number32, TextValue, TrueUnlessFalse};
-use doc_walk::{Parts, Tag, Walk, contents};
+use doc_walk::{Parts, Tag, Walk, read_whole};
 use outside_core::{List, Text};
 use std::alloc::Global;
 use vault_model::{Association, AutoType};
@@ -44,14 +44,16 @@ fn association(walk: &mut Walk<'_>, tag: &Tag<'_>) -> Result<Association, DocFai
         (contents_step (λ s. by_name s (spec.association_rows s)) spec.no_association tag.now) }
 {
     let alloc = walk.alloc();
-    let mut draft = AssociationDraft {
+    let first = AssociationDraft {
         pair: Association {
             window: Text::new(alloc),
             keys: Text::new(alloc),
         },
     };
-    contents(walk, tag, &mut draft)?;
-    Ok(draft.pair)
+    match read_whole(walk, tag, first) {
+        Ok(draft) => Ok(draft.pair),
+        Err(refusal) => Err(refusal),
+    }
 }
 
 /// Appends a pair of a window and key strokes to those that are known.
@@ -116,10 +118,14 @@ pub(crate) fn auto_type(
     ensures { Steps (λ _. into.new) walk.old walk.new result
         (contents_step (λ s. by_name s (spec.auto_type_rows s)) spec.no_auto_type tag.now) }
 {
-    let mut draft = AutoTypeDraft {
+    let first = AutoTypeDraft {
         auto_type: no_auto_type(walk.alloc()),
     };
-    contents(walk, tag, &mut draft)?;
-    *into = draft.auto_type;
-    Ok(())
+    match read_whole(walk, tag, first) {
+        Ok(draft) => {
+            *into = draft.auto_type;
+            Ok(())
+        }
+        Err(refusal) => Err(refusal),
+    }
 }

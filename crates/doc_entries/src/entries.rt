@@ -16,7 +16,7 @@ use crate::nodes::node_id;
 use crate::versions::version_child;
 use doc_forms::{DocFail, EntryDraft};
 use doc_values::{IdValue, OwnId};
-use doc_walk::{Parts, Tag, Walk, contents};
+use doc_walk::{Parts, Tag, Walk, kept_with, read_counted};
 use uuid::Uuid;
 
 /// What is known of an `Entry` before its end.
@@ -78,8 +78,9 @@ fn id_of(offset: usize, known: &EntryBuilder) -> Result<Uuid, DocFail>
 fn whole_entry(offset: usize, known: EntryBuilder) -> Result<EntryDraft, DocFail>
     ensures { Returns entry_seen result (whole_entry offset (entry_known known)) }
 {
-    match id_of(offset, &known) {
-        Ok(id) => Ok(entry_of(id, known)),
+    let id = id_of(offset, &known);
+    match kept_with(known, id) {
+        Ok(both) => Ok(entry_of(both.1, both.0)),
         Err(refusal) => Err(refusal),
     }
 }
@@ -88,10 +89,11 @@ fn whole_entry(offset: usize, known: EntryBuilder) -> Result<EntryDraft, DocFail
 pub fn entry(walk: &mut Walk<'_>, tag: &Tag<'_>) -> Result<EntryDraft, DocFail>
     ensures { Steps entry_seen walk.old walk.new result (entry_step tag.now) }
 {
-    let mut draft = EntryKnown {
+    let first = EntryKnown {
         known: no_entry(walk.alloc()),
     };
-    contents(walk, tag, &mut draft)?;
-    walk.count()?;
-    whole_entry(tag.offset, draft.known)
+    match read_counted(walk, tag, first) {
+        Ok(draft) => whole_entry(tag.offset, draft.known),
+        Err(refusal) => Err(refusal),
+    }
 }

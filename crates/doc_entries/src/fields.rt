@@ -11,7 +11,7 @@ ghost use Rattle.doc_walk.specs.Tags.{contents_step};
 
 use doc_forms::DocFail;
 use doc_values::{SecretText, TextValue, no_text};
-use doc_walk::{Parts, Tag, Walk, contents};
+use doc_walk::{Parts, Tag, Walk, read_whole};
 use outside_core::Text;
 use std::alloc::Global;
 use vault_model::Field;
@@ -59,9 +59,11 @@ pub(crate) fn field(walk: &mut Walk<'_>, tag: &Tag<'_>) -> Result<Field, DocFail
     ensures { Steps bare_field walk.old walk.new result
         (contents_step (λ s. by_name s (spec.field_rows s)) spec.no_field tag.now) }
 {
-    let mut draft = FieldDraft {
+    let first = FieldDraft {
         field: no_field(walk.alloc())?,
     };
-    contents(walk, tag, &mut draft)?;
-    Ok(draft.field)
+    match read_whole(walk, tag, first) {
+        Ok(draft) => Ok(draft.field),
+        Err(refusal) => Err(refusal),
+    }
 }

@@ -15,7 +15,7 @@ use crate::builders::{EntryBuilder, no_entry, version_of};
 use crate::versions::version_child;
 use doc_forms::{DocFail, VersionDraft};
 use doc_values::{IdOrNone, IdValue};
-use doc_walk::{Parts, Tag, Walk, contents};
+use doc_walk::{Parts, Tag, Walk, append, read_counted, read_whole};
 
 /// What is known of a history item before its end.
 #[derive(Drop)]
@@ -59,12 +59,13 @@ fn version_in(known: EntryBuilder) -> VersionDraft
 fn history_item(walk: &mut Walk<'_>, tag: &Tag<'_>) -> Result<VersionDraft, DocFail>
     ensures { Steps version_seen walk.old walk.new result (history_item_step tag.now) }
 {
-    let mut draft = ItemDraft {
+    let first = ItemDraft {
         known: no_entry(walk.alloc()),
     };
-    contents(walk, tag, &mut draft)?;
-    walk.count()?;
-    Ok(version_in(draft.known))
+    match read_counted(walk, tag, first) {
+        Ok(draft) => Ok(version_in(draft.known)),
+        Err(refusal) => Err(refusal),
+    }
 }
 
 /// Appends a version to others.
@@ -72,10 +73,8 @@ fn add_version(versions: &mut Vec<VersionDraft>, version: VersionDraft) -> Resul
     ensures { Returns (λ _. map version_seen versions.new.items) result
         (Ok (map version_seen versions.old.items ++ version_seen version ∷ [])) }
 {
-    match versions.push(version) {
-        Ok(()) => Ok(()),
-        Err(_) => Err(DocFail::NoMemory),
-    }
+    append(versions, version)?;
+    Ok(())
 }
 
 /// What is known of a `History` before its end.
@@ -102,6 +101,14 @@ impl Parts for HistoryDraft {
     }
 }
 
+/// Puts what is known of a `History` in its place, in memory that has room for it alone.
+fn put_versions(into: &mut Vec<VersionDraft>, draft: HistoryDraft)
+    ensures { into.new.items ≡ draft.versions.items }
+{
+    *into = draft.versions;
+    into.shrink_to_fit();
+}
+
 /// The versions of a `History`, whose start tag was given, put in their place, in memory that has
 /// room for them alone.
 pub(crate) fn history(
@@ -112,12 +119,14 @@ pub(crate) fn history(
     ensures { Steps (λ _. map version_seen into.new.items) walk.old walk.new result
         (contents_step (λ s. by_name s (spec.history_rows s)) [] tag.now) }
 {
-    let mut draft = HistoryDraft {
+    let first = HistoryDraft {
         versions: Vec::new(walk.alloc()),
     };
-    contents(walk, tag, &mut draft)?;
-    let mut versions = draft.versions;
-    versions.shrink_to_fit();
-    *into = versions;
-    Ok(())
+    match read_whole(walk, tag, first) {
+        Ok(draft) => {
+            put_versions(into, draft);
+            Ok(())
+        }
+        Err(refusal) => Err(refusal),
+    }
 }

@@ -6,7 +6,7 @@ use Rattle.markup_grammar.specs.Attributes.{attribute_text}
 use Rattle.markup_grammar.specs.Elements.{Element, Content, element, last, also, cut, own_text}
 use Rattle.stream_core.specs.InnerStream.{Keystream, keystream_byte}
 use Rattle.stream_core.specs.Stream.{xor_stream}
-use Rattle.text_core.specs.Texts.{trim, base64_bytes}
+use Rattle.text_forms.specs.Texts.{trim, base64_bytes}
 use Rattle.vault_model.specs.declared.forms.DocForm.{DocForm}
 use Rattle.vault_model.specs.declared.forms.DocForm.TheVariants.{Plain, V3, V4}
 use Rattle.doc_forms.specs.declared.cursor.Cursor.{Cursor}

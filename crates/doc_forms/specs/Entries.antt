@@ -2,7 +2,7 @@
 use Rattle.std.specs.Prelude.{ℕ, Bool, true, false, ◌&&◌, if◌then◌else◌, is_none, Option, Some, None, List, [], ◌∷◌, ◌++◌, codes, option_map, Result, Ok, Err, bytes_eq}
 use Rattle.markup_grammar.specs.Attributes.{attribute_text}
 use Rattle.markup_grammar.specs.Elements.{Content, element}
-use Rattle.text_core.specs.Texts.{trim}
+use Rattle.text_forms.specs.Texts.{trim}
 use Rattle.vault_model.specs.Bare.{BareField, BareContent}
 use Rattle.vault_model.specs.Db.{NodeId, nil_id}
 use Rattle.vault_model.specs.declared.contents.Association.{Association}

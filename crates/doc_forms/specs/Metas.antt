@@ -2,7 +2,7 @@
 use Rattle.std.specs.Prelude.{ℕ, pos, negsuc, Bool, true, false, if◌then◌else◌, Option, Some, None, List, [], ◌∷◌, ◌++◌, codes, option_map, option_and_then, Ok, Err}
 use Rattle.markup_grammar.specs.Attributes.{attribute_text}
 use Rattle.markup_grammar.specs.Elements.{element}
-use Rattle.text_core.specs.Texts.{bytes_of_length}
+use Rattle.text_forms.specs.Texts.{bytes_of_length}
 use Rattle.vault_model.specs.Db.{nil_id}
 use Rattle.vault_model.specs.Empty.{new_meta, new_protection}
 use Rattle.vault_model.specs.declared.forms.DocForm.{DocForm}

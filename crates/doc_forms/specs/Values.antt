@@ -5,7 +5,7 @@ use Rattle.std.specs.List.{list_all}
 use Rattle.std.specs.Str.{is_utf8, str_eq_ignore_ascii_case}
 use Rattle.std.specs.Str.Parse.{digits_value}
 use Rattle.jiff_core.specs.Calendar.{days_in_month}
-use Rattle.text_core.specs.Texts.{trim, base64_bytes, bytes_of_length}
+use Rattle.text_forms.specs.Texts.{trim, base64_bytes, bytes_of_length}
 use Rattle.vault_model.specs.Db.{NodeId}
 use Rattle.time_core.specs.Times.{last_stamp, seconds_of, iso_text}
 use Rattle.vault_model.specs.declared.contents.Tri.{Tri}

@@ -1,6 +1,6 @@
 -- Groups: what one is when its children and its end have been read.
 use Rattle.std.specs.Prelude.{if◌then◌else◌}
-use Rattle.std.proofs.Common.{◌≡◌, ℕ, Bool, List, [], ◌∷◌, ◌++◌, length, map, refl, ap, sym, ◌∙◌, subst, arith, Result, Ok, Err}
+use Rattle.std.proofs.Common.{◌≡◌, ℕ, Bool, Option, List, [], ◌∷◌, ◌++◌, length, map, refl, ap, sym, ◌∙◌, subst, arith, Result, Ok, Err}
 use Rattle.markup_grammar.specs.Elements.{Content, last, also, cut, element, own_text, innermost, open_contents}
 use Rattle.vault_model.specs.Db.{NodeId}
 use Rattle.doc_forms.specs.declared.cursor.Cursor.{Cursor}
@@ -46,6 +46,23 @@ with_id : (p : GroupParts) (after : Result Cursor DocFail) (id : Result NodeId D
 with_id p (Ok a) (Ok u) = refl
 with_id p (Ok a) (Err e) = refl
 with_id p (Err e) id = refl
+
+-- a group whose id is known
+pub group_made : (fits : Bool) (offset : ℕ) (parts kept : GroupParts) (at after : Cursor) (found : Option NodeId) (id : NodeId) (made : ReadTree)
+    → found ≡ parts.id → id_at_end fits offset found at ≡ Ok (id, after) → kept ≡ parts → made ≡ node id (record_of kept) kept.entries kept.groups
+    → whole_group fits offset parts at ≡ Ok (made, after)
+group_made fits offset parts kept at after found id made is_id known same is =
+    ap (λ o. id_at_end fits offset o at >>= tree_of parts) (sym is_id)
+    ∙ (ap (λ d. d >>= tree_of parts) known
+    ∙ (ap (λ (p : GroupParts). let r : Result (ReadTree × Cursor) DocFail = Ok (node id (record_of p) p.entries p.groups, after) in r) (sym same)
+    ∙ ap (λ (t : ReadTree). let r : Result (ReadTree × Cursor) DocFail = Ok (t, after) in r) (sym is)))
+
+-- or refused
+pub id_refused : (fits : Bool) (offset : ℕ) (parts : GroupParts) (at : Cursor) (found : Option NodeId) (e : DocFail)
+    → found ≡ parts.id → Fails e (id_at_end fits offset found at) → Fails {Y = ReadTree × Cursor} e (whole_group fits offset parts at)
+id_refused fits offset parts at found e is_id fails =
+    carried e (id_at_end fits offset found at) (whole_group fits offset parts at)
+    (λ same. ap (λ o. id_at_end fits offset o at >>= tree_of parts) (sym is_id) ∙ ap (λ d. d >>= tree_of parts) same) fails
 
 at_end : (fits : Bool) (offset : ℕ) (p : GroupParts) (text : Result (ElementText × Cursor) DocFail)
     → ((text >>= λ y. Ok (p, y.1)) >>= closed fits offset)

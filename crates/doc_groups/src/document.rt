@@ -13,9 +13,8 @@ ghost use Rattle.doc_walk.specs.Steps.{Steps};
 ghost use Rattle.doc_walk.specs.Tags.{child_step};
 
 use crate::outermost::file;
-use crate::whole_parts::{known_after, put};
 use doc_forms::{Cursor, DocFail, FileBuilder};
-use doc_walk::{Tag, Walk};
+use doc_walk::{Tag, Walk, known_after, put};
 use markup_core::{MarkupFail, Piece, Reader};
 use std::alloc::Global;
 use stream_core::InnerStream;

@@ -8,11 +8,10 @@ ghost use Rattle.doc_groups.specs.GroupSteps.{entry_child};
 ghost use Rattle.doc_walk.specs.Steps.{Steps};
 ghost use Rattle.doc_walk.specs.Tags.{child_step};
 
-use crate::whole_parts::append;
 use doc_entries::entry;
 use doc_forms::{DocFail, GroupBuilder};
 use doc_values::{ChoiceValue, IdOrNone, IdValue, Number32, OwnId, TextValue, TrueUnlessFalse};
-use doc_walk::{Tag, Walk, custom_data, times};
+use doc_walk::{Tag, Walk, append, custom_data, times};
 
 /// Reads an entry of a group.
 fn entry_child(known: &mut GroupBuilder, walk: &mut Walk<'_>, tag: &Tag<'_>) -> Result<(), DocFail>

@@ -13,7 +13,7 @@ use crate::new_groups::{add_group, draft_of, id_of, no_group};
 use doc_entries::node_id;
 use doc_forms::{DocFail, GroupBuilder, GroupDraft};
 use doc_values::{appended, is_marked, no_text};
-use doc_walk::{Tag, Walk};
+use doc_walk::{Tag, Walk, kept_with};
 use markup_core::{MarkupFail, Piece};
 use uuid::Uuid;
 
@@ -49,8 +49,9 @@ fn whole_group(
     ensures answers { walk.new.answers ≡ walk.old.answers }
     ensures setting { walk.new.setting ≡ walk.old.setting }
 {
-    match group_id(walk, offset, fits, id_of(&known)) {
-        Ok(id) => Ok(draft_of(id, known)),
+    let id = group_id(walk, offset, fits, id_of(&known));
+    match kept_with(known, id) {
+        Ok(both) => Ok(draft_of(both.1, both.0)),
         Err(refusal) => Err(refusal),
     }
 }
@@ -134,6 +135,9 @@ pub(crate) fn group(
     ensures { Steps draft_seen walk.old walk.new result (group_step levels fits tag.now) }
 {
     let mut known = no_group(walk.alloc());
-    group_children(&mut known, walk, tag, levels)?;
-    whole_group(walk, tag.offset, fits, known)
+    let read = group_children(&mut known, walk, tag, levels);
+    match kept_with(known, read) {
+        Ok(both) => whole_group(walk, tag.offset, fits, both.0),
+        Err(refusal) => Err(refusal),
+    }
 }

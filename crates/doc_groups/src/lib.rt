@@ -8,6 +8,5 @@ mod new_groups;
 mod outermost;
 mod roots;
 mod tombs;
-mod whole_parts;
 
 pub use document::read_document;

@@ -8,10 +8,9 @@ ghost use Rattle.doc_walk.specs.Steps.{Steps};
 ghost use Rattle.doc_walk.specs.Tags.{child_step, contents_step};
 
 use crate::roots::root;
-use crate::whole_parts::{put, read_whole};
 use doc_forms::{DocFail, FileBuilder};
 use doc_metas::{meta, no_meta};
-use doc_walk::{Parts, Tag, Walk};
+use doc_walk::{Parts, Tag, Walk, put, read_whole};
 use std::alloc::Global;
 
 /// What is known of a `KeePassFile` before its end.

@@ -9,9 +9,8 @@ ghost use Rattle.doc_walk.specs.Tags.{child_step, contents_step};
 
 use crate::groups::group;
 use crate::tombs::tombs;
-use crate::whole_parts::{put, read_whole};
 use doc_forms::{DocFail, RootBuilder};
-use doc_walk::{Parts, Tag, Walk};
+use doc_walk::{Parts, Tag, Walk, put, read_whole};
 use outside_core::List;
 use std::alloc::Global;
 

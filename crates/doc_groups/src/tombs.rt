@@ -9,7 +9,7 @@ ghost use Rattle.doc_walk.specs.Tags.{contents_step};
 
 use doc_forms::DocFail;
 use doc_values::{IdValue, TimeValue};
-use doc_walk::{Parts, Tag, Walk, contents, never};
+use doc_walk::{Parts, Tag, Walk, never, read_whole};
 use outside_core::List;
 use uuid::Uuid;
 use vault_model::Tombstone;
@@ -76,8 +76,7 @@ impl Parts for TombsDraft {
     fn read_child(&mut self, walk: &mut Walk<'_>, tag: &Tag<'_>) -> Result<(), DocFail> {
         match tag.name {
             "DeletedObject" => {
-                let mut draft = TombDraft { tomb: no_tomb() };
-                contents(walk, tag, &mut draft)?;
+                let draft = read_whole(walk, tag, TombDraft { tomb: no_tomb() })?;
                 add_tomb(&mut self.tombs, draft.tomb)
             }
             _ => walk.pass(tag),
@@ -94,10 +93,14 @@ pub(crate) fn tombs(
     ensures { Steps (λ _. into.new) walk.old walk.new result
         (contents_step (λ s. by_name s (spec.tombs_rows s)) [] tag.now) }
 {
-    let mut draft = TombsDraft {
+    let first = TombsDraft {
         tombs: List::new(walk.alloc()),
     };
-    contents(walk, tag, &mut draft)?;
-    *into = draft.tombs;
-    Ok(())
+    match read_whole(walk, tag, first) {
+        Ok(draft) => {
+            *into = draft.tombs;
+            Ok(())
+        }
+        Err(refusal) => Err(refusal),
+    }
 }

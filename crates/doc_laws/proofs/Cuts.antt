@@ -4,7 +4,7 @@ use Rattle.std.proofs.Common.{ℕ, ◌+◌, nat_lt, if◌then◌else◌, Bool, t
 use Rattle.std.specs.Option.{option_or}
 use Rattle.markup_grammar.specs.Answers.{Answer, start, words, stop, finish, form, depth}
 use Rattle.markup_grammar.specs.Elements.{Element, Content, element, last, also, cut, first_cut, first_cut_in, own_text}
-use Rattle.text_core.specs.Texts.{base64_bytes, trim}
+use Rattle.text_forms.specs.Texts.{base64_bytes, trim}
 use Rattle.doc_forms.specs.Children.{Child, all_children, by_name, children_and_end, container, count_node, hidden_value, name_of, value, value_by}
 use Rattle.doc_forms.specs.ElementTexts.{ElementText, Setting, element_text, is_hidden, is_protected, may_hide, pass_over, plain_text, read_element, read_rest, revealed_text, text_at_end}
 use Rattle.outside_core.specs.Results.{◌>>=◌}

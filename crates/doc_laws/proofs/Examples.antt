@@ -9,7 +9,7 @@ use Rattle.stream_core.specs.InnerStream.{NoKeystream}
 use Rattle.vault_model.specs.declared.forms.DocForm.TheVariants.{Plain}
 use Rattle.doc_forms.specs.declared.fails.DocFail.TheVariants.{MissingElement, NilId}
 use Rattle.doc_forms.specs.declared.fails.RequiredElement.TheVariants.{Uuid}
-use Rattle.text_core.specs.Texts.{base64_bytes, trim}
+use Rattle.text_forms.specs.Texts.{base64_bytes, trim}
 use Rattle.doc_forms.specs.Values.{iso_time, time}
 use Rattle.doc_forms.specs.declared.fails.DocFail.{DocFail}
 use Rattle.outside_core.specs.Results.{◌>>=◌}

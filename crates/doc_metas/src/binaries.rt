@@ -14,7 +14,7 @@ ghost use Rattle.doc_walk.specs.Tags.{child_step, contents_step};
 
 use doc_forms::{Binary, DocFail, ElementText};
 use doc_values::{Kind, SecretBytes, is_hidden, is_marked, number64, resolved};
-use doc_walk::{Parts, Tag, Walk, contents};
+use doc_walk::{Parts, Tag, Walk, read_whole};
 use markup_core::Attrs;
 use outside_core::List;
 use secret_core::Secret;
@@ -119,10 +119,14 @@ pub(crate) fn binaries(
     ensures { Steps (λ _. map binary_seen into.new) walk.old walk.new result
         (contents_step (λ s. by_name s ((codes "Binary", spec.binary s) ∷ [])) [] tag.now) }
 {
-    let mut draft = BinariesDraft {
+    let first = BinariesDraft {
         binaries: List::new(walk.alloc()),
     };
-    contents(walk, tag, &mut draft)?;
-    *into = draft.binaries;
-    Ok(())
+    match read_whole(walk, tag, first) {
+        Ok(draft) => {
+            *into = draft.binaries;
+            Ok(())
+        }
+        Err(refusal) => Err(refusal),
+    }
 }

@@ -8,7 +8,7 @@ ghost use Rattle.doc_walk.specs.Tags.{contents_step};
 
 use doc_forms::DocFail;
 use doc_values::{IdValue, KeyedList, OpenBytes, TextValue, TimeValue};
-use doc_walk::{Parts, Tag, Walk, contents, never};
+use doc_walk::{Parts, Tag, Walk, never, read_whole};
 use outside_core::{Bytes, List, Text};
 use std::alloc::Global;
 use uuid::Uuid;
@@ -52,6 +52,20 @@ fn no_icon(alloc: Global) -> Icon
     }
 }
 
+/// The icon whose start tag was given.
+fn icon(walk: &mut Walk<'_>, tag: &Tag<'_>) -> Result<Icon, DocFail>
+    ensures { Steps (λ i. i) walk.old walk.new result
+        (contents_step (λ s. by_name s (spec.icon_rows s)) spec.no_icon tag.now) }
+{
+    let first = IconDraft {
+        icon: no_icon(walk.alloc()),
+    };
+    match read_whole(walk, tag, first) {
+        Ok(draft) => Ok(draft.icon),
+        Err(refusal) => Err(refusal),
+    }
+}
+
 /// What is known of a `CustomIcons` before its end.
 #[derive(Drop)]
 struct IconsDraft {
@@ -70,11 +84,8 @@ impl Parts for IconsDraft {
     fn read_child(&mut self, walk: &mut Walk<'_>, tag: &Tag<'_>) -> Result<(), DocFail> {
         match tag.name {
             "Icon" => {
-                let mut draft = IconDraft {
-                    icon: no_icon(walk.alloc()),
-                };
-                contents(walk, tag, &mut draft)?;
-                self.icons.put(draft.icon)
+                let icon = icon(walk, tag)?;
+                self.icons.put(icon)
             }
             _ => walk.pass(tag),
         }
@@ -90,10 +101,14 @@ pub(crate) fn icons(
     ensures { Steps (λ _. into.new) walk.old walk.new result
         (contents_step (λ s. by_name s (spec.icons_rows s)) [] tag.now) }
 {
-    let mut draft = IconsDraft {
+    let first = IconsDraft {
         icons: KeyedList::new(walk.alloc()),
     };
-    contents(walk, tag, &mut draft)?;
-    *into = draft.icons.into_list();
-    Ok(())
+    match read_whole(walk, tag, first) {
+        Ok(draft) => {
+            *into = draft.icons.into_list();
+            Ok(())
+        }
+        Err(refusal) => Err(refusal),
+    }
 }

@@ -16,7 +16,7 @@ use doc_forms::{DocFail, MetaBuilder};
 use doc_values::{
     HashOrNone, IdValue, Number32, Signed32, Signed64, TextValue, TimeValue, TrueUnlessFalse,
 };
-use doc_walk::{Parts, Tag, Walk, contents, custom_data};
+use doc_walk::{Parts, Tag, Walk, custom_data, read_whole};
 use vault_model::DocForm;
 
 /// Reads a child of `Meta` where binaries are in the document: `Binaries`, after those that
@@ -186,11 +186,11 @@ pub fn meta(walk: &mut Walk<'_>, tag: &Tag<'_>, into: &mut MetaBuilder) -> Resul
     ensures { Steps (λ _. meta_parts into.new) walk.old walk.new result
         (contents_step (λ s. by_name s (spec.meta_rows s)) spec.no_meta tag.now) }
 {
-    let mut draft = MetaDraft {
+    let first = MetaDraft {
         known: no_meta(walk.alloc()),
     };
-    match contents(walk, tag, &mut draft) {
-        Ok(()) => {
+    match read_whole(walk, tag, first) {
+        Ok(draft) => {
             put_meta(into, draft);
             Ok(())
         }

@@ -9,7 +9,7 @@ ghost use Rattle.doc_walk.specs.Tags.{contents_step};
 
 use doc_forms::DocFail;
 use doc_values::{FalseUnlessTrue, TrueUnlessFalse};
-use doc_walk::{Parts, Tag, Walk, contents};
+use doc_walk::{Parts, Tag, Walk, read_whole};
 use vault_model::Protection;
 
 /// What is known of a `MemoryProtection` before its end.
@@ -61,10 +61,14 @@ pub(crate) fn protection(
     ensures { Steps (λ _. into.new) walk.old walk.new result
         (contents_step (λ s. by_name s (spec.protection_rows s)) new_protection tag.now) }
 {
-    let mut draft = ProtectionDraft {
+    let first = ProtectionDraft {
         protection: password_alone(),
     };
-    contents(walk, tag, &mut draft)?;
-    *into = draft.protection;
-    Ok(())
+    match read_whole(walk, tag, first) {
+        Ok(draft) => {
+            *into = draft.protection;
+            Ok(())
+        }
+        Err(refusal) => Err(refusal),
+    }
 }

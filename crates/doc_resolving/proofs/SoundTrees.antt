@@ -1,4 +1,5 @@
 -- A tree in which nothing is refused, and the document that is made of it.
+use Rattle.std.specs.Prelude.{IfOk}
 use Rattle.std.proofs.Common.{◌≡◌, List, Option, None, Some, Result, Ok, Err, ap, sym, refl, ◌∙◌}
 use Rattle.vault_model.specs.Db.{NodeId}
 use Rattle.vault_model.specs.SeenNodes.{tree_seen}
@@ -7,14 +8,16 @@ use Rattle.vault_model.specs.declared.forms.DocForm.{DocForm}
 use Rattle.vault_model.specs.declared.nodes.Tombstone.{Tombstone}
 use Rattle.doc_forms.specs.declared.fails.DocFail.{DocFail}
 use Rattle.doc_forms.specs.declared.fails.DocFail.TheVariants.{Form, Depth, BadValue, Compressed, TooDeep, TooMany, NilId, MissingElement, DuplicateId, BinaryRef, NoMemory}
-use Rattle.doc_forms.specs.Attachments.{Missing, refuse_missing, resolved_tree}
+use Rattle.doc_attachments.specs.Trees.{tree_and_missing}
+use Rattle.doc_attachments.specs.declared.trees.ResolvedTree.{ResolvedTree}
+use Rattle.doc_forms.specs.Attachments.{Missing, refuse_missing, resolved_in, resolved_tree}
 use Rattle.doc_forms.specs.Documents.{DocumentAndHash, hash_of, resolved_with}
 use Rattle.doc_forms.specs.Groups.{ReadTree}
 use Rattle.doc_forms.specs.Ids.{least_duplicate, refuse_duplicate, tombs_of}
 use Rattle.doc_forms.specs.Metas.{MetaParts, ReadBinary}
 use Rattle.outside_core.specs.Results.{◌>>=◌}
 use Rattle.doc_forms.specs.Refusals.{Fails}
-use Rattle.doc_resolving.specs.Trees.{ArePartsOf, refusal_of, sound_tree}
+use Rattle.doc_resolving.specs.Trees.{ArePartsOf, AreTreeParts, refusal_of, sound_tree, tree_of_parts}
 use Rattle.doc_resolving.specs.declared.resolving.TreeParts.{TreeParts}
 
 -- a defined refusal is the right one
@@ -47,19 +50,37 @@ fails_on NoMemory defined next h = tt
 
 -- ---- the tree
 
+-- the parts of a tree that was resolved are those of the tree that was read
+pub parts_as : {E : Type 0} (pool : List ReadBinary) (read : ReadTree) (tombs : List Tombstone) (tree : ResolvedTree) (r : Result TreeParts E)
+    → tree_and_missing tree ≡ resolved_in pool read
+    → IfOk r (λ parts. AreTreeParts tree tombs parts) → IfOk r (λ parts. ArePartsOf pool read tombs parts)
+parts_as pool read tombs tree (Ok parts) is of_tree =
+    let tree_is : tree_seen tree.root ≡ resolved_tree pool read = ap (λ (x : Tree × Option Missing). x.0) is in
+    record {
+      tree = of_tree.root ∙ tree_is;
+      duplicate = of_tree.duplicate ∙ ap (λ t. least_duplicate (node_ids t)) tree_is;
+      missing = of_tree.missing ∙ ap (λ (x : Tree × Option Missing). x.1) is;
+      tombs_are = of_tree.tombs_are ∙ ap (λ t. tombs_of t tombs) tree_is;
+    }
+parts_as pool read tombs tree (Err e) is of_tree = tt
+
 module _ (pool : List ReadBinary) (read : ReadTree) (tombs : List Tombstone) (parts : TreeParts) (are : ArePartsOf pool read tombs parts) where
-  by_parts : sound_tree pool read tombs ≡ (refusal_of parts.duplicate parts.missing >>= λ _. Ok (tree_seen parts.root, parts.tombs))
+  pub by_parts : sound_tree pool read tombs ≡ (refusal_of parts.duplicate parts.missing >>= λ _. Ok (tree_seen parts.root, parts.tombs))
   by_parts =
       λ i. refusal_of (sym are.duplicate i) (sym are.missing i) >>= λ _. Ok (sym are.tree i, sym are.tombs_are i)
 
-  -- where nothing is refused
-  pub sound_parts : (u : Unit {0}) → refusal_of parts.duplicate parts.missing ≡ Ok u → sound_tree pool read tombs ≡ Ok (tree_seen parts.root, parts.tombs)
-  sound_parts u h = by_parts ∙ ap (λ r. r >>= λ _. Ok (tree_seen parts.root, parts.tombs)) h
+-- a tree of which all is known, where nothing is refused
+pub sound_of : (parts kept : TreeParts) (refused : Result (Unit {0}) DocFail) (u : Unit {0})
+    → refused ≡ refusal_of parts.duplicate parts.missing → kept ≡ parts → refused ≡ Ok u → tree_of_parts parts ≡ Ok (tree_seen kept.root, kept.tombs)
+sound_of parts kept refused u is same none =
+    ap (λ r. r >>= λ _. Ok (tree_seen parts.root, parts.tombs)) (sym is ∙ none)
+    ∙ ap (λ (p : TreeParts). let r : Result (Tree × List Tombstone) DocFail = Ok (tree_seen p.root, p.tombs) in r) (sym same)
 
-  -- where something is
-  pub refused_parts : (e : DocFail) → refusal_of parts.duplicate parts.missing ≡ Err e → Fails e (sound_tree pool read tombs)
-  refused_parts e h =
-      fails_with e (sound_tree pool read tombs) (by_parts ∙ ap (λ r. r >>= λ _. Ok (tree_seen parts.root, parts.tombs)) h)
+-- where something is
+pub refusal_in : (parts : TreeParts) (refused : Result (Unit {0}) DocFail) (e : DocFail)
+    → refused ≡ refusal_of parts.duplicate parts.missing → refused ≡ Err e → Fails e (tree_of_parts parts)
+refusal_in parts refused e is some =
+    fails_with e (tree_of_parts parts) (ap (λ r. r >>= λ _. Ok (tree_seen parts.root, parts.tombs)) (sym is ∙ some))
 
 -- ---- the document
 

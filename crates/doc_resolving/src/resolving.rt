@@ -8,14 +8,14 @@ ghost use Rattle.doc_forms.specs.KeptParts.{are_kept, is_kept_half, is_kept_meta
 ghost use Rattle.doc_forms.specs.Refusals.{Returns};
 ghost use Rattle.doc_forms.specs.SeenDocuments.{parts_seen, pool_item, read_seen};
 ghost use Rattle.doc_forms.specs.SeenDrafts.{binary_seen, draft_seen, file_parts, meta_parts, root_parts};
-ghost use Rattle.doc_resolving.specs.Trees.{ArePartsOf, refusal_of, sound_tree};
-ghost use Rattle.std.specs.Prelude.{◌≡◌, IfOk, Some, map, true};
+ghost use Rattle.doc_resolving.specs.Trees.{ArePartsOf, AreTreeParts, refusal_of, sound_tree, tree_of_parts};
+ghost use Rattle.std.specs.Prelude.{◌≡◌, IfOk, MatchOption, MatchResult, None, Some, Ok, Err, map, true};
 ghost use Rattle.vault_model.specs.SeenNodes.{tree_seen};
 ghost use Rattle.vault_model.specs.Tree.{node_ids};
 
 use crate::ids::ids_of;
 use crate::tombs::tombs_without;
-use doc_attachments::resolve_tree;
+use doc_attachments::{ResolvedTree, resolve_tree};
 use doc_forms::{
     Binary, DocFail, DocParts, FileBuilder, GroupDraft, MetaBuilder, ReadDoc, RequiredElement,
     RootBuilder,
@@ -24,6 +24,27 @@ use outside_core::{List, NoMemory};
 use std::alloc::Global;
 use uuid::Uuid;
 use vault_model::{Doc, DocForm, Group, PoolItem, Tombstone};
+
+/// What was kept with what was made, or else a refusal.
+fn kept_with<A: Drop, B: Drop, E: Drop>(kept: A, made: Result<B, E>) -> Result<(A, B), E>
+    ensures { MatchResult result (λ both. (both.0 ≡ kept) × (made ≡ Ok both.1))
+        (λ e. made ≡ Err e) }
+{
+    match made {
+        Ok(made) => Ok((kept, made)),
+        Err(refusal) => Err(refusal),
+    }
+}
+
+/// What was kept with what was found, where there is such a thing.
+fn found_with<A: Drop, B: Drop>(kept: A, found: Option<B>) -> Option<(A, B)>
+    ensures { MatchOption result (found ≡ None) (λ both. (both.0 ≡ kept) × (found ≡ Some both.1)) }
+{
+    match found {
+        Some(found) => Some((kept, found)),
+        None => None,
+    }
+}
 
 /// What is known of a tree before the document is made: the tree, the least id that two of its
 /// nodes have, the first reference to a binary that does not exist, and the tombstones that name no
@@ -58,6 +79,29 @@ fn node_parts(alloc: Global, root: &Group, tombs: &[Tombstone]) -> Result<NodePa
     })
 }
 
+/// The parts of a tree with the bytes of its attachments, with these tombstones.
+fn parts_of(
+    alloc: Global,
+    tree: ResolvedTree,
+    tombs: &List<Tombstone>,
+) -> Result<TreeParts, NoMemory>
+    ensures { IfOk result (λ parts. AreTreeParts tree tombs.now parts) }
+{
+    let nodes = node_parts(alloc, &tree.root, tombs.as_slice());
+    match kept_with(tree, nodes) {
+        Ok(both) => {
+            let (tree, nodes) = both;
+            Ok(TreeParts {
+                root: tree.root,
+                duplicate: nodes.duplicate,
+                missing: tree.missing,
+                tombs: nodes.tombs,
+            })
+        }
+        Err(refusal) => Err(refusal),
+    }
+}
+
 /// The parts of a tree that was read, with the binaries that the file keeps apart, or the
 /// document's own.
 fn tree_parts(
@@ -72,14 +116,10 @@ fn tree_parts(
         ArePartsOf (pool_from form (map pool_item given.now) (map binary_seen own.now))
         (draft_seen draft) tombs.now parts) }
 {
-    let tree = resolve_tree(alloc, form, given, own, draft)?;
-    let nodes = node_parts(alloc, &tree.root, tombs.as_slice())?;
-    Ok(TreeParts {
-        root: tree.root,
-        duplicate: nodes.duplicate,
-        missing: tree.missing,
-        tombs: nodes.tombs,
-    })
+    match resolve_tree(alloc, form, given, own, draft) {
+        Ok(tree) => parts_of(alloc, tree, tombs),
+        Err(refusal) => Err(refusal),
+    }
 }
 
 /// Refuses an id that two nodes have, and then a reference to a binary that does not exist.
@@ -101,6 +141,23 @@ struct SoundTree {
     tombs: List<Tombstone>,
 }
 
+/// A tree of which all is known, or its first refusal.
+fn sound_parts(parts: TreeParts) -> Result<SoundTree, DocFail>
+    ensures { Returns (λ tree. (tree_seen tree.root, tree.tombs)) result (tree_of_parts parts) }
+{
+    let refused = refuse(parts.duplicate, parts.missing);
+    match kept_with(parts, refused) {
+        Ok(both) => {
+            let (parts, _) = both;
+            Ok(SoundTree {
+                root: parts.root,
+                tombs: parts.tombs,
+            })
+        }
+        Err(refusal) => Err(refusal),
+    }
+}
+
 /// A tree that was read, or its first refusal.
 fn sound_tree(
     alloc: Global,
@@ -114,15 +171,9 @@ fn sound_tree(
         (sound_tree (pool_from form (map pool_item given.now) (map binary_seen own.now))
         (draft_seen draft) tombs.now) }
 {
-    let Ok(parts) = tree_parts(alloc, form, given, own, draft, tombs) else {
-        return Err(DocFail::NoMemory);
-    };
-    match refuse(parts.duplicate, parts.missing) {
-        Ok(()) => Ok(SoundTree {
-            root: parts.root,
-            tombs: parts.tombs,
-        }),
-        Err(refusal) => Err(refusal),
+    match tree_parts(alloc, form, given, own, draft, tombs) {
+        Ok(parts) => sound_parts(parts),
+        Err(_) => Err(DocFail::NoMemory),
     }
 }
 
@@ -152,8 +203,10 @@ fn resolved_tree(
         tombs.now) }
 {
     let header_hash = hash_of(form, &meta);
-    match sound_tree(alloc, form, given, &meta.binaries, draft, tombs) {
-        Ok(tree) => {
+    let tree = sound_tree(alloc, form, given, &meta.binaries, draft, tombs);
+    match kept_with(meta, tree) {
+        Ok(both) => {
+            let (meta, tree) = both;
             let doc = Doc {
                 meta: meta.meta,
                 root: tree.root,
@@ -180,8 +233,8 @@ fn resolved_root(
         (Some (record { meta = meta_parts meta; root = Some (root_parts root) }))) }
 {
     let RootBuilder { tree, tombs } = root;
-    match tree {
-        Some(draft) => resolved_tree(alloc, form, given, meta, draft, &tombs),
+    match found_with(meta, tree) {
+        Some(both) => resolved_tree(alloc, form, given, both.0, both.1, &tombs),
         None => Err(DocFail::MissingElement(RequiredElement::Group, 0)),
     }
 }
@@ -198,8 +251,8 @@ fn resolved_file(
         (Some (file_parts file))) }
 {
     let FileBuilder { meta, root } = file;
-    match root {
-        Some(root) => resolved_root(alloc, form, given, meta, root),
+    match found_with(meta, root) {
+        Some(both) => resolved_root(alloc, form, given, both.0, both.1),
         None => Err(DocFail::MissingElement(RequiredElement::Root, 0)),
     }
 }

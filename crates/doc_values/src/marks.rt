@@ -2,7 +2,7 @@
 
 ghost use Rattle.std.specs.Prelude.{◌++◌, [], Ok, option_map};
 ghost use Rattle.markup_grammar.specs.Escapes as escapes;
-ghost use Rattle.text_core.specs.Texts as texts;
+ghost use Rattle.text_forms.specs.Texts as texts;
 ghost use Rattle.doc_forms.specs.ElementTexts as spec;
 ghost use Rattle.doc_forms.specs.Refusals.{Returns};
 

@@ -1,5 +1,5 @@
 -- A branch of a match on names: the element of that name, as its row reads it.
-use Rattle.std.proofs.Common.{◌≡◌, ℕ, Option, List, [], ◌++◌, refl, ap, ◌∙◌, append-nil, Result, Ok, Err}
+use Rattle.std.proofs.Common.{◌≡◌, ℕ, Option, List, [], ◌++◌, refl, ap, sym, ◌∙◌, append-nil, Result, Ok, Err}
 use Rattle.outside_core.specs.Results.{◌>>=◌}
 use Rattle.markup_grammar.specs.Elements.{element, innermost, open_contents}
 use Rattle.doc_forms.specs.declared.cursor.Cursor.{Cursor}
@@ -108,3 +108,30 @@ then_refused {old = old} {rest = rest} {e = e} next steps = record {
   shorter = tt;
   setting = steps.setting;
 }
+
+-- ---- an element that is read, and what is made of it
+
+-- as it is made
+pub made_in : {X Y Q Z : Type 0} {view : X → Y} {shown : Z → Q} {old new : Course} {rest : Rest Y} {x : X} {z : Z} (make : Y → Q)
+    → shown z ≡ make (view x) → Steps view old new (Ok x) rest → Steps shown old new (Ok z) (map_rest make rest)
+made_in {Q = Q} {new = new} make made steps = record {
+  gives = ap (λ d. d >>= λ y. Ok (make y.0, y.1)) steps.gives ∙ ap (λ (q : Q). let r : Result (Q × Cursor) DocFail = Ok (q, new.cursor) in r) (sym made);
+  left = steps.left;
+  shorter = steps.shorter;
+  setting = steps.setting;
+}
+
+-- seen in another way
+pub seen_in : {X Y Z : Type 0} {view : X → Y} {shown : Z → Y} {old new : Course} {rest : Rest Y} {x : X} {z : Z}
+    → shown z ≡ view x → Steps view old new (Ok x) rest → Steps shown old new (Ok z) rest
+seen_in {Y = Y} {new = new} same steps = record {
+  gives = steps.gives ∙ ap (λ (y : Y). let r : Result (Y × Cursor) DocFail = Ok (y, new.cursor) in r) (sym same);
+  left = steps.left;
+  shorter = steps.shorter;
+  setting = steps.setting;
+}
+
+-- as it is refused, seen in another way
+pub unseen_in : {X Y Z : Type 0} {view : X → Y} {any : Z → Y} {old new : Course} {rest : Rest Y} {e : DocFail}
+    → Steps view old new (Err e) rest → Steps any old new (Err e) rest
+unseen_in steps = record { gives = steps.gives; left = tt; shorter = tt; setting = steps.setting }

@@ -1,5 +1,6 @@
 pub mod Branches
 pub mod ContentPieces
+pub mod Counted
 pub mod Goes
 pub mod Pieces
 pub mod Rests

@@ -2,7 +2,7 @@
 use Rattle.std.specs.Prelude.{[], List, ℕ, Ok, Option}
 use Rattle.markup_grammar.specs.Elements.{element}
 use Rattle.doc_forms.specs.ElementTexts.{Setting, read_rest}
-use Rattle.doc_forms.specs.Children.{Child, value_by, children_and_end}
+use Rattle.doc_forms.specs.Children.{Child, value_by, children_and_end, count_node}
 use Rattle.outside_core.specs.Results.{◌>>=◌}
 use Rattle.doc_forms.specs.ElementTexts.{ElementText}
 use Rattle.doc_walk.specs.declared.walk.Tag.{Tag}
@@ -25,6 +25,13 @@ value_step rule tag s content cursor = value_by s rule tag.offset tag.attrs.raw.
 abbrev pub contents_step : {P : Type 0} → (Setting → Child P) → P → Tag → Rest P
 contents_step child parts tag s content cursor = children_and_end s (child s) tag.offset
     tag.attrs.raw.now [] content parts cursor
+
+-- the same, of an element that counts as a node
+abbrev pub counted_step : {P : Type 0} → (Setting → Child P) → P → Tag → Rest P
+counted_step child parts tag s content cursor = do
+  x ← contents_step child parts tag s content cursor
+  after ← count_node x.1
+  Ok (x.0, after)
 
 -- the element as a child of another
 abbrev pub child_step : {P : Type 0} → (Setting → Child P) → P → Tag → Rest P

@@ -3,7 +3,7 @@
 ghost use Rattle.doc_forms.specs.ElementTexts.{Setting};
 ghost use Rattle.doc_forms.specs.Children.{Child};
 ghost use Rattle.doc_walk.specs.Steps.{Steps};
-ghost use Rattle.doc_walk.specs.Tags.{contents_step, child_step};
+ghost use Rattle.doc_walk.specs.Tags.{contents_step, counted_step, child_step};
 
 use crate::walk::{Tag, Walk};
 use doc_forms::DocFail;
@@ -63,6 +63,27 @@ pub fn contents<P: Parts>(walk: &mut Walk<'_>, tag: &Tag<'_>, parts: &mut P) -> 
             Err(MarkupFail::Depth(at)) => return Err(DocFail::Depth(at)),
         }
     }
+}
+
+/// Reads all children of the element whose start tag was given, of which this is known at first,
+/// and its end, and gives what is known then.
+pub fn read_whole<P: Parts>(walk: &mut Walk<'_>, tag: &Tag<'_>, first: P) -> Result<P, DocFail>
+    ensures { Steps P.seen walk.old walk.new result
+        (contents_step P.child (P.seen first) tag.now) }
+{
+    let mut parts = first;
+    contents(walk, tag, &mut parts)?;
+    Ok(parts)
+}
+
+/// The same of an element that counts as a group, an entry or a history item.
+pub fn read_counted<P: Parts>(walk: &mut Walk<'_>, tag: &Tag<'_>, first: P) -> Result<P, DocFail>
+    ensures { Steps P.seen walk.old walk.new result
+        (counted_step P.child (P.seen first) tag.now) }
+{
+    let parts = read_whole(walk, tag, first)?;
+    walk.count()?;
+    Ok(parts)
 }
 
 /// Reads all children of the element whose start tag was given, of which this is known at first,

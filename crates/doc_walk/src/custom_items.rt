@@ -6,7 +6,7 @@ ghost use Rattle.doc_forms.specs.Tables as spec;
 ghost use Rattle.doc_walk.specs.Steps.{Steps};
 ghost use Rattle.doc_walk.specs.Tags.{contents_step};
 
-use crate::containers::{Parts, contents};
+use crate::containers::{Parts, read_whole};
 use crate::element_times::never;
 use crate::walk::{Tag, Walk};
 use doc_forms::DocFail;
@@ -58,8 +58,7 @@ impl Parts for KeyedList<Item> {
     fn read_child(&mut self, walk: &mut Walk<'_>, tag: &Tag<'_>) -> Result<(), DocFail> {
         match tag.name {
             "Item" => {
-                let mut item = no_item(walk.alloc());
-                contents(walk, tag, &mut item)?;
+                let item = read_whole(walk, tag, no_item(walk.alloc()))?;
                 self.put(item)
             }
             _ => walk.pass(tag),
@@ -72,8 +71,12 @@ pub fn custom_data(walk: &mut Walk<'_>, tag: &Tag<'_>, into: &mut List<Item>) ->
     ensures { Steps (λ _. into.new) walk.old walk.new result
         (contents_step (λ s. by_name s (spec.items_rows s)) [] tag.now) }
 {
-    let mut items: KeyedList<Item> = KeyedList::new(walk.alloc());
-    contents(walk, tag, &mut items)?;
-    *into = items.into_list();
-    Ok(())
+    let first: KeyedList<Item> = KeyedList::new(walk.alloc());
+    match read_whole(walk, tag, first) {
+        Ok(items) => {
+            *into = items.into_list();
+            Ok(())
+        }
+        Err(refusal) => Err(refusal),
+    }
 }

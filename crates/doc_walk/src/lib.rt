@@ -6,8 +6,10 @@ mod containers;
 mod custom_items;
 mod element_times;
 mod walk;
+mod whole_parts;
 
-pub use containers::{Parts, contents, hold};
+pub use containers::{Parts, contents, hold, read_counted, read_whole};
 pub use custom_items::custom_data;
 pub use element_times::{never, no_times, times};
 pub use walk::{Tag, Walk};
+pub use whole_parts::{append, kept_with, known_after, put};

@@ -1,6 +1,7 @@
 //! Raw markup and the texts that it stands for, and attributes by their names, as Python's readers
 //! have them.
-use markup_core::{Attrs, escape, escaped_len, unescape, unescaped_len};
+use markup_core::Attrs;
+use markup_escapes::{escape, escaped_len, unescape, unescaped_len};
 use secret_core::Secret;
 use std::test::Fail;
 

@@ -1,5 +1,6 @@
-//! The tests of `markup_core`, `time_core` and `vault_model`: texts of markup with their pieces and
-//! the offsets of their faults, times as Python has them, and the orders of what a vault holds.
+//! The tests of `markup_core`, `markup_escapes`, `time_core` and `vault_model`: texts of markup with
+//! their pieces and the offsets of their faults, times as Python has them, and the orders of what a
+//! vault holds.
 #![tactic(auto)]
 
 #[cfg(test)]

@@ -9,9 +9,9 @@ use Rattle.vault_model.specs.Shape.{shared_of}
 use Rattle.vault_model.specs.Tree.{BareDoc, IsDoc, LEVELS, Tree, height, id_of, node_ids}
 use Rattle.vault_model.proofs.Tests.{apart, decide, is_false}
 use Rattle.join_laws.proofs.Joins.{meta_joins}
-use Rattle.tree_core.specs.Finding.{group_found, has_group_path, without_slashes}
+use Rattle.tree_core.specs.Finding.{group_found, without_slashes}
 use Rattle.tree_changes.specs.declared.fails.TreeFail.TheVariants.{AlreadyThere, IdTaken, IntoItself, NameTaken, RootFixed, TooDeep}
-use Rattle.tree_changes.specs.After.{AfterRemoval, after_new_group, after_recycling, bin_level, group_deleted, group_moved_to, group_named, group_recycled, is_parent, is_recycled, named_or_refusal, needs_bin, refuse_if, time_after, with_bin_made}
+use Rattle.tree_changes.specs.After.{AfterRemoval, after_new_group, after_recycling, bin_level, group_deleted, group_moved_to, group_named, group_recycled, is_group_taken, is_parent, is_recycled, named_or_refusal, needs_bin, refuse_if, time_after, with_bin_made}
 use Rattle.tree_changes.specs.Changes.{changed_at, child_with, group_moved, group_with, has_group, is_free, level_of, parent_of, placed_of, tree_buried, without_group}
 use Rattle.tree_changes.specs.NewNodes.{empty_bin, empty_group}
 use Rattle.tree_changes.specs.NewPaths.{after_last, before_last, new_path}
@@ -39,7 +39,7 @@ use Rattle.growth_laws.proofs.Steps.{put_group_stays}
 new_group_grows : (path : List ℕ) (id : NodeId) (now : ℕ) (d e : BareDoc) → IsDoc d → IsDoc e → after_new_group path id now d ≡ Ok e → Stays d e
 new_group_grows path id now d e isd ise h =
     let group = bind_ok (named_or_refusal (group_found d (before_last path))) _ e h in
-    let path_free = bind_ok (refuse_if (has_group_path d (new_path path)) NameTaken) _ e group.1.1 in
+    let path_free = bind_ok (refuse_if (is_group_taken (new_path path) d) NameTaken) _ e group.1.1 in
     let fits = bind_ok (refuse_if (nat_lt LEVELS (level_of group.0 d.tree + 1)) TooDeep) _ e path_free.1.1 in
     let id_free = bind_ok (refuse_if (not (is_free id d)) (IdTaken id)) _ e fits.1.1 in
     let is = same_ok _ e id_free.1.1 in

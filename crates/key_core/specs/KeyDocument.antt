@@ -5,7 +5,7 @@ use Rattle.sha2.specs.Sha256.{sha256}
 use Rattle.markup_grammar.specs.Answers.{Answer, start}
 use Rattle.markup_grammar.specs.Elements.{Element, element, Content, last, also, cut, innermost, outer_contents, open_contents, own_text}
 use Rattle.markup_grammar.specs.Attributes.{attribute_text}
-use Rattle.text_core.specs.Texts.{trim}
+use Rattle.text_forms.specs.Texts.{trim}
 use Rattle.key_core.specs.KeyTexts.{without_spaces, base64_key, hexadecimal_key, hexadecimal_hash}
 use Rattle.key_core.specs.declared.key_document.Version.{Version}
 use Rattle.key_core.specs.declared.key_document.Version.TheVariants.{First, Second, Other}

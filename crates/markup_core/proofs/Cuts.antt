@@ -5,13 +5,13 @@ use Rattle.std.proofs.lemmas.Str.{IsUtf8-between, IsCharBoundary-start, IsCharBo
 use Rattle.std.specs.Str.{IsCharBoundary}
 use Rattle.markup_grammar.specs.Utf8.{Partial, none_left, utf8_run, BeginsUtf8}
 use Rattle.markup_grammar.proofs.Utf8Fronts.{completing, run_completes}
-use Rattle.markup_core.specs.Asides.{EndsTag, EndsTagOrStays}
-use Rattle.markup_core.specs.Left.{StandsAt}
-use Rattle.markup_core.specs.Tags.{AsciiAt}
-use Rattle.markup_core.specs.Tokens.{TokenStands}
-use Rattle.markup_core.specs.declared.tag.StartTag.{StartTag}
-use Rattle.markup_core.specs.declared.token.Token.TheVariants.{Start, Words}
-use Rattle.markup_core.proofs.Steps.{stands_within}
+use Rattle.markup_scanner.specs.Asides.{EndsTag, EndsTagOrStays}
+use Rattle.markup_scanner.specs.Left.{StandsAt}
+use Rattle.markup_scanner.specs.Tags.{AsciiAt}
+use Rattle.markup_scanner.specs.Tokens.{TokenStands}
+use Rattle.markup_scanner.specs.declared.tag.StartTag.{StartTag}
+use Rattle.markup_scanner.specs.declared.token.Token.TheVariants.{Start, Words}
+use Rattle.markup_scanner.proofs.Steps.{stands_within}
 
 -- the text begins one
 pub begins_there : (text : List ℕ) → (utf8_run text none_left ≡ None → ⊥) → BeginsUtf8 text

@@ -5,13 +5,13 @@ use Rattle.markup_grammar.specs.Answers.{Answer, start, words, stop, form, depth
 use Rattle.markup_grammar.specs.Machine.{State, fresh, between, within, level_of_names, Names, answers_from}
 use Rattle.markup_grammar.specs.Reading.{answers, answers_within}
 use Rattle.markup_grammar.specs.Utf8.{utf8_front}
-use Rattle.markup_core.specs.Left.{answers_at}
+use Rattle.markup_scanner.specs.Left.{answers_at}
 use Rattle.markup_core.specs.Reader.{bounded_answers}
-use Rattle.markup_core.specs.Spans.{part, open_names}
-use Rattle.markup_core.specs.Tags.{behind_tag}
-use Rattle.markup_core.specs.Tokens.{Tells, Leaves, state_at}
-use Rattle.markup_core.specs.declared.tag.StartTag.{StartTag}
-use Rattle.markup_core.specs.declared.token.Token.{Token}
+use Rattle.markup_scanner.specs.Spans.{part, open_names}
+use Rattle.markup_scanner.specs.Tags.{behind_tag}
+use Rattle.markup_scanner.specs.Tokens.{Tells, Leaves, state_at}
+use Rattle.markup_scanner.specs.declared.tag.StartTag.{StartTag}
+use Rattle.markup_scanner.specs.declared.token.Token.{Token}
 
 -- names below a span that is written stay
 open_names-set : (text : List ℕ) (spans : List (ℕ × ℕ)) (i : ℕ) (span : ℕ × ℕ) (deep : ℕ) → deep ≤ i → open_names text (set spans i span) deep ≡ open_names text spans deep

@@ -1,16 +1,6 @@
-pub mod Asides
 pub mod AttributeLemmas
 pub mod Cuts
-pub mod Digits
 pub mod Left
-pub mod Literals
 pub mod Next
-pub mod Numbers
-pub mod References
 pub mod Soundness
-pub mod Steps
-pub mod Tags
-pub mod Tokens
-pub mod Unescaping
 pub mod Utf8Faults
-pub mod Words

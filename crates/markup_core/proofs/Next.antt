@@ -2,14 +2,14 @@
 use Rattle.std.proofs.Common.{◌≡◌, ℕ, ◌+◌, ◌-◌, ◌<◌, true, false, List, [], ◌∷◌, length, refl, ap, ◌∙◌, arith, slice_range, slice_set, Result, Ok, Err}
 use Rattle.markup_grammar.specs.Answers.{start, words, stop, finish, form, depth}
 use Rattle.markup_grammar.specs.Machine.{Names}
-use Rattle.markup_core.specs.Left.{answers_at}
+use Rattle.markup_scanner.specs.Left.{answers_at}
 use Rattle.markup_core.specs.Reader.{bounded_answers, answers_left}
-use Rattle.markup_core.specs.Spans.{open_names}
-use Rattle.markup_core.specs.Tokens.{Tells, TokenStands, state_at}
+use Rattle.markup_scanner.specs.Spans.{open_names}
+use Rattle.markup_scanner.specs.Tokens.{Tells, TokenStands, state_at}
 use Rattle.markup_core.specs.declared.reader.Reader.TheInside.{Inside}
-use Rattle.markup_core.specs.declared.tag.StartTag.{StartTag}
-use Rattle.markup_core.specs.declared.token.Token.{Token}
-use Rattle.markup_core.specs.declared.token.Token.TheVariants.{Start, Words, Stop, End}
+use Rattle.markup_scanner.specs.declared.tag.StartTag.{StartTag}
+use Rattle.markup_scanner.specs.declared.token.Token.{Token}
+use Rattle.markup_scanner.specs.declared.token.Token.TheVariants.{Start, Words, Stop, End}
 use Rattle.markup_core.proofs.Left.{seen_words, seen_form, left_start, left_empty, left_deep, left_stop}
 
 -- the names of the elements that are open, and the state that goes with them

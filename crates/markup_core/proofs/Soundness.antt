@@ -6,15 +6,15 @@ use Rattle.std.specs.Str.{IsCharBoundary}
 use Rattle.markup_grammar.specs.Utf8.{none_left, utf8_run, IsUtf8Front, utf8_front}
 use Rattle.markup_grammar.proofs.Utf8Fronts.{utf8_fronts, begins_utf8_runs}
 use Rattle.std.proofs.Common.{take}
-use Rattle.markup_core.specs.Left.{StandsAt}
+use Rattle.markup_scanner.specs.Left.{StandsAt}
 use Rattle.markup_core.specs.Reader.{IsSound}
-use Rattle.markup_core.specs.Spans.{SpansFit}
-use Rattle.markup_core.specs.Tokens.{TokenStands}
+use Rattle.markup_scanner.specs.Spans.{SpansFit}
+use Rattle.markup_scanner.specs.Tokens.{TokenStands}
 use Rattle.markup_core.specs.declared.reader.Reader.TheInside.{Inside}
-use Rattle.markup_core.specs.declared.tag.StartTag.{StartTag}
-use Rattle.markup_core.specs.declared.token.Token.TheVariants.{Start, Stop}
+use Rattle.markup_scanner.specs.declared.tag.StartTag.{StartTag}
+use Rattle.markup_scanner.specs.declared.token.Token.TheVariants.{Start, Stop}
 use Rattle.markup_core.proofs.Cuts.{cut_after, cut_ended}
-use Rattle.markup_core.proofs.Steps.{stands_within}
+use Rattle.markup_scanner.proofs.Steps.{stands_within}
 
 -- behind an empty element
 pub sound_slash : (r : Inside) → IsSound r → r.is_empty ≡ true → IsSound (record r { at = r.at + 2; is_empty = false })

@@ -1,12 +1,3 @@
-pub mod Asides
 pub mod AttributeRuns
-pub mod Fronts
-pub mod Left
 pub mod Next
-pub mod Numbers
-pub mod Parts
 pub mod Reader
-pub mod Scans
-pub mod Spans
-pub mod Tags
-pub mod Tokens

@@ -3,9 +3,9 @@ use Rattle.std.specs.Prelude.{ℕ, ◌+◌, ◌≡◌, ◌≤◌, ◌<◌, Bool,
 use Rattle.std.specs.Str.{IsCharBoundary}
 use Rattle.markup_grammar.specs.Answers.{Answer, stop, limit_depth, cut_short}
 use Rattle.markup_grammar.specs.Utf8.{none_left, utf8_run}
-use Rattle.markup_core.specs.Left.{answers_at, StandsAt}
-use Rattle.markup_core.specs.Spans.{SpansFit, open_names}
-use Rattle.markup_core.specs.Tokens.{state_at}
+use Rattle.markup_scanner.specs.Left.{answers_at, StandsAt}
+use Rattle.markup_scanner.specs.Spans.{SpansFit, open_names}
+use Rattle.markup_scanner.specs.Tokens.{state_at}
 use Rattle.markup_core.specs.declared.reader.Reader.TheInside.{Inside}
 
 -- the answers with so many elements open, on a text of this length that is the whole or is cut off

@@ -7,7 +7,7 @@ ghost use Rattle.markup_grammar.specs.Bytes as bytes_of;
 ghost use Rattle.markup_core.specs.AttributeRuns as runs;
 ghost use Rattle.markup_core.specs.AttributeRuns.{IsCut, IsFirst};
 
-use crate::fronts::after;
+use markup_scanner::after;
 use std::str;
 
 /// The attributes of a start tag.

@@ -2,20 +2,11 @@
 //! memory.
 #![tactic(auto)]
 
-mod aside;
 mod attributes;
-mod bytes;
-mod escapes;
 mod front;
-mod fronts;
 mod piece;
 mod reader;
-mod reference;
-mod run;
-mod tag;
-mod token;
 
 pub use attributes::Attrs;
-pub use escapes::{escape, escape_bytes, escaped_bytes_len, escaped_len, unescape, unescaped_len};
 pub use piece::{MarkupFail, Piece};
 pub use reader::Reader;

@@ -3,7 +3,7 @@
 use crate::attributes::Attrs;
 use crate::front::front_len;
 use crate::piece::{MarkupFail, Piece};
-use crate::token::{Token, token_at};
+use markup_scanner::{Token, token_at};
 use std::marker::Model;
 use std::str;
 

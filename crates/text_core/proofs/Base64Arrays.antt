@@ -12,7 +12,7 @@ use Rattle.base64.specs.Decode.{or_else, or_error, bytes_fit, decode_outcome, gr
 use Rattle.base64.specs.GeneralPurpose.{decode_slice_of, decoded_bytes_of}
 use Rattle.base64.specs.Engines.{standard}
 use Rattle.base64.proofs.Decoding.{length-groups_bytes}
-use Rattle.text_core.specs.Texts.{base64_bytes, bytes_of_length}
+use Rattle.text_forms.specs.Texts.{base64_bytes, bytes_of_length}
 
 -- bytes, where they are so many
 abbrev whole : ℕ → List ℕ → Option (List ℕ)

@@ -3,7 +3,7 @@ use Rattle.std.proofs.Common.{ℕ, ◌≡◌, true, List, [], ◌∷◌, refl, a
 use Rattle.std.proofs.lemmas.Bool.Decides.{nat_tests}
 use Rattle.std.specs.List.{list_all}
 use Rattle.markup_grammar.specs.Escapes.{plain, unescaped, unescaped_from, plainly_given, place_after_text}
-use Rattle.text_core.specs.Texts.{is_literal}
+use Rattle.text_forms.specs.Texts.{is_literal}
 
 first_literal : (b : ℕ) (rest : List ℕ) → list_all is_literal (b ∷ rest) ≡ true → is_literal b ≡ true
 first_literal b rest h = grind (arith, nat_tests)

@@ -1,7 +1,7 @@
 //! Base64 decoded into secret memory, or into an array.
 
 ghost use Rattle.std.specs.Prelude.{◌≡◌, IfOk, length, option_map};
-ghost use Rattle.text_core.specs.Texts as texts;
+ghost use Rattle.text_forms.specs.Texts as texts;
 
 use base64::decoded_len_estimate;
 use base64::engine::general_purpose::STANDARD;
@@ -21,7 +21,7 @@ fn zeros(alloc: Global, len: usize) -> Result<Secret, NoMemory>
 }
 
 /// The bytes that a text spells in base64, where it does.
-#[tactic(auto, unfolding(crate::specs::Texts::base64_bytes))]
+#[tactic(auto, unfolding(text_forms::specs::Texts::base64_bytes))]
 pub fn decode_base64(alloc: Global, text: &[u8]) -> Result<Option<Secret>, NoMemory>
     ensures { IfOk result (λ decoded. option_map (λ secret. secret.bytes) decoded
         ≡ texts.base64_bytes text.now) }

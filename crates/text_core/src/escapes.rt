@@ -4,10 +4,10 @@ ghost use Rattle.markup_grammar.specs.Escapes as escapes;
 ghost use Rattle.std.specs.List.{list_all};
 ghost use Rattle.std.specs.Prelude.{◌≡◌, ◌≤◌, ◌++◌, IfOk, OnErr, OnOk};
 ghost use Rattle.std.specs.Str.{str_eq_ignore_ascii_case};
-ghost use Rattle.text_core.specs.Texts as texts;
+ghost use Rattle.text_forms.specs.Texts as texts;
 
 use crate::spaces::is_word;
-use markup_core::{unescape, unescaped_len};
+use markup_escapes::{unescape, unescaped_len};
 use outside_core::NoMemory;
 use secret_core::Secret;
 use std::alloc::Global;

@@ -4,7 +4,7 @@ ghost use Rattle.markup_grammar.specs.Bytes as bytes_of;
 ghost use Rattle.std.specs.List.{prefix_len, suffix_len};
 ghost use Rattle.std.specs.Prelude.{◌≡◌, ◌≤◌, length};
 ghost use Rattle.std.specs.Str.{str_eq_ignore_ascii_case};
-ghost use Rattle.text_core.specs.Texts as texts;
+ghost use Rattle.text_forms.specs.Texts as texts;
 
 /// Whether a byte is white space: tab, line feed, carriage return or space.
 #[inline(always)]
@@ -35,7 +35,7 @@ fn trailing_space(text: &[u8]) -> usize
 }
 
 /// The text without white space at its ends.
-#[tactic(auto, unfolding(crate::specs::Texts::trim))]
+#[tactic(auto, unfolding(text_forms::specs::Texts::trim))]
 pub fn trim(text: &[u8]) -> &[u8]
     ensures { result.now ≡ texts.trim text.now }
 {

@@ -18,7 +18,7 @@ use Rattle.tree_changes.specs.declared.fails.TreeFail.TheVariants.{AlreadyThere,
 use Rattle.tree_changes.specs.Changes.{changed_at, changed_entry, entries_buried, entry_at, entry_moved, group_moved, group_with, has_group, holder, is_free, level_of, parent_of, placed_of, tree_buried, with_entry, with_group, without_entry, without_group}
 use Rattle.tree_changes.specs.Histories.{settled_history, with_version}
 use Rattle.tree_changes.specs.NewNodes.{GivenValues, edited_version, empty_bin, empty_group, new_entry, new_fields}
-use Rattle.tree_changes.specs.NewPaths.{after_last, before_last, new_path}
+use Rattle.tree_changes.specs.NewPaths.{after_last, before_last, names_root, new_path}
 
 -- ---- what a call answers
 
@@ -62,11 +62,15 @@ after_add path id values now d = do
     )) d.tree;
   })
 
+-- a path that a new group cannot have: another group has it, or it names the root
+abbrev pub is_group_taken : List ℕ → BareDoc → Bool
+is_group_taken path d = has_group_path d path || names_root path
+
 -- a new group of a path without slashes around it, the last of its group
 abbrev pub after_new_group : List ℕ → NodeId → ℕ → BareDoc → Result BareDoc TreeFail
 after_new_group path id now d = do
   group ← named_or_refusal (group_found d (before_last path))
-  _ ← refuse_if (has_group_path d (new_path path)) NameTaken
+  _ ← refuse_if (is_group_taken (new_path path) d) NameTaken
   _ ← refuse_if (nat_lt LEVELS (level_of group d.tree + 1)) TooDeep
   _ ← refuse_if (not (is_free id d)) (IdTaken id)
   Ok (record d {

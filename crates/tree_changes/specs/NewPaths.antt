@@ -1,5 +1,5 @@
 -- The path of a new node: the group that is to hold it, and the node's own name.
-use Rattle.std.specs.Prelude.{ℕ, Bool, ◌==◌, cond, List, [], ◌∷◌, ◌++◌, codes}
+use Rattle.std.specs.Prelude.{ℕ, Bool, ◌==◌, cond, List, [], ◌∷◌, ◌++◌, codes, length}
 use Rattle.std.specs.List.{list_any}
 use Rattle.tree_core.specs.Finding.{without_slashes}
 
@@ -26,3 +26,7 @@ path_below (b ∷ bs) name = (b ∷ bs) ++ codes "/" ++ name
 -- slash names, and the part after it
 abbrev pub new_path : List ℕ → List ℕ
 new_path path = path_below (without_slashes (before_last path)) (after_last path)
+
+-- a path that names the root: it is empty but for one slash at its start and one at its end
+abbrev pub names_root : List ℕ → Bool
+names_root path = length (without_slashes path) == 0

@@ -2,6 +2,8 @@ pub mod AddedDoc
 pub mod AfterAdd
 pub mod AfterEdit
 pub mod EditedDoc
+pub mod LastVersions
+pub mod MovedUp
 pub mod Suffixes
 pub mod Places
 pub mod Proper

@@ -21,7 +21,7 @@ use Rattle.vault_model.proofs.Tests.{decide}
 use Rattle.join_laws.proofs.Joins.{stats_joins, versions_joins}
 use Rattle.join_laws.proofs.Unite.{tie, get-unite}
 use Rattle.tree_changes.specs.Histories.{rising_versions}
-use Rattle.tree_edits.specs.Versions.{put_version}
+use Rattle.tree_edits.specs.Versions.{AreRising, put_version}
 
 -- a version as a map of its own
 abbrev single : BareVersion → Versions
@@ -59,15 +59,15 @@ add_one m v =
 
 -- ---- a version put among rows that rise
 
-first : (a b : Bool) → T (a && b) → T a
+pub first : (a b : Bool) → T (a && b) → T a
 first true b p = tt
 first false b p = absurd p
 
-second : (a b : Bool) → T (a && b) → T b
+pub second : (a b : Bool) → T (a && b) → T b
 second true b p = p
 second false b p = absurd p
 
-less : (r : Ordering) → T (is_lt r) → r ≡ Less
+pub less : (r : Ordering) → T (is_lt r) → r ≡ Less
 less Less p = refl
 less Equal p = absurd p
 less Greater p = absurd p
@@ -185,3 +185,7 @@ pub rises_last : (items own : List Version) (at : ℕ) (rising : List BareVersio
 rises_last items own at rising far same h =
     subst (λ (vs : List Version). IsRising (map bare_version vs) [] rising) same
     (subst (λ (vs : List Version). IsRising (map bare_version items) (map bare_version vs) rising) (drop_all at items far) h)
+
+-- what was taken so far rises
+pub are_rising : (all rest rising : List BareVersion) → IsRising all rest rising → AreRising rising
+are_rising all rest rising h = (h.so_far, h.is)

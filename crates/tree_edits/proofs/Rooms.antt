@@ -4,7 +4,7 @@ use Rattle.std.proofs.lemmas.Bool.{leb-false, leb-true, le-leb}
 use Rattle.vault_model.proofs.Tests.{decide, is_false}
 use Rattle.tree_edits.specs.Rooms.{room_left}
 
-has_room : (room n : ℕ) → n ≤ room → room_left room n ≡ Some (room - n)
+pub has_room : (room n : ℕ) → n ≤ room → room_left room n ≡ Some (room - n)
 has_room room n h = ap (λ b. cond b (Some (room - n)) None) (le-leb n room h)
 
 no_room : (room n : ℕ) → room < n → room_left room n ≡ None

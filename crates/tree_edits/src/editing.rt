@@ -6,7 +6,7 @@ ghost use Rattle.vault_model.specs.Seen.{bare_field};
 ghost use Rattle.vault_model.specs.SeenDoc.{doc_seen};
 ghost use Rattle.vault_model.specs.SeenNodes.{bare_version, entry_record};
 ghost use Rattle.vault_model.specs.Shape.{BareVersion};
-ghost use Rattle.tree_changes.specs.After.{Changes, after_edit};
+ghost use Rattle.tree_changes.specs.After.{Changes, after_edit, edited_entry};
 ghost use Rattle.tree_changes.specs.Histories.{settled_history, with_version};
 ghost use Rattle.tree_changes.specs.NewNodes as spec;
 
@@ -20,7 +20,7 @@ use tree_changes::{TreeFail, Values};
 use tree_core::find_entry;
 use tree_steps::{entry_of, holder, set_versions, time_after};
 use vault_making::copy_version;
-use vault_model::{Doc, Entry, Field, Meta, Protection, Stamp, Stats, Version, entry_stamp};
+use vault_model::{Doc, Entry, Field, Meta, Protection, Stamp, Version, entry_stamp};
 
 // Gives the field of a key another value, where one is given.
 fn set_given(
@@ -86,6 +86,24 @@ fn set_values(
     )
 }
 
+// Gives a version the values that are given, and the time at which it is made.
+fn change_version(
+    alloc: Global,
+    version: &mut Version,
+    protect: &Protection,
+    values: &Values<'_>,
+    time: Stamp,
+) -> Result<(), NoMemory>
+    ensures { OnOk result (bare_version version.new
+        ≡ spec.edited_version protect.now (spec.given_values values.now) time
+        (bare_version version.old)) }
+{
+    set_values(alloc, &mut version.content.fields, protect, values)?;
+    version.modified = time;
+    version.stats.accessed = time;
+    Ok(())
+}
+
 // A copy of a version with the values that are given, made at this time.
 fn edited_version(
     alloc: Global,
@@ -99,13 +117,10 @@ fn edited_version(
         (bare_version old.now)) }
 {
     let mut version = copy_version(alloc, old)?;
-    set_values(alloc, &mut version.content.fields, protect, values)?;
-    version.modified = time;
-    version.stats = Stats {
-        accessed: time,
-        usage: version.stats.usage,
-    };
-    Ok(version)
+    match change_version(alloc, &mut version, protect, values, time) {
+        Ok(()) => Ok(version),
+        Err(fail) => Err(fail),
+    }
 }
 
 // The history of an entry that is edited: all its versions, within the limits.
@@ -120,6 +135,34 @@ fn edited_history(alloc: Global, entry: &Entry, meta: &Meta) -> Result<List<Vers
     let mut history = rising_versions(alloc, entry)?;
     limit_history(&mut history, settings.history_items, settings.history_size);
     Ok(history)
+}
+
+// The versions of an entry that was edited: the new one, and the others as its history.
+#[derive(Drop)]
+struct Versions {
+    current: Version,
+    history: List<Version>,
+}
+
+// The versions of an entry that is edited at this time.
+fn edited_versions(
+    alloc: Global,
+    entry: &Entry,
+    meta: &Meta,
+    values: &Values<'_>,
+    time: Stamp,
+) -> Result<Versions, NoMemory>
+    ensures { IfOk result (λ versions. record (entry_record entry.now) {
+      current = bare_version versions.current;
+      history = map bare_version versions.history;
+    } ≡ edited_entry meta.now (spec.given_values values.now) time (entry_record entry.now)) }
+{
+    let history = edited_history(alloc, entry, meta)?;
+    let protect = &meta.settings.value.protect;
+    match edited_version(alloc, &entry.current, protect, values, time) {
+        Ok(current) => Ok(Versions { current, history }),
+        Err(fail) => Err(fail),
+    }
 }
 
 /// Gives the entry that a path names other values, in a new version that is made now, or a second
@@ -148,9 +191,11 @@ pub fn edit(
     };
     let time = time_after(now, entry_stamp(entry))?;
     values_are_utf8(values);
-    let protect = &doc.meta.settings.value.protect;
-    let current = edited_version(alloc, &entry.current, protect, values, time)?;
-    let history = edited_history(alloc, entry, &doc.meta)?;
-    set_versions(&mut doc.root, group, id, current, history);
-    Ok(())
+    match edited_versions(alloc, entry, &doc.meta, values, time) {
+        Ok(edited) => {
+            set_versions(&mut doc.root, group, id, edited.current, edited.history);
+            Ok(())
+        }
+        Err(_) => Err(TreeFail::NoMemory),
+    }
 }

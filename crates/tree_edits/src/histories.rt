@@ -1,17 +1,19 @@
 //! The versions of an entry in rising order.
 
-ghost use Rattle.std.specs.Prelude.{◌≡◌, IfOk, OnOk, map};
+ghost use Rattle.std.specs.Prelude.{◌≡◌, ◌++◌, ◌∷◌, [], IfOk, OnOk, map};
 ghost use Rattle.vault_model.specs.Db.{mark_cmp};
 ghost use Rattle.vault_model.specs.Join.{stats_join};
 ghost use Rattle.vault_model.specs.SeenNodes.{bare_version, entry_record};
 ghost use Rattle.vault_model.specs.Shape.{BareVersion};
 ghost use Rattle.tree_changes.specs.Histories as spec;
-ghost use Rattle.tree_edits.specs.Versions.{put_version};
+ghost use Rattle.tree_edits.specs.Versions as order;
+ghost use Rattle.tree_edits.specs.Versions.{AreRising, put_version};
 ghost use Rattle.tree_edits.specs.Spots.{changed_nth, spot};
 
 use outside_core::{List, NoMemory};
 use std::alloc::Global;
 use std::cmp::Ordering;
+use tree_steps::put_last;
 use vault_making::copy_version;
 use vault_model::{Entry, Stats, Version, compare_content};
 
@@ -61,8 +63,9 @@ fn join_stats_at(versions: &mut List<Version>, at: usize, stats: Stats)
     }
 }
 
-// Puts a version in its place among versions that rise; of one mark they are made one.
-fn add_version(versions: &mut List<Version>, version: Version) -> Result<(), NoMemory>
+// Puts a version in its place, which is looked for from the first version on; of one mark they are
+// made one.
+fn place_version(versions: &mut List<Version>, version: Version) -> Result<(), NoMemory>
     ensures { OnOk result (map bare_version versions.new
         ≡ put_version (bare_version version) (map bare_version versions.old)) }
 {
@@ -78,8 +81,39 @@ fn add_version(versions: &mut List<Version>, version: Version) -> Result<(), NoM
     }
 }
 
+// Reports whether a version is greater than the last of some others.
+fn is_above(version: &Version, versions: &[Version]) -> bool
+    ensures { result ≡ order.is_above (bare_version version.now) (map bare_version versions.now) }
+{
+    let count = versions.len();
+    count == 0 || compare_marks(version, &versions[count - 1]).is_gt()
+}
+
+// Puts a version after some others.
+fn push_version(versions: &mut List<Version>, version: Version) -> Result<(), NoMemory>
+    ensures { OnOk result (map bare_version versions.new
+        ≡ map bare_version versions.old ++ bare_version version ∷ []) }
+{
+    put_last(versions, version)
+}
+
+// Puts a version in its place among versions that rise, which is mostly after the last; of one mark
+// they are made one.
+fn add_version(versions: &mut List<Version>, version: Version) -> Result<(), NoMemory>
+    requires { AreRising (map bare_version versions.old) }
+    ensures { OnOk result (map bare_version versions.new
+        ≡ put_version (bare_version version) (map bare_version versions.old)) }
+{
+    if is_above(&version, versions.as_slice()) {
+        push_version(versions, version)
+    } else {
+        place_version(versions, version)
+    }
+}
+
 // Puts a copy of a version in its place.
 fn add_copy(alloc: Global, versions: &mut List<Version>, version: &Version) -> Result<(), NoMemory>
+    requires { AreRising (map bare_version versions.old) }
     ensures { OnOk result (map bare_version versions.new
         ≡ put_version (bare_version version.now) (map bare_version versions.old)) }
 {

@@ -2,6 +2,7 @@
 #![tactic(auto)]
 
 mod adding;
+mod cutting;
 mod editing;
 mod fields;
 mod histories;

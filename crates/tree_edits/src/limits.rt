@@ -1,11 +1,12 @@
 //! Histories kept within their limits.
 
-ghost use Rattle.std.specs.Prelude.{◌≡◌, ◌&&◌, ◌≤◌, drop, length, map, sum};
+ghost use Rattle.std.specs.Prelude.{◌≡◌, ◌≤◌, drop, length, map, sum};
 ghost use Rattle.vault_model.specs.Seen.{bare_attachment, bare_content, bare_field};
 ghost use Rattle.vault_model.specs.SeenNodes.{bare_version, entry_record};
 ghost use Rattle.tree_changes.specs.Histories as spec;
-ghost use Rattle.tree_edits.specs.Rooms.{room_left};
+ghost use Rattle.tree_edits.specs.Rooms.{IsStart, limit_of, room_left, surplus_over};
 
+use crate::cutting::cut_start;
 use outside_core::List;
 use vault_model::{Attachment, Content, Entry, Field, Version};
 
@@ -54,37 +55,45 @@ fn room_after_content(room: u64, content: &Content) -> Option<u64>
     room_after_attachments(room, content.attachments.as_slice())
 }
 
-// The room that is left after some versions.
-fn room_after_versions(limit: u64, versions: &[Version]) -> Option<u64>
-    ensures { result ≡ room_left limit (spec.versions_size (map bare_version versions.now)) }
+// The most bytes that a history may have; a negative limit is none.
+fn size_limit(size: i64) -> Option<u64>
+    ensures { result ≡ limit_of size }
+{
+    if size < 0 { None } else { Some(size as u64) }
+}
+
+// The most versions that a history may have; a negative limit is none.
+fn item_limit(items: i32) -> Option<u64>
+    ensures { result ≡ limit_of items }
+{
+    if items < 0 { None } else { Some(items as u64) }
+}
+
+// How many versions there are above a limit.
+fn surplus(count: usize, limit: Option<u64>) -> usize
+    ensures { result ≡ surplus_over limit count }
+{
+    match limit {
+        Some(most) => (count as u64).saturating_sub(most) as usize,
+        None => 0,
+    }
+}
+
+// From where on there is room for the rest of a history, at the earliest from `least` on.
+fn start_with_room(history: &[Version], least: usize, limit: u64) -> usize
+    requires { least ≤ length history.now }
+    ensures { IsStart least limit (map bare_version history.now) result }
 {
     let mut room = limit;
-    for version in versions {
-        room = room_after_content(room, &version.content)?;
+    let mut start = history.len();
+    while start > least {
+        let Some(rest) = room_after_content(room, &history[start - 1].content) else {
+            return start;
+        };
+        room = rest;
+        start -= 1;
     }
-    Some(room)
-}
-
-// Reports whether there are at most so many versions; a negative limit is none.
-fn are_few(versions: &[Version], items: i32) -> bool
-    ensures { result ≡ spec.is_within (length versions.now) items }
-{
-    items < 0 || versions.len() as u64 <= items as u64
-}
-
-// Reports whether some versions are of at most this size; a negative limit is none.
-fn are_small(versions: &[Version], size: i64) -> bool
-    ensures { result ≡ spec.is_within (spec.versions_size (map bare_version versions.now)) size }
-{
-    size < 0 || room_after_versions(size as u64, versions).is_some()
-}
-
-// Reports whether some versions are within both limits.
-fn are_within(versions: &[Version], items: i32, size: i64) -> bool
-    ensures { result ≡ (spec.is_within (length versions.now) items
-        && spec.is_within (spec.versions_size (map bare_version versions.now)) size) }
-{
-    are_few(versions, items) && are_small(versions, size)
+    start
 }
 
 // How many versions at the start of a history are too many, or too large.
@@ -93,14 +102,11 @@ fn excess(history: &[Version], items: i32, size: i64) -> usize
     ensures drops { drop result (map bare_version history.now)
         ≡ spec.within_limits items size (map bare_version history.now) }
 {
-    let mut start = 0;
-    while start < history.len() {
-        if are_within(&history[start..], items, size) {
-            return start;
-        }
-        start += 1;
+    let least = surplus(history.len(), item_limit(items));
+    match size_limit(size) {
+        Some(limit) => start_with_room(history, least, limit),
+        None => least,
     }
-    start
 }
 
 /// Keeps the longest suffix of a history that is within its limits. Takes no memory.
@@ -109,9 +115,7 @@ pub(crate) fn limit_history(history: &mut List<Version>, items: i32, size: i64)
         ≡ spec.within_limits items size (map bare_version history.old) }
 {
     let excess = excess(history.as_slice(), items, size);
-    for _count in 0..excess {
-        history.remove(0);
-    }
+    cut_start(history, excess);
 }
 
 /// Keeps the longest suffix of an entry's history with at most `items` versions and of at most

@@ -9,6 +9,7 @@ ghost use Rattle.tree_changes.specs.Changes.{changed_at, on_groups, without_grou
 ghost use Rattle.tree_group_moves.specs.GroupPlaces.{groups_filled, group_at};
 
 use outside_core::List;
+use std::mem;
 use tree_steps::{Change, change_at, is_same};
 use uuid::Uuid;
 use vault_model::Group;
@@ -54,15 +55,15 @@ pub fn take_group(root: &mut Group, parent: Uuid, id: Uuid) -> Option<Group>
     change_at(root, parent, TakeGroup { id })?
 }
 
-// Puts a group into the place of the first without an id.
-fn fill_place(groups: &mut List<Group>, group: Group)
+// Exchanges the first group without an id, which keeps a place, for another.
+fn fill_place(groups: &mut List<Group>, group: &mut Group)
     ensures { all_trees (map tree_seen groups.new)
-        ≡ groups_filled (tree_seen group) (all_trees (map tree_seen groups.old)) }
+        ≡ groups_filled (tree_seen group.old) (all_trees (map tree_seen groups.old)) }
 {
     match place_in(groups.as_slice(), Uuid::nil()) {
         Some(at) => {
-            if let Some(slot) = groups.get_mut(at) {
-                *slot = group;
+            if let Some(place) = groups.get_mut(at) {
+                mem::swap(place, group);
             }
         }
         None => {}
@@ -86,8 +87,8 @@ impl Change for FillGroup {
     ghost makes = { λ fill out old new.
         new ≡ on_groups (groups_filled (tree_seen fill.group)) old };
 
-    fn make(self, group: &mut Group) {
-        fill_place(&mut group.groups, self.group)
+    fn make(mut self, group: &mut Group) {
+        fill_place(&mut group.groups, &mut self.group);
     }
 }
 

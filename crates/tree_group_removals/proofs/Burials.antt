@@ -1,100 +1,82 @@
--- Tombstones of all nodes of a group in memory, put among others from the last to the first.
-use Rattle.std.proofs.Common.{◌≡◌, ◌≢◌, ◌<◌, ◌≤◌, ◌-◌, ℕ, suc, List, [], ◌∷◌, ◌++◌, None, Some, OnOk, Result, Ok, Err, drop, get_or, length, map, max, refl, sym, ap, subst, ◌∙◌, arith}
+-- Tombstones of all nodes of a group in memory, gathered one after another.
+use Rattle.std.proofs.Common.{◌≡◌, ◌<◌, ◌≤◌, ◌+◌, ℕ, suc, List, [], ◌∷◌, ◌++◌, append_assoc, append-nil, drop, get_or, length, map, max, refl, sym, ap, ◌∙◌, arith}
 use Rattle.std.proofs.Math.Seq.{drop-cons}
 use Rattle.std.proofs.lemmas.List.{drop_all}
-use Rattle.std.proofs.lemmas.Option.{get_or_from_slice_get, slice_get-get_or}
-use Rattle.std.specs.List.{slice_get}
 use Rattle.vault_model.specs.declared.nodes.Entry.{Entry}
 use Rattle.vault_model.specs.declared.nodes.Group.{Group, out-Group}
 use Rattle.vault_model.specs.declared.nodes.Tombstone.{Tombstone}
 use Rattle.vault_model.specs.Db.{NodeId}
-use Rattle.vault_model.specs.SeenNodes.{entry_row, entry_time, tree_seen}
-use Rattle.vault_model.specs.Shape.{EntryRecord, GroupRecord}
-use Rattle.vault_model.specs.Tree.{entry_rows, entry_rows_all, group_rows, group_rows_all}
+use Rattle.vault_model.specs.SeenNodes.{entry_row, tree_seen}
+use Rattle.vault_model.specs.Tree.{Tree, Trees, beside, entry_rows, entry_rows_all, group_rows, group_rows_all, none}
 use Rattle.vault_model.proofs.SeenGroups.{seen_group}
-use Rattle.tree_changes.proofs.Options.{never}
-use Rattle.tree_changes.specs.Changes.{entries_buried, groups_buried, tomb_at, with_tomb}
+use Rattle.vault_model.proofs.Tests.{map_append}
+use Rattle.tree_changes.specs.Changes.{tomb_at}
+use Rattle.tree_group_removals.specs.Tombs.{entry_tomb, entry_tombs, entry_tombs_all, group_tomb, group_tombs, group_tombs_all}
 use Rattle.tree_steps.proofs.InPlace.{trees}
 
--- ---- some after others
+-- ---- the groups of a group, one after another
 
-groups_append : (now : ℕ) (xs ys : List (NodeId × GroupRecord)) (tombs : List Tombstone) → groups_buried now (xs ++ ys) tombs ≡ groups_buried now xs (groups_buried now ys tombs)
-groups_append now [] ys tombs = refl
-groups_append now (x ∷ xs) ys tombs = ap (with_tomb (tomb_at now x.0 x.1.state.modified)) (groups_append now xs ys tombs)
+module _ (those : Tree → List Tombstone) (all_those : Trees → List Tombstone) (no_more : all_those none ≡ [])
+    (more : (t : Tree) (ts : Trees) → all_those (beside t ts) ≡ those t ++ all_those ts) where
+  children_next : (start tombs new : List Tombstone) (gs : List Group) (at : ℕ) (child : Group) → at < length gs → child ≡ get_or gs at child
+      → start ++ all_those (trees gs) ≡ tombs ++ all_those (trees (drop at gs)) → new ≡ tombs ++ those (tree_seen child)
+      → start ++ all_those (trees gs) ≡ new ++ all_those (trees (drop (at + 1) gs))
+  children_next start tombs new gs at child less is so_far e =
+      let one : suc at ≡ at + 1 = omega arith in
+      so_far
+      ∙ ap (λ (xs : List Group). tombs ++ all_those (trees xs)) (drop-cons gs at child less ∙ ap (λ (x : Group). x ∷ drop (suc at) gs) (sym is))
+      ∙ ap (λ ts. tombs ++ ts) (more (tree_seen child) (trees (drop (suc at) gs)))
+      ∙ sym (append_assoc tombs (those (tree_seen child)) (all_those (trees (drop (suc at) gs))))
+      ∙ ap (λ ts. ts ++ all_those (trees (drop (suc at) gs))) (sym e)
+      ∙ ap (λ n. new ++ all_those (trees (drop n gs))) one
 
-entries_append : (now : ℕ) (xs ys : List (NodeId × EntryRecord)) (tombs : List Tombstone) → entries_buried now (xs ++ ys) tombs ≡ entries_buried now xs (entries_buried now ys tombs)
-entries_append now [] ys tombs = refl
-entries_append now (x ∷ xs) ys tombs = ap (with_tomb (tomb_at now x.0 (entry_time x.1))) (entries_append now xs ys tombs)
-
-next_drop : {A : Type 0} (xs : List A) (at : ℕ) (x : A) → at ≢ 0 → at ≤ length xs → slice_get xs (at - 1) ≡ Some x → drop (at - 1) xs ≡ x ∷ drop at xs
-next_drop xs at x some within is =
-    let less : at - 1 < length xs = omega (arith, some, within) in
-    let one : suc (at - 1) ≡ at = omega (arith, some) in
-    drop-cons xs (at - 1) x less
-    ∙ ap (λ y. y ∷ drop (suc (at - 1)) xs) (get_or_from_slice_get xs (at - 1) x x is)
-    ∙ ap (λ n. x ∷ drop n xs) one
-
--- there is one before the end
-pub there_is : {A B : Type 0} (xs : List A) (at : ℕ) → at ≢ 0 → at ≤ length xs → slice_get xs (at - 1) ≡ None → B
-there_is [] at some within is = absurd (some (omega (arith, within)))
-there_is (y ∷ ys) at some within is =
-    let less : at - 1 < length (y ∷ ys) = omega (arith, some, within) in
-    never (get_or (y ∷ ys) (at - 1) y) (sym is ∙ slice_get-get_or (y ∷ ys) (at - 1) y less)
+  children_done : (start tombs : List Tombstone) (gs own : List Group) (at : ℕ) → length gs ≤ at → gs ≡ own
+      → start ++ all_those (trees gs) ≡ tombs ++ all_those (trees (drop at gs)) → tombs ≡ start ++ all_those (trees own)
+  children_done start tombs gs own at far same so_far =
+      sym (append-nil tombs)
+      ∙ ap (λ ts. tombs ++ ts) (sym (ap (λ (xs : List Group). all_those (trees xs)) (drop_all at gs far) ∙ no_more))
+      ∙ sym so_far
+      ∙ ap (λ (xs : List Group). start ++ all_those (trees xs)) same
 
 -- ---- groups
 
-module _ (now : ℕ) (gs : List Group) (start : List Tombstone) where
-  abbrev GroupsFrom : ℕ → List Tombstone → Type 0
-  GroupsFrom at tombs = tombs ≡ groups_buried now (group_rows_all (trees (drop at gs))) start
+more_groups : (now : ℕ) (t : Tree) (ts : Trees) → group_tombs_all now (beside t ts) ≡ group_tombs now t ++ group_tombs_all now ts
+more_groups now t ts = map_append (group_tomb now) (group_rows t) (group_rows_all ts)
 
-  pub groups_start : (at : ℕ) → at ≡ length gs → GroupsFrom at start
-  groups_start at end =
-      let far : length gs ≤ at = omega (arith, end) in
-      sym (ap (λ (xs : List Group). groups_buried now (group_rows_all (trees xs)) start) (drop_all at gs far))
+pub groups_next : (now : ℕ) (start tombs new : List Tombstone) (gs : List Group) (at : ℕ) (child : Group) → at < length gs → child ≡ get_or gs at child
+    → start ++ group_tombs_all now (trees gs) ≡ tombs ++ group_tombs_all now (trees (drop at gs)) → new ≡ tombs ++ group_tombs now (tree_seen child)
+    → start ++ group_tombs_all now (trees gs) ≡ new ++ group_tombs_all now (trees (drop (at + 1) gs))
+groups_next now = children_next (group_tombs now) (group_tombs_all now) refl (more_groups now)
 
-  pub groups_next : (at : ℕ) (child : Group) (tombs next : List Tombstone) → at ≢ 0 → at ≤ length gs → slice_get gs (at - 1) ≡ Some child → GroupsFrom at tombs
-      → next ≡ groups_buried now (group_rows (tree_seen child)) tombs → GroupsFrom (at - 1) next
-  groups_next at child tombs next some within is are e =
-      e ∙ ap (groups_buried now (group_rows (tree_seen child))) are
-      ∙ sym (groups_append now (group_rows (tree_seen child)) (group_rows_all (trees (drop at gs))) start)
-      ∙ sym (ap (λ (xs : List Group). groups_buried now (group_rows_all (trees xs)) start) (next_drop gs at child some within is))
+abbrev tomb : NodeId → ℕ → Tombstone
+tomb id time = record { id = id; deleted = time }
 
-pub group_last : (now : ℕ) (g : Group) (time : ℕ) (start tombs new : List Tombstone) → time ≡ max now (out-Group g).state.modified → GroupsFrom now (out-Group g).groups start 0 tombs
-    → new ≡ with_tomb (record { id = (out-Group g).id; deleted = time }) tombs → new ≡ groups_buried now (group_rows (tree_seen g)) start
-group_last now g time start tombs new is are e =
-    e ∙ ap (λ n. with_tomb (record { id = (out-Group g).id; deleted = n }) tombs) is
-    ∙ ap (with_tomb (tomb_at now (out-Group g).id (out-Group g).state.modified)) are
-    ∙ sym (ap (λ t. groups_buried now (group_rows t) start) (seen_group g))
+pub groups_done : (now : ℕ) (g : Group) (time : ℕ) (old start tombs : List Tombstone) (gs : List Group) (at : ℕ) → time ≡ max now (out-Group g).state.modified
+    → start ≡ old ++ tomb (out-Group g).id time ∷ [] → length gs ≤ at → gs ≡ (out-Group g).groups
+    → start ++ group_tombs_all now (trees gs) ≡ tombs ++ group_tombs_all now (trees (drop at gs)) → tombs ≡ old ++ group_tombs now (tree_seen g)
+groups_done now g time old start tombs gs at is pushed far same so_far =
+    children_done (group_tombs now) (group_tombs_all now) refl (more_groups now) start tombs gs (out-Group g).groups at far same so_far
+    ∙ ap (λ ts. ts ++ group_tombs_all now (trees (out-Group g).groups)) (pushed ∙ ap (λ n. old ++ tomb (out-Group g).id n ∷ []) is)
+    ∙ append_assoc old (tomb_at now (out-Group g).id (out-Group g).state.modified ∷ []) (group_tombs_all now (trees (out-Group g).groups))
+    ∙ sym (ap (λ t. old ++ group_tombs now t) (seen_group g))
 
 -- ---- entries
 
-module _ (now : ℕ) (gs : List Group) (start : List Tombstone) where
-  abbrev EntriesFrom : ℕ → List Tombstone → Type 0
-  EntriesFrom at tombs = tombs ≡ entries_buried now (entry_rows_all (trees (drop at gs))) start
+more_entries : (now : ℕ) (t : Tree) (ts : Trees) → entry_tombs_all now (beside t ts) ≡ entry_tombs now t ++ entry_tombs_all now ts
+more_entries now t ts = map_append (entry_tomb now) (entry_rows t) (entry_rows_all ts)
 
-  pub entries_start : (at : ℕ) → at ≡ length gs → EntriesFrom at start
-  entries_start at end =
-      let far : length gs ≤ at = omega (arith, end) in
-      sym (ap (λ (xs : List Group). entries_buried now (entry_rows_all (trees xs)) start) (drop_all at gs far))
+pub entries_next : (now : ℕ) (start tombs new : List Tombstone) (gs : List Group) (at : ℕ) (child : Group) → at < length gs → child ≡ get_or gs at child
+    → start ++ entry_tombs_all now (trees gs) ≡ tombs ++ entry_tombs_all now (trees (drop at gs)) → new ≡ tombs ++ entry_tombs now (tree_seen child)
+    → start ++ entry_tombs_all now (trees gs) ≡ new ++ entry_tombs_all now (trees (drop (at + 1) gs))
+entries_next now = children_next (entry_tombs now) (entry_tombs_all now) refl (more_entries now)
 
-  pub entries_next : (at : ℕ) (child : Group) (tombs next : List Tombstone) → at ≢ 0 → at ≤ length gs → slice_get gs (at - 1) ≡ Some child → EntriesFrom at tombs
-      → next ≡ entries_buried now (entry_rows (tree_seen child)) tombs → EntriesFrom (at - 1) next
-  entries_next at child tombs next some within is are e =
-      e ∙ ap (entries_buried now (entry_rows (tree_seen child))) are
-      ∙ sym (entries_append now (entry_rows (tree_seen child)) (entry_rows_all (trees (drop at gs))) start)
-      ∙ sym (ap (λ (xs : List Group). entries_buried now (entry_rows_all (trees xs)) start) (next_drop gs at child some within is))
-
-entries_last : (now : ℕ) (g : Group) (es : List Entry) (start tombs new : List Tombstone) → es ≡ (out-Group g).entries → EntriesFrom now (out-Group g).groups start 0 tombs
-    → new ≡ entries_buried now (map entry_row es) tombs → new ≡ entries_buried now (entry_rows (tree_seen g)) start
-entries_last now g es start tombs new own are e =
-    e ∙ ap (λ (xs : List Entry). entries_buried now (map entry_row xs) tombs) own
-    ∙ ap (entries_buried now (map entry_row (out-Group g).entries)) are
-    ∙ sym (entries_append now (map entry_row (out-Group g).entries) (entry_rows_all (trees (out-Group g).groups)) start)
-    ∙ sym (ap (λ t. entries_buried now (entry_rows t) start) (seen_group g))
-
--- whatever was answered
-pub entries_done : {E : Type 0} (now : ℕ) (g : Group) (es : List Entry) (start tombs new : List Tombstone) (at : ℕ) (result : Result (Unit {0}) E) → es ≡ (out-Group g).entries → at ≡ 0
-    → EntriesFrom now (out-Group g).groups start at tombs → OnOk result (new ≡ entries_buried now (map entry_row es) tombs) → OnOk result (new ≡ entries_buried now (entry_rows (tree_seen g)) start)
-entries_done now g es start tombs new at (Err e) own zero are h = tt
-entries_done now g es start tombs new at (Ok x) own zero are h =
-    entries_last now g es start tombs new own (subst (λ (n : ℕ). EntriesFrom now (out-Group g).groups start n tombs) zero are) h
+pub entries_done : (now : ℕ) (g : Group) (es : List Entry) (old start tombs : List Tombstone) (gs : List Group) (at : ℕ) → es ≡ (out-Group g).entries
+    → start ≡ old ++ map (entry_tomb now) (map entry_row es) → length gs ≤ at → gs ≡ (out-Group g).groups
+    → start ++ entry_tombs_all now (trees gs) ≡ tombs ++ entry_tombs_all now (trees (drop at gs)) → tombs ≡ old ++ entry_tombs now (tree_seen g)
+entries_done now g es old start tombs gs at own first far same so_far =
+    let rest = entry_tombs_all now (trees (out-Group g).groups) in
+    children_done (entry_tombs now) (entry_tombs_all now) refl (more_entries now) start tombs gs (out-Group g).groups at far same so_far
+    ∙ ap (λ ts. ts ++ rest) (first ∙ ap (λ (xs : List Entry). old ++ map (entry_tomb now) (map entry_row xs)) own)
+    ∙ append_assoc old (map (entry_tomb now) (map entry_row (out-Group g).entries)) rest
+    ∙ ap (λ ts. old ++ ts) (sym (map_append (entry_tomb now) (map entry_row (out-Group g).entries) (entry_rows_all (trees (out-Group g).groups))))
+    ∙ sym (ap (λ t. old ++ entry_tombs now t) (seen_group g))

@@ -1,5 +1,5 @@
 -- A group that is deleted.
-use Rattle.std.proofs.Common.{◌≡◌, ℕ, List, MatchOption, MatchResult, Option, Result, None, Some, Ok, Err, IfSome, IsSome, subst, sym, ap, ◌∙◌}
+use Rattle.std.proofs.Common.{◌≡◌, ℕ, List, MatchOption, MatchResult, Option, Result, None, Some, Ok, Err, IfSome, IsSome, true, subst, sym, ap, ◌∙◌}
 use Rattle.std.specs.Option.{unwrap_or}
 use Rattle.vault_model.specs.declared.nodes.Group.{Group}
 use Rattle.vault_model.specs.declared.nodes.Tombstone.{Tombstone}
@@ -17,6 +17,7 @@ use Rattle.tree_changes.proofs.Options.{never}
 use Rattle.tree_group_moves.proofs.GroupParents.{parent_child}
 use Rattle.tree_group_moves.specs.GroupPlaces.{group_at}
 use Rattle.tree_removals.specs.Removes.{Removes}
+use Rattle.tree_group_removals.specs.Tombs.{ids_rise}
 use Rattle.tree_group_removals.proofs.ManyTombs.{deleted_is_doc}
 
 -- a group that is taken out, and its tombstones
@@ -59,3 +60,10 @@ pub held_group : (d : BareDoc) → IsDoc d → (p u : NodeId) → IsSome (group_
 held_group d is p u some parent =
     let g = some_of (group_with u d.tree) some in
     subst (λ (o : Option Tree). IfSome o (λ x. group_at p u d.tree ≡ Some x)) (sym g.1) (parent_child d is u p g.0 parent g.1)
+
+-- and the tombstones that its deletion leaves rise
+pub rising_group : (d : BareDoc) → IsDoc d → (p u : NodeId) (now : ℕ) → IsSome (group_with u d.tree) → parent_of u d.tree ≡ Some p
+    → IfSome (group_with u d.tree) (λ g. ids_rise (tree_buried now g d.tombs) ≡ true)
+rising_group d is p u now some parent =
+    let g = some_of (group_with u d.tree) some in
+    subst (λ (o : Option Tree). IfSome o (λ x. ids_rise (tree_buried now x d.tombs) ≡ true)) (sym g.1) (deleted_is_doc d is p u now g.0 (parent_child d is u p g.0 parent g.1)).tombs_rise

@@ -3,3 +3,4 @@ pub mod GroupBins
 pub mod GroupsDeleted
 pub mod GroupsRecycled
 pub mod ManyTombs
+pub mod SortedTombs

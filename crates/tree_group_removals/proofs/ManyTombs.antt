@@ -5,28 +5,22 @@ use Rattle.vault_model.specs.declared.nodes.Tombstone.{Tombstone}
 use Rattle.vault_model.specs.Db.{NodeId}
 use Rattle.vault_model.specs.Join.{is_id}
 use Rattle.vault_model.specs.Proper.{rises}
-use Rattle.vault_model.specs.SeenNodes.{entry_time}
 use Rattle.vault_model.specs.Shape.{EntryRecord, GroupRecord}
 use Rattle.vault_model.specs.Tree.{BareDoc, IsDoc, Tree, Trees, beside, entry_rows, entry_rows_all, group_rows, group_rows_all, is_elsewhere, node, node_ids, node_ids_all, none}
 use Rattle.vault_model.proofs.Ids.{id_itself, same_id}
 use Rattle.vault_model.proofs.Tests.{and_both, and_true, is_false, map_append, not_false}
-use Rattle.tree_changes.specs.Changes.{changed_at, entries_buried, groups_buried, tomb_at, tree_buried, with_tomb, without_group}
+use Rattle.tree_changes.specs.Changes.{changed_at, entries_buried, groups_buried, tree_buried, with_tomb, without_group}
 use Rattle.tree_changes.proofs.Counted.{all_both, elsewhere_occurs, occurs, occurs-append, occurs_elsewhere, once, one_if}
 use Rattle.tree_changes.proofs.EntriesRemoved.{tombs_all, tombs_rise}
 use Rattle.tree_changes.proofs.GroupDocs.{counted_less, take_is_doc}
 use Rattle.tree_changes.proofs.Rows.{keys}
 use Rattle.tree_group_moves.proofs.GroupChildren.{found_child}
 use Rattle.tree_group_moves.specs.GroupPlaces.{group_at}
+use Rattle.tree_group_removals.specs.Tombs.{entry_tomb, group_tomb, tombs_of}
 
 -- ---- the tombstones of a tree as one list
 
-abbrev entry_tomb : ℕ → NodeId × EntryRecord → Tombstone
-entry_tomb now e = tomb_at now e.0 (entry_time e.1)
-
-abbrev group_tomb : ℕ → NodeId × GroupRecord → Tombstone
-group_tomb now g = tomb_at now g.0 g.1.state.modified
-
-abbrev put_all : List Tombstone → List Tombstone → List Tombstone
+abbrev pub put_all : List Tombstone → List Tombstone → List Tombstone
 put_all [] tombs = tombs
 put_all (t ∷ ts) tombs = with_tomb t (put_all ts tombs)
 
@@ -42,10 +36,7 @@ groups_put : (now : ℕ) (gs : List (NodeId × GroupRecord)) (tombs : List Tombs
 groups_put now [] tombs = refl
 groups_put now (g ∷ gs) tombs = ap (with_tomb (group_tomb now g)) (groups_put now gs tombs)
 
-abbrev tombs_of : ℕ → Tree → List Tombstone
-tombs_of now t = map (entry_tomb now) (entry_rows t) ++ map (group_tomb now) (group_rows t)
-
-tree_put : (now : ℕ) (t : Tree) (tombs : List Tombstone) → tree_buried now t tombs ≡ put_all (tombs_of now t) tombs
+pub tree_put : (now : ℕ) (t : Tree) (tombs : List Tombstone) → tree_buried now t tombs ≡ put_all (tombs_of now t) tombs
 tree_put now t tombs =
     entries_put now (entry_rows t) (groups_buried now (group_rows t) tombs)
     ∙ ap (put_all (map (entry_tomb now) (entry_rows t))) (groups_put now (group_rows t) tombs)

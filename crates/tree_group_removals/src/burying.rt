@@ -1,16 +1,17 @@
 //! Tombstones of all nodes of a group.
 
-ghost use Rattle.std.specs.Prelude.{◌≡◌, IfOk, OnOk, map};
+ghost use Rattle.std.specs.Prelude.{◌≡◌, ◌++◌, IfOk, OnOk, map, true};
+ghost use Rattle.std.specs.List.Sorted.{IsPermutation};
 ghost use Rattle.vault_model.specs.SeenNodes.{entry_row, tree_seen};
-ghost use Rattle.vault_model.specs.Tree.{entry_rows, group_rows};
-ghost use Rattle.tree_changes.specs.Changes.{entries_buried, groups_buried, tree_buried};
+ghost use Rattle.tree_changes.specs.Changes.{tree_buried};
+ghost use Rattle.tree_group_removals.specs.Tombs.{AreSorted, entry_tomb, entry_tombs, group_tombs, ids_rise, tombs_of};
 
 use outside_core::{List, NoMemory};
 use std::alloc::Global;
-use tree_removals::{later, put_tomb};
+use tree_removals::later;
 use vault_model::{Entry, Group, Stamp, Tombstone, entry_stamp};
 
-// A copy of tombstones.
+// A list of some tombstones.
 fn copy_tombs(alloc: Global, tombs: &[Tombstone]) -> Result<List<Tombstone>, NoMemory>
     ensures { IfOk result (λ copy. copy ≡ tombs.now) }
 {
@@ -21,72 +22,88 @@ fn copy_tombs(alloc: Global, tombs: &[Tombstone]) -> Result<List<Tombstone>, NoM
     Ok(copy)
 }
 
-// Puts the tombstones of a group and of all groups below it among others, those of the last first.
-fn bury_groups(tombs: &mut List<Tombstone>, group: &Group, now: Stamp) -> Result<(), NoMemory>
-    ensures { OnOk result (tombs.new
-        ≡ groups_buried now (group_rows (tree_seen group.now)) tombs.old) }
+// Adds the tombstones of a group and of all groups below it.
+fn bury_groups(tombs: &mut Vec<Tombstone>, group: &Group, now: Stamp) -> Result<(), NoMemory>
+    ensures { OnOk result (tombs.new.items
+        ≡ tombs.old.items ++ group_tombs now (tree_seen group.now)) }
 {
-    let mut at = group.groups.len();
-    while at > 0 {
-        at -= 1;
-        if let Some(child) = group.groups.get(at) {
-            bury_groups(tombs, child, now)?;
-        }
-    }
-    let tomb = Tombstone {
+    tombs.push(Tombstone {
         id: group.id,
         deleted: later(now, group.state.modified),
-    };
-    put_tomb(tombs, tomb)
-}
-
-// Puts the tombstones of some entries among others, those of the last first.
-fn bury_own_entries(
-    tombs: &mut List<Tombstone>,
-    entries: &[Entry],
-    now: Stamp,
-) -> Result<(), NoMemory>
-    ensures { OnOk result (tombs.new ≡ entries_buried now (map entry_row entries.now) tombs.old) }
-{
-    let mut at = entries.len();
-    while at > 0 {
-        at -= 1;
-        let entry = &entries[at];
-        let tomb = Tombstone {
-            id: entry.id,
-            deleted: later(now, entry_stamp(entry)),
-        };
-        put_tomb(tombs, tomb)?;
+    })?;
+    for child in group.groups.as_slice() {
+        bury_groups(tombs, child, now)?;
     }
     Ok(())
 }
 
-// Puts the tombstones of all entries in a group and below it among others, those of the last first.
-fn bury_entries(tombs: &mut List<Tombstone>, group: &Group, now: Stamp) -> Result<(), NoMemory>
-    ensures { OnOk result (tombs.new
-        ≡ entries_buried now (entry_rows (tree_seen group.now)) tombs.old) }
+// Adds the tombstones of some entries.
+fn bury_own_entries(
+    tombs: &mut Vec<Tombstone>,
+    entries: &[Entry],
+    now: Stamp,
+) -> Result<(), NoMemory>
+    ensures { OnOk result (tombs.new.items
+        ≡ tombs.old.items ++ map (entry_tomb now) (map entry_row entries.now)) }
 {
-    let mut at = group.groups.len();
-    while at > 0 {
-        at -= 1;
-        if let Some(child) = group.groups.get(at) {
-            bury_entries(tombs, child, now)?;
-        }
+    for entry in entries {
+        tombs.push(Tombstone {
+            id: entry.id,
+            deleted: later(now, entry_stamp(entry)),
+        })?;
     }
-    bury_own_entries(tombs, group.entries.as_slice(), now)
+    Ok(())
 }
 
-/// Tombstones with those of a group and of all nodes below it, which are deleted now.
+// Adds the tombstones of all entries in a group and below it.
+fn bury_entries(tombs: &mut Vec<Tombstone>, group: &Group, now: Stamp) -> Result<(), NoMemory>
+    ensures { OnOk result (tombs.new.items
+        ≡ tombs.old.items ++ entry_tombs now (tree_seen group.now)) }
+{
+    bury_own_entries(tombs, group.entries.as_slice(), now)?;
+    for child in group.groups.as_slice() {
+        bury_entries(tombs, child, now)?;
+    }
+    Ok(())
+}
+
+// The tombstones of a group and of all nodes below it, and others after them.
+fn gather_tombs(
+    alloc: Global,
+    tombs: &[Tombstone],
+    group: &Group,
+    now: Stamp,
+) -> Result<Vec<Tombstone>, NoMemory>
+    ensures { IfOk result (λ all. all.items ≡ tombs_of now (tree_seen group.now) ++ tombs.now) }
+{
+    let mut all = Vec::new(alloc);
+    bury_entries(&mut all, group, now)?;
+    bury_groups(&mut all, group, now)?;
+    all.extend_from_slice(tombs)?;
+    Ok(all)
+}
+
+// Puts tombstones in order by id.
+fn sort_tombs(tombs: &mut Vec<Tombstone>) -> Result<(), NoMemory>
+    ensures moved { IsPermutation tombs.old.items tombs.new.items }
+    ensures sorted { OnOk result (AreSorted tombs.new.items) }
+{
+    tombs.sort_by_key(|tomb| tomb.id)?;
+    Ok(())
+}
+
+/// Tombstones with those of a group and of all nodes below it, which are deleted now: all are
+/// gathered, and sorted once.
 pub(crate) fn tombs_with(
     alloc: Global,
     tombs: &[Tombstone],
     group: &Group,
     now: Stamp,
 ) -> Result<List<Tombstone>, NoMemory>
+    requires { ids_rise (tree_buried now (tree_seen group.now) tombs.now) ≡ true }
     ensures { IfOk result (λ all. all ≡ tree_buried now (tree_seen group.now) tombs.now) }
 {
-    let mut all = copy_tombs(alloc, tombs)?;
-    bury_groups(&mut all, group, now)?;
-    bury_entries(&mut all, group, now)?;
-    Ok(all)
+    let mut all = gather_tombs(alloc, tombs, group, now)?;
+    sort_tombs(&mut all)?;
+    copy_tombs(alloc, all.as_slice())
 }

@@ -1,6 +1,6 @@
 //! Groups deleted.
 
-ghost use Rattle.std.specs.Prelude.{◌≡◌, IfSome, IsSome, MatchResult, Ok, Some};
+ghost use Rattle.std.specs.Prelude.{◌≡◌, IfSome, IsSome, MatchResult, Ok, Some, true};
 ghost use Rattle.vault_model.specs.SeenDoc.{doc_seen};
 ghost use Rattle.vault_model.specs.SeenNodes.{tree_seen};
 ghost use Rattle.vault_model.specs.Tree.{id_of};
@@ -8,6 +8,7 @@ ghost use Rattle.tree_changes.specs.After.{group_deleted};
 ghost use Rattle.tree_changes.specs.Changes.{changed_at, group_with, parent_of, tree_buried, without_group};
 ghost use Rattle.tree_group_moves.specs.GroupPlaces.{group_at};
 ghost use Rattle.tree_removals.specs.Removes.{Removes};
+ghost use Rattle.tree_group_removals.specs.Tombs.{ids_rise};
 
 use crate::burying::tombs_with;
 use outside_core::{List, NoMemory};
@@ -31,6 +32,8 @@ fn bury_group(
     requires held { IfSome (group_with id (tree_seen root.old))
         (λ g. group_at parent id (tree_seen root.old) ≡ Some g) }
     requires there { IsSome (group_with id (tree_seen root.old)) }
+    requires rising { IfSome (group_with id (tree_seen root.old))
+        (λ g. ids_rise (tree_buried now g tombs.old) ≡ true) }
     ensures { MatchResult result (λ _. IfSome (group_with id (tree_seen root.old))
         (λ g. (tree_seen root.new
         ≡ changed_at parent (without_group (id_of g)) (tree_seen root.old))

@@ -5,8 +5,9 @@ mod groups;
 mod levels;
 mod making;
 mod new_groups;
+mod paths;
 
 pub use groups::put_group;
 pub use levels::{LEVELS, fits, levels_below};
-pub use making::make_group;
+pub use making::{make_group, name_of_new};
 pub use new_groups::{new_bin, new_group};

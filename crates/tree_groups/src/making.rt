@@ -4,13 +4,15 @@ ghost use Rattle.std.specs.Prelude.{◌≡◌};
 ghost use Rattle.vault_model.specs.SeenDoc.{doc_seen};
 ghost use Rattle.tree_core.specs.Finding as named;
 ghost use Rattle.tree_changes.specs.After.{Changes, after_make_group, after_new_group};
+ghost use Rattle.tree_changes.specs.NewPaths.{after_last};
 
 use crate::groups::put_group;
 use crate::levels::{LEVELS, levels_below};
 use crate::new_groups::new_group;
+use crate::paths::is_taken;
 use std::alloc::Global;
 use tree_changes::TreeFail;
-use tree_core::{find_group_of, is_group_path};
+use tree_core::find_group_of;
 use tree_steps::{before_last, is_free, name_after, path_of_new};
 use uuid::Uuid;
 use vault_model::{Doc, Stamp};
@@ -23,6 +25,14 @@ fn without_slashes(path: &str) -> &str
     rest.strip_suffix("/").unwrap_or(rest)
 }
 
+/// The name of the group that is made of a path: the part after the last slash, of a path without one
+/// slash at its start and one at its end.
+pub fn name_of_new(path: &str) -> &str
+    ensures { result.now ≡ after_last (named.without_slashes path.now) }
+{
+    name_after(without_slashes(path))
+}
+
 // Makes a group of a path that has no slashes around it.
 fn make_of(alloc: Global, doc: &mut Doc, path: &str, id: Uuid, now: Stamp) -> Result<(), TreeFail>
     ensures { Changes (after_new_group path.now id now (doc_seen doc.old)) result
@@ -32,7 +42,7 @@ fn make_of(alloc: Global, doc: &mut Doc, path: &str, id: Uuid, now: Stamp) -> Re
         return Err(TreeFail::NoSuchPath);
     };
     let new_path = path_of_new(alloc, path)?;
-    if is_group_path(doc, new_path.as_slice()) {
+    if is_taken(doc, new_path.as_slice()) {
         return Err(TreeFail::NameTaken);
     }
     if levels_below(&doc.root, group, LEVELS).unwrap_or(0) == 0 {

@@ -7,6 +7,7 @@ ghost use Rattle.tree_changes.specs.Changes.{changed_at, entry_at, on_entries, w
 ghost use Rattle.tree_moves.specs.Places.{entries_filled};
 
 use outside_core::List;
+use std::mem;
 use tree_steps::{Change, change_at, is_same};
 use uuid::Uuid;
 use vault_model::{Entry, Group};
@@ -50,15 +51,15 @@ pub fn take_entry(root: &mut Group, group: Uuid, id: Uuid) -> Option<Entry>
     change_at(root, group, TakeEntry { id })?
 }
 
-// Puts an entry into the place of the first without an id.
-fn fill_place(entries: &mut List<Entry>, entry: Entry)
+// Exchanges the first entry without an id, which keeps a place, for another.
+fn fill_place(entries: &mut List<Entry>, entry: &mut Entry)
     ensures { map entry_row entries.new
-        ≡ entries_filled (entry_row entry) (map entry_row entries.old) }
+        ≡ entries_filled (entry_row entry.old) (map entry_row entries.old) }
 {
     match place_in(entries.as_slice(), Uuid::nil()) {
         Some(at) => {
-            if let Some(slot) = entries.get_mut(at) {
-                *slot = entry;
+            if let Some(place) = entries.get_mut(at) {
+                mem::swap(place, entry);
             }
         }
         None => {}
@@ -82,8 +83,8 @@ impl Change for FillEntry {
     ghost makes = { λ fill out old new.
         new ≡ on_entries (entries_filled (entry_row fill.entry)) old };
 
-    fn make(self, group: &mut Group) {
-        fill_place(&mut group.entries, self.entry)
+    fn make(mut self, group: &mut Group) {
+        fill_place(&mut group.entries, &mut self.entry);
     }
 }
 

@@ -10,7 +10,7 @@ use Rattle.tree_changes.specs.Changes.{changed_at, with_group}
 use Rattle.tree_changes.specs.NewNodes.{empty_bin}
 
 -- A call that removes a node: the document is the defined one, and the answer is what became of the
--- node; or the document is as before, and the answer is the defined refusal or want of memory.
+-- node; or the document is as before, and the answer is the defined refusal, or that memory ran out.
 abbrev pub Removes : Result AfterRemoval TreeFail → Result Removed TreeFail → BareDoc → BareDoc
     → Type 0
 Removes after result old new =

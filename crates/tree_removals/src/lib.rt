@@ -8,4 +8,4 @@ mod tombs;
 
 pub use recycling::is_recycled;
 pub use removing::remove_entry;
-pub use tombs::{later, put_tomb};
+pub use tombs::later;

@@ -33,7 +33,7 @@ fn tomb_place(tombs: &[Tombstone], id: Uuid) -> usize
 
 /// Puts a tombstone before the first of a greater id. A refusal means that memory ran out, and
 /// changes nothing.
-pub fn put_tomb(tombs: &mut List<Tombstone>, tomb: Tombstone) -> Result<(), NoMemory>
+pub(crate) fn put_tomb(tombs: &mut List<Tombstone>, tomb: Tombstone) -> Result<(), NoMemory>
     ensures ok { OnOk result (tombs.new ≡ with_tomb tomb tombs.old) }
     ensures err { OnErr result (tombs.new ≡ tombs.old) }
 {

@@ -1,5 +1,5 @@
 -- Groups in memory: the way to one of an id, and what is seen of the tree where it was changed.
-use Rattle.std.proofs.Common.{◌≡◌, ◌<◌, ◌≤◌, ℕ, suc, zero, Bool, true, false, true≢false, not, ◌||◌, ◌+◌, cond, length, MatchOption, MatchResult, Result, Ok, Err, ◌++◌, find, nat_lt, remove, option_and_then, inl, inr, List, [], ◌∷◌, Option, Some, None, map, get_or, refl, sym, ap, ◌∙◌, arith}
+use Rattle.std.proofs.Common.{◌≡◌, ◌<◌, ◌≤◌, ℕ, suc, zero, Bool, true, false, true≢false, not, ◌||◌, ◌+◌, cond, length, MatchOption, MatchResult, OnErr, OnOk, Result, Ok, Err, ◌++◌, find, nat_lt, remove, option_and_then, inl, inr, List, [], ◌∷◌, Option, Some, None, map, get_or, refl, sym, ap, ◌∙◌, arith}
 use Rattle.std.proofs.lemmas.List.Quantifiers.{position-Some}
 use Rattle.std.proofs.lemmas.Option.{get_or_from_slice_get, same_Some, slice_get-get_or}
 use Rattle.std.proofs.lemmas.Bool.{lt-ltb}
@@ -197,6 +197,12 @@ entries_same g es is =
     seen_with_entries g es
     ∙ ap (λ xs. node (out-Group g).id r (map entry_row xs) (trees (out-Group g).groups)) is
     ∙ sym (seen_group g)
+
+-- an entry put after the others, or not
+pub entry_put_or_not : {E : Type 0} (g : Group) (es : List Entry) (e : Entry) (r : Result (Unit {0}) E) → OnOk r (es ≡ (out-Group g).entries ++ e ∷ []) → OnErr r (es ≡ (out-Group g).entries)
+    → MatchResult r (λ _. tree_seen (with_entries g es) ≡ with_entry (entry_row e) (tree_seen g)) (λ _. tree_seen (with_entries g es) ≡ tree_seen g)
+entry_put_or_not g es e (Ok x) ok err = entry_put g es e ok
+entry_put_or_not g es e (Err x) ok err = entries_same g es err
 
 -- what a change that is a function makes of a tree, where memory does not run out
 pub put_of : {E : Type 0} (u : NodeId) (f : Tree → Tree) (old new : Tree) (o : Option (Result (Unit {0}) E))

@@ -1,6 +1,6 @@
 //! Entries put into groups, and their versions changed.
 
-ghost use Rattle.std.specs.Prelude.{◌≡◌, MatchOption, MatchResult, false, map, position};
+ghost use Rattle.std.specs.Prelude.{◌≡◌, ◌++◌, ◌∷◌, [], MatchOption, MatchResult, OnErr, OnOk, false, map, position};
 ghost use Rattle.vault_model.specs.Join.{is_id};
 ghost use Rattle.vault_model.specs.SeenNodes.{bare_version, entry_row, tree_seen};
 ghost use Rattle.tree_changes.specs.Changes.{changed_at, changed_entry, has_group, with_changed, with_entry};
@@ -8,8 +8,20 @@ ghost use Rattle.tree_changes.specs.Changes.{changed_at, changed_entry, has_grou
 use crate::changes::{Change, change_at};
 use crate::searches::is_same;
 use outside_core::{List, NoMemory};
+use std::mem;
 use uuid::Uuid;
 use vault_model::{Entry, Group, Version};
+
+/// Puts an item after the others of a list. A refusal means that memory ran out, and changes nothing.
+pub fn put_last<T: Drop>(list: &mut List<T>, item: T) -> Result<(), NoMemory>
+    ensures ok { OnOk result (list.new ≡ list.old ++ item ∷ []) }
+    ensures err { OnErr result (list.new ≡ list.old) }
+{
+    match list.push(item) {
+        Ok(()) => Ok(()),
+        Err(_) => Err(NoMemory),
+    }
+}
 
 // An entry is put after the others of a group.
 #[derive(Drop)]
@@ -28,10 +40,7 @@ impl Change for PutEntry {
         (λ _. new ≡ with_entry (entry_row put.entry) old) (λ _. new ≡ old) };
 
     fn make(self, group: &mut Group) -> Result<(), NoMemory> {
-        match group.entries.push(self.entry) {
-            Ok(()) => Ok(()),
-            Err(_) => Err(NoMemory),
-        }
+        put_last(&mut group.entries, self.entry)
     }
 }
 
@@ -55,19 +64,31 @@ fn place_in(entries: &[Entry], id: Uuid) -> Option<usize>
     entries.iter().position(|entry| is_same(entry.id, id))
 }
 
-// Gives the first entry of this id other versions.
-fn set_first(entries: &mut List<Entry>, id: Uuid, current: Version, history: List<Version>)
+// Exchanges the versions of an entry for others.
+fn exchange(entry: &mut Entry, current: &mut Version, history: &mut List<Version>)
+    ensures { entry.new ≡ record entry.old { current = current.old; history = history.old } }
+{
+    mem::swap(&mut entry.current, current);
+    mem::swap(&mut entry.history, history);
+}
+
+// Exchanges the versions of the first entry of this id for others.
+fn exchange_first(
+    entries: &mut List<Entry>,
+    id: Uuid,
+    current: &mut Version,
+    history: &mut List<Version>,
+)
     ensures { map entry_row entries.new
         ≡ with_changed id (λ e. record e {
-          current = bare_version current;
-          history = map bare_version history;
+          current = bare_version current.old;
+          history = map bare_version history.old;
         }) (map entry_row entries.old) }
 {
     match place_in(entries.as_slice(), id) {
         Some(at) => {
             if let Some(entry) = entries.get_mut(at) {
-                entry.current = current;
-                entry.history = history;
+                exchange(entry, current, history);
             }
         }
         None => {}
@@ -94,8 +115,13 @@ impl Change for SetVersions {
       history = map bare_version set.history;
     }) old };
 
-    fn make(self, group: &mut Group) {
-        set_first(&mut group.entries, self.id, self.current, self.history)
+    fn make(mut self, group: &mut Group) {
+        exchange_first(
+            &mut group.entries,
+            self.id,
+            &mut self.current,
+            &mut self.history,
+        );
     }
 }
 

@@ -8,7 +8,7 @@ pub mod searches;
 pub mod times;
 
 pub use changes::{Change, change_at};
-pub use entries::{put_entry, set_versions};
+pub use entries::{put_entry, put_last, set_versions};
 pub use paths::{before_last, name_after, path_of_new};
 pub use searches::{entry_of, group_of, has_group, holder, is_free, is_same};
 pub use times::time_after;

@@ -1,30 +1,14 @@
-use Rattle.std.proofs.Common.{Ok}
-use Rattle.std.proofs.lemmas.Result.{err_from_is_err_and}
-use Rattle.outside_core.specs.Results.{◌>>=◌}
-use Rattle.vault_model.specs.Db.{NodeId}
-use Rattle.doc_forms.specs.declared.cursor.Cursor.{Cursor}
-use Rattle.doc_forms.specs.Entries.{EntryParts, entry_of, node_id}
-use Rattle.doc_forms.specs.SeenDrafts.{entry_seen}
-use Rattle.doc_entries.specs.SeenBuilders.{entry_known}
-use Rattle.doc_entries.proofs.Counted.{counted_in, made_by, refused_before, too_many}
+use Rattle.doc_entries.proofs.EndSteps.{entry_ended}
+use Rattle.doc_entries.specs.EntrySteps.{whole_entry}
+use Rattle.doc_walk.proofs.Branches.{then_in, then_refused}
 use Rattle.doc_entries.proofs.entries.entry.Goals as goal
 
-pub returns : goal.returns
-returns c =
-    let steps = rw c.no_entry.ensures at c.in_ok-contents.ensures in
-    let known = entry_known c.contents.new.parts.known in
-    counted_in {new = c.count.new.self} (λ (p : EntryParts) (after : Cursor). node_id c.args.tag.now.offset p.id >>= λ u. Ok (entry_of u p, after)) steps
-    (record { cursor = c.in_ok-count.ensures.gives; answers = c.count.ensures.answers; setting = c.count.ensures.setting })
-    (made_by entry_seen c.whole_entry.result (node_id c.args.tag.now.offset known.id) (λ (u : NodeId). entry_of u known) c.count.new.self.cursor c.whole_entry.ensures)
+pub returns-in-Ok : goal.returns-in-Ok
+returns-in-Ok c =
+    let steps = rw c.no_entry.ensures at c.in-Ok.ensures in
+    entry_ended c.args.tag.now (then_in (whole_entry c.args.tag.now.offset) steps c.whole_entry.ensures)
 
-pub returns-in_err-contents : goal.returns-in_err-contents
-returns-in_err-contents c =
-    let steps = rw c.no_entry.ensures at c.in_err-contents.ensures in
-    let p = err_from_is_err_and c.from_residual.result c.from_residual.ensures.1 in
-    rw (p.1, p.2) (refused_before (λ (p : EntryParts) (after : Cursor). node_id c.args.tag.now.offset p.id >>= λ u. Ok (entry_of u p, after)) steps)
-
-pub returns-in_err-count : goal.returns-in_err-count
-returns-in_err-count c =
-    let steps = rw c.no_entry.ensures at c.in_ok-contents.ensures in
-    let p = err_from_is_err_and c.from_residual-in_err-count.result c.from_residual-in_err-count.ensures.1 in
-    rw (p.1, p.2) (too_many (λ (p : EntryParts) (after : Cursor). node_id c.args.tag.now.offset p.id >>= λ u. Ok (entry_of u p, after)) steps c.in_err-count.ensures.gives c.count.ensures.setting)
+pub returns-in-Err : goal.returns-in-Err
+returns-in-Err c =
+    let steps = rw c.no_entry.ensures at c.in-Err.ensures in
+    entry_ended c.args.tag.now (then_refused (whole_entry c.args.tag.now.offset) steps)

@@ -78,15 +78,16 @@ group_children-returns-in-Err-Depth t c =
     all_depth (λ s. group_child s c.args.levels) c.args.tag.now.offset c.args.tag.now.attrs.raw.now c.pieces.text.bytes (group_parts_seen c.pieces.known) _
     c.args.walk.now c.pieces.walk c.next_piece.new.self _ c.in-Err-Depth.at c.pieces.invariant.goes (record { answers = e.0; setting = c.next_piece.ensures.setting })
 
-pub group-returns : goal.group-returns
-group-returns t c =
-    ended c.args.levels c.args.fits c.args.tag.now c.args.walk.now c.group_children.new.walk c.whole_group.new.walk c.in_ok-group_children.field-0 (group_parts_seen c.group_children.new.known) c.whole_group.result
-    (begun c.args.levels c.args.tag.now c.args.walk.now c.group_children.new.walk (Ok c.in_ok-group_children.field-0) (group_parts_seen c.no_group-known.result) (group_parts_seen c.group_children.new.known) c.no_group-known.ensures c.in_ok-group_children.ensures)
-    c.whole_group.ensures.gives c.whole_group.ensures.answers c.whole_group.ensures.setting
+pub group-returns-in-Ok : goal.group-returns-in-Ok
+group-returns-in-Ok t c =
+    let steps = rw c.in-Ok.ensures.1 at c.group_children-read.ensures in
+    let gives = rw c.in-Ok.ensures.0 at c.whole_group.ensures.gives in
+    ended c.args.levels c.args.fits c.args.tag.now c.args.walk.now c.group_children-read.new.walk c.whole_group.new.walk c.in-Ok.both.1 (group_parts_seen c.group_children-read.new.known) c.whole_group.result
+    (begun c.args.levels c.args.tag.now c.args.walk.now c.group_children-read.new.walk (Ok c.in-Ok.both.1) (group_parts_seen c.no_group-known.result) (group_parts_seen c.group_children-read.new.known) c.no_group-known.ensures steps)
+    gives c.whole_group.ensures.answers c.whole_group.ensures.setting
 
-pub group-returns-in_err-group_children : goal.group-returns-in_err-group_children
-group-returns-in_err-group_children t c =
-    let p = err_from_is_err_and c.from_residual.result c.from_residual.ensures.1 in
-    rw (p.1, p.2)
-    (children_refused c.args.levels c.args.fits c.args.tag.now c.args.walk.now c.group_children.new.walk (group_parts_seen c.group_children.new.known) c.in_err-group_children.field-0.0
-    (begun c.args.levels c.args.tag.now c.args.walk.now c.group_children.new.walk (Err c.in_err-group_children.field-0.0) (group_parts_seen c.no_group-known.result) (group_parts_seen c.group_children.new.known) c.no_group-known.ensures c.in_err-group_children.ensures))
+pub group-returns-in-Err : goal.group-returns-in-Err
+group-returns-in-Err t c =
+    let steps = rw c.in-Err.ensures at c.group_children-read.ensures in
+    children_refused c.args.levels c.args.fits c.args.tag.now c.args.walk.now c.group_children-read.new.walk (group_parts_seen c.group_children-read.new.known) c.in-Err.refusal
+    (begun c.args.levels c.args.tag.now c.args.walk.now c.group_children-read.new.walk (Err c.in-Err.refusal) (group_parts_seen c.no_group-known.result) (group_parts_seen c.group_children-read.new.known) c.no_group-known.ensures steps)

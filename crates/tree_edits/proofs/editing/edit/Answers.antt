@@ -2,24 +2,19 @@ use Rattle.std.proofs.Common.{Some, Ok, sym, ap, map, ◌∙◌}
 use Rattle.std.specs.Prelude.{option_map}
 use Rattle.vault_model.proofs.DocumentLaws.{is_doc}
 use Rattle.vault_model.specs.SeenDoc.{doc_seen}
-use Rattle.vault_model.specs.SeenNodes.{bare_version, entry_record, entry_row, tree_seen}
-use Rattle.vault_model.specs.Shape.{BareVersion}
+use Rattle.vault_model.specs.SeenNodes.{bare_version, entry_row, tree_seen}
 use Rattle.tree_changes.specs.After.{time_after}
-use Rattle.tree_changes.specs.Histories.{settled_history, with_version}
 use Rattle.tree_changes.specs.NewNodes.{given_values}
 use Rattle.tree_edits.proofs.EditedDoc.{edit_comes, edit_is_doc}
 use Rattle.tree_edits.proofs.editing.edit.Goals as goal
 
-pub invariant_of-doc-2 : goal.invariant_of-doc-2
-invariant_of-doc-2 c =
+pub invariant_of-doc-in-Ok : goal.invariant_of-doc-in-Ok
+invariant_of-doc-in-Ok c =
     let d = doc_seen c.args.doc.now in
     let entry = c.in-Some-entry_of.entry.now in
     let there = sym c.entry_of.ensures ∙ ap (option_map (λ found. entry_row found.now)) c.in-Some-entry_of.is in
-    let settings = d.meta.settings.value in
-    let same = c.in_ok-history.ensures (bare_version c.in_ok-current.current)
-    ∙ ap (λ (v : BareVersion). settled_history settings.history_items settings.history_size (with_version v (entry_record entry))) c.in_ok-current.ensures in
-    let h = edit_is_doc d c.in-Some-holder.group c.in-Some.id (entry_row entry) there (given_values c.args.values.now) c.in_ok-time.time (bare_version c.in_ok-current.current) (map bare_version c.in_ok-history.history) same
-    (is_doc c.args.doc.now) c.values_are_utf8.ensures (tree_seen c.set_versions.new.root) c.set_versions.ensures in
+    let h = edit_is_doc d c.in-Some-holder.group c.in-Some.id (entry_row entry) there (given_values c.args.values.now) c.in_ok-time.time (bare_version c.in-Ok.edited.current) (map bare_version c.in-Ok.edited.history)
+    c.in-Ok.ensures (is_doc c.args.doc.now) c.values_are_utf8.ensures (tree_seen c.set_versions.new.root) c.set_versions.ensures in
     record {
       distinct = h.distinct;
       no_nil = h.no_nil;
@@ -33,15 +28,12 @@ invariant_of-doc-2 c =
       meta_texts = h.meta_texts;
     }
 
-pub returns : goal.returns
-returns c =
+pub returns-in-Ok : goal.returns-in-Ok
+returns-in-Ok c =
     let d = doc_seen c.args.doc.now in
     let entry = c.in-Some-entry_of.entry.now in
     let there = sym c.entry_of.ensures ∙ ap (option_map (λ found. entry_row found.now)) c.in-Some-entry_of.is in
-    let settings = d.meta.settings.value in
-    let same = c.in_ok-history.ensures (bare_version c.in_ok-current.current)
-    ∙ ap (λ (v : BareVersion). settled_history settings.history_items settings.history_size (with_version v (entry_record entry))) c.in_ok-current.ensures in
-    edit_comes d c.in-Some-holder.group c.in-Some.id (entry_row entry) there (given_values c.args.values.now) c.in_ok-time.time (bare_version c.in_ok-current.current) (map bare_version c.in_ok-history.history) same
-    c.args.path.now c.args.now (sym c.find_entry.ensures ∙ c.in-Some.is) (sym c.holder.ensures ∙ c.in-Some-holder.is)
+    edit_comes d c.in-Some-holder.group c.in-Some.id (entry_row entry) there (given_values c.args.values.now) c.in_ok-time.time (bare_version c.in-Ok.edited.current) (map bare_version c.in-Ok.edited.history)
+    c.in-Ok.ensures c.args.path.now c.args.now (sym c.find_entry.ensures ∙ c.in-Some.is) (sym c.holder.ensures ∙ c.in-Some-holder.is)
     (sym (c.time_after.ensures ∙ ap (time_after c.args.now) c.entry_stamp.ensures) ∙ c.in_ok-time.was)
     (tree_seen c.set_versions.new.root) c.set_versions.ensures

@@ -1,6 +1,6 @@
 use Rattle.std.proofs.Common.{map, sym, ap, ◌∙◌}
 use Rattle.vault_model.specs.SeenNodes.{bare_version, entry_record}
-use Rattle.tree_edits.proofs.RisingVersions.{all_rising, rises_first, rises_last, rises_next}
+use Rattle.tree_edits.proofs.RisingVersions.{all_rising, are_rising, rises_first, rises_last, rises_next}
 use Rattle.tree_edits.proofs.histories.rising_versions.Goals as goal
 
 pub loop-version-init : goal.loop-version-init
@@ -18,3 +18,9 @@ returns c =
     all_rising (entry_record c.args.entry.now) (map bare_version c.loop-version.rising) (map bare_version c.add_copy-2.new.versions)
     (rises_last items c.args.entry.now.history c.loop-version.version-index (map bare_version c.loop-version.rising) c.loop-version-test.false c.as_slice-version-items.ensures c.loop-version.invariant)
     c.in_ok-add_copy-2.ensures
+
+pub add_copy-requires : goal.add_copy-requires
+add_copy-requires c = are_rising _ _ _ c.loop-version.invariant
+
+pub add_copy-requires-2 : goal.add_copy-requires-2
+add_copy-requires-2 c = are_rising _ _ _ c.loop-version.invariant

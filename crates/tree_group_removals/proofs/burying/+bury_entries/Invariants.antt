@@ -1,19 +1,11 @@
-use Rattle.std.proofs.Common.{◌≡◌, ◌≤◌, drop, length, map}
+use Rattle.std.proofs.Common.{◌≡◌, ◌++◌, drop, map}
 use Rattle.vault_model.specs.SeenNodes.{tree_seen}
-use Rattle.vault_model.specs.Tree.{all_trees, entry_rows_all, height}
-use Rattle.vault_model.specs.declared.nodes.Group.{out-Group}
-use Rattle.tree_changes.specs.Changes.{entries_buried}
+use Rattle.vault_model.specs.Tree.{all_trees}
+use Rattle.tree_group_removals.specs.Tombs.{entry_tombs_all}
 use Rattle.tree_group_removals.proofs.burying.+bury_entries.Given as goal
 
--- the entries of the groups from a place on are buried
-abbrev pub invariant-loop-at : goal.invariant-loop-at
-invariant-loop-at l = record {
-  within : l.at ≤ length (out-Group l.group).groups;
-  buried : l.tombs ≡ entries_buried l.now (entry_rows_all (all_trees (map tree_seen (drop l.at (out-Group l.group).groups)))) l.initial.tombs;
-}
-
-abbrev pub decreases-loop-at : goal.decreases-loop-at
-decreases-loop-at l = l.at
-
-abbrev pub decreases-bury_entries : goal.decreases-bury_entries
-decreases-bury_entries l = height (tree_seen l.group.now)
+-- what is gathered, with what is left, is all
+abbrev pub invariant-loop-child : goal.invariant-loop-child
+invariant-loop-child l =
+    l.initial.tombs.items ++ entry_tombs_all l.now (all_trees (map tree_seen l.child-items))
+    ≡ l.tombs.items ++ entry_tombs_all l.now (all_trees (map tree_seen (drop l.child-index l.child-items)))

@@ -4,11 +4,15 @@ use Rattle.vault_model.specs.SeenDoc.{doc_seen}
 use Rattle.vault_model.specs.SeenNodes.{tree_seen}
 use Rattle.tree_changes.specs.Changes.{group_with}
 use Rattle.tree_group_moves.proofs.GroupParents.{parent_child}
-use Rattle.tree_group_removals.proofs.GroupsDeleted.{bury_is_doc, delete_done, held_group}
+use Rattle.tree_group_removals.proofs.GroupsDeleted.{bury_is_doc, delete_done, held_group, rising_group}
 use Rattle.tree_group_removals.proofs.deleting.delete_group.Goals as goal
 
 pub bury_group-requires-clause-held : goal.bury_group-requires-clause-held
 bury_group-requires-clause-held c = held_group (doc_seen c.args.doc.now) (is_doc c.args.doc.now) c.args.parent c.args.id c.requires.there c.requires.parent
+
+pub bury_group-requires-clause-rising : goal.bury_group-requires-clause-rising
+bury_group-requires-clause-rising c =
+    rising_group (doc_seen c.args.doc.now) (is_doc c.args.doc.now) c.args.parent c.args.id c.args.now c.requires.there c.requires.parent
 
 pub invariant_of-doc : goal.invariant_of-doc
 invariant_of-doc c =

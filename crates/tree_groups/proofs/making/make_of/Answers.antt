@@ -7,8 +7,9 @@ use Rattle.vault_model.proofs.Tests.{apart}
 use Rattle.vault_model.specs.SeenDoc.{doc_seen}
 use Rattle.vault_model.specs.SeenNodes.{tree_seen}
 use Rattle.vault_model.specs.Tree.{LEVELS, Tree}
-use Rattle.tree_core.specs.Finding.{group_found, has_group_path}
+use Rattle.tree_core.specs.Finding.{group_found}
 use Rattle.tree_changes.proofs.Named.{named_group}
+use Rattle.tree_changes.specs.After.{is_group_taken}
 use Rattle.tree_changes.specs.Changes.{changed_at, has_group, level_of, with_group}
 use Rattle.tree_changes.specs.NewNodes.{empty_group}
 use Rattle.tree_changes.specs.NewPaths.{before_last}
@@ -44,7 +45,7 @@ returns-in-Some-Ok c =
     let d = doc_seen c.args.doc.now in
     let path = c.args.path.now in
     let there = sym (ap (group_found d) (c.before_last.ensures ∙ ap before_last c.as_bytes.ensures.value)) ∙ sym c.find_group_of.ensures ∙ c.in-Some.is in
-    let off = sym (ap (has_group_path d) (c.as_slice.ensures ∙ c.in_ok-new_path.ensures)) ∙ sym c.is_group_path.ensures ∙ c.if-is_group_path.false in
+    let off = sym (ap (λ (p : List ℕ). is_group_taken p d) (c.as_slice.ensures ∙ c.in_ok-new_path.ensures)) ∙ sym c.is_taken.ensures ∙ c.if-is_taken.false in
     let same = c.in_ok-new.ensures ∙ ap (λ (t : List ℕ). empty_group c.args.id t c.args.now) c.name_after.ensures in
     let left = level_left c.levels_below.result (level_of c.in-Some.group d.tree) (λ e. c.if-unwrap_or-eq0.false (c.unwrap_or.ensures ∙ e)) c.levels_below.ensures in
     let put = rw (c.in-Some-Ok.is ∙ ap Some c.in-Some-Ok.field-0-is) at c.put_group.ensures in

@@ -5,14 +5,14 @@ use Rattle.doc_forms.specs.Documents.{tombs_rows}
 use Rattle.doc_walk.proofs.Branches.{passed_over, put_in, refused_in}
 use Rattle.doc_groups.proofs.tombs.TombsDraftParts.read_child.Goals as goal
 
-pub returns-in_ok-contents-in-DeletedObject : goal.returns-in_ok-contents-in-DeletedObject
-returns-in_ok-contents-in-DeletedObject c =
-    let steps = rw c.no_tomb.ensures at c.in_ok-contents-in-DeletedObject.ensures in
+pub returns-in_ok-draft-in-DeletedObject : goal.returns-in_ok-draft-in-DeletedObject
+returns-in_ok-draft-in-DeletedObject c =
+    let steps = rw c.no_tomb.ensures at c.in_ok-draft-in-DeletedObject.ensures in
     rw c.in-DeletedObject.is (put_in (λ (t : Tombstone). c.args.self.now.tombs ++ t ∷ []) steps c.add_tomb.ensures)
 
-pub returns-in_err-contents-in-DeletedObject : goal.returns-in_err-contents-in-DeletedObject
-returns-in_err-contents-in-DeletedObject c =
-    let steps = rw c.no_tomb.ensures at c.in_err-contents-in-DeletedObject.ensures in
+pub returns-in_err-draft-in-DeletedObject : goal.returns-in_err-draft-in-DeletedObject
+returns-in_err-draft-in-DeletedObject c =
+    let steps = rw c.no_tomb.ensures at c.in_err-draft-in-DeletedObject.ensures in
     let p = err_from_is_err_and c.from_residual.result c.from_residual.ensures.1 in
     rw (p.1, p.2, c.in-DeletedObject.is) (refused_in (λ (t : Tombstone). c.args.self.now.tombs ++ t ∷ []) steps)
 

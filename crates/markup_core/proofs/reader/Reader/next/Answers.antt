@@ -1,7 +1,7 @@
 use Rattle.std.proofs.Common.{◌∙◌, ◌<◌, sym, refl, ap, length, Ok, Err, arith}
 use Rattle.markup_core.specs.Reader.{answers_left}
-use Rattle.markup_core.specs.Tokens.{TokenStands}
-use Rattle.markup_core.specs.declared.token.Token.TheVariants.{Start, Words, Stop, End}
+use Rattle.markup_scanner.specs.Tokens.{TokenStands}
+use Rattle.markup_scanner.specs.declared.token.Token.TheVariants.{Start, Words, Stop, End}
 use Rattle.markup_core.proofs.Cuts.{name_utf8, attrs_utf8, words_utf8}
 use Rattle.markup_core.proofs.Next.{TellsNext, tells_at, stands_at, next_slash, next_words, next_start, next_empty, next_deep, next_stop, next_refused, next_end, next_cut, stop_low}
 use Rattle.markup_core.proofs.Soundness.{sound_slash, sound_start, sound_stop}

@@ -1,0 +1,18 @@
+-- Parts of raw markup, in the text that they stand for.
+use Rattle.std.specs.Prelude.{ℕ, Bool, not, ◌&&◌, ◌==◌, List, [], encode_utf8}
+use Rattle.markup_escapes.specs.declared.escapes.Part.{Part}
+use Rattle.markup_escapes.specs.declared.escapes.Part.TheVariants.{Plain, Character, Nothing}
+
+-- the bytes of a part
+abbrev pub part_text : Part → List ℕ
+part_text (Plain bytes) = bytes.now
+part_text (Character c) = encode_utf8 c
+part_text Nothing = []
+
+-- neither `&` nor a carriage return, so the byte stands for itself
+unfoldable pub is_plain : ℕ → Bool
+is_plain b = not (b == 38) && not (b == 13)
+
+-- any byte but `;`, which ends a reference
+unfoldable pub is_inside_reference : ℕ → Bool
+is_inside_reference b = not (b == 59)
