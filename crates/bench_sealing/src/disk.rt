@@ -43,7 +43,9 @@ fn outcome(opened: &Result<Doc, Fault>) -> Result<(), Fault> {
 // Opens a file under a password, and lets its document go.
 fn open_once<F: FileStore>(alloc: Global, target: &Target<'_>, files: &mut F) -> Result<(), Fault> {
     let opened = open(alloc, target, files);
-    outcome(&opened)
+    let result = outcome(&opened);
+    drop(opened);
+    result
 }
 
 /// Opens a file under a password, as often as asked.

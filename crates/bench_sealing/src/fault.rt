@@ -1,7 +1,6 @@
 //! What goes wrong.
 
 use doc_read::DocFail;
-use doc_write::WriteFail;
 use kdbx_open::OpenFail;
 use kdbx_seal::SealFail;
 use std::alloc::AllocError;
@@ -17,8 +16,6 @@ pub enum Fault {
     NotRead(DocFail),
     /// The document takes no further entry.
     NotAdded,
-    /// The document is not written by itself.
-    NotWritten(WriteFail),
     /// The document needs a later version than the one that was asked for.
     TooOld,
     /// There were no random bytes.
@@ -29,7 +26,7 @@ pub enum Fault {
     NotOpened(OpenFail),
     /// The file that was there before was changed, though the document was not sealed.
     Changed,
-    /// The file does not hold the document that it was made of.
+    /// The document that the file holds does not make the same file again.
     NotTheSame,
     /// There was no memory left.
     NoMemory,
@@ -44,11 +41,5 @@ impl From<AllocError> for Fault {
 impl From<DocFail> for Fault {
     fn from(fail: DocFail) -> Fault {
         Fault::NotRead(fail)
-    }
-}
-
-impl From<WriteFail> for Fault {
-    fn from(fail: WriteFail) -> Fault {
-        Fault::NotWritten(fail)
     }
 }

@@ -108,7 +108,9 @@ fn seal_text(
     target: &Target<'_>,
 ) -> Result<u64, Fault> {
     let doc = read(rt.alloc(), text);
-    seal_read(rt, times, choices, &doc, target)
+    let result = seal_read(rt, times, choices, &doc, target);
+    drop(doc);
+    result
 }
 
 /// Seals the document of a file as often as asked.

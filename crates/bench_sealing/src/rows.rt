@@ -9,14 +9,11 @@ use crate::documents::{put_another, read};
 use crate::fault::Fault;
 use crate::sealing::{Target, open, seal};
 use crate::texts::expanded;
-use doc_write::{WriteFail, write_doc};
 use kdbx_frame::Settings;
 use outside_objects::{CountingDice, MemoryFiles};
-use secret_core::Secret;
 use sha2::{Digest, Sha256};
 use std::alloc::{AllocError, Global};
-use stream_core::InnerStream;
-use vault_model::{Doc, DocForm};
+use vault_model::Doc;
 
 /// The name of the file.
 const NAME: &str = "vault";
@@ -91,62 +88,111 @@ impl<'a> Row<'a> {
     }
 }
 
-// The text of a document by itself.
-fn text_of(alloc: Global, doc: &Doc) -> Result<Secret, WriteFail> {
-    let mut stream = InnerStream::Clear;
-    write_doc(alloc, doc, DocForm::Plain, None, &mut stream)
+// The length of the file, and its SHA-256.
+#[derive(Clone, Copy)]
+struct Sum {
+    len: usize,
+    digest: [u8; 32],
 }
 
-// Whether two documents have the same text.
-fn same(alloc: Global, one: &Doc, other: &Doc) -> Result<bool, Fault> {
-    let one = text_of(alloc, one)?;
-    match text_of(alloc, other) {
-        Ok(other) => Ok(one.lend(0, one.len()) == other.lend(0, other.len())),
-        Err(fail) => Err(Fault::NotWritten(fail)),
+// The sum of the file, which is there.
+fn sum_of(files: &MemoryFiles) -> Result<Sum, Fault> {
+    match files.bytes(NAME) {
+        Some(bytes) => Ok(Sum {
+            len: bytes.len(),
+            digest: Sha256::digest(bytes),
+        }),
+        None => Err(Fault::Changed),
     }
 }
 
-// Whether what was opened is a document.
-fn is_same(alloc: Global, opened: &Result<Doc, Fault>, doc: &Doc) -> Result<bool, Fault> {
+// What is printed of a sum.
+fn text_of(alloc: Global, sum: &Sum) -> Result<String, Fault> {
+    let len = sum.len;
+    let digits = hex::encode(alloc, &sum.digest)?;
+    Ok(format!(in alloc; "{len} {digits}")?)
+}
+
+// Seals a document in memory, over dice that count.
+fn seal_counted(
+    alloc: Global,
+    doc: &Doc,
+    settings: &Settings,
+    target: &Target<'_>,
+    files: &mut MemoryFiles,
+) -> Result<(), Fault>
+    requires in_order { IsInOrder settings.now }
+    requires version { IsVersion4 settings.now.version }
+{
+    let mut dice = CountingDice::new(alloc);
+    seal(alloc, doc, settings, target, files, &mut dice)
+}
+
+// Seals what was opened.
+fn seal_opened(
+    alloc: Global,
+    opened: &Result<Doc, Fault>,
+    settings: &Settings,
+    target: &Target<'_>,
+    files: &mut MemoryFiles,
+) -> Result<(), Fault>
+    requires in_order { IsInOrder settings.now }
+    requires version { IsVersion4 settings.now.version }
+{
     match opened {
-        Ok(again) => same(alloc, doc, again),
+        Ok(doc) => seal_counted(alloc, doc, settings, target, files),
         Err(fault) => Err(*fault),
     }
 }
 
-// Whether the file holds a document.
-fn holds(
+// Opens the file, and seals in its place the document that it holds.
+fn seal_again(
     alloc: Global,
+    settings: &Settings,
     target: &Target<'_>,
     files: &mut MemoryFiles,
-    doc: &Doc,
-) -> Result<bool, Fault> {
+) -> Result<(), Fault>
+    requires in_order { IsInOrder settings.now }
+    requires version { IsVersion4 settings.now.version }
+{
     let opened = open(alloc, target, files);
-    is_same(alloc, &opened, doc)
+    let result = seal_opened(alloc, &opened, settings, target, files);
+    drop(opened);
+    result
 }
 
-// The length and the SHA-256 of the file.
-fn digest_of(alloc: Global, files: &MemoryFiles) -> Result<String, Fault> {
-    let Some(bytes) = files.bytes(NAME) else {
-        return Err(Fault::Changed);
-    };
-    let len = bytes.len();
-    let digits = hex::encode(alloc, &Sha256::digest(bytes))?;
-    Ok(format!(in alloc; "{len} {digits}")?)
-}
-
-// What comes of a document that was sealed: the file's length and its SHA-256, once it is opened
-// again and holds the document.
-fn sealed_digest(
+// The sum of the file, once the document that it holds makes the same file again.
+fn sealed_sum(
     alloc: Global,
+    settings: &Settings,
     target: &Target<'_>,
     files: &mut MemoryFiles,
-    doc: &Doc,
-) -> Result<String, Fault> {
-    if holds(alloc, target, files, doc)? {
-        digest_of(alloc, files)
+) -> Result<Sum, Fault>
+    requires in_order { IsInOrder settings.now }
+    requires version { IsVersion4 settings.now.version }
+{
+    let sum = sum_of(files)?;
+    seal_again(alloc, settings, target, files)?;
+    if sum_of(files)?.digest == sum.digest {
+        Ok(sum)
     } else {
         Err(Fault::NotTheSame)
+    }
+}
+
+// What comes of a document that was sealed: the file's length and its SHA-256.
+fn sealed_text(
+    alloc: Global,
+    settings: &Settings,
+    target: &Target<'_>,
+    files: &mut MemoryFiles,
+) -> Result<String, Fault>
+    requires in_order { IsInOrder settings.now }
+    requires version { IsVersion4 settings.now.version }
+{
+    match sealed_sum(alloc, settings, target, files) {
+        Ok(sum) => text_of(alloc, &sum),
+        Err(fault) => Err(fault),
     }
 }
 
@@ -170,9 +216,8 @@ fn answer_in(
     requires in_order { IsInOrder settings.now }
     requires version { IsVersion4 settings.now.version }
 {
-    let mut dice = CountingDice::new(alloc);
-    match seal(alloc, doc, settings, target, files, &mut dice) {
-        Ok(()) => sealed_digest(alloc, target, files, doc),
+    match seal_counted(alloc, doc, settings, target, files) {
+        Ok(()) => sealed_text(alloc, settings, target, files),
         Err(fault) => refusal_text(alloc, files, fault),
     }
 }
@@ -241,7 +286,9 @@ fn answer_of_text(
     requires version { IsVersion4 settings.now.version }
 {
     let mut doc = document_of(alloc, text);
-    answer_of_read(alloc, row, settings, &mut doc)
+    let result = answer_of_read(alloc, row, settings, &mut doc);
+    drop(doc);
+    result
 }
 
 /// What comes of a row, where the file with the document has this text.

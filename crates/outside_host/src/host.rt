@@ -7,10 +7,10 @@ use outside_core::{
     Dice, DiceFail, FileFail, FileStore, Sink, SinkFail, Source, SourceFail, Text, increment,
 };
 use std::alloc::Global;
-use std::fs::{Files, OpenFile, OpenOptions};
+use std::fs::{File, Files, OpenFile, OpenOptions, TryLockError};
 use std::io::{ErrorKind, Read, Seek, SeekFrom, Write};
 use std::marker::Model;
-use std::os::unix::fs::OpenOptionsExt;
+use std::os::unix::fs::{MetadataExt, OpenOptionsExt};
 use std::random::RandomSource;
 use std::{fs, io};
 
@@ -22,11 +22,12 @@ struct OpenedFile<F> {
 }
 
 /// A file in the making: the name that it is for, and the name that it is written under until then.
+/// It is locked, so that no other call takes it for one that was left behind.
 #[derive(Drop)]
-struct HostDraft<F> {
+struct HostDraft {
     name: Text,
     part: String,
-    file: F,
+    file: File,
 }
 
 /// The length of a regular file in bytes. A folder, a pipe or a device has none to go by.
@@ -57,15 +58,56 @@ fn read_from<F: Read + Seek>(file: &mut F, from: u64, out: &mut [u8]) -> io::Res
     file.read(out)
 }
 
-/// Makes an empty file that only its owner may read, in the place of any left from a run that was
-/// cut off. It gets the permissions of the file that it is to replace, where there is one.
-fn create_part<R: Files>(rt: &R, name: &str, part: &str) -> io::Result<R::File> {
-    let _ = fs::remove_file(rt, part);
+/// Takes the lock of a draft, which its call holds until the draft has the file's name or is gone.
+/// A file system without locks takes none.
+fn hold(file: &File) -> io::Result<()> {
+    match file.try_lock() {
+        Err(TryLockError::WouldBlock) => Err(io::Error::from(ErrorKind::WouldBlock)),
+        Ok(()) | Err(TryLockError::Error(_)) => Ok(()),
+    }
+}
+
+/// Looks whether a path still names this open file. Another call may have put another one there.
+fn stay_at<R: Files>(rt: &R, file: &File, path: &str) -> io::Result<()> {
+    let held = file.metadata()?;
+    let named = fs::metadata(rt, path)?;
+    if held.ino() == named.ino() && held.dev() == named.dev() {
+        Ok(())
+    } else {
+        Err(io::Error::from(ErrorKind::WouldBlock))
+    }
+}
+
+/// Removes a draft that was left by a call that was cut off. The draft of a call that still runs
+/// stays, because that call holds its lock.
+fn remove_left<R: Files<File = File>>(rt: &R, part: &str) -> io::Result<()> {
+    if let Ok(left) = open_regular(rt, part) {
+        hold(&left)?;
+        stay_at(rt, &left, part)?;
+        let _ = fs::remove_file(rt, part);
+    } else {
+        let _ = fs::remove_file(rt, part);
+    }
+    Ok(())
+}
+
+/// Makes an empty file that only its owner may read, and locks it.
+fn new_part<R: Files<File = File>>(rt: &R, part: &str) -> io::Result<File> {
     let file = OpenOptions::new()
         .write(true)
         .create_new(true)
         .mode(0o600)
         .open(rt, part)?;
+    hold(&file)?;
+    stay_at(rt, &file, part)?;
+    Ok(file)
+}
+
+/// Makes the empty file that a draft is written to, in the place of any left from a call that was
+/// cut off. It gets the permissions of the file that it is to replace, where there is one.
+fn create_part<R: Files<File = File>>(rt: &R, name: &str, part: &str) -> io::Result<File> {
+    remove_left(rt, part)?;
+    let file = new_part(rt, part)?;
     if let Ok(replaced) = fs::metadata(rt, name) {
         let _ = file.set_permissions(replaced.permissions());
     }
@@ -73,7 +115,7 @@ fn create_part<R: Files>(rt: &R, name: &str, part: &str) -> io::Result<R::File> 
 }
 
 /// Brings a draft to the disk and gives it its name. Where that fails, the draft is removed.
-fn publish_draft<R: Files>(rt: &R, draft: HostDraft<R::File>) -> io::Result<()> {
+fn publish_draft<R: Files<File = File>>(rt: &R, draft: HostDraft) -> io::Result<()> {
     let published = match draft.file.sync_all() {
         Ok(()) => fs::rename(rt, draft.part.as_str(), draft.name.as_str()),
         Err(error) => Err(error),
@@ -85,18 +127,19 @@ fn publish_draft<R: Files>(rt: &R, draft: HostDraft<R::File>) -> io::Result<()> 
 }
 
 /// The files of the host. A draft is written under its name with `.part` appended, and brought to
-/// the disk before it is given its name.
+/// the disk before it is given its name. While one call writes a draft, another that begins one of
+/// the same name is refused.
 #[derive(Drop)]
-pub struct HostFiles<'a, R: Files> {
+pub struct HostFiles<'a, R: Files<File = File>> {
     rt: &'a R,
     alloc: Global,
     reading: Option<OpenedFile<R::File>>,
-    draft: Option<HostDraft<R::File>>,
+    draft: Option<HostDraft>,
     faults: u64,
     absences: u64,
 }
 
-impl<'a, R: Files> Model for HostFiles<'a, R> {
+impl<'a, R: Files<File = File>> Model for HostFiles<'a, R> {
     ghost use Rattle.std.specs.Prelude.{option_map};
     ghost use Rattle.outside_host.specs.Host.{HostStore};
 
@@ -109,7 +152,7 @@ impl<'a, R: Files> Model for HostFiles<'a, R> {
     } };
 }
 
-impl<'a, R: Files> HostFiles<'a, R> {
+impl<'a, R: Files<File = File>> HostFiles<'a, R> {
     /// The files of the host that `rt` gives access to.
     pub fn new(rt: &'a R, alloc: Global) -> HostFiles<'a, R>
         ensures { result ≡ record { draft_name = None; faults = 0; absences = 0 } }
@@ -158,7 +201,7 @@ impl<'a, R: Files> HostFiles<'a, R> {
     }
 }
 
-impl<'a, R: Files> FileStore for HostFiles<'a, R> {
+impl<'a, R: Files<File = File>> FileStore for HostFiles<'a, R> {
     ghost files = { λ _. None };
 
     ghost draft_name = { λ s. s.draft_name };

@@ -1,7 +1,7 @@
--- A version that is greater than the last of versions that rise is put after it.
-use Rattle.std.proofs.Common.{◌≡◌, ◌-◌, ◌&&◌, ℕ, zero, suc, Bool, true, true≢false, List, [], ◌∷◌, ◌++◌, OnOk, Result, Ok, Err, get_or, length, map, refl, sym, ap, subst, ◌∙◌, arith}
+-- A version that is greater than the last of versions that rise is to be put after it.
+use Rattle.std.proofs.Common.{◌≡◌, ◌-◌, ◌+◌, ◌&&◌, ℕ, zero, suc, Bool, true, true≢false, List, [], ◌∷◌, Ok, Err, get_or, length, map, refl, sym, ap, ◌∙◌, arith}
 use Rattle.std.proofs.Math.Dec.{T}
-use Rattle.std.proofs.lemmas.List.{map_push}
+use Rattle.std.proofs.lemmas.List.{length-map}
 use Rattle.std.specs.declared.cmp.Ordering.{Ordering}
 use Rattle.std.specs.declared.cmp.Ordering.TheVariants.{Less, Equal, Greater}
 use Rattle.std.specs.FinMap.{entries, entries_sorted, is_sorted}
@@ -10,12 +10,12 @@ use Rattle.std.specs.Ordering.{is_gt, is_lt, ordering_reverse}
 use Rattle.vault_model.specs.declared.contents.Stats.{Stats}
 use Rattle.vault_model.specs.declared.nodes.Version.{Version}
 use Rattle.vault_model.specs.Db.{Mark, mark_cmp}
-use Rattle.vault_model.specs.Join.{stats_join}
 use Rattle.vault_model.specs.SeenNodes.{bare_version}
 use Rattle.vault_model.specs.Shape.{BareVersion, version_of}
 use Rattle.vault_model.specs.Unite.{by_order}
 use Rattle.vault_model.proofs.Orders.{mark_order}
-use Rattle.tree_edits.specs.Versions.{AreRising, is_above, put_version}
+use Rattle.tree_edits.specs.Spots.{further, spot}
+use Rattle.tree_edits.specs.Versions.{AreRising, is_above}
 use Rattle.tree_edits.proofs.RisingVersions.{first, less, second}
 
 greater : (r : Ordering) → is_gt r ≡ true → r ≡ Greater
@@ -32,21 +32,16 @@ above_first v e (f ∷ es) h above =
     let last = mark_order.total.antisymm f.0 v.mark ∙ ap ordering_reverse rest in
     mark_order.total.antisymm v.mark e.0 ∙ ap ordering_reverse (mark_order.total.trans e.0 f.0 v.mark next last)
 
-put_after : (v : BareVersion) (es : List (Mark × Stats)) → T (is_sorted mark_cmp es) → is_above v (map version_of es) ≡ true → put_version v (map version_of es) ≡ map version_of es ++ v ∷ []
-put_after v [] h above = refl
-put_after v (e ∷ []) h above =
-    let w = version_of e in
-    ap (λ r. by_order r (v ∷ w ∷ []) (record w { stats = stats_join v.stats w.stats } ∷ []) (w ∷ v ∷ [])) (greater (mark_cmp v.mark e.0) above)
-put_after v (e ∷ f ∷ es) h above =
-    let w = version_of e in
-    let rest = map version_of (f ∷ es) in
-    ap (λ r. by_order r (v ∷ w ∷ rest) (record w { stats = stats_join v.stats w.stats } ∷ rest) (w ∷ put_version v rest)) (above_first v e (f ∷ es) h above)
-    ∙ ap (λ (vs : List BareVersion). w ∷ vs) (put_after v (f ∷ es) (second (below_all mark_cmp e.0 (f ∷ es)) (is_sorted mark_cmp (f ∷ es)) h) above)
-
-put_last : (v : BareVersion) (versions : List BareVersion) → AreRising versions → is_above v versions ≡ true → put_version v versions ≡ versions ++ v ∷ []
-put_last v versions rising above =
-    subst (λ (vs : List BareVersion). put_version v vs ≡ vs ++ v ∷ []) (sym rising.1)
-    (put_after v (entries rising.0) (entries_sorted rising.0) (ap (is_above v) (sym rising.1) ∙ above))
+spot_after : (v : BareVersion) (es : List (Mark × Stats)) → T (is_sorted mark_cmp es) → is_above v (map version_of es) ≡ true
+    → spot (λ (w : BareVersion). mark_cmp v.mark w.mark) (map version_of es) ≡ Err (length es)
+spot_after v [] h above = refl
+spot_after v (e ∷ []) h above = ap (λ r. by_order r (Err 0) (Ok 0) (further 1 (Err 0))) (greater (mark_cmp v.mark e.0) above)
+spot_after v (e ∷ f ∷ es) h above =
+    let rest = spot (λ (w : BareVersion). mark_cmp v.mark w.mark) (map version_of (f ∷ es)) in
+    let one : 1 + length (f ∷ es) ≡ suc (length (f ∷ es)) = omega arith in
+    ap (λ r. by_order r (Err 0) (Ok 0) (further 1 rest)) (above_first v e (f ∷ es) h above)
+    ∙ ap (further 1) (spot_after v (f ∷ es) (second (below_all mark_cmp e.0 (f ∷ es)) (is_sorted mark_cmp (f ∷ es)) h) above)
+    ∙ ap (λ n. Err n) one
 
 -- ---- versions in memory
 
@@ -67,12 +62,10 @@ pub above_none : (v : BareVersion) (vs : List Version) (count : ℕ) → count �
 above_none v [] count len none = refl
 above_none v (x ∷ xs) count len none = absurd (omega (arith, len, none))
 
--- whatever was answered
-pub pushed_last : {E : Type 0} (v : BareVersion) (old new : List BareVersion) (result : Result (Unit {0}) E) → AreRising old → is_above v old ≡ true → OnOk result (new ≡ old ++ v ∷ [])
-    → OnOk result (new ≡ put_version v old)
-pushed_last v old new (Ok x) rising above e = e ∙ sym (put_last v old rising above)
-pushed_last v old new (Err x) rising above e = tt
-
-pub pushed_seen : {E : Type 0} (old new : List Version) (v : Version) (result : Result (Unit {0}) E) → OnOk result (new ≡ old ++ v ∷ []) → OnOk result (map bare_version new ≡ map bare_version old ++ bare_version v ∷ [])
-pushed_seen old new v (Ok x) e = ap (map bare_version) e ∙ map_push bare_version old v
-pushed_seen old new v (Err x) e = tt
+-- what is greater than the last is to be put behind it
+pub above_spot : (v : BareVersion) (vs : List Version) → AreRising (map bare_version vs) → is_above v (map bare_version vs) ≡ true
+    → spot (λ (w : BareVersion). mark_cmp v.mark w.mark) (map bare_version vs) ≡ Err (length vs)
+above_spot v vs rising above =
+    ap (spot (λ (w : BareVersion). mark_cmp v.mark w.mark)) rising.1
+    ∙ spot_after v (entries rising.0) (entries_sorted rising.0) (ap (is_above v) (sym rising.1) ∙ above)
+    ∙ ap (λ n. Err n) (sym (length-map (entries rising.0) version_of) ∙ ap length (sym rising.1) ∙ length-map vs bare_version)

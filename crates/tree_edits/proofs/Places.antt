@@ -82,6 +82,11 @@ module _ {A B : Type 0} (see : A → B) (order : B → Ordering) (new : B) (join
   pub joined_there : (xs ys : List A) (at : ℕ) → spot order (map see xs) ≡ Ok at → map see ys ≡ changed_nth at joined (map see xs) → map see ys ≡ put_in_order order new joined (map see xs)
   joined_there xs ys at is h = h ∙ ap (at_spot order new joined (map see xs)) (sym is) ∙ put_at order new joined (map see xs)
 
+  pub put_at_spot : {E : Type 0} (xs ys : List A) (at : ℕ) (o : Result (Unit {0}) E) → spot order (map see xs) ≡ Err at
+      → OnOk o (map see ys ≡ insert (map see xs) at new) → OnOk o (map see ys ≡ put_in_order order new joined (map see xs))
+  put_at_spot xs ys at (Ok x) is h = h ∙ ap (at_spot order new joined (map see xs)) (sym is) ∙ put_at order new joined (map see xs)
+  put_at_spot xs ys at (Err x) is h = tt
+
   pub inserted_at_spot : (xs ys : List A) (at : ℕ) (x : A) → see x ≡ new → spot order (map see xs) ≡ Err at
       → ys ≡ insert xs at x → map see ys ≡ put_in_order order new joined (map see xs)
   inserted_at_spot xs ys at x same is e =

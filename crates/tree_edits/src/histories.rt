@@ -1,6 +1,6 @@
 //! The versions of an entry in rising order.
 
-ghost use Rattle.std.specs.Prelude.{◌≡◌, ◌++◌, ◌∷◌, [], IfOk, OnOk, map};
+ghost use Rattle.std.specs.Prelude.{◌≡◌, ◌≤◌, IfOk, OnOk, insert, length, map};
 ghost use Rattle.vault_model.specs.Db.{mark_cmp};
 ghost use Rattle.vault_model.specs.Join.{stats_join};
 ghost use Rattle.vault_model.specs.SeenNodes.{bare_version, entry_record};
@@ -13,7 +13,6 @@ ghost use Rattle.tree_edits.specs.Spots.{changed_nth, spot};
 use outside_core::{List, NoMemory};
 use std::alloc::Global;
 use std::cmp::Ordering;
-use tree_steps::put_last;
 use vault_making::copy_version;
 use vault_model::{Entry, Stats, Version, compare_content};
 
@@ -37,8 +36,9 @@ fn join_stats(one: Stats, other: Stats) -> Stats
     }
 }
 
-// Where the version of the same mark is, or where a version is to be put.
-fn version_spot(versions: &[Version], version: &Version) -> Result<usize, usize>
+// Where the version of the same mark is, or where a version is to be put, looked for from the first
+// version on.
+fn spot_from_start(versions: &[Version], version: &Version) -> Result<usize, usize>
     ensures { result ≡ spot (λ (v : BareVersion). mark_cmp (bare_version version.now).mark v.mark)
         (map bare_version versions.now) }
 {
@@ -63,24 +63,6 @@ fn join_stats_at(versions: &mut List<Version>, at: usize, stats: Stats)
     }
 }
 
-// Puts a version in its place, which is looked for from the first version on; of one mark they are
-// made one.
-fn place_version(versions: &mut List<Version>, version: Version) -> Result<(), NoMemory>
-    ensures { OnOk result (map bare_version versions.new
-        ≡ put_version (bare_version version) (map bare_version versions.old)) }
-{
-    match version_spot(versions.as_slice(), &version) {
-        Ok(at) => {
-            join_stats_at(versions, at, version.stats);
-            Ok(())
-        }
-        Err(at) => match versions.insert(at, version) {
-            Ok(()) => Ok(()),
-            Err(_) => Err(NoMemory),
-        },
-    }
-}
-
 // Reports whether a version is greater than the last of some others.
 fn is_above(version: &Version, versions: &[Version]) -> bool
     ensures { result ≡ order.is_above (bare_version version.now) (map bare_version versions.now) }
@@ -89,35 +71,51 @@ fn is_above(version: &Version, versions: &[Version]) -> bool
     count == 0 || compare_marks(version, &versions[count - 1]).is_gt()
 }
 
-// Puts a version after some others.
-fn push_version(versions: &mut List<Version>, version: Version) -> Result<(), NoMemory>
-    ensures { OnOk result (map bare_version versions.new
-        ≡ map bare_version versions.old ++ bare_version version ∷ []) }
+// Where the version of the same mark is among versions that rise, or where a version is to be put,
+// which is mostly after the last.
+fn version_spot(versions: &[Version], version: &Version) -> Result<usize, usize>
+    requires { AreRising (map bare_version versions.now) }
+    ensures { result ≡ spot (λ (v : BareVersion). mark_cmp (bare_version version.now).mark v.mark)
+        (map bare_version versions.now) }
 {
-    put_last(versions, version)
-}
-
-// Puts a version in its place among versions that rise, which is mostly after the last; of one mark
-// they are made one.
-fn add_version(versions: &mut List<Version>, version: Version) -> Result<(), NoMemory>
-    requires { AreRising (map bare_version versions.old) }
-    ensures { OnOk result (map bare_version versions.new
-        ≡ put_version (bare_version version) (map bare_version versions.old)) }
-{
-    if is_above(&version, versions.as_slice()) {
-        push_version(versions, version)
+    if is_above(version, versions) {
+        Err(versions.len())
     } else {
-        place_version(versions, version)
+        spot_from_start(versions, version)
     }
 }
 
-// Puts a copy of a version in its place.
+// Puts a copy of a version before the one at an index.
+fn insert_copy(
+    alloc: Global,
+    versions: &mut List<Version>,
+    at: usize,
+    version: &Version,
+) -> Result<(), NoMemory>
+    requires { at ≤ length versions.old }
+    ensures { OnOk result (map bare_version versions.new
+        ≡ insert (map bare_version versions.old) at (bare_version version.now)) }
+{
+    let copy = copy_version(alloc, version)?;
+    match versions.insert(at, copy) {
+        Ok(()) => Ok(()),
+        Err(_) => Err(NoMemory),
+    }
+}
+
+// Puts a copy of a version in its place among versions that rise; of one mark they are made one.
 fn add_copy(alloc: Global, versions: &mut List<Version>, version: &Version) -> Result<(), NoMemory>
     requires { AreRising (map bare_version versions.old) }
     ensures { OnOk result (map bare_version versions.new
         ≡ put_version (bare_version version.now) (map bare_version versions.old)) }
 {
-    add_version(versions, copy_version(alloc, version)?)
+    match version_spot(versions.as_slice(), version) {
+        Ok(at) => {
+            join_stats_at(versions, at, version.stats);
+            Ok(())
+        }
+        Err(at) => insert_copy(alloc, versions, at, version),
+    }
 }
 
 /// Copies of all versions of an entry in rising order; those of one mark are one.

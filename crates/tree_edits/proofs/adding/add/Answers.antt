@@ -1,4 +1,4 @@
-use Rattle.std.proofs.Common.{◌≡◌, List, ℕ, false, true, Ok, Some, sym, ap, ◌∙◌}
+use Rattle.std.proofs.Common.{List, ℕ, Ok, Some, sym, ap, ◌∙◌}
 use Rattle.std.proofs.lemmas.Str.{is_utf8-from_IsUtf8}
 use Rattle.std.specs.Str.{is_utf8}
 use Rattle.vault_model.proofs.DocumentLaws.{is_doc}
@@ -10,7 +10,7 @@ use Rattle.vault_model.proofs.Tests.{apart}
 use Rattle.tree_changes.proofs.Named.{named_group}
 use Rattle.tree_changes.specs.Changes.{changed_at, has_group, with_entry}
 use Rattle.tree_changes.specs.NewNodes.{given_values, new_entry, new_fields}
-use Rattle.tree_changes.specs.NewPaths.{after_last, before_last, new_path}
+use Rattle.tree_changes.specs.NewPaths.{before_last}
 use Rattle.tree_edits.proofs.AddedDoc.{add_is_doc}
 use Rattle.tree_edits.proofs.AfterAdd.{add_done}
 use Rattle.tree_edits.proofs.adding.add.Goals as goal

@@ -1,4 +1,4 @@
-use Rattle.std.proofs.Common.{OnOk, sym, ap, refl, ◌∙◌}
+use Rattle.std.proofs.Common.{sym, ap, ◌∙◌}
 use Rattle.vault_model.specs.Bare.{BareField}
 use Rattle.vault_model.specs.Orders.{bytes_cmp}
 use Rattle.vault_model.specs.Seen.{bare_field}

@@ -1,4 +1,4 @@
-use Rattle.std.proofs.Common.{◌≡◌, length, sym, ap, ◌∙◌, arith, w32, w64}
+use Rattle.std.proofs.Common.{length, sym, ap, ◌∙◌, arith, w32, w64}
 use Rattle.std.proofs.lemmas.Int.{to_z-of_z}
 use Rattle.std.proofs.lemmas.List.{length-map}
 use Rattle.vault_model.specs.SeenNodes.{bare_version}

@@ -1,4 +1,4 @@
-use Rattle.std.proofs.Common.{◌≡◌, ◌≢◌, ◌<◌, ◌≤◌, ◌-◌, length, arith, refl, sym, ap, ◌∙◌}
+use Rattle.std.proofs.Common.{◌≢◌, length, arith, refl, sym, ap, ◌∙◌}
 use Rattle.vault_model.specs.Seen.{bare_content}
 use Rattle.vault_model.specs.declared.nodes.Version.{Version}
 use Rattle.tree_changes.specs.Histories.{content_size}

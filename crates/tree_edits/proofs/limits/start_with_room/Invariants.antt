@@ -1,4 +1,4 @@
-use Rattle.std.proofs.Common.{◌≤◌, ◌-◌, length}
+use Rattle.std.proofs.Common.{◌≤◌, length}
 use Rattle.tree_edits.proofs.Suffixes.{RoomFrom}
 use Rattle.tree_edits.proofs.limits.start_with_room.Given as goal
 
