@@ -9,13 +9,13 @@ use kdbx_frame::Settings;
 use outside_core::FileStore;
 use outside_host::{HostDice, HostFiles};
 use std::alloc::Global;
-use std::fs::Files;
+use std::fs::{File, Files};
 use std::random::RandomSource;
 use vault_model::Doc;
 
 /// Seals a document as a file under a password, as often as asked.
 pub fn seal_often(
-    rt: &(impl Files + RandomSource + AllocGlobal),
+    rt: &(impl Files<File = File> + RandomSource + AllocGlobal),
     doc: &Doc,
     settings: &Settings,
     target: &Target<'_>,
@@ -50,7 +50,7 @@ fn open_once<F: FileStore>(alloc: Global, target: &Target<'_>, files: &mut F) ->
 
 /// Opens a file under a password, as often as asked.
 pub fn open_often(
-    rt: &(impl Files + AllocGlobal),
+    rt: &(impl Files<File = File> + AllocGlobal),
     target: &Target<'_>,
     times: u32,
 ) -> Result<(), Fault> {

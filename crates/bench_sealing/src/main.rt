@@ -24,14 +24,14 @@ use crate::fault::Fault;
 use crate::rows::{Row, answer};
 use crate::sealing::Target;
 use std::env;
-use std::fs::{self, Files};
+use std::fs::{self, File, Files};
 use std::io::{self, BufRead, BufReader, Read};
 use std::process::ExitCode;
 use std::random::RandomSource;
 use vault_model::Doc;
 
 /// What comes of the words of a line.
-fn line_answer(rt: &(impl Files + AllocGlobal), words: &str) -> Result<String, Fault> {
+fn line_answer(rt: &(impl Files<File = File> + AllocGlobal), words: &str) -> Result<String, Fault> {
     let row = Row::of(rt.alloc(), words)?;
     match fs::read_to_string(rt, row.document()) {
         Ok(text) => answer(rt.alloc(), &row, text.as_str()),
@@ -40,7 +40,11 @@ fn line_answer(rt: &(impl Files + AllocGlobal), words: &str) -> Result<String, F
 }
 
 /// Prints what comes of a line of the input, which has this number.
-fn judge(rt: &(impl Files + Print + AllocGlobal), number: usize, line: &str) -> io::Result<()> {
+fn judge(
+    rt: &(impl Files<File = File> + Print + AllocGlobal),
+    number: usize,
+    line: &str,
+) -> io::Result<()> {
     let Some((words, wanted)) = line.split_once(" = ") else {
         return println!(rt; "line {number}: no answer is given");
     };
@@ -57,7 +61,7 @@ fn judge(rt: &(impl Files + Print + AllocGlobal), number: usize, line: &str) -> 
 }
 
 /// How many bytes of memory the process holds, by the system's count; 0 where it gives none.
-fn resident(rt: &(impl Files + AllocGlobal)) -> u64 {
+fn resident(rt: &(impl Files<File = File> + AllocGlobal)) -> u64 {
     let Ok(text) = fs::read_to_string(rt, "/proc/self/statm") else {
         return 0;
     };
@@ -69,7 +73,7 @@ fn resident(rt: &(impl Files + AllocGlobal)) -> u64 {
 
 /// Seals a document as often as asked, and gives how much memory the process held before.
 fn seal_document(
-    rt: &(impl Files + RandomSource + AllocGlobal),
+    rt: &(impl Files<File = File> + RandomSource + AllocGlobal),
     times: u32,
     choices: &Choices<'_>,
     doc: &Doc,
@@ -86,7 +90,7 @@ fn seal_document(
 /// Seals the document that was read as often as asked, and gives how much memory the process held
 /// before.
 fn seal_read(
-    rt: &(impl Files + RandomSource + AllocGlobal),
+    rt: &(impl Files<File = File> + RandomSource + AllocGlobal),
     times: u32,
     choices: &Choices<'_>,
     doc: &Result<Doc, Fault>,
@@ -101,7 +105,7 @@ fn seal_read(
 /// Seals the document of a text as often as asked, and gives how much memory the process held once
 /// it had read it.
 fn seal_text(
-    rt: &(impl Files + RandomSource + AllocGlobal),
+    rt: &(impl Files<File = File> + RandomSource + AllocGlobal),
     times: u32,
     choices: &Choices<'_>,
     text: Vec<u8>,
@@ -115,7 +119,7 @@ fn seal_text(
 
 /// Seals the document of a file as often as asked.
 fn run_seal(
-    rt: &(impl Files + RandomSource + AllocGlobal),
+    rt: &(impl Files<File = File> + RandomSource + AllocGlobal),
     times: &str,
     choices: &Choices<'_>,
     document: &str,
@@ -130,7 +134,7 @@ fn run_seal(
 
 /// Opens a file as often as asked.
 fn run_open(
-    rt: &(impl Files + AllocGlobal),
+    rt: &(impl Files<File = File> + AllocGlobal),
     times: &str,
     target: &Target<'_>,
 ) -> Result<u64, Fault> {
@@ -175,7 +179,7 @@ fn target_of<'a>(name: &'a String, password: &'a String) -> Target<'a> {
 
 /// Does what the words ask for.
 fn run_words(
-    rt: &(impl Files + RandomSource + AllocGlobal),
+    rt: &(impl Files<File = File> + RandomSource + AllocGlobal),
     words: &[String],
 ) -> Result<u64, Fault> {
     match words {
@@ -202,7 +206,7 @@ fn run_words(
 
 /// Judges the lines of an input.
 fn judge_lines<I: Read + Drop>(
-    rt: &(impl Files + Print + AllocGlobal),
+    rt: &(impl Files<File = File> + Print + AllocGlobal),
     input: I,
 ) -> io::Result<ExitCode> {
     let alloc = rt.alloc();

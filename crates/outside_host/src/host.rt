@@ -58,12 +58,14 @@ fn read_from<F: Read + Seek>(file: &mut F, from: u64, out: &mut [u8]) -> io::Res
     file.read(out)
 }
 
-/// Takes the lock of a draft, which its call holds until the draft has the file's name or is gone.
-/// A file system without locks takes none.
+/// Takes the lock of a draft, which its call holds until the draft has the file's name or is gone. A
+/// file system that has no locks takes none, and then two calls at once are not kept apart.
 fn hold(file: &File) -> io::Result<()> {
     match file.try_lock() {
+        Ok(()) => Ok(()),
         Err(TryLockError::WouldBlock) => Err(io::Error::from(ErrorKind::WouldBlock)),
-        Ok(()) | Err(TryLockError::Error(_)) => Ok(()),
+        Err(TryLockError::Error(error)) if error.kind() == ErrorKind::Unsupported => Ok(()),
+        Err(TryLockError::Error(error)) => Err(error),
     }
 }
 
@@ -78,21 +80,34 @@ fn stay_at<R: Files>(rt: &R, file: &File, path: &str) -> io::Result<()> {
     }
 }
 
+/// Opens a draft that was left behind. It is opened for writing, because some file systems lock no
+/// file that is open for reading alone.
+fn open_left<R: Files<File = File>>(rt: &R, part: &str) -> io::Result<File> {
+    if fs::metadata(rt, part)?.is_file() {
+        OpenOptions::new().write(true).open(rt, part)
+    } else {
+        Err(io::Error::from(ErrorKind::InvalidInput))
+    }
+}
+
 /// Removes a draft that was left by a call that was cut off. The draft of a call that still runs
 /// stays, because that call holds its lock.
 fn remove_left<R: Files<File = File>>(rt: &R, part: &str) -> io::Result<()> {
-    if let Ok(left) = open_regular(rt, part) {
-        hold(&left)?;
-        stay_at(rt, &left, part)?;
-        let _ = fs::remove_file(rt, part);
-    } else {
-        let _ = fs::remove_file(rt, part);
+    match open_left(rt, part) {
+        Ok(left) => {
+            hold(&left)?;
+            stay_at(rt, &left, part)?;
+            fs::remove_file(rt, part)
+        }
+        Err(error) if error.kind() == ErrorKind::NotFound => Ok(()),
+        Err(error) => Err(error),
     }
-    Ok(())
 }
 
-/// Makes an empty file that only its owner may read, and locks it.
-fn new_part<R: Files<File = File>>(rt: &R, part: &str) -> io::Result<File> {
+/// Makes the empty file that a draft is written to, which only its owner may read, and locks it. One
+/// that was left behind by a call that was cut off is removed before.
+fn create_part<R: Files<File = File>>(rt: &R, part: &str) -> io::Result<File> {
+    remove_left(rt, part)?;
     let file = OpenOptions::new()
         .write(true)
         .create_new(true)
@@ -103,25 +118,28 @@ fn new_part<R: Files<File = File>>(rt: &R, part: &str) -> io::Result<File> {
     Ok(file)
 }
 
-/// Makes the empty file that a draft is written to, in the place of any left from a call that was
-/// cut off. It gets the permissions of the file that it is to replace, where there is one.
-fn create_part<R: Files<File = File>>(rt: &R, name: &str, part: &str) -> io::Result<File> {
-    remove_left(rt, part)?;
-    let file = new_part(rt, part)?;
-    if let Ok(replaced) = fs::metadata(rt, name) {
-        let _ = file.set_permissions(replaced.permissions());
+/// Gives a whole draft the permissions of the file that it is to replace, where there is one, brings
+/// it to the disk, and gives it its name.
+fn rename_draft<R: Files<File = File>>(rt: &R, draft: &HostDraft) -> io::Result<()> {
+    if let Ok(replaced) = fs::metadata(rt, draft.name.as_str()) {
+        let _ = draft.file.set_permissions(replaced.permissions());
     }
-    Ok(file)
+    draft.file.sync_all()?;
+    stay_at(rt, &draft.file, draft.part.as_str())?;
+    fs::rename(rt, draft.part.as_str(), draft.name.as_str())
 }
 
-/// Brings a draft to the disk and gives it its name. Where that fails, the draft is removed.
-fn publish_draft<R: Files<File = File>>(rt: &R, draft: HostDraft) -> io::Result<()> {
-    let published = match draft.file.sync_all() {
-        Ok(()) => fs::rename(rt, draft.part.as_str(), draft.name.as_str()),
-        Err(error) => Err(error),
-    };
+/// Removes a draft, if its path still names it.
+fn remove_draft<R: Files<File = File>>(rt: &R, draft: &HostDraft) -> io::Result<()> {
+    stay_at(rt, &draft.file, draft.part.as_str())?;
+    fs::remove_file(rt, draft.part.as_str())
+}
+
+/// Publishes a draft. Where that fails, the draft is removed.
+fn publish_draft<R: Files<File = File>>(rt: &R, draft: &HostDraft) -> io::Result<()> {
+    let published = rename_draft(rt, draft);
     if published.is_err() {
-        let _ = fs::remove_file(rt, draft.part.as_str());
+        let _ = remove_draft(rt, draft);
     }
     published
 }
@@ -242,7 +260,7 @@ impl<'a, R: Files<File = File>> FileStore for HostFiles<'a, R> {
             Err(_error) => return Err(FileFail::NoMemory),
         };
         let kept = Text::of(self.alloc, name)?;
-        match create_part(self.rt, name, part.as_str()) {
+        match create_part(self.rt, part.as_str()) {
             Ok(file) => {
                 self.draft = Some(HostDraft {
                     name: kept,
@@ -272,7 +290,7 @@ impl<'a, R: Files<File = File>> FileStore for HostFiles<'a, R> {
             unreachable!()
         };
         self.reading = None;
-        match publish_draft(self.rt, draft) {
+        match publish_draft(self.rt, &draft) {
             Ok(()) => Ok(()),
             Err(_error) => Err(self.fault()),
         }
@@ -280,7 +298,7 @@ impl<'a, R: Files<File = File>> FileStore for HostFiles<'a, R> {
 
     fn discard(&mut self) {
         if let Some(draft) = self.draft.take() {
-            if fs::remove_file(self.rt, draft.part.as_str()).is_err() {
+            if remove_draft(self.rt, &draft).is_err() {
                 self.faults = increment(self.faults);
             }
         }
