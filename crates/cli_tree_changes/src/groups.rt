@@ -1,6 +1,8 @@
 //! `mkdir` on a document, and the names of groups.
 ghost use Rattle.std.specs.Prelude.{◌≡◌, IfErr};
 ghost use Rattle.vault_model.specs.SeenDoc.{doc_seen};
+ghost use Rattle.vault_model.specs.SeenNodes.{tree_seen};
+ghost use Rattle.vault_model.specs.Walk.{name_of};
 ghost use Rattle.tree_changes.specs.After.{Changes};
 ghost use Rattle.cli_answers.specs.Phases.{IsPlainStop};
 ghost use Rattle.cli_changes.specs.Entries.{CommandChanges};
@@ -16,7 +18,15 @@ use tree_core::find_group;
 use tree_groups::{make_group, name_of_new};
 use tree_steps::group_of;
 use uuid::Uuid;
-use vault_model::Doc;
+use vault_model::{Doc, Group};
+
+// The name of a group.
+#[tactic(auto, using(crate::proofs::Names::seen_name))]
+fn own_name(group: &Group) -> &[u8]
+    ensures { result.now ≡ name_of (tree_seen group.now) }
+{
+    group.state.content.name.as_str().as_bytes()
+}
 
 /// The name of the group that a path names, and nothing where it names none.
 pub(crate) fn group_name<'a>(doc: &'a Doc, path: &str) -> &'a [u8]
@@ -26,7 +36,7 @@ pub(crate) fn group_name<'a>(doc: &'a Doc, path: &str) -> &'a [u8]
         return &[];
     };
     match group_of(&doc.root, id) {
-        Some(group) => group.state.content.name.as_str().as_bytes(),
+        Some(group) => own_name(group),
         None => &[],
     }
 }
