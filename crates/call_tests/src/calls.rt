@@ -1,5 +1,6 @@
 //! Calls over objects in memory.
 use keepass_call::keepass;
+use outside_core::Dice;
 use outside_objects::{CountingDice, MemoryFiles, MemorySink, MemorySource};
 use std::alloc::{AllocGlobal, Global};
 use std::process::Abort;
@@ -43,13 +44,21 @@ pub(crate) fn outside_with(
     Ok(outside)
 }
 
-/// Makes a call, and gives its status.
-pub(crate) fn call(alloc: Global, words: &[&str], outside: &mut Outside) -> Result<u8, Fail> {
+/// The moment of calls, in seconds since the year 1.
+pub(crate) const NOW: u64 = 63_839_664_000;
+
+/// Makes a call over these dice at a moment, and gives its status.
+pub(crate) fn call_at<D: Dice>(
+    alloc: Global,
+    words: &[&str],
+    outside: &mut Outside,
+    dice: &mut D,
+    now: u64,
+) -> Result<u8, Fail> {
     let mut given = Vec::new(alloc);
     for word in words {
         given.push(String::from_str(alloc, word)?)?;
     }
-    let mut dice = CountingDice::new(alloc);
     Ok(keepass(
         alloc,
         given.as_slice(),
@@ -57,9 +66,28 @@ pub(crate) fn call(alloc: Global, words: &[&str], outside: &mut Outside) -> Resu
         &mut outside.input,
         &mut outside.out,
         &mut outside.err,
-        &mut dice,
-        63_839_664_000,
+        dice,
+        now,
     ))
+}
+
+/// Makes a call, and gives its status.
+pub(crate) fn call(alloc: Global, words: &[&str], outside: &mut Outside) -> Result<u8, Fail> {
+    let mut dice = CountingDice::new(alloc);
+    call_at(alloc, words, outside, &mut dice, NOW)
+}
+
+/// Compares the status of a call and what it wrote.
+fn compare(
+    rt: &(impl Abort + AllocGlobal),
+    status: u8,
+    outside: &Outside,
+    wanted: &Outcome<'_>,
+) -> Result<(), Fail> {
+    assert_eq!(rt; status, wanted.status);
+    assert!(rt; outside.out.written() == wanted.text);
+    assert!(rt; outside.err.written() == wanted.line);
+    Ok(())
 }
 
 /// Makes a call, and compares its result.
@@ -69,9 +97,19 @@ pub(crate) fn comes_to(
     outside: &mut Outside,
     wanted: &Outcome<'_>,
 ) -> Result<(), Fail> {
-    let result = call(rt.alloc(), words, outside)?;
-    assert_eq!(rt; result, wanted.status);
-    assert!(rt; outside.out.written() == wanted.text);
-    assert!(rt; outside.err.written() == wanted.line);
-    Ok(())
+    let status = call(rt.alloc(), words, outside)?;
+    compare(rt, status, outside, wanted)
+}
+
+/// Makes a call over these dice at a moment, and compares its result.
+pub(crate) fn comes_to_at<D: Dice>(
+    rt: &(impl Abort + AllocGlobal),
+    words: &[&str],
+    outside: &mut Outside,
+    dice: &mut D,
+    now: u64,
+    wanted: &Outcome<'_>,
+) -> Result<(), Fail> {
+    let status = call_at(rt.alloc(), words, outside, dice, now)?;
+    compare(rt, status, outside, wanted)
 }

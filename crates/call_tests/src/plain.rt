@@ -5,7 +5,7 @@ use std::process::Abort;
 use std::test::Fail;
 
 /// A root group of two entries and a group.
-const TWO_AND_ONE: &[u8] =
+pub(crate) const TWO_AND_ONE: &[u8] =
     b"<KeePassFile><Root><Group><UUID>AQEBAQEBAQEBAQEBAQEBAQ==</UUID><Name>Root</Name><Entry><UUID>AgICAgICAgICAgICAgICAg==</UUID><String><Key>Title</Key><Value>Bank</Value></String></Entry><Entry><UUID>AwMDAwMDAwMDAwMDAwMDAw==</UUID><String><Key>Title</Key><Value>Mail</Value></String></Entry><Group><UUID>BAQEBAQEBAQEBAQEBAQEBA==</UUID><Name>Work</Name></Group></Group></Root></KeePassFile>";
 
 /// The same with the first entry's id at the second entry too.

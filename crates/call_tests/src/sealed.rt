@@ -4,6 +4,7 @@
 //! have 203 bytes, of which the compression flag is from 38 on, and the end block's MAC is
 //! from 772 on.
 use crate::calls::{Outcome, Outside, comes_to, outside_with};
+use crate::changes::holds;
 use std::alloc::{AllocGlobal, Global};
 use std::process::Abort;
 use std::test::Fail;
@@ -266,4 +267,59 @@ fn a_file_without_its_end_is_refused(rt: HostRuntime) -> Result<(), Fail> {
         line: b"keepass: V: ends early at 807\n",
     };
     comes_to(&rt, &["ls", "V"], &mut outside, &early)
+}
+
+#[test]
+fn an_entry_is_added_and_the_file_sealed_again(rt: HostRuntime) -> Result<(), Fail> {
+    let mut outside = sealed(rt.alloc(), b"\np<w\n\n")?;
+    let words = [
+        "add",
+        "-u",
+        "u",
+        "--url",
+        "https://a",
+        "--notes",
+        "n&m",
+        "-p",
+        "V",
+        "Work/Wifi",
+    ];
+    let added = Outcome {
+        status: 0,
+        text: b"Successfully added entry Wifi.\n",
+        line: b"",
+    };
+    comes_to(&rt, &words, &mut outside, &added)?;
+    holds(
+        &rt,
+        &outside,
+        "V",
+        5377,
+        "a76a1ac3c9685d32461e6c90e29373821ff4287b244d413a62fee8ac93d786e7",
+    )?;
+    let listed = Outcome {
+        status: 0,
+        text: b"Successfully added entry Wifi.\nWifi\n",
+        line: b"",
+    };
+    comes_to(&rt, &["ls", "V", "Work"], &mut outside, &listed)
+}
+
+#[test]
+fn an_entry_is_edited_and_the_file_sealed_again(rt: HostRuntime) -> Result<(), Fail> {
+    let mut outside = sealed(rt.alloc(), b"\ns3\n")?;
+    let words = ["edit", "-t", "Bank 2", "-u", "me", "-p", "V", "Bank"];
+    let edited = Outcome {
+        status: 0,
+        text: b"Successfully edited entry Bank 2.\n",
+        line: b"",
+    };
+    comes_to(&rt, &words, &mut outside, &edited)?;
+    holds(
+        &rt,
+        &outside,
+        "V",
+        5251,
+        "eb510798f18e7e5ba61276be985e212f6f13f2a5b3ee1301d9c2e2df184f65b0",
+    )
 }

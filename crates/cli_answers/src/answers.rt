@@ -14,8 +14,18 @@ use uuid::Uuid;
 pub enum Reason {
     /// The words are no command.
     WrongWords,
-    /// The path names no group.
+    /// The path names nothing.
     NoSuchPath,
+    /// Another node has the path already.
+    NameTaken,
+    /// The node is in that group already.
+    AlreadyThere,
+    /// The root can neither be moved nor removed.
+    RootFixed,
+    /// The group of this id would be moved into itself.
+    IntoItself(Uuid),
+    /// This id is nil, a node's, or that of a node that was deleted.
+    IdTaken(Uuid),
     /// The file keeps another hash or MAC of its header than the header has under the key.
     DamagedOrWrongKey { kept: [u8; 32], found: [u8; 32] },
     /// The block of this number is not the one that was written.
@@ -71,6 +81,8 @@ pub enum Reason {
     TooMany,
     /// The file asks for more work to derive its key than is done.
     KdfLimit,
+    /// A time that is to be set is after the year 9999.
+    StampLimit,
     /// A line of the input is too long.
     LineLimit,
     /// Memory ran out.
@@ -95,7 +107,7 @@ pub enum Stop {
     Refused(Refusal),
     /// The store failed at the file of this name.
     FileFault(Text),
-    /// The input failed.
+    /// The input or the dice failed.
     InputFault,
     /// Memory ran out.
     NoMemory,
@@ -118,6 +130,11 @@ pub fn status(reason: &Reason) -> u8
     match *reason {
         Reason::WrongWords => 1,
         Reason::NoSuchPath => 2,
+        Reason::NameTaken => 2,
+        Reason::AlreadyThere => 2,
+        Reason::RootFixed => 2,
+        Reason::IntoItself(_) => 2,
+        Reason::IdTaken(_) => 2,
         Reason::DamagedOrWrongKey { .. } => 3,
         Reason::DamagedBlock(_) => 3,
         Reason::WrongKeyOrDamaged => 3,
@@ -145,6 +162,7 @@ pub fn status(reason: &Reason) -> u8
         Reason::TooDeep => 8,
         Reason::TooMany => 8,
         Reason::KdfLimit => 8,
+        Reason::StampLimit => 8,
         Reason::LineLimit => 8,
         Reason::OutOfMemory => 9,
         Reason::InputEnded(_) => 12,
@@ -186,6 +204,11 @@ pub fn text_of_reason(alloc: Global, reason: &Reason) -> Result<String, AllocErr
     match *reason {
         Reason::WrongWords => String::from_str(alloc, "wrong words"),
         Reason::NoSuchPath => String::from_str(alloc, "not found"),
+        Reason::NameTaken => String::from_str(alloc, "already there"),
+        Reason::AlreadyThere => String::from_str(alloc, "already in that group"),
+        Reason::RootFixed => String::from_str(alloc, "the root stays"),
+        Reason::IntoItself(id) => format!(in alloc; "{id} into itself"),
+        Reason::IdTaken(id) => format!(in alloc; "id taken {id}"),
         Reason::DamagedOrWrongKey { kept, found } => {
             compared(alloc, "damaged or wrong key: kept ", kept, found)
         }
@@ -215,6 +238,7 @@ pub fn text_of_reason(alloc: Global, reason: &Reason) -> Result<String, AllocErr
         Reason::TooDeep => String::from_str(alloc, "limit passed"),
         Reason::TooMany => String::from_str(alloc, "limit passed"),
         Reason::KdfLimit => String::from_str(alloc, "limit passed"),
+        Reason::StampLimit => String::from_str(alloc, "limit passed"),
         Reason::LineLimit => String::from_str(alloc, "limit passed"),
         Reason::OutOfMemory => String::from_str(alloc, "out of memory"),
         Reason::InputEnded(number) => line_is(alloc, number, " missing"),

@@ -13,11 +13,11 @@ use Rattle.cli_lines.specs.Cutting.{ComesNext, Cuts, Ends, IsPushed, cut, with_b
 use Rattle.cli_lines.specs.Lines.{as_text, ends_next, line_from, line_of, too_long, whole, with_byte}
 use Rattle.cli_answers.specs.Messages.{Refuses, refusal_of}
 use Rattle.outside_core.specs.Results.{◌>>=◌}
-use Rattle.cli_answers.specs.Phases.{InputAnswer, RefusesInput}
+use Rattle.cli_answers.specs.Phases.{StreamAnswer, RefusesStream}
 
 -- ---- bytes in front
 
-with_more : (bs cs : List ℕ) (t : InputAnswer (List ℕ)) → with_bytes (bs ++ cs) t ≡ with_bytes bs (with_bytes cs t)
+with_more : (bs cs : List ℕ) (t : StreamAnswer (List ℕ)) → with_bytes (bs ++ cs) t ≡ with_bytes bs (with_bytes cs t)
 with_more [] cs t = refl
 with_more (b ∷ bs) cs t = ap (with_byte b) (with_more bs cs t)
 
@@ -160,29 +160,29 @@ byte_refused old now pushed returned fits byte ready feed other f h rest =
 
 -- ---- bytes that come
 
-pub came_next : (taken : InputAnswer (List ℕ)) (line : List ℕ) (returned : Bool) (input : List ℕ) (came : Option ℕ) (next : ℕ) (left : Option (List ℕ))
+pub came_next : (taken : StreamAnswer (List ℕ)) (line : List ℕ) (returned : Bool) (input : List ℕ) (came : Option ℕ) (next : ℕ) (left : Option (List ℕ))
     → came ≡ Some next → ComesNext (Ok came) input left → taken ≡ cut line returned input
     → (rest : List ℕ) × ((left ≡ Some rest) × (taken ≡ cut line returned (next ∷ rest)))
 came_next taken line returned input came next left is h e =
     let n = subst (λ (o : Option ℕ). ComesNext (Ok o) input left) is h in
     (n.0, (n.1.1, e ∙ ap (cut line returned) n.1.0))
 
-pub came_end : (taken : InputAnswer (List ℕ)) (line : List ℕ) (returned : Bool) (input : List ℕ) (came : Option ℕ) (left : Option (List ℕ)) (fits : Bool) (last : List ℕ)
+pub came_end : (taken : StreamAnswer (List ℕ)) (line : List ℕ) (returned : Bool) (input : List ℕ) (came : Option ℕ) (left : Option (List ℕ)) (fits : Bool) (last : List ℕ)
     → came ≡ None → ComesNext (Ok came) input left → taken ≡ cut line returned input → Ends fits last (cut line returned []) []
     → (rest : List ℕ) × ((left ≡ Some rest) × Ends fits last taken rest)
 came_end taken line returned input came left fits last is h e ends =
     let n = subst (λ (o : Option ℕ). ComesNext (Ok o) input left) is h in
-    ([], (n.1, subst (λ (t : InputAnswer (List ℕ)). Ends fits last t []) (sym (e ∙ ap (cut line returned) n.0)) ends))
+    ([], (n.1, subst (λ (t : StreamAnswer (List ℕ)). Ends fits last t []) (sym (e ∙ ap (cut line returned) n.0)) ends))
 
 -- what a line gives that is read from its first byte on
-abbrev pub Gets : Bool → ℕ → List ℕ → InputAnswer (List ℕ) → List ℕ → Type 0
+abbrev pub Gets : Bool → ℕ → List ℕ → StreamAnswer (List ℕ) → List ℕ → Type 0
 Gets true number line taken left = taken ≡ record { answer = as_text number line; left = left }
 Gets false number line taken left = taken ≡ record { answer = Err (refusal_of LineLimit (codes "input")); left = left }
 
 gets : (fits : Bool) (number : ℕ) (line : List ℕ) (first : ℕ) (rest left : List ℕ) → Ends fits line (line_from 0 (first ∷ rest)) left
     → Gets fits number line (line_of number (first ∷ rest)) left
-gets true number line first rest left e = ap (λ (t : InputAnswer (List ℕ)). record { answer = t.answer >>= (as_text number); left = t.left }) e
-gets false number line first rest left e = ap (λ (t : InputAnswer (List ℕ)). record { answer = t.answer >>= (as_text number); left = t.left }) e
+gets true number line first rest left e = ap (λ (t : StreamAnswer (List ℕ)). record { answer = t.answer >>= (as_text number); left = t.left }) e
+gets false number line first rest left e = ap (λ (t : StreamAnswer (List ℕ)). record { answer = t.answer >>= (as_text number); left = t.left }) e
 
 pub line_read : (number : ℕ) (input : List ℕ) (came : Option ℕ) (first : ℕ) (before now : Option (List ℕ)) (result fits : Bool) (line : List ℕ)
     → ComesNext (Ok came) input before → came ≡ Some first
@@ -201,23 +201,23 @@ none_read number input came before h is =
     (ap (line_of number) n.0, n.1)
 
 -- a refusal that was told
-pub refused_takes : (stop : Stop) (refusal : Refusal) (now : Option (List ℕ)) (left : List ℕ) (taken : InputAnswer (List ℕ))
-    → Refuses stop refusal → taken ≡ record { answer = Err refusal; left = left } → now ≡ Some left → RefusesInput stop now taken
+pub refused_takes : (stop : Stop) (refusal : Refusal) (now : Option (List ℕ)) (left : List ℕ) (taken : StreamAnswer (List ℕ))
+    → Refuses stop refusal → taken ≡ record { answer = Err refusal; left = left } → now ≡ Some left → RefusesStream stop now taken
 refused_takes (Refused given) refusal now left taken h e l =
-    (ap (λ (t : InputAnswer (List ℕ)). t.answer) e ∙ ap Err (sym h), l ∙ ap (λ (t : InputAnswer (List ℕ)). Some t.left) (sym e))
+    (ap (λ (t : StreamAnswer (List ℕ)). t.answer) e ∙ ap Err (sym h), l ∙ ap (λ (t : StreamAnswer (List ℕ)). Some t.left) (sym e))
 refused_takes (FileFault name) refusal now left taken h e l = absurd h
 refused_takes InputFault refusal now left taken h e l = absurd h
 refused_takes NoMemory refusal now left taken h e l = tt
 
 -- a line in UTF-8, and one that is not
-pub text_takes : (number : ℕ) (line : List ℕ) (now : Option (List ℕ)) (left : List ℕ) (taken : InputAnswer (List ℕ)) → is_utf8 line ≡ true
+pub text_takes : (number : ℕ) (line : List ℕ) (now : Option (List ℕ)) (left : List ℕ) (taken : StreamAnswer (List ℕ)) → is_utf8 line ≡ true
     → taken ≡ record { answer = as_text number line; left = left } → now ≡ Some left → (taken.answer ≡ Ok line) × (now ≡ Some taken.left)
 text_takes number line now left taken text e l = (
-  ap (λ (t : InputAnswer (List ℕ)). t.answer) e ∙ ap (λ (b : Bool). cond b (Ok line) (Err (refusal_of (LineForm number) (codes "input")))) text,
-  l ∙ ap (λ (t : InputAnswer (List ℕ)). Some t.left) (sym e),
+  ap (λ (t : StreamAnswer (List ℕ)). t.answer) e ∙ ap (λ (b : Bool). cond b (Ok line) (Err (refusal_of (LineForm number) (codes "input")))) text,
+  l ∙ ap (λ (t : StreamAnswer (List ℕ)). Some t.left) (sym e),
 )
 
-pub not_text : (number : ℕ) (line left : List ℕ) (taken : InputAnswer (List ℕ)) → is_utf8 line ≡ false
+pub not_text : (number : ℕ) (line left : List ℕ) (taken : StreamAnswer (List ℕ)) → is_utf8 line ≡ false
     → taken ≡ record { answer = as_text number line; left = left }
     → taken ≡ record { answer = Err (refusal_of (LineForm number) (codes "input")); left = left }
 not_text number line left taken text e =

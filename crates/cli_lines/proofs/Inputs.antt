@@ -4,17 +4,17 @@ use Rattle.cli_answers.specs.declared.answers.Refusal.{Refusal}
 use Rattle.cli_answers.specs.declared.answers.Stop.{Stop}
 use Rattle.cli_answers.specs.declared.answers.Stop.TheVariants.{Refused, FileFault, InputFault, NoMemory}
 use Rattle.outside_core.specs.Results.{◌>>=◌}
-use Rattle.cli_answers.specs.Phases.{InputAnswer, IsLeft, RefusesAskedInput, RefusesInput, TellsInput, then_input, with_input}
+use Rattle.cli_answers.specs.Phases.{StreamAnswer, IsLeft, RefusesAskedStream, RefusesStream, TellsStream, then_left, with_left}
 use Rattle.cli_words.specs.Needs.{Needs, asks_password}
 use Rattle.cli_lines.specs.Lines.{Lines, line_if, line_of, lines_of, number_after}
 
 -- An input that is not read.
-pub left_alone : (asked : Bool) (before : Option (List ℕ)) (input : List ℕ) → TellsInput asked before input → IsLeft before before input
+pub left_alone : (asked : Bool) (before : Option (List ℕ)) (input : List ℕ) → TellsStream asked before input → IsLeft before before input
 left_alone asked (Some left) input t = ap Some t
 left_alone asked None input t = refl
 
 -- An input of which a line is due reports what is left.
-pub told_by : (asked : Bool) (before : Option (List ℕ)) (input : List ℕ) → asked ≡ true → TellsInput asked before input → before ≡ Some input
+pub told_by : (asked : Bool) (before : Option (List ℕ)) (input : List ℕ) → asked ≡ true → TellsStream asked before input → before ≡ Some input
 told_by asked (Some left) input e t = ap Some t
 told_by asked None input e t = let same : true ≡ false = sym e ∙ t in cc
 
@@ -24,25 +24,25 @@ left_so before now input left e h = h ∙ sym (ap (option_map (λ (l : List ℕ)
 
 -- A line that is due is refused.
 pub line_stops : (stop : Stop) (before now : Option (List ℕ)) (input : List ℕ) (due : Bool) (number : ℕ) → due ≡ true → before ≡ Some input
-    → RefusesInput stop now (line_of number input) → RefusesAskedInput stop before now (line_if due number input)
+    → RefusesStream stop now (line_of number input) → RefusesAskedStream stop before now (line_if due number input)
 line_stops (Refused refusal) before now input due number a e h =
-    subst (λ (b : Bool). RefusesAskedInput (Refused refusal) before now (line_if b number input)) (sym a)
+    subst (λ (b : Bool). RefusesAskedStream (Refused refusal) before now (line_if b number input)) (sym a)
     (ap (λ (r : Result (List ℕ) Refusal). r >>= (λ line. Ok (Some line))) h.0, left_so before now input (line_of number input).left e h.1)
 line_stops (FileFault name) before now input due number a e h = tt
 line_stops InputFault before now input due number a e h = tt
 line_stops NoMemory before now input due number a e h = tt
 
 -- Of two questions the first is asked, and the second of what is left.
-pub tells_first : (a b : Bool) (before : Option (List ℕ)) (input : List ℕ) → TellsInput (a || b) before input → TellsInput a before input
+pub tells_first : (a b : Bool) (before : Option (List ℕ)) (input : List ℕ) → TellsStream (a || b) before input → TellsStream a before input
 tells_first a b (Some left) input t = t
 tells_first true b None input t = t
 tells_first false b None input t = refl
 
-pub tells_second : (a b : Bool) (before now : Option (List ℕ)) (input left : List ℕ) → TellsInput (a || b) before input
-    → IsLeft before now left → TellsInput b now left
-tells_second a b (Some l) now input left t is = subst (λ (n : Option (List ℕ)). TellsInput b n left) (sym is) refl
+pub tells_second : (a b : Bool) (before now : Option (List ℕ)) (input left : List ℕ) → TellsStream (a || b) before input
+    → IsLeft before now left → TellsStream b now left
+tells_second a b (Some l) now input left t is = subst (λ (n : Option (List ℕ)). TellsStream b n left) (sym is) refl
 tells_second true b None now input left t is = let no : true ≡ false = t in cc
-tells_second false b None now input left t is = subst (λ (n : Option (List ℕ)). TellsInput b n left) (sym is) t
+tells_second false b None now input left t is = subst (λ (n : Option (List ℕ)). TellsStream b n left) (sym is) t
 
 -- What is left after two phases.
 pub left_after : (before mid now : Option (List ℕ)) (left rest : List ℕ) → IsLeft before mid left → IsLeft mid now rest → IsLeft before now rest
@@ -50,22 +50,22 @@ left_after (Some l) mid now left rest p q = q ∙ ap (option_map (λ (l : List �
 left_after None mid now left rest p q = q ∙ ap (option_map (λ (l : List ℕ). rest)) p
 
 -- The first phase was refused.
-pub first_stops : {A B : Type 0} (stop : Stop) (before now : Option (List ℕ)) (taken : InputAnswer A) (next : A → List ℕ → InputAnswer B)
-    → RefusesAskedInput stop before now taken → RefusesAskedInput stop before now (then_input taken next)
+pub first_stops : {A B : Type 0} (stop : Stop) (before now : Option (List ℕ)) (taken : StreamAnswer A) (next : A → List ℕ → StreamAnswer B)
+    → RefusesAskedStream stop before now taken → RefusesAskedStream stop before now (then_left taken next)
 first_stops (Refused refusal) before now taken next h =
-    subst (λ (r : Result _ Refusal). RefusesAskedInput (Refused refusal) before now (then_input (with_input r taken.left) next)) (sym h.0) (refl, h.1)
+    subst (λ (r : Result _ Refusal). RefusesAskedStream (Refused refusal) before now (then_left (with_left r taken.left) next)) (sym h.0) (refl, h.1)
 first_stops (FileFault name) before now taken next h = tt
 first_stops InputFault before now taken next h = tt
 first_stops NoMemory before now taken next h = tt
 
 -- The first phase gave this.
-pub first_gave : {A B : Type 0} (taken : InputAnswer A) (a : A) (next : A → List ℕ → InputAnswer B) → taken.answer ≡ Ok a
-    → then_input taken next ≡ next a taken.left
-first_gave taken a next h = ap (λ (r : Result _ Refusal). then_input (with_input r taken.left) next) h
+pub first_gave : {A B : Type 0} (taken : StreamAnswer A) (a : A) (next : A → List ℕ → StreamAnswer B) → taken.answer ≡ Ok a
+    → then_left taken next ≡ next a taken.left
+first_gave taken a next h = ap (λ (r : Result _ Refusal). then_left (with_left r taken.left) next) h
 
 -- A later phase was refused.
-pub later_stops : {A : Type 0} (stop : Stop) (before mid now : Option (List ℕ)) (left : List ℕ) (taken : InputAnswer A)
-    → IsLeft before mid left → RefusesAskedInput stop mid now taken → RefusesAskedInput stop before now taken
+pub later_stops : {A : Type 0} (stop : Stop) (before mid now : Option (List ℕ)) (left : List ℕ) (taken : StreamAnswer A)
+    → IsLeft before mid left → RefusesAskedStream stop mid now taken → RefusesAskedStream stop before now taken
 later_stops (Refused refusal) before mid now left taken is h = (h.0, left_after before mid now left taken.left is h.1)
 later_stops (FileFault name) before mid now left taken is h = tt
 later_stops InputFault before mid now left taken is h = tt
@@ -74,24 +74,24 @@ later_stops NoMemory before mid now left taken is h = tt
 -- Both lines were read, each where it is due.
 pub lines_read : (needs : Needs) (input : List ℕ) (password more : Option (List ℕ)) → (line_if (asks_password needs.access) 1 input).answer ≡ Ok password
     → (line_if needs.has_line (number_after (asks_password needs.access)) (line_if (asks_password needs.access) 1 input).left).answer ≡ Ok more
-    → lines_of needs input ≡ with_input (Ok (record { password = password; more = more }))
+    → lines_of needs input ≡ with_left (Ok (record { password = password; more = more }))
     (line_if needs.has_line (number_after (asks_password needs.access)) (line_if (asks_password needs.access) 1 input).left).left
 lines_read needs input password more p q =
     first_gave (line_if (asks_password needs.access) 1 input) password (λ password left.
-    then_input (line_if needs.has_line (number_after (asks_password needs.access)) left) (λ more end. with_input (Ok (record { password = password; more = more })) end)) p
+    then_left (line_if needs.has_line (number_after (asks_password needs.access)) left) (λ more end. with_left (Ok (record { password = password; more = more })) end)) p
     ∙ first_gave (line_if needs.has_line (number_after (asks_password needs.access)) (line_if (asks_password needs.access) 1 input).left) more
-    (λ more end. with_input (Ok (record { password = password; more = more })) end) q
+    (λ more end. with_left (Ok (record { password = password; more = more })) end) q
 
 -- The line after the password is refused.
 pub more_stops : (stop : Stop) (needs : Needs) (input : List ℕ) (password : Option (List ℕ)) (before mid now : Option (List ℕ))
     → (line_if (asks_password needs.access) 1 input).answer ≡ Ok password → IsLeft before mid (line_if (asks_password needs.access) 1 input).left
-    → RefusesAskedInput stop mid now (line_if needs.has_line (number_after (asks_password needs.access)) (line_if (asks_password needs.access) 1 input).left)
-    → RefusesAskedInput stop before now (lines_of needs input)
+    → RefusesAskedStream stop mid now (line_if needs.has_line (number_after (asks_password needs.access)) (line_if (asks_password needs.access) 1 input).left)
+    → RefusesAskedStream stop before now (lines_of needs input)
 more_stops stop needs input password before mid now p is h =
     let rest = (line_if (asks_password needs.access) 1 input).left in
     let taken = line_if needs.has_line (number_after (asks_password needs.access)) rest in
-    subst (λ (t : InputAnswer Lines). RefusesAskedInput stop before now t)
+    subst (λ (t : StreamAnswer Lines). RefusesAskedStream stop before now t)
     (sym (first_gave (line_if (asks_password needs.access) 1 input) password (λ password left.
-    then_input (line_if needs.has_line (number_after (asks_password needs.access)) left) (λ more end. with_input (Ok (record { password = password; more = more })) end)) p))
-    (first_stops stop before now taken (λ more end. with_input (Ok (record { password = password; more = more })) end)
+    then_left (line_if needs.has_line (number_after (asks_password needs.access)) left) (λ more end. with_left (Ok (record { password = password; more = more })) end)) p))
+    (first_stops stop before now taken (λ more end. with_left (Ok (record { password = password; more = more })) end)
     (later_stops stop before mid now rest taken is h))

@@ -3,7 +3,7 @@ use Rattle.std.specs.Prelude.{◌≡◌, ℕ, ◌+◌, ◌*◌, Bool, true, fals
 use Rattle.outside_core.specs.declared.fails.SourceFail.{SourceFail}
 use Rattle.secret_core.specs.Secret.{SecretBuffer}
 use Rattle.cli_lines.specs.Lines.{line_from, too_long, with_byte}
-use Rattle.cli_answers.specs.Phases.{InputAnswer}
+use Rattle.cli_answers.specs.Phases.{StreamAnswer}
 
 -- The next byte came, or the end. A fault says nothing.
 abbrev pub ComesNext : Result (Option ℕ) SourceFail → List ℕ → Option (List ℕ) → Type 0
@@ -17,21 +17,21 @@ waiting true rest = 13 ∷ rest
 waiting false rest = rest
 
 -- A line with bytes before it.
-abbrev pub with_bytes : List ℕ → InputAnswer (List ℕ) → InputAnswer (List ℕ)
+abbrev pub with_bytes : List ℕ → StreamAnswer (List ℕ) → StreamAnswer (List ℕ)
 with_bytes [] taken = taken
 with_bytes (b ∷ bs) taken = with_byte b (with_bytes bs taken)
 
 -- The line of which these bytes were read, and perhaps a carriage return, before the rest.
-abbrev pub cut : List ℕ → Bool → List ℕ → InputAnswer (List ℕ)
+abbrev pub cut : List ℕ → Bool → List ℕ → StreamAnswer (List ℕ)
 cut line returned rest = with_bytes line (line_from (length line) (waiting returned rest))
 
 -- One byte more of the line is read, and whether a carriage return waits; or the line is too long.
-abbrev pub Puts : Option Bool → List ℕ → List ℕ → InputAnswer (List ℕ) → Type 0
+abbrev pub Puts : Option Bool → List ℕ → List ℕ → StreamAnswer (List ℕ) → Type 0
 Puts (Some returned) line rest before = before ≡ cut line returned rest
 Puts None line rest before = before ≡ too_long rest
 
 -- The line is this, or it is too long.
-abbrev pub Ends : Bool → List ℕ → InputAnswer (List ℕ) → List ℕ → Type 0
+abbrev pub Ends : Bool → List ℕ → StreamAnswer (List ℕ) → List ℕ → Type 0
 Ends true line taken left = taken ≡ record { answer = Ok line; left = left }
 Ends false line taken left = taken ≡ too_long left
 
@@ -43,7 +43,7 @@ weight spare false = 2 * spare + 1
 
 -- The input was read to the end of the line, or as far as shows that the line is too long. A fault
 -- says nothing.
-abbrev pub Cuts : Result Bool SourceFail → List ℕ → Option (List ℕ) → InputAnswer (List ℕ) → Type 0
+abbrev pub Cuts : Result Bool SourceFail → List ℕ → Option (List ℕ) → StreamAnswer (List ℕ) → Type 0
 Cuts (Ok fits) line left taken = (rest : List ℕ) × ((left ≡ Some rest) × Ends fits line taken rest)
 Cuts (Err fail) line left taken = Unit {0}
 

@@ -7,18 +7,18 @@ use Rattle.cli_words.specs.declared.command.Access.{Access}
 use Rattle.cli_words.specs.Needs.{Needs, asks_password}
 use Rattle.cli_answers.specs.Messages.{refusal_of}
 use Rattle.outside_core.specs.Results.{◌>>=◌}
-use Rattle.cli_answers.specs.Phases.{InputAnswer, then_input, with_input}
+use Rattle.cli_answers.specs.Phases.{StreamAnswer, then_left, with_left}
 
 -- A line that ends here.
-abbrev pub whole : List ℕ → InputAnswer (List ℕ)
+abbrev pub whole : List ℕ → StreamAnswer (List ℕ)
 whole left = record { answer = Ok []; left = left }
 
 -- A line that is too long.
-abbrev pub too_long : List ℕ → InputAnswer (List ℕ)
+abbrev pub too_long : List ℕ → StreamAnswer (List ℕ)
 too_long left = record { answer = Err (refusal_of LineLimit (codes "input")); left = left }
 
 -- A line with one byte more before it.
-abbrev pub with_byte : ℕ → InputAnswer (List ℕ) → InputAnswer (List ℕ)
+abbrev pub with_byte : ℕ → StreamAnswer (List ℕ) → StreamAnswer (List ℕ)
 with_byte b taken = record { answer = taken.answer >>= λ line. Ok (b ∷ line); left = taken.left }
 
 -- A line feed comes next.
@@ -29,7 +29,7 @@ ends_next (b ∷ bs) = b == 10
 -- The rest of a line of which n bytes are read: up to a line feed, or a carriage return and a line
 -- feed, or the end. A line has at most 4,096 bytes; what shows that it has more is read too, the
 -- byte after a carriage return in the 4,097th place among it.
-abbrev pub line_from : ℕ → List ℕ → InputAnswer (List ℕ)
+abbrev pub line_from : ℕ → List ℕ → StreamAnswer (List ℕ)
 line_from n [] = whole []
 line_from n (b ∷ bs) =
     if b == 10 then whole bs
@@ -43,7 +43,7 @@ as_text number line = if is_utf8 line then Ok line else Err
     (refusal_of (LineForm number) (codes "input"))
 
 -- The line of this number, which is due.
-abbrev pub line_of : ℕ → List ℕ → InputAnswer (List ℕ)
+abbrev pub line_of : ℕ → List ℕ → StreamAnswer (List ℕ)
 line_of number [] = record {
   answer = Err (refusal_of (InputEnded number) (codes "input"));
   left =
@@ -57,13 +57,13 @@ line_of number (b ∷ bs) =
     }
 
 -- A line that was due.
-abbrev pub some_line : InputAnswer (List ℕ) → InputAnswer (Option (List ℕ))
+abbrev pub some_line : StreamAnswer (List ℕ) → StreamAnswer (Option (List ℕ))
 some_line taken = record { answer = taken.answer >>= λ line. Ok (Some line); left = taken.left }
 
 -- The line of this number, where one is due.
-abbrev pub line_if : Bool → ℕ → List ℕ → InputAnswer (Option (List ℕ))
+abbrev pub line_if : Bool → ℕ → List ℕ → StreamAnswer (Option (List ℕ))
 line_if true number input = some_line (line_of number input)
-line_if false number input = with_input (Ok None) input
+line_if false number input = with_left (Ok None) input
 
 -- The lines of a call, each where it is due: the password of the database, and the line that the
 -- command asks for after it.
@@ -76,11 +76,11 @@ abbrev pub number_after : Bool → ℕ
 number_after asks = if asks then 2 else 1
 
 -- The lines that a command asks for, one after another.
-abbrev pub lines_of : Needs → List ℕ → InputAnswer Lines
+abbrev pub lines_of : Needs → List ℕ → StreamAnswer Lines
 lines_of needs input =
-    then_input (line_if (asks_password needs.access) 1 input) (λ password rest.
-    then_input (line_if needs.has_line (number_after (asks_password needs.access)) rest)
-    (λ more end. with_input (Ok (record { password = password; more = more })) end))
+    then_left (line_if (asks_password needs.access) 1 input) (λ password rest.
+    then_left (line_if needs.has_line (number_after (asks_password needs.access)) rest)
+    (λ more end. with_left (Ok (record { password = password; more = more })) end))
 
 -- ---- lines that are there
 
@@ -88,6 +88,11 @@ lines_of needs input =
 pub record HasLines (needs : Needs) (lines : Lines) : Type 0 where
   pub has_password : asks_password needs.access ≡ true → IsSome lines.password
   pub has_more : needs.has_line ≡ true → IsSome lines.more
+
+-- A line is in UTF-8, if there is one.
+abbrev pub IsTextLine : Option (List ℕ) → Type 0
+IsTextLine None = Unit {0}
+IsTextLine (Some line) = is_utf8 line ≡ true
 
 -- A database that is no plain document has a password or a key file.
 abbrev pub CanOpen : Access → Option (List ℕ) → Type 0

@@ -4,11 +4,11 @@ ghost use Rattle.std.specs.Str.{is_utf8};
 ghost use Rattle.outside_core.specs.Counts.{HasCause};
 ghost use Rattle.cli_lines.specs.Cutting.{ComesNext, Cuts, Ends, IsPushed, Puts, cut, weight};
 ghost use Rattle.cli_lines.specs.Lines as spec;
-ghost use Rattle.cli_lines.specs.Lines.{HasLines, line_from, line_if, line_of, lines_of};
+ghost use Rattle.cli_lines.specs.Lines.{HasLines, IsTextLine, line_from, line_if, line_of, lines_of};
 ghost use Rattle.cli_lines.specs.SeenLines.{line_seen, lines_seen};
 ghost use Rattle.cli_words.specs.Needs.{asks_line};
 ghost use Rattle.cli_words.specs.SeenNeeds.{needs_seen};
-ghost use Rattle.cli_answers.specs.Phases.{IsLineStop, ReturnsAskedInput, ReturnsInput, TellsInput};
+ghost use Rattle.cli_answers.specs.Phases.{IsStreamStop, ReturnsAskedStream, ReturnsStream, TellsStream};
 
 use cli_answers::{Reason, Stop, refused};
 use cli_words::{Needs, asks_password};
@@ -134,8 +134,9 @@ fn is_text_line(line: &Secret) -> bool
 // The line of this number.
 fn read_line<S: Source>(alloc: Global, input: &mut S, number: u64) -> Result<Secret, Stop>
     ensures told { (i : List ℕ) → S.left input.old ≡ Some i
-        → ReturnsInput (λ line. line.bytes) result (S.left input.new) (line_of number i) }
-    ensures cause { IfErr result (IsLineStop (S.faults input.old) (S.faults input.new)) }
+        → ReturnsStream (λ line. line.bytes) result (S.left input.new) (line_of number i) }
+    ensures text { IfOk result (λ line. is_utf8 line.bytes ≡ true) }
+    ensures cause { IfErr result (IsStreamStop (S.faults input.old) (S.faults input.new)) }
     ensures faults { S.faults input.old ≤ S.faults input.new }
 {
     let Ok(mut line) = Secret::with_room(alloc, LINE_LIMIT) else {
@@ -164,11 +165,12 @@ fn read_if<S: Source>(
     due: bool,
     number: u64,
 ) -> Result<Option<Secret>, Stop>
-    ensures told { (i : List ℕ) → TellsInput due (S.left input.old) i
-        → ReturnsAskedInput line_seen result (S.left input.old) (S.left input.new)
+    ensures told { (i : List ℕ) → TellsStream due (S.left input.old) i
+        → ReturnsAskedStream line_seen result (S.left input.old) (S.left input.new)
         (line_if due number i) }
     ensures given { IfOk result (λ line. due ≡ true → IsSome (line_seen line)) }
-    ensures cause { IfErr result (IsLineStop (S.faults input.old) (S.faults input.new)) }
+    ensures text { IfOk result (λ line. IsTextLine (line_seen line)) }
+    ensures cause { IfErr result (IsStreamStop (S.faults input.old) (S.faults input.new)) }
     ensures faults { S.faults input.old ≤ S.faults input.new }
 {
     if !due {
@@ -198,11 +200,12 @@ pub struct Lines {
 
 /// The lines that a command asks for, one after another.
 pub fn read_lines<S: Source>(alloc: Global, input: &mut S, needs: Needs<'_>) -> Result<Lines, Stop>
-    ensures told { (i : List ℕ) → TellsInput (asks_line (needs_seen needs.entry))
-        (S.left input.old) i → ReturnsAskedInput lines_seen result (S.left input.old)
+    ensures told { (i : List ℕ) → TellsStream (asks_line (needs_seen needs.entry))
+        (S.left input.old) i → ReturnsAskedStream lines_seen result (S.left input.old)
         (S.left input.new) (lines_of (needs_seen needs.entry) i) }
     ensures given { IfOk result (λ lines. HasLines (needs_seen needs.entry) (lines_seen lines)) }
-    ensures cause { IfErr result (IsLineStop (S.faults input.old) (S.faults input.new)) }
+    ensures text { IfOk result (λ lines. IsTextLine (lines_seen lines).more) }
+    ensures cause { IfErr result (IsStreamStop (S.faults input.old) (S.faults input.new)) }
     ensures faults { S.faults input.old ≤ S.faults input.new }
 {
     let asks = asks_password(needs.access);

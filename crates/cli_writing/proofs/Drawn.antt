@@ -28,3 +28,8 @@ loses gone before (Some rest) e = (
   ap Some (sym (drop-append-le (length gone) gone rest (omega arith) ∙ ap (λ xs. xs ++ rest) (drop_all (length gone) gone (omega arith))))
       ∙ sym (ap (option_map (drop (length gone))) e),
 )
+
+-- Bytes are the next ones of themselves.
+pub next_alone : (n : ℕ) (bytes : List ℕ) → length bytes ≡ n → bytes ≡ next_bytes n bytes
+unfolding next_bytes
+next_alone n bytes l = sym (take-append-le n bytes (replicate n 0) (omega (arith, l)) ∙ take_all n bytes (omega (arith, l)))

@@ -1,10 +1,10 @@
 //! What a command draws for the ids of new nodes.
-ghost use Rattle.std.specs.Prelude.{◌≡◌, ◌≤◌, ℕ, List, length, IfErr, Some};
+ghost use Rattle.std.specs.Prelude.{◌≡◌, ◌≤◌, ℕ, List, drop, length, IfErr, IfOk, Some};
+ghost use Rattle.outside_core.specs.Counts.{Increased};
 ghost use Rattle.outside_core.specs.Streams.{LosesPrefix};
-ghost use Rattle.cli_writing.specs.Drawing.{IsDiceStop, ReturnsDrawn, drawn};
+ghost use Rattle.cli_writing.specs.Drawing.{next_bytes};
 
-use cli_answers::Stop;
-use outside_core::Dice;
+use outside_core::{Dice, DiceFail};
 use secret_core::Fresh;
 
 // The length of what is drawn, which its type says and its view as a list does not.
@@ -16,11 +16,12 @@ fn length_of(drawn: &[u8; 16]) -> usize
 }
 
 /// The next 16 bytes of the dice.
-pub fn draw_id<D: Dice>(dice: &mut D) -> Result<[u8; 16], Stop>
+pub fn draw_id<D: Dice>(dice: &mut D) -> Result<[u8; 16], DiceFail>
     ensures told { (d : List ℕ) → D.stream dice.old ≡ Some d
-        → ReturnsDrawn (λ id. id) result (D.stream dice.new) (drawn 16 d) }
+        → IfOk result (λ id. (id ≡ next_bytes 16 d) × (D.stream dice.new ≡ Some (drop 16 d))) }
+    ensures long { IfOk result (λ id. length id ≡ 16) }
     ensures stream { LosesPrefix (D.stream dice.old) (D.stream dice.new) }
-    ensures cause { IfErr result (IsDiceStop (D.faults dice.old) (D.faults dice.new)) }
+    ensures cause { IfErr result (λ _. Increased (D.faults dice.old) (D.faults dice.new)) }
     ensures faults { D.faults dice.old ≤ D.faults dice.new }
 {
     match Fresh::<16>::draw(dice, 16) {
@@ -29,6 +30,6 @@ pub fn draw_id<D: Dice>(dice: &mut D) -> Result<[u8; 16], Stop>
             let _length = length_of(&id);
             Ok(id)
         }
-        Err(_) => Err(Stop::InputFault),
+        Err(fail) => Err(fail),
     }
 }

@@ -1,10 +1,12 @@
 //! The file that a command writes.
-ghost use Rattle.std.specs.Prelude.{◌≡◌, ◌≢◌, ◌≤◌, IfErr, None, Ok, OnErr};
+ghost use Rattle.std.specs.Prelude.{◌≡◌, ◌≢◌, ◌≤◌, IfErr, IfOk, None, Ok, OnErr, OnOk};
 ghost use Rattle.stream_core.specs.InnerStream.{NoKeystream};
 ghost use Rattle.vault_model.specs.SeenDoc.{doc_seen};
 ghost use Rattle.vault_model.specs.declared.forms.DocForm.TheVariants.{Plain};
+ghost use Rattle.doc_spelling.specs.Ranges.{IsWritable};
 ghost use Rattle.doc_write.specs.Written as written;
 ghost use Rattle.cli_answers.specs.Phases.{IsFault, IsPlainStop};
+ghost use Rattle.cli_writing.specs.Held.{HoldsPlain, IsWritten};
 ghost use Rattle.cli_writing.specs.Writing as spec;
 ghost use Rattle.cli_writing.specs.Writing.{IsUnwritten, IsWriteStop, KeepsFiles, Writes, plain_file, store};
 
@@ -51,8 +53,9 @@ fn faulty(alloc: Global, name: &str) -> Stop
 
 // The text of a plain document.
 fn plain_text(alloc: Global, doc: &Doc) -> Result<Secret, WriteFail>
-    ensures { written.Writes result (written.write_outcome Plain NoKeystream None
+    ensures text { written.Writes result (written.write_outcome Plain NoKeystream None
         (doc_seen doc.now)) }
+    ensures writable { IfOk result (λ _. IsWritable (doc_seen doc.now)) }
 {
     let mut stream = InnerStream::Clear;
     write_doc(alloc, doc, DocForm::Plain, None, &mut stream)
@@ -78,7 +81,8 @@ fn save<F: FileStore>(alloc: Global, files: &mut F, name: &str, bytes: &[u8]) ->
     }
 }
 
-/// Writes a document by itself into the file of this name, whole or not at all.
+/// Writes a document by itself into the file of this name, whole or not at all. At Ok the file is a
+/// text that says this document.
 pub fn write_plain<F: FileStore>(
     alloc: Global,
     files: &mut F,
@@ -88,6 +92,9 @@ pub fn write_plain<F: FileStore>(
     ensures told { Writes result (plain_file name.now (doc_seen doc.now))
         (store (F.files files.old) (F.draft_name files.old) (F.draft_bytes files.old))
         (store (F.files files.new) (F.draft_name files.new) (F.draft_bytes files.new)) }
+    ensures held { OnOk result (IsWritten (HoldsPlain (doc_seen doc.now)) name.now
+        (store (F.files files.old) (F.draft_name files.old) (F.draft_bytes files.old))
+        (store (F.files files.new) (F.draft_name files.new) (F.draft_bytes files.new))) }
     ensures kept { OnErr result (KeepsFiles
         (store (F.files files.old) (F.draft_name files.old) (F.draft_bytes files.old))
         (store (F.files files.new) (F.draft_name files.new) (F.draft_bytes files.new))) }

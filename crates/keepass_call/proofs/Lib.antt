@@ -1,5 +1,6 @@
-pub mod Answering
-pub mod Endings
-pub mod HeldFiles
-pub mod Inputs
-pub mod Steps
+pub mod Answered
+pub mod Calls
+pub mod Carried
+pub mod Changes
+pub mod HeldTasks
+pub mod Tasks

@@ -1,34 +1,42 @@
 -- What the program promises of each call.
-use Rattle.std.specs.Prelude.{◌≡◌, ◌≢◌, ◌⊎◌, ℕ, List}
-use Rattle.keepass_call.specs.Held.{IsAuthentic, IsComplete, PrintsOfSomeFile}
-use Rattle.keepass_call.specs.Outcome.{Counts, known_command, IsAsSaid, NoFaults, AgreesUpToFailure, IsRefused, IsSafe, Seen, WhereTold, outcome}
+use Rattle.std.specs.Prelude.{◌≡◌, ◌≢◌, ◌⊎◌, ℕ, List, false}
 use Rattle.cli_words.specs.Needs.{files_named}
+use Rattle.keepass_call.specs.Held.{IsAuthentic, IsComplete}
+use Rattle.keepass_call.specs.Outcome.{Counts, IsAsSaid, IsCut, IsRefused, IsSafe, NoFaults, PrintsOfSomeFile, Seen, WhereTold, outcome}
+use Rattle.cli_words.specs.Words.{command_of}
+use Rattle.cli_writing.specs.Writing.{IsSame}
+use Rattle.keepass_call.specs.Tasks.{draws_by, writes_by}
 
--- A call with these words, its status, what is seen before and after it, and the counts before and
--- after.
-pub record IsCall (words : List (List ℕ)) (result : ℕ) (before now : Seen) (counts counts' : Counts)
-    : Type 0 where
+-- A call with these words at a moment, its status, what is seen before and after it, and the counts
+-- before and after.
+pub record IsCall (words : List (List ℕ)) (time result : ℕ) (before now : Seen)
+    (counts counts' : Counts) : Type 0 where
+  -- Reported or not: statuses have their causes, and a refusal changes no file.
+  pub safe : IsSafe result before now counts counts'
+  -- Reported or not: words that are no command that writes change no file, and words that are no
+  -- command that draws draw nothing.
+  pub reads_only : writes_by (command_of words) ≡ false → IsSame before.store now.store
+  pub draws_nothing : draws_by (command_of words) ≡ false → now.stream ≡ before.stream
   -- Where the status is 0, or nothing failed and memory did not run out, all is as the outcome of
   -- the words says.
-  pub as_said : WhereTold words before (λ input files. (result ≡ 0)
+  pub as_said : WhereTold words before (λ world. (result ≡ 0)
       ⊎ ((result ≢ 9) × NoFaults counts counts')
-      → IsAsSaid (outcome words input files) result before now)
-  -- Whatever failed, so much is as the outcome says.
-  pub near : WhereTold words before (λ input files.
-      AgreesUpToFailure (files_named (known_command words)) (outcome words input files) result
-      before now counts counts')
+      → IsAsSaid (outcome words time world) result before now)
   -- A refusal is the outcome's, or reports a fault whose count rose.
-  pub refused : WhereTold words before (λ input files.
-      IsRefused (files_named (known_command words)) (outcome words input files) result before now
+  pub refused : WhereTold words before (λ world.
+      IsRefused (files_named (command_of words)) (outcome words time world) result before now
       counts counts')
-  -- What is listed at status 0 is a document that the file holds under the line and the key file
-  -- that were given.
-  pub authentic : WhereTold words before (λ input files. result ≡ 0
-      → IsAuthentic words input files before.written now.written)
+  -- Where memory ran out or output failed, so much is as the outcome says.
+  pub cut : WhereTold words before (λ world. (result ≡ 9) ⊎ (result ≡ 10)
+      → IsCut (outcome words time world) before now)
+  -- What is printed at status 0 is made of a document that the file holds under the line and the
+  -- key file that were given, and a file that was written holds the document that was made of it,
+  -- under the same key.
+  pub authentic : WhereTold words before (λ world. result ≡ 0
+      → IsAuthentic words time world before now)
   -- What can be carried out is.
-  pub complete : WhereTold words before (λ input files. IsComplete words input files result counts
+  pub complete : WhereTold words before (λ world. IsComplete words time world result counts
       counts')
-  -- Reported or not: what is listed at status 0 is a document that some file holds.
-  pub some_file : result ≡ 0 → PrintsOfSomeFile words before.written now.written
-  -- Reported or not: no file changes, and statuses have their causes.
-  pub safe : IsSafe result before now counts counts'
+  -- Reported or not: what is printed at status 0 is made of a document that some file holds, and a
+  -- file that was written holds the document that was made of it.
+  pub some_file : result ≡ 0 → PrintsOfSomeFile words time before now

@@ -1,6 +1,8 @@
 pub mod Call
-pub mod Databases
+pub mod Commands
+pub mod Endings
 pub mod Held
 pub mod Outcome
-pub mod SomeFiles
+pub mod SeenChange
+pub mod Tasks
 pub mod Telling

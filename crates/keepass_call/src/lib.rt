@@ -1,9 +1,9 @@
 //! The one call of the program: from its arguments, and the objects of the outside, to its status.
 #![tactic(auto)]
 
-mod databases;
+mod carrying;
 mod execute;
 mod run;
+mod task;
 
-pub use execute::Output;
 pub use run::keepass;

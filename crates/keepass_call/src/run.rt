@@ -1,21 +1,23 @@
 //! The one call of the program: from its words, and the objects of the outside, to its status.
-ghost use Rattle.std.specs.Prelude.{◌≡◌, ◌≤◌, ℕ, List, Some, IfErr, IfOk, map, option_map, string_bytes};
-ghost use Rattle.outside_core.specs.Files.{FileMap};
+ghost use Rattle.std.specs.Prelude.{◌≡◌, ℕ, List, Some, IfErr, IfOk, OnErr, false, map, string_bytes};
+ghost use Rattle.outside_core.specs.Streams.{LosesPrefix};
 ghost use Rattle.cli_answers.specs.Messages.{error_line, reason_text, status_of};
-ghost use Rattle.cli_answers.specs.Phases.{IsCaused, IsWordsStop, Leaves, Returns, TellsInput};
-ghost use Rattle.cli_words.specs.Needs.{HasKey, files_named, needs_of};
+ghost use Rattle.cli_answers.specs.Phases.{IsCaused, Leaves, TellsStream};
+ghost use Rattle.cli_words.specs.Needs.{files_named};
+ghost use Rattle.cli_writing.specs.Writing.{IsSame, KeepsDraft, KeepsFiles, store};
 ghost use Rattle.keepass_call.specs.Call.{IsCall};
-ghost use Rattle.keepass_call.specs.Held.{IsOfSomeFile};
-ghost use Rattle.keepass_call.specs.Outcome.{answer_of, asked_by, counts, known_command, left_of, seen};
+ghost use Rattle.keepass_call.specs.Endings.{Ends};
+ghost use Rattle.keepass_call.specs.Outcome.{IsOfSomeFile, IsOfTask, World, answer_of, counts, seen};
+ghost use Rattle.keepass_call.specs.SeenChange.{output_text};
+ghost use Rattle.cli_words.specs.Words.{command_of};
+ghost use Rattle.keepass_call.specs.Tasks.{asked_by, draws_by, left_of, writes_by};
 ghost use Rattle.keepass_call.specs.Telling.{IsPrinted, IsTold, IsUnwritten, TellsLine};
 
-use crate::databases::open;
-use crate::execute::{Output, execute};
-use cli_answers::{Reason, Stop, line, refused, status, text_of_reason};
-use cli_lines::read_lines;
-use cli_words::{Command, read_words};
+use crate::carrying::carry_out;
+use crate::execute::{Output, lend_text};
+use crate::task::read_task;
+use cli_answers::{Reason, Stop, line, status, text_of_reason};
 use outside_core::{Dice, FileStore, NoMemory, Sink, SinkFail, Source, write_all};
-use secret_core::Secret;
 use std::alloc::Global;
 
 /// The status of a call at which the store failed.
@@ -30,63 +32,60 @@ const OUTPUT_FAULT: u8 = 10;
 /// The status of a call whose input failed.
 const INPUT_FAULT: u8 = 11;
 
-// The bytes of a password, where there is one.
-fn bytes_in(password: &Option<Secret>) -> Option<&[u8]>
-    ensures { option_map (λ bytes. bytes.now) result
-        ≡ option_map (λ secret. secret.bytes) password.now }
-{
-    match password {
-        Some(password) => Some(password.lend(0, password.len())),
-        None => None,
-    }
-}
-
-// The command that the words are, of those that are carried out.
-fn read_command(alloc: Global, words: &[String]) -> Result<Command, Stop>
-    ensures told { Returns (λ command. command) result
-        (known_command (map string_bytes words.now)) }
-    ensures has_key { IfOk result (λ command. HasKey (needs_of command).access) }
-    ensures cause { IfErr result IsWordsStop }
-{
-    let command = read_words(alloc, words)?;
-    match command {
-        Command::Ls { .. } => Ok(command),
-        Command::Add { .. } => Err(refused(alloc, Reason::WrongWords, "words")),
-        Command::Edit { .. } => Err(refused(alloc, Reason::WrongWords, "words")),
-    }
-}
-
 // The phases of a call, one after another.
-#[tactic(auto, unfolding(crate::specs::Outcome::answer_of))]
-fn answer<F: FileStore, S: Source>(
+fn answer<F: FileStore, S: Source, D: Dice>(
     alloc: Global,
     words: &[String],
     files: &mut F,
     input: &mut S,
+    dice: &mut D,
+    now: u64,
 ) -> Result<Output, Stop>
-    ensures told { (m : FileMap) (i : List ℕ) → F.files files.old ≡ Some m
-        → TellsInput (asked_by (known_command (map string_bytes words.now))) (S.left input.old) i
-        → Returns (λ done. done) result (answer_of (map string_bytes words.now) i m) }
-    ensures some_file { IfOk result (IsOfSomeFile (map string_bytes words.now)) }
+    ensures told { (world : World) → F.files files.old ≡ Some world.files
+        → TellsStream (asked_by (command_of (map string_bytes words.now))) (S.left input.old)
+        world.input
+        → TellsStream (draws_by (command_of (map string_bytes words.now)))
+        (D.stream dice.old) world.dice
+        → Ends result (answer_of (map string_bytes words.now) now world)
+        (store (F.files files.old) (F.draft_name files.old) (F.draft_bytes files.old))
+        (store (F.files files.new) (F.draft_name files.new) (F.draft_bytes files.new))
+        (D.stream dice.old) (D.stream dice.new) }
+    ensures held { (world : World) → F.files files.old ≡ Some world.files
+        → TellsStream (asked_by (command_of (map string_bytes words.now))) (S.left input.old)
+        world.input
+        → TellsStream (draws_by (command_of (map string_bytes words.now)))
+        (D.stream dice.old) world.dice
+        → IfOk result (λ output. IsOfTask (map string_bytes words.now) now world
+        (output_text output)
+        (store (F.files files.old) (F.draft_name files.old) (F.draft_bytes files.old))
+        (store (F.files files.new) (F.draft_name files.new) (F.draft_bytes files.new))) }
+    ensures some_file { IfOk result (λ output. IsOfSomeFile (map string_bytes words.now) now
+        (output_text output)
+        (store (F.files files.old) (F.draft_name files.old) (F.draft_bytes files.old))
+        (store (F.files files.new) (F.draft_name files.new) (F.draft_bytes files.new))) }
     ensures left { (i : List ℕ)
-        → TellsInput (asked_by (known_command (map string_bytes words.now))) (S.left input.old) i
+        → TellsStream (asked_by (command_of (map string_bytes words.now))) (S.left input.old) i
         → Leaves result (S.left input.old) (S.left input.new)
         (left_of (map string_bytes words.now) i) }
+    ensures kept { OnErr result (KeepsFiles
+        (store (F.files files.old) (F.draft_name files.old) (F.draft_bytes files.old))
+        (store (F.files files.new) (F.draft_name files.new) (F.draft_bytes files.new))) }
+    ensures draft { KeepsDraft
+        (store (F.files files.old) (F.draft_name files.old) (F.draft_bytes files.old))
+        (store (F.files files.new) (F.draft_name files.new) (F.draft_bytes files.new)) }
+    ensures unwritten { writes_by (command_of (map string_bytes words.now)) ≡ false → IsSame
+        (store (F.files files.old) (F.draft_name files.old) (F.draft_bytes files.old))
+        (store (F.files files.new) (F.draft_name files.new) (F.draft_bytes files.new)) }
+    ensures undrawn { draws_by (command_of (map string_bytes words.now)) ≡ false
+        → D.stream dice.new ≡ D.stream dice.old }
+    ensures stream { LosesPrefix (D.stream dice.old) (D.stream dice.new) }
     ensures cause { IfErr result (IsCaused
-        (files_named (known_command (map string_bytes words.now))) (F.faults files.old)
+        (files_named (command_of (map string_bytes words.now))) (F.faults files.old)
         (F.faults files.new) (F.absences files.old) (F.absences files.new) (S.faults input.old)
-        (S.faults input.new)) }
-    ensures faults { F.faults files.old ≤ F.faults files.new }
-    ensures input { S.faults input.old ≤ S.faults input.new }
-    ensures files { F.files files.new ≡ F.files files.old }
-    ensures draft_name { F.draft_name files.new ≡ F.draft_name files.old }
-    ensures draft_bytes { F.draft_bytes files.new ≡ F.draft_bytes files.old }
+        (S.faults input.new) (D.faults dice.old) (D.faults dice.new)) }
 {
-    let command = read_command(alloc, words)?;
-    let needs = cli_words::needs_of(&command);
-    let lines = read_lines(alloc, input, needs)?;
-    let doc = open(alloc, files, needs, bytes_in(&lines.password))?;
-    execute(alloc, &command, &doc)
+    let task = read_task(alloc, words, files, input)?;
+    carry_out(alloc, files, dice, task, now)
 }
 
 // The status of a call whose text or line was not written.
@@ -154,11 +153,12 @@ fn tell<E: Sink>(alloc: Global, err: &mut E, stop: Stop) -> u8
 /// year 1. Gives the program's status.
 ///
 /// Where no object of the outside fails and memory does not run out, all that is seen of the call
-/// is as the outcome of its words, its input and its files says; these have one outcome. What is
-/// listed at status 0 is a document that the file holds: by itself, or sealed under the composite
-/// key of the line of input and the key file. Where an object fails, no file is changed, what was
-/// printed is a prefix of the outcome's text, and the status reports the failure. Words that can be
-/// carried out give status 0 where nothing fails.
+/// is as the outcome of its words, the moment, its input, its files and its dice says; these have
+/// one outcome. What is listed or written at status 0 is made of a document that the file holds: by
+/// itself, or sealed under the composite key of the line of input and the key file. A refusal
+/// changes no file, and what was printed where an object fails is a prefix of the outcome's text.
+/// Words that are no command that writes change no file and draw nothing. Words that can be carried
+/// out give status 0 where nothing fails.
 pub fn keepass<F: FileStore, S: Source, O: Sink, E: Sink, D: Dice>(
     alloc: Global,
     words: &[String],
@@ -169,7 +169,7 @@ pub fn keepass<F: FileStore, S: Source, O: Sink, E: Sink, D: Dice>(
     dice: &mut D,
     now: u64,
 ) -> u8
-    ensures { IsCall (map string_bytes words.now) result
+    ensures { IsCall (map string_bytes words.now) now result
         (seen (O.written out.old) (E.written err.old) (F.files files.old) (F.draft_name files.old)
         (F.draft_bytes files.old) (S.left input.old) (D.stream dice.old))
         (seen (O.written out.new) (E.written err.new) (F.files files.new) (F.draft_name files.new)
@@ -179,8 +179,8 @@ pub fn keepass<F: FileStore, S: Source, O: Sink, E: Sink, D: Dice>(
         (counts (F.faults files.new) (F.absences files.new) (S.faults input.new) (O.faults out.new)
         (E.faults err.new) (D.faults dice.new)) }
 {
-    match answer(alloc, words, files, input) {
-        Ok(done) => print(out, done.text.as_slice()),
+    match answer(alloc, words, files, input, dice, now) {
+        Ok(output) => print(out, lend_text(&output)),
         Err(stop) => tell(alloc, err, stop),
     }
 }

@@ -17,6 +17,9 @@ returns-in-Ok-true-clause-told g c = λ i is.
     (c.in-Ok-Some.ensures.told i is) c.in-Ok-Some.field-0-is c.in-Ok-true.ensures.told c.in-Ok-true.field-0-test in
     text_takes c.args.number c.read_from.new.line.bytes _ read.0 (line_of c.args.number i) (sym c.is_text_line.ensures ∙ c.if-is_text_line.true) read.1.1 read.1.0
 
+pub returns-in-Ok-true-clause-text : goal.returns-in-Ok-true-clause-text
+returns-in-Ok-true-clause-text g c = sym c.is_text_line.ensures ∙ c.if-is_text_line.true
+
 pub returns-in-Ok-true-2-clause-told : goal.returns-in-Ok-true-2-clause-told
 returns-in-Ok-true-2-clause-told g c = λ i is.
     let read = line_read c.args.number i c.in-Ok-Some.field-0 c.in-Ok-Some.first _ _ c.in-Ok-true.field-0 true c.read_from.new.line.bytes

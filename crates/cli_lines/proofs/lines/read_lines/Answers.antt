@@ -1,6 +1,6 @@
 use Rattle.std.proofs.Common.{ap, sym, subst, List, ℕ}
 use Rattle.std.proofs.lemmas.Result.{err_from_is_err_and}
-use Rattle.cli_answers.specs.Phases.{InputAnswer, IsLeft}
+use Rattle.cli_answers.specs.Phases.{StreamAnswer, IsLeft}
 use Rattle.cli_words.specs.Needs.{asks_password}
 use Rattle.cli_words.specs.SeenNeeds.{needs_seen}
 use Rattle.cli_lines.specs.Lines.{Lines, line_if, number_after}
@@ -27,7 +27,7 @@ returns-clause-told g c = λ i t.
     let more = rw (c.number_after.ensures, c.asks_password-asks.ensures) at c.in_ok-more.ensures.told in
     let second = more rest (tells_second asks c.args.needs.has_line _ _ i _ t first.1) in
     let all = lines_read (needs_seen c.args.needs) i (line_seen c.in_ok-password.password) (line_seen c.in_ok-more.more) first.0 second.0 in (
-      ap (λ (x : InputAnswer Lines). x.answer) all,
-      subst (λ (x : InputAnswer Lines). IsLeft (g.S.Source.left c.args.input.now) (g.S.Source.left c.read_if-2.new.input) x.left) (sym all)
+      ap (λ (x : StreamAnswer Lines). x.answer) all,
+      subst (λ (x : StreamAnswer Lines). IsLeft (g.S.Source.left c.args.input.now) (g.S.Source.left c.read_if-2.new.input) x.left) (sym all)
           (left_after _ _ _ rest (line_if c.args.needs.has_line (number_after asks) rest).left first.1 second.1),
     )

@@ -1,67 +1,77 @@
-use Rattle.std.proofs.Common.{◌∙◌, ap, map}
-use Rattle.std.specs.Prelude.{option_map, string_bytes}
+use Rattle.std.proofs.Common.{map}
+use Rattle.std.specs.Prelude.{string_bytes}
 use Rattle.std.proofs.lemmas.Result.{err_from_is_err_and}
-use Rattle.vault_model.specs.SeenDoc.{doc_seen}
-use Rattle.cli_lines.specs.SeenLines.{lines_seen}
-use Rattle.cli_words.specs.SeenNeeds.{needs_seen}
-use Rattle.keepass_call.specs.Databases.{database_of}
-use Rattle.keepass_call.specs.Outcome.{answer_of, known_command, output_of}
-use Rattle.keepass_call.proofs.Answering.{database_refused, given_by_needs, lines_refused, output_by_needs}
-use Rattle.keepass_call.proofs.Inputs.{asked_needs, needs_leave, needs_left}
-use Rattle.keepass_call.proofs.Steps.{at_needs, plainly}
+use Rattle.keepass_call.specs.SeenChange.{task_seen}
+use Rattle.cli_words.specs.Words.{command_of}
+use Rattle.keepass_call.proofs.Answered.{comes_to, command_caused, draft_after, draws_so, early_caused, ends_left, kept_after, of_task, prints_some, stop_leaves, stops_early, undrawn_after, unwritten_after}
+use Rattle.keepass_call.proofs.Changes.{loses_none}
 use Rattle.keepass_call.proofs.run.answer.Goals as goal
 
-pub returns-in_err-doc-clause-cause : goal.returns-in_err-doc-clause-cause
-returns-in_err-doc-clause-cause g c =
-    let p = err_from_is_err_and c.from_residual-in_err-doc.result c.from_residual-in_err-doc.ensures.1 in
-    rw (p.1, p.2) (at_needs c.in_ok-command.command (needs_seen c.needs_of-needs.result) (known_command (map string_bytes c.args.words.now)) _ _ _ _ _ _
-    c.in_err-doc.field-0.0 c.in_ok-command.ensures.told c.needs_of-needs.ensures c.in_err-doc.ensures.cause)
-
 pub returns-clause-told : goal.returns-clause-told
-returns-clause-told g c = λ m i isF isS.
-    let command = c.in_ok-command.command in
-    let needs = needs_seen c.needs_of-needs.result in
-    given_by_needs (map string_bytes c.args.words.now) i m command needs (lines_seen c.in_ok-lines.lines) (doc_seen c.in_ok-doc.doc) c.execute.result
-    c.in_ok-command.ensures.told c.needs_of-needs.ensures
-    (c.in_ok-lines.ensures.told i (asked_needs _ command needs _ i c.in_ok-command.ensures.told c.needs_of-needs.ensures isS)).0
-    (rw c.bytes_in.ensures at (c.in_ok-doc.ensures.told m isF))
-    c.execute.ensures.told
+returns-clause-told g c = λ world isF isS isD.
+    comes_to (map string_bytes c.args.words.now) c.args.now world (task_seen c.in_ok-task.task) c.carry_out.result _ _ _ _ _
+    (c.in_ok-task.ensures.told world.files world.input isF isS)
+    (record { files = c.in_ok-task.ensures.files; draft_name = c.in_ok-task.ensures.draft_name; draft_bytes = c.in_ok-task.ensures.draft_bytes })
+    (c.carry_out.ensures.told world.dice (draws_so _ _ _ _ c.in_ok-task.ensures.command isD))
+
+pub returns-clause-held : goal.returns-clause-held
+returns-clause-held g c = λ world isF isS isD.
+    of_task (map string_bytes c.args.words.now) c.args.now world (task_seen c.in_ok-task.task) c.carry_out.result _ _ _
+    (c.in_ok-task.ensures.told world.files world.input isF isS)
+    (record { files = c.in_ok-task.ensures.files; draft_name = c.in_ok-task.ensures.draft_name; draft_bytes = c.in_ok-task.ensures.draft_bytes })
+    (c.carry_out.ensures.of_dice world.dice (draws_so _ _ _ _ c.in_ok-task.ensures.command isD))
 
 pub returns-clause-some_file : goal.returns-clause-some_file
 returns-clause-some_file g c =
-    output_by_needs (map string_bytes c.args.words.now) c.in_ok-command.command (needs_seen c.needs_of-needs.result) (lines_seen c.in_ok-lines.lines)
-    (doc_seen c.in_ok-doc.doc) c.execute.result c.in_ok-command.ensures.told c.needs_of-needs.ensures c.in_ok-lines.ensures.given
-    (rw c.bytes_in.ensures at c.in_ok-doc.ensures.some_file) c.execute.ensures.told
-
-pub returns-clause-cause : goal.returns-clause-cause
-returns-clause-cause g c = plainly c.execute.result _ _ _ _ _ _ _ c.execute.ensures.cause
-
-pub returns-in_err-lines-clause-told : goal.returns-in_err-lines-clause-told
-returns-in_err-lines-clause-told g c = λ m i isF isS.
-    let needs = needs_seen c.needs_of-needs.result in
-    let p = err_from_is_err_and c.from_residual-in_err-lines.result c.from_residual-in_err-lines.ensures.1 in
-    rw (p.1, p.2) (lines_refused c.in_err-lines.field-0.0 (map string_bytes c.args.words.now) i m c.in_ok-command.command needs _ _ c.in_ok-command.ensures.told c.needs_of-needs.ensures
-    (c.in_err-lines.ensures.told i (asked_needs _ c.in_ok-command.command needs _ i c.in_ok-command.ensures.told c.needs_of-needs.ensures isS)))
-
-pub returns-in_err-lines-clause-left : goal.returns-in_err-lines-clause-left
-returns-in_err-lines-clause-left g c = λ i isS.
-    let needs = needs_seen c.needs_of-needs.result in
-    let p = err_from_is_err_and c.from_residual-in_err-lines.result c.from_residual-in_err-lines.ensures.1 in
-    rw (p.1, p.2) (needs_leave c.in_err-lines.field-0.0 (known_command (map string_bytes c.args.words.now)) c.in_ok-command.command needs _ _ i _ _ c.in_err-lines.ensures.cause
-    c.in_ok-command.ensures.told c.needs_of-needs.ensures
-    (c.in_err-lines.ensures.told i (asked_needs _ c.in_ok-command.command needs _ i c.in_ok-command.ensures.told c.needs_of-needs.ensures isS)))
-
-pub returns-in_err-doc-clause-told : goal.returns-in_err-doc-clause-told
-returns-in_err-doc-clause-told g c = λ m i isF isS.
-    let needs = needs_seen c.needs_of-needs.result in
-    let p = err_from_is_err_and c.from_residual-in_err-doc.result c.from_residual-in_err-doc.ensures.1 in
-    rw (p.1, p.2) (database_refused c.in_err-doc.field-0.0 (map string_bytes c.args.words.now) i m c.in_ok-command.command needs (lines_seen c.in_ok-lines.lines)
-    c.in_ok-command.ensures.told c.needs_of-needs.ensures
-    (c.in_ok-lines.ensures.told i (asked_needs _ c.in_ok-command.command needs _ i c.in_ok-command.ensures.told c.needs_of-needs.ensures isS)).0
-    (rw c.bytes_in.ensures at (c.in_err-doc.ensures.told m isF)))
+    prints_some (map string_bytes c.args.words.now) c.args.now (task_seen c.in_ok-task.task) c.carry_out.result _ _ _ c.in_ok-task.ensures.some_file
+    (record { files = c.in_ok-task.ensures.files; draft_name = c.in_ok-task.ensures.draft_name; draft_bytes = c.in_ok-task.ensures.draft_bytes })
+    c.carry_out.ensures.some_dice
 
 pub returns-clause-left : goal.returns-clause-left
-returns-clause-left g c = λ i isS.
-    let needs = needs_seen c.needs_of-needs.result in
-    needs_left c.execute.result (known_command (map string_bytes c.args.words.now)) c.in_ok-command.command needs _ _ i c.in_ok-command.ensures.told c.needs_of-needs.ensures
-    (c.in_ok-lines.ensures.told i (asked_needs _ c.in_ok-command.command needs _ i c.in_ok-command.ensures.told c.needs_of-needs.ensures isS)).1
+returns-clause-left g c = λ i isS. ends_left c.carry_out.result _ _ _ (c.in_ok-task.ensures.left i isS)
+
+pub returns-clause-kept : goal.returns-clause-kept
+returns-clause-kept g c =
+    kept_after c.carry_out.result _ _ _
+    (record { files = c.in_ok-task.ensures.files; draft_name = c.in_ok-task.ensures.draft_name; draft_bytes = c.in_ok-task.ensures.draft_bytes }) c.carry_out.ensures.kept
+
+pub returns-clause-draft : goal.returns-clause-draft
+returns-clause-draft g c =
+    draft_after _ _ _
+    (record { files = c.in_ok-task.ensures.files; draft_name = c.in_ok-task.ensures.draft_name; draft_bytes = c.in_ok-task.ensures.draft_bytes }) c.carry_out.ensures.draft
+
+pub returns-clause-unwritten : goal.returns-clause-unwritten
+returns-clause-unwritten g c =
+    unwritten_after (command_of (map string_bytes c.args.words.now)) c.in_ok-task.task.command _ _ _ c.in_ok-task.ensures.command
+    (record { files = c.in_ok-task.ensures.files; draft_name = c.in_ok-task.ensures.draft_name; draft_bytes = c.in_ok-task.ensures.draft_bytes })
+    c.carry_out.ensures.unwritten
+
+pub returns-clause-undrawn : goal.returns-clause-undrawn
+returns-clause-undrawn g c =
+    undrawn_after (command_of (map string_bytes c.args.words.now)) c.in_ok-task.task.command _ _ c.in_ok-task.ensures.command
+    c.carry_out.ensures.undrawn
+
+pub returns-clause-cause : goal.returns-clause-cause
+returns-clause-cause g c =
+    command_caused c.carry_out.result c.in_ok-task.task.command (command_of (map string_bytes c.args.words.now)) _ _ _ _ _ _ _ _ _ c.in_ok-task.ensures.command
+    c.in_ok-task.ensures.faults c.carry_out.ensures.cause
+
+pub returns-in_err-task-clause-told : goal.returns-in_err-task-clause-told
+returns-in_err-task-clause-told g c = λ world isF isS isD.
+    let p = err_from_is_err_and c.from_residual.result c.from_residual.ensures.1 in
+    rw (p.1, p.2) (stops_early c.in_err-task.field-0.0 (map string_bytes c.args.words.now) c.args.now world _ _ _ _
+    (c.in_err-task.ensures.told world.files world.input isF isS)
+    (record { files = c.in_err-task.ensures.files; draft_name = c.in_err-task.ensures.draft_name; draft_bytes = c.in_err-task.ensures.draft_bytes }) isD)
+
+pub returns-in_err-task-clause-left : goal.returns-in_err-task-clause-left
+returns-in_err-task-clause-left g c = λ i isS.
+    let p = err_from_is_err_and c.from_residual.result c.from_residual.ensures.1 in
+    rw (p.1, p.2) (stop_leaves c.in_err-task.field-0.0 _ _ _ (c.in_err-task.ensures.left i isS))
+
+pub returns-in_err-task-clause-stream : goal.returns-in_err-task-clause-stream
+returns-in_err-task-clause-stream g c = loses_none _
+
+pub returns-in_err-task-clause-cause : goal.returns-in_err-task-clause-cause
+returns-in_err-task-clause-cause g c =
+    let p = err_from_is_err_and c.from_residual.result c.from_residual.ensures.1 in
+    rw (p.1, p.2) (early_caused c.in_err-task.field-0.0 _ _ _ _ _ _ _ _ c.in_err-task.ensures.cause)

@@ -1,0 +1,32 @@
+-- The answers of commands that change no document.
+use Rattle.std.specs.Prelude.{◌≡◌, ℕ, List, Result, Ok, Err}
+use Rattle.cli_answers.specs.Messages.{Refuses, refusal_of}
+use Rattle.cli_answers.specs.Phases.{IsMemoryStop}
+use Rattle.cli_answers.specs.declared.answers.Reason.{Reason}
+use Rattle.cli_answers.specs.declared.answers.Reason.TheVariants as answer
+use Rattle.cli_answers.specs.declared.answers.Refusal.{Refusal}
+use Rattle.cli_answers.specs.declared.answers.Stop.{Stop}
+use Rattle.tree_changes.specs.declared.fails.TreeFail.{TreeFail}
+use Rattle.tree_changes.specs.declared.fails.TreeFail.TheVariants as fail
+
+-- The answer that a refusal to change a document is.
+abbrev pub tree_answer : TreeFail → Reason
+tree_answer fail.NoSuchPath = answer.NoSuchPath
+tree_answer fail.NameTaken = answer.NameTaken
+tree_answer fail.AlreadyThere = answer.AlreadyThere
+tree_answer fail.RootFixed = answer.RootFixed
+tree_answer (fail.IntoItself id) = answer.IntoItself id
+tree_answer fail.TooDeep = answer.TooDeep
+tree_answer (fail.IdTaken id) = answer.IdTaken id
+tree_answer (fail.StampLimit seconds) = answer.StampLimit
+tree_answer fail.NoMemory = answer.OutOfMemory
+
+-- What is made of a document of this file, or the refusal about it.
+abbrev pub change_or_refusal : {A : Type 0} → List ℕ → Result A TreeFail → Result A Refusal
+change_or_refusal file (Ok a) = Ok a
+change_or_refusal file (Err why) = Err (refusal_of (tree_answer why) file)
+
+-- The stop of a command whose document, which is of this file, was not changed.
+abbrev pub IsUnchanged : TreeFail → List ℕ → Stop → Type 0
+IsUnchanged fail.NoMemory file stop = IsMemoryStop stop
+IsUnchanged why file stop = Refuses stop (refusal_of (tree_answer why) file)

@@ -1,0 +1,4 @@
+pub mod Entries
+pub mod Fails
+pub mod Ids
+pub mod Texts

@@ -1,0 +1,183 @@
+-- What a database is and what its files hold, both ways.
+use Rattle.std.proofs.Common.{◌≡◌, ◌≤◌, ℕ, List, length, refl, sym, ◌∙◌, ap, subst, Bool, true, false, cond, nat_lt, nat_le, Option, Some, None, IfSome, Result, Ok, Err}
+use Rattle.std.proofs.lemmas.Bool.{le-leb, leb-true, ltb-false}
+use Rattle.std.specs.FinMap as map
+use Rattle.outside_core.specs.Files.{FileMap}
+use Rattle.key_core.specs.KeyFile.{key_file_key}
+use Rattle.key_core.specs.Keys.{composite_key}
+use Rattle.key_core.specs.declared.key_file.KeyFileFail.{KeyFileFail}
+use Rattle.doc_forms.specs.Documents.{DocumentAndHash}
+use Rattle.doc_forms.specs.declared.fails.DocFail.{DocFail}
+use Rattle.kdbx_open.specs.Causes.{file_limit}
+use Rattle.kdbx_open.specs.Files.{bytes_of, opening_of}
+use Rattle.kdbx_open.specs.Opening.{FileContents, opening}
+use Rattle.kdbx_open.specs.Sealed.{Sealed}
+use Rattle.kdbx_open.specs.declared.fail.OpenFail.{OpenFail}
+use Rattle.kdbx_open.specs.declared.fail.OpenFail.TheVariants.{File}
+use Rattle.kdbx_open.proofs.NamedFiles.{opened_of_held}
+use Rattle.kdbx_open.proofs.SealedFiles.{both, is_sealed}
+use Rattle.secret_core.specs.declared.files.ReadFail.TheVariants.{TooLarge as FileTooLarge}
+use Rattle.cli_answers.specs.declared.answers.Reason.TheVariants.{TooLarge}
+use Rattle.cli_answers.specs.declared.answers.Refusal.{Refusal}
+use Rattle.cli_databases.specs.Databases.{Opened, document_or_refusal, database_of, held_in, held_under, key_in, key_of, key_or_refusal, of_file, opened_plain, opened_under, plain_document, plain_of, sealed_in, vault_or_refusal}
+use Rattle.cli_databases.specs.Held.{GivesKey, Holds, HoldsBy, IsPlain, IsSealed, IsThere}
+use Rattle.cli_answers.specs.Messages.{refusal_of}
+use Rattle.outside_core.specs.Results.{◌>>=◌}
+use Rattle.cli_words.specs.Needs.{Needs}
+
+-- ---- a file that was used
+
+-- What a file gave, told of its bytes.
+record Used {A : Type 0} (name : List ℕ) (files : FileMap) (made : List ℕ → Result A Refusal) (x : A) : Type 0 where
+  bytes : List ℕ
+  there : IsThere files name bytes
+  gives : made bytes ≡ Ok x
+
+is_within : {A : Type 0} (small : Bool) (made : Result A Refusal) (x : A) (refusal : Refusal) → cond small made (Err refusal) ≡ Ok x → (small ≡ true) × (made ≡ Ok x)
+is_within true made x refusal h = (refl, h)
+is_within false made x refusal h = cc
+
+used : {A : Type 0} (name : List ℕ) (files : FileMap) (made : List ℕ → Result A Refusal) (x : A) (file : Option (List ℕ))
+    → map.get files name ≡ file → of_file name made file ≡ Ok x → Used name files made x
+used name files made x None is h = cc
+used name files made x (Some bytes) is h =
+    let w = is_within (nat_le (length bytes) file_limit) (made bytes) x (refusal_of TooLarge name) h in
+    record { bytes = bytes; there = record { found = is; within = leb-true (length bytes) file_limit w.0 }; gives = w.1 }
+
+given : {A : Type 0} (name : List ℕ) (files : FileMap) (made : List ℕ → Result A Refusal) (x : A) (bytes : List ℕ)
+    → IsThere files name bytes → made bytes ≡ Ok x → of_file name made (map.get files name) ≡ Ok x
+given name files made x bytes there gives =
+    ap (of_file name made) there.found
+    ∙ ap (λ b. cond b (made bytes) (Err (refusal_of TooLarge name))) (le-leb (length bytes) file_limit there.within)
+    ∙ gives
+
+-- ---- plain documents
+
+built_by : (name : List ℕ) (r : Result DocumentAndHash DocFail) (o : Opened) → document_or_refusal name r ≡ Ok o → (read : DocumentAndHash) × ((r ≡ Ok read) × (opened_plain read.0 ≡ o))
+built_by name (Ok read) o h = (read, (refl, cc))
+built_by name (Err fail) o h = cc
+
+plain_held : (file : List ℕ) (files : FileMap) (o : Opened) → plain_of file (map.get files file) ≡ Ok o → IsPlain file files o
+plain_held file files o h =
+    let u = used file files (λ bytes. document_or_refusal file (plain_document bytes)) o (map.get files file) refl h in
+    let b = built_by file (plain_document u.bytes) o u.gives in
+    record { bytes = u.bytes; there = u.there; read = b.0; says = b.1.0; is = b.1.1 }
+
+plain_given : (file : List ℕ) (files : FileMap) (o : Opened) → IsPlain file files o → plain_of file (map.get files file) ≡ Ok o
+plain_given file files o h =
+    given file files (λ bytes. document_or_refusal file (plain_document bytes)) o h.bytes h.there (ap (document_or_refusal file) h.says ∙ ap Ok h.is)
+
+-- ---- key files
+
+keyed_by : (name : List ℕ) (r : Result (List ℕ) KeyFileFail) (key : List ℕ) → key_or_refusal name r ≡ Ok key → r ≡ Ok key
+keyed_by name (Ok k) key h = cc
+keyed_by name (Err fail) key h = cc
+
+some_key : (r : Result (List ℕ) Refusal) (key : Option (List ℕ)) → (r >>= (λ k. Ok (Some k))) ≡ Ok key
+    → (k : List ℕ) × ((r ≡ Ok k) × (key ≡ Some k))
+some_key (Ok k) key h = (k, (refl, cc))
+some_key (Err refusal) key h = cc
+
+key_held : (key_file : Option (List ℕ)) (files : FileMap) (key : Option (List ℕ)) → key_of key_file files ≡ Ok key → GivesKey key_file files key
+key_held None files key h = cc
+key_held (Some name) files key h =
+    let s = some_key (key_in name (map.get files name)) key h in
+    let u = used name files (λ bytes. key_or_refusal name (key_file_key bytes)) s.0 (map.get files name) refl s.1.0 in
+    (s.0, (record { bytes = u.bytes; there = u.there; gives = keyed_by name (key_file_key u.bytes) s.0 u.gives }, s.1.1))
+
+key_given : (key_file : Option (List ℕ)) (files : FileMap) (key : Option (List ℕ)) → GivesKey key_file files key → key_of key_file files ≡ Ok key
+key_given None files key h = ap Ok (sym h)
+key_given (Some name) files key (k, (is, same)) =
+    ap (λ r. r >>= (λ x. Ok (Some x))) (given name files (λ bytes. key_or_refusal name (key_file_key bytes)) k is.bytes is.there (ap (key_or_refusal name) is.gives))
+    ∙ ap Ok (sym same)
+
+-- ---- sealed files
+
+not_large : (large : Bool) (bytes other : List ℕ) (n : ℕ)
+    → ◌≡◌ {A = Result (List ℕ) OpenFail} (cond large (Err (File (FileTooLarge n))) (Ok bytes)) (Ok other)
+    → (large ≡ false) × (bytes ≡ other)
+not_large true bytes other n h = cc
+not_large false bytes other n h = (refl, cc)
+
+bytes_there : (file : Option (List ℕ)) (bytes : List ℕ) → bytes_of file ≡ Ok bytes → (file ≡ Some bytes) × (length bytes ≤ file_limit)
+bytes_there None bytes h = cc
+bytes_there (Some b) bytes h =
+    let w = not_large (nat_lt file_limit (length b)) b bytes (length b) h in
+    (ap Some w.1, subst (λ (x : List ℕ). length x ≤ file_limit) w.1 (ltb-false file_limit (length b) w.0))
+
+-- what a file holds that was opened
+opening_held : (file : Option (List ℕ)) (composite : List ℕ) (vault : FileContents) → opening_of file composite ≡ Ok vault
+    → (bytes : List ℕ) × (((file ≡ Some bytes) × (length bytes ≤ file_limit)) × Sealed bytes composite vault)
+unfolding opening_of
+opening_held file composite vault h =
+    let b = both (bytes_of file) (λ bytes. opening bytes composite) vault h in
+    (b.0, (bytes_there file b.0 b.1.0, is_sealed b.0 composite vault b.1.1))
+
+opening_given : (file : Option (List ℕ)) (composite : List ℕ) (vault : FileContents) (bytes : List ℕ)
+    → file ≡ Some bytes → length bytes ≤ file_limit → Sealed bytes composite vault → opening_of file composite ≡ Ok vault
+opening_given file composite vault bytes is within sealed =
+    opened_of_held file composite vault (subst (λ (f : Option (List ℕ)). IfSome f (λ b. length b ≤ file_limit)) (sym is) within) (bytes, (is, sealed))
+
+opened_by : (name composite : List ℕ) (r : Result FileContents OpenFail) (o : Opened) → vault_or_refusal name composite r ≡ Ok o
+    → (vault : FileContents) × ((r ≡ Ok vault) × (opened_under composite vault ≡ o))
+opened_by name composite (Ok vault) o h = (vault, (refl, cc))
+opened_by name composite (Err fail) o h = cc
+
+pub in_turn : {A B : Type 0} (phase : Result A Refusal) (next : A → Result B Refusal) (y : B) → (phase >>= next) ≡ Ok y
+    → (x : A) × ((phase ≡ Ok x) × (next x ≡ Ok y))
+in_turn (Ok x) next y h = (x, (refl, h))
+in_turn (Err refusal) next y h = cc
+
+under_by : (file : List ℕ) (files : FileMap) (composite : List ℕ) (o : Opened) → held_under file files composite ≡ Ok o
+    → (vault : FileContents) × ((opening_of (map.get files file) composite ≡ Ok vault) × (opened_under composite vault ≡ o))
+unfolding held_under
+under_by file files composite o h = opened_by file composite (opening_of (map.get files file) composite) o h
+
+sealed_held : (key_file : Option (List ℕ)) (file : List ℕ) (password : Option (List ℕ)) (files : FileMap) (o : Opened)
+    → held_in false key_file file password files ≡ Ok o → IsSealed key_file file password files o
+sealed_held key_file file password files o h =
+    let k = in_turn (key_of key_file files) (sealed_in file files password) o h in
+    let v = under_by file files (composite_key password k.0) o k.1.1 in
+    let b = opening_held (map.get files file) (composite_key password k.0) v.0 v.1.0 in
+    record {
+      key = k.0;
+      gives_key = key_held key_file files k.0 k.1.0;
+      bytes = b.0;
+      there = record { found = b.1.0.0; within = b.1.0.1 };
+      vault = v.0;
+      sealed = b.1.1;
+      is = v.1.1;
+    }
+
+under_again : (file : List ℕ) (files : FileMap) (composite : List ℕ) (vault : FileContents) → opening_of (map.get files file) composite ≡ Ok vault
+    → held_under file files composite ≡ Ok (opened_under composite vault)
+unfolding held_under
+under_again file files composite vault h = ap (vault_or_refusal file composite) h
+
+sealed_given : (key_file : Option (List ℕ)) (file : List ℕ) (password : Option (List ℕ)) (files : FileMap) (o : Opened)
+    → IsSealed key_file file password files o → held_in false key_file file password files ≡ Ok o
+sealed_given key_file file password files o s =
+    ap (λ r. r >>= sealed_in file files password) (key_given key_file files s.key s.gives_key)
+    ∙ under_again file files (composite_key password s.key) s.vault
+    (opening_given (map.get files file) (composite_key password s.key) s.vault s.bytes s.there.found s.there.within s.sealed)
+    ∙ ap Ok s.is
+
+-- ---- databases
+
+held : (plain : Bool) (key_file : Option (List ℕ)) (file : List ℕ) (password : Option (List ℕ)) (files : FileMap) (o : Opened)
+    → held_in plain key_file file password files ≡ Ok o → HoldsBy plain key_file file password files o
+held true key_file file password files o h = plain_held file files o h
+held false key_file file password files o h = sealed_held key_file file password files o h
+
+holding : (plain : Bool) (key_file : Option (List ℕ)) (file : List ℕ) (password : Option (List ℕ)) (files : FileMap) (o : Opened)
+    → HoldsBy plain key_file file password files o → held_in plain key_file file password files ≡ Ok o
+holding true key_file file password files o h = plain_given file files o h
+holding false key_file file password files o h = sealed_given key_file file password files o h
+
+pub database_held : (needs : Needs) (password : Option (List ℕ)) (files : FileMap) (o : Opened)
+    → database_of needs password files ≡ Ok o → Holds needs password files o
+database_held needs password files o h = held needs.access.plain needs.access.key_file needs.file password files o h
+
+pub database_given : (needs : Needs) (password : Option (List ℕ)) (files : FileMap) (o : Opened)
+    → Holds needs password files o → database_of needs password files ≡ Ok o
+database_given needs password files o h = holding needs.access.plain needs.access.key_file needs.file password files o h

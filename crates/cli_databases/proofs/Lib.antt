@@ -1,0 +1,3 @@
+pub mod HeldFiles
+pub mod SomeOpened
+pub mod Stops

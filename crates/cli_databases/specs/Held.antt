@@ -1,0 +1,58 @@
+-- What files hold of which a database is made, speaking of all their bytes.
+use Rattle.std.specs.Prelude.{◌≡◌, ◌≤◌, ℕ, Bool, true, false, List, length, Option, None, Some, Ok}
+use Rattle.std.specs.FinMap as map
+use Rattle.outside_core.specs.Files.{FileMap}
+use Rattle.key_core.specs.KeyFile.{key_file_key}
+use Rattle.key_core.specs.Keys.{composite_key}
+use Rattle.doc_forms.specs.Documents.{DocumentAndHash}
+use Rattle.kdbx_open.specs.Causes.{file_limit}
+use Rattle.kdbx_open.specs.Opening.{FileContents}
+use Rattle.kdbx_open.specs.Sealed.{Sealed}
+use Rattle.cli_words.specs.Needs.{Needs}
+use Rattle.cli_databases.specs.Databases.{Opened, opened_plain, opened_under, plain_document}
+
+-- The file of this name is there and within the limit, and these are its bytes.
+pub record IsThere (files : FileMap) (name bytes : List ℕ) : Type 0 where
+  pub found : map.get files name ≡ Some bytes
+  pub within : length bytes ≤ file_limit
+
+-- The file of this name is a plain document, and the database is that.
+pub record IsPlain (file : List ℕ) (files : FileMap) (opened : Opened) : Type 0 where
+  pub bytes : List ℕ
+  pub there : IsThere files file bytes
+  pub read : DocumentAndHash
+  pub says : plain_document bytes ≡ Ok read
+  pub is : opened_plain read.0 ≡ opened
+
+-- The key file of this name gives this key.
+pub record IsKeyFile (name : List ℕ) (files : FileMap) (key : List ℕ) : Type 0 where
+  pub bytes : List ℕ
+  pub there : IsThere files name bytes
+  pub gives : key_file_key bytes ≡ Ok key
+
+-- The key file gives this key, where one is named.
+abbrev pub GivesKey : Option (List ℕ) → FileMap → Option (List ℕ) → Type 0
+GivesKey None files key = key ≡ None
+GivesKey (Some name) files key = (k : List ℕ) × (IsKeyFile name files k × (key ≡ Some k))
+
+-- The file of this name holds the document of the database by its settings, sealed under the
+-- composite key of the password and the key file.
+pub record IsSealed (key_file : Option (List ℕ)) (file : List ℕ) (password : Option (List ℕ))
+    (files : FileMap) (opened : Opened) : Type 0 where
+  pub key : Option (List ℕ)
+  pub gives_key : GivesKey key_file files key
+  pub bytes : List ℕ
+  pub there : IsThere files file bytes
+  pub vault : FileContents
+  pub sealed : Sealed bytes (composite_key password key) vault
+  pub is : opened_under (composite_key password key) vault ≡ opened
+
+-- A file holds the database: a document by itself, or sealed.
+abbrev pub HoldsBy : Bool → Option (List ℕ) → List ℕ → Option (List ℕ) → FileMap → Opened → Type 0
+HoldsBy true key_file file password files opened = IsPlain file files opened
+HoldsBy false key_file file password files opened = IsSealed key_file file password files opened
+
+-- The file that a command asks for holds the database.
+abbrev pub Holds : Needs → Option (List ℕ) → FileMap → Opened → Type 0
+Holds needs password files opened =
+    HoldsBy needs.access.plain needs.access.key_file needs.file password files opened

@@ -1,0 +1,4 @@
+pub mod Databases
+pub mod Held
+pub mod SeenOpened
+pub mod SomeFiles

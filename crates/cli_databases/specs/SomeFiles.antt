@@ -1,0 +1,48 @@
+-- What some bytes hold, whether or not the store reports its files: those that it handed out.
+use Rattle.std.specs.Prelude.{◌≡◌, ℕ, Bool, true, false, List, Option, None, Some, Ok}
+use Rattle.key_core.specs.KeyFile.{key_file_key}
+use Rattle.key_core.specs.Keys.{composite_key}
+use Rattle.doc_forms.specs.Documents.{DocumentAndHash}
+use Rattle.kdbx_open.specs.Opening.{FileContents}
+use Rattle.kdbx_open.specs.Sealed.{IsHeld}
+use Rattle.cli_words.specs.Needs.{Needs}
+use Rattle.cli_databases.specs.Databases.{Opened, opened_plain, opened_under, plain_document}
+
+-- Some bytes are a plain document, and the database is that.
+pub record SomePlain (opened : Opened) : Type 0 where
+  pub bytes : List ℕ
+  pub read : DocumentAndHash
+  pub says : plain_document bytes ≡ Ok read
+  pub is : opened_plain read.0 ≡ opened
+
+-- Some bytes are a key file that gives this key.
+abbrev pub IsSomeKey : List ℕ → Type 0
+IsSomeKey key = (bytes : List ℕ) × (key_file_key bytes ≡ Ok key)
+
+-- The key is that of some key file, where one is named.
+abbrev pub SomeKey : Option (List ℕ) → Option (List ℕ) → Type 0
+SomeKey None key = key ≡ None
+SomeKey (Some name) key = (k : List ℕ) × (IsSomeKey k × (key ≡ Some k))
+
+-- Some bytes hold the document of the database by its settings, sealed under its composite key,
+-- which is this one.
+abbrev pub IsSealedUnder : List ℕ → Opened → Type 0
+IsSealedUnder composite opened = (vault : FileContents)
+    × (IsHeld composite vault × (opened_under composite vault ≡ opened))
+
+-- Some bytes hold the document of the database by its settings, sealed under the composite key of
+-- the password and of some key file's key.
+pub record SomeSealed (key_file password : Option (List ℕ)) (opened : Opened) : Type 0 where
+  pub key : Option (List ℕ)
+  pub gives_key : SomeKey key_file key
+  pub sealed : IsSealedUnder (composite_key password key) opened
+
+-- Some bytes hold the database: a document by itself, or sealed.
+abbrev pub SomeHolds : Bool → Option (List ℕ) → Option (List ℕ) → Opened → Type 0
+SomeHolds true key_file password opened = SomePlain opened
+SomeHolds false key_file password opened = SomeSealed key_file password opened
+
+-- Some bytes hold the database that a command asks for.
+abbrev pub SomeDatabase : Needs → Option (List ℕ) → Opened → Type 0
+SomeDatabase needs password opened =
+    SomeHolds needs.access.plain needs.access.key_file password opened

@@ -1,0 +1,6 @@
+//! The databases of a call: what its files hold, by themselves or sealed.
+#![tactic(auto)]
+
+mod databases;
+
+pub use databases::{Opened, Sealing, open, release_key};

@@ -1,0 +1,3 @@
+pub mod DrawnParts
+pub mod HeldFiles
+pub mod Sealed

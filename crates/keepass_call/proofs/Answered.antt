@@ -1,0 +1,133 @@
+-- What a call answers, from its task.
+use Rattle.std.proofs.Common.{◌≡◌, ◌≤◌, ℕ, List, [], ◌∷◌, ◌++◌, refl, inl, inr, sym, ◌∙◌, ap, subst, arith, Bool, false, Option, Some, None, Result, Ok, Err}
+use Rattle.std.specs.Prelude.{Contains, IfErr, IfOk, OnErr}
+use Rattle.std.proofs.lemmas.List.Elements.{Contains-append_right}
+use Rattle.outside_core.specs.Counts.{Increased}
+use Rattle.cli_answers.specs.declared.answers.Refusal.{Refusal}
+use Rattle.cli_answers.specs.declared.answers.Stop.{Stop}
+use Rattle.cli_answers.specs.declared.answers.Stop.TheVariants.{Refused, FileFault, InputFault, NoMemory}
+use Rattle.cli_answers.specs.Phases.{IsCaused, IsCommandStop, IsEarlyStop, IsLeft, Leaves, Stops, StreamAnswer, TellsStream, then_left, with_left}
+use Rattle.cli_databases.proofs.Stops.{rose_before}
+use Rattle.cli_lines.proofs.Inputs.{left_alone}
+use Rattle.cli_words.specs.Needs.{files_named, key_files, needs_of}
+use Rattle.cli_words.specs.declared.command.Command.{Command}
+use Rattle.cli_writing.specs.Writing.{IsSame, KeepsDraft, KeepsFiles, Store}
+use Rattle.keepass_call.specs.declared.execute.Output.{Output}
+use Rattle.keepass_call.specs.declared.task.Task as memory
+use Rattle.keepass_call.specs.Commands.{writes}
+use Rattle.keepass_call.specs.Endings.{Ending, Ends, EndsRefused, IsOfDice, IsOfSomeDice, carried_out}
+use Rattle.keepass_call.specs.Outcome.{IsOfSomeFile, IsOfTask, World, answer_of}
+use Rattle.keepass_call.specs.SeenChange.{output_text}
+use Rattle.cli_words.specs.Words.{command_of}
+use Rattle.keepass_call.specs.Tasks.{HasSomeFile, Task, draws, draws_by, task_of, writes_by}
+
+same_store : (before mid : Store) → IsSame before mid → mid ≡ before
+same_store before mid h =
+    ap (λ (f : _). record { files = f; draft_name = mid.draft_name; draft_bytes = mid.draft_bytes }) h.files
+    ∙ ap (λ (n : Option (List ℕ)). record { files = before.files; draft_name = n; draft_bytes = mid.draft_bytes }) h.draft_name
+    ∙ ap (λ (b : List ℕ). record { files = before.files; draft_name = before.draft_name; draft_bytes = b }) h.draft_bytes
+
+-- What words result in whose task is this.
+pub answer_is : (words : List (List ℕ)) (time : ℕ) (world : World) (task : Task) → task_of words world.input world.files ≡ Ok task
+    → answer_of words time world ≡ carried_out time task world.dice
+unfolding answer_of
+answer_is words time world task h = ap (λ (r : Result Task Refusal). then_left (with_left r world.dice) (carried_out time)) h
+
+answer_refused : (words : List (List ℕ)) (time : ℕ) (world : World) (refusal : Refusal) → task_of words world.input world.files ≡ Err refusal
+    → answer_of words time world ≡ with_left (Err refusal) world.dice
+unfolding answer_of
+answer_refused words time world refusal h = ap (λ (r : Result Task Refusal). then_left (with_left r world.dice) (carried_out time)) h
+
+-- The task was carried out, or stopped.
+pub comes_to : (words : List (List ℕ)) (time : ℕ) (world : World) (task : Task) (result : Result Output Stop) (before mid now : Store) (dice dice' : Option (List ℕ))
+    → task_of words world.input world.files ≡ Ok task → IsSame before mid → Ends result (carried_out time task world.dice) mid now dice dice'
+    → Ends result (answer_of words time world) before now dice dice'
+comes_to words time world task result before mid now dice dice' t s h =
+    subst (λ (a : StreamAnswer Ending). Ends result a before now dice dice') (sym (answer_is words time world task t))
+    (subst (λ (m : Store). Ends result (carried_out time task world.dice) m now dice dice') (same_store before mid s) h)
+
+-- There is no task.
+pub stops_early : (stop : Stop) (words : List (List ℕ)) (time : ℕ) (world : World) (asked : Bool) (before now : Store) (dice : Option (List ℕ))
+    → Stops stop (task_of words world.input world.files) → IsSame before now → TellsStream asked dice world.dice
+    → Ends (Err stop) (answer_of words time world) before now dice dice
+stops_early (Refused refusal) words time world asked before now dice h s t =
+    subst (λ (a : StreamAnswer Ending). EndsRefused refusal a.answer before now × IsLeft dice dice a.left) (sym (answer_refused words time world refusal h))
+    (record { is = refl; same = s }, left_alone asked dice world.dice t)
+stops_early (FileFault name) words time world asked before now dice h s t = tt
+stops_early InputFault words time world asked before now dice h s t = tt
+stops_early NoMemory words time world asked before now dice h s t = tt
+
+-- ---- the store
+
+pub kept_after : (result : Result Output Stop) (before mid now : Store) → IsSame before mid → OnErr result (KeepsFiles mid now) → OnErr result (KeepsFiles before now)
+kept_after result before mid now s h = subst (λ (m : Store). OnErr result (KeepsFiles m now)) (same_store before mid s) h
+
+pub draft_after : (before mid now : Store) → IsSame before mid → KeepsDraft mid now → KeepsDraft before now
+draft_after before mid now s h = subst (λ (m : Store). KeepsDraft m now) (same_store before mid s) h
+
+-- ---- the dice
+
+-- The words draw where their command does.
+pub draws_so : (words : Result Command Refusal) (command : Command) (dice : Option (List ℕ)) (d : List ℕ) → words ≡ Ok command
+    → TellsStream (draws_by words) dice d → TellsStream (draws command) dice d
+draws_so words command dice d is t = subst (λ (w : Result Command Refusal). TellsStream (draws_by w) dice d) is t
+
+pub unwritten_after : (words : Result Command Refusal) (command : Command) (before mid now : Store) → words ≡ Ok command
+    → IsSame before mid → (writes command ≡ false → IsSame mid now) → writes_by words ≡ false → IsSame before now
+unwritten_after words command before mid now is s h e =
+    subst (λ (m : Store). IsSame m now) (same_store before mid s) (h (sym (ap writes_by is) ∙ e))
+
+pub undrawn_after : (words : Result Command Refusal) (command : Command) (dice dice' : Option (List ℕ)) → words ≡ Ok command
+    → (draws command ≡ false → dice' ≡ dice) → draws_by words ≡ false → dice' ≡ dice
+undrawn_after words command dice dice' is h e = h (sym (ap draws_by is) ∙ e)
+
+-- ---- what is left of the input
+
+pub ends_left : (result : Result Output Stop) (before now : Option (List ℕ)) (left : List ℕ) → IsLeft before now left → Leaves result before now left
+ends_left (Ok x) before now left h = h
+ends_left (Err (Refused refusal)) before now left h = h
+ends_left (Err (FileFault name)) before now left h = h
+ends_left (Err InputFault) before now left h = tt
+ends_left (Err NoMemory) before now left h = tt
+
+pub stop_leaves : (stop : Stop) (before now : Option (List ℕ)) (left : List ℕ) → Leaves {X = memory.Task} (Err stop) before now left
+    → Leaves {X = Output} (Err stop) before now left
+stop_leaves (Refused refusal) before now left h = h
+stop_leaves (FileFault name) before now left h = h
+stop_leaves InputFault before now left h = tt
+stop_leaves NoMemory before now left h = tt
+
+-- ---- what was printed and written
+
+pub of_task : (words : List (List ℕ)) (time : ℕ) (world : World) (task : Task) (result : Result Output Stop) (before mid now : Store)
+    → task_of words world.input world.files ≡ Ok task → IsSame before mid
+    → IfOk result (λ output. IsOfDice time task world.dice (output_text output) mid now)
+    → IfOk result (λ output. IsOfTask words time world (output_text output) before now)
+of_task words time world task (Ok output) before mid now t s h =
+    record { task = task; gives = t; of_dice = subst (λ (m : Store). IsOfDice time task world.dice (output_text output) m now) (same_store before mid s) h }
+of_task words time world task (Err stop) before mid now t s h = tt
+
+pub prints_some : (words : List (List ℕ)) (time : ℕ) (task : Task) (result : Result Output Stop) (before mid now : Store) → HasSomeFile words task → IsSame before mid
+    → IfOk result (λ output. IsOfSomeDice time task (output_text output) mid now) → IfOk result (λ output. IsOfSomeFile words time (output_text output) before now)
+prints_some words time task (Ok output) before mid now f s h =
+    record { task = task; has_file = f; of_dice = subst (λ (m : Store). IsOfSomeDice time task (output_text output) m now) (same_store before mid s) h }
+prints_some words time task (Err stop) before mid now f s h = tt
+
+-- ---- causes
+
+pub early_caused : (stop : Stop) (names : List (List ℕ)) (f f' a a' i i' d : ℕ) → IsEarlyStop names f f' a a' i i' stop → IsCaused names f f' a a' i i' d d stop
+early_caused (Refused refusal) names f f' a a' i i' d h = h
+early_caused (FileFault name) names f f' a a' i i' d h = h
+early_caused InputFault names f f' a a' i i' d h = inl h
+early_caused NoMemory names f f' a a' i i' d h = tt
+
+-- A stop of the command that the words are, as a stop of the call.
+pub command_caused : (result : Result Output Stop) (command : Command) (words : Result Command Refusal) (f f' f'' a a' i i' d d' : ℕ) → words ≡ Ok command
+    → f ≤ f' → IfErr result (IsCommandStop (needs_of command).file f' f'' d d') → IfErr result (IsCaused (files_named words) f f'' a a' i i' d d')
+command_caused (Ok x) command words f f' f'' a a' i i' d d' is p h = tt
+command_caused (Err (Refused refusal)) command words f f' f'' a a' i i' d d' is p h = λ e. absurd (h e)
+command_caused (Err (FileFault name)) command words f f' f'' a a' i i' d d' is p h =
+    subst (λ (w : Result Command Refusal). Increased f f'' × Contains (files_named w) name) (sym is)
+    (rose_before f f' f'' p h.1, Contains-append_right (key_files (needs_of command).access.key_file) ((needs_of command).file ∷ []) name (0, omega arith, sym h.0))
+command_caused (Err InputFault) command words f f' f'' a a' i i' d d' is p h = inr h
+command_caused (Err NoMemory) command words f f' f'' a a' i i' d d' is p h = tt

@@ -1,0 +1,392 @@
+-- What is promised of a call, by how it ended.
+use Rattle.std.proofs.Common.{◌≡◌, ◌≢◌, ℕ, List, [], length, refl, sym, ◌∙◌, ap, subst, inl, inr, Bool, false, Option, Some, None, arith, append-nil}
+use Rattle.std.specs.Prelude.{codes, ◌⊎◌, ◌++◌, Result, Ok, Err, option_map}
+use Rattle.std.proofs.Math.Seq.{take-length}
+use Rattle.outside_core.specs.Counts.{Increased}
+use Rattle.outside_core.specs.Streams.{GainsPrefix, LosesPrefix}
+use Rattle.cli_answers.specs.declared.answers.Reason.{Reason}
+use Rattle.cli_answers.specs.declared.answers.Reason.TheVariants.{WrongWords, NoSuchPath, NameTaken, AlreadyThere, RootFixed, IntoItself, IdTaken, DamagedOrWrongKey, DamagedBlock, WrongKeyOrDamaged, KeyFileHash, NotKdbx, EndsEarly, BadHeaderField, BadDictionary, Form, MissingElement, BadValue, NilId, DuplicateId, BinaryRef, BadKeyFile, LineForm, Version, UnknownId, StreamUnknown, Compressed, Variant, NoSuchFile, TooLarge, Depth, TooDeep, TooMany, KdfLimit, StampLimit, LineLimit, OutOfMemory, InputEnded}
+use Rattle.cli_answers.specs.declared.answers.Refusal.{Refusal}
+use Rattle.cli_answers.specs.declared.answers.Stop.{Stop}
+use Rattle.cli_answers.specs.declared.answers.Stop.TheVariants.{Refused, FileFault, InputFault, NoMemory}
+use Rattle.cli_answers.specs.Messages.{error_line, reason_text, status_of}
+use Rattle.cli_answers.specs.Phases.{IsCaused, IsLeft, Leaves, StreamAnswer}
+use Rattle.cli_words.specs.Needs.{files_named}
+use Rattle.cli_writing.specs.Writing.{IsSame, KeepsDraft, KeepsFiles}
+use Rattle.keepass_call.specs.declared.execute.Output.{Output}
+use Rattle.keepass_call.specs.Call.{IsCall}
+use Rattle.keepass_call.specs.Endings.{Ending, Ends, EndsRefused, EndsSo, Stores}
+use Rattle.keepass_call.specs.Held.{IsAuthentic, IsComplete}
+use Rattle.keepass_call.specs.Outcome.{Counts, Gains, IsAsSaid, IsCut, IsOfSomeFile, IsOfTask, IsRefused, IsSafe, NoFaults, Outcome, PrintsOfSomeFile, Seen, Tells, TellsFault, WhereTold, World, answer_of, ended, outcome}
+use Rattle.keepass_call.specs.SeenChange.{output_text}
+use Rattle.cli_words.specs.Words.{command_of}
+use Rattle.keepass_call.specs.Tasks.{draws_by, left_of, writes_by}
+use Rattle.keepass_call.specs.Telling.{IsPrinted, IsTold}
+use Rattle.keepass_call.proofs.Answered.{answer_is}
+use Rattle.keepass_call.proofs.HeldTasks.{is_given, is_task}
+
+-- ---- what is written
+
+no_gain : (before : Option (List ℕ)) → before ≡ option_map (λ w. w ++ []) before
+no_gain None = refl
+no_gain (Some w) = ap Some (sym (append-nil w))
+
+unwritten : (before now : Option (List ℕ)) → now ≡ before → Gains before now []
+unwritten before now same = same ∙ no_gain before
+
+no_front : (before now : Option (List ℕ)) (text : List ℕ) → now ≡ before → GainsPrefix before now text
+no_front before now text same = (0, omega arith, unwritten before now same)
+
+whole_front : (before now : Option (List ℕ)) (text : List ℕ) → Gains before now text → GainsPrefix before now text
+whole_front before now text gains =
+    (length text, omega arith, gains ∙ ap (λ (t : List ℕ). option_map (λ w. w ++ t) before) (sym (take-length text)))
+
+-- ---- statuses
+
+seven_missing : (a : Reason) → status_of a ≡ 7 → a ≡ NoSuchFile
+seven_missing WrongWords h = absurd (omega arith)
+seven_missing NoSuchPath h = absurd (omega arith)
+seven_missing NameTaken h = absurd (omega arith)
+seven_missing AlreadyThere h = absurd (omega arith)
+seven_missing RootFixed h = absurd (omega arith)
+seven_missing (IntoItself id) h = absurd (omega arith)
+seven_missing (IdTaken id) h = absurd (omega arith)
+seven_missing (DamagedOrWrongKey kept found) h = absurd (omega arith)
+seven_missing (DamagedBlock number) h = absurd (omega arith)
+seven_missing WrongKeyOrDamaged h = absurd (omega arith)
+seven_missing (KeyFileHash kept found) h = absurd (omega arith)
+seven_missing NotKdbx h = absurd (omega arith)
+seven_missing (EndsEarly place) h = absurd (omega arith)
+seven_missing (BadHeaderField id) h = absurd (omega arith)
+seven_missing (BadDictionary place) h = absurd (omega arith)
+seven_missing (Form place) h = absurd (omega arith)
+seven_missing (MissingElement place) h = absurd (omega arith)
+seven_missing (BadValue place) h = absurd (omega arith)
+seven_missing (NilId place) h = absurd (omega arith)
+seven_missing (DuplicateId id) h = absurd (omega arith)
+seven_missing (BinaryRef number) h = absurd (omega arith)
+seven_missing (BadKeyFile place) h = absurd (omega arith)
+seven_missing (LineForm number) h = absurd (omega arith)
+seven_missing (Version number) h = absurd (omega arith)
+seven_missing (UnknownId id) h = absurd (omega arith)
+seven_missing (StreamUnknown number) h = absurd (omega arith)
+seven_missing Compressed h = absurd (omega arith)
+seven_missing (Variant number) h = absurd (omega arith)
+seven_missing NoSuchFile h = refl
+seven_missing TooLarge h = absurd (omega arith)
+seven_missing Depth h = absurd (omega arith)
+seven_missing TooDeep h = absurd (omega arith)
+seven_missing TooMany h = absurd (omega arith)
+seven_missing KdfLimit h = absurd (omega arith)
+seven_missing StampLimit h = absurd (omega arith)
+seven_missing LineLimit h = absurd (omega arith)
+seven_missing OutOfMemory h = absurd (omega arith)
+seven_missing (InputEnded number) h = absurd (omega arith)
+
+-- No reason has status 0, 10 or 11.
+pub record IsOwn (status : ℕ) : Type 0 where
+  pub zero : status ≢ 0
+  pub ten : status ≢ 10
+  pub eleven : status ≢ 11
+
+own : (reason : Reason) → IsOwn (status_of reason)
+own WrongWords = record { zero = λ h. omega arith; ten = λ h. omega arith; eleven = λ h. omega arith }
+own NoSuchPath = record { zero = λ h. omega arith; ten = λ h. omega arith; eleven = λ h. omega arith }
+own NameTaken = record { zero = λ h. omega arith; ten = λ h. omega arith; eleven = λ h. omega arith }
+own AlreadyThere = record { zero = λ h. omega arith; ten = λ h. omega arith; eleven = λ h. omega arith }
+own RootFixed = record { zero = λ h. omega arith; ten = λ h. omega arith; eleven = λ h. omega arith }
+own (IntoItself id) = record { zero = λ h. omega arith; ten = λ h. omega arith; eleven = λ h. omega arith }
+own (IdTaken id) = record { zero = λ h. omega arith; ten = λ h. omega arith; eleven = λ h. omega arith }
+own (DamagedOrWrongKey kept found) = record { zero = λ h. omega arith; ten = λ h. omega arith; eleven = λ h. omega arith }
+own (DamagedBlock number) = record { zero = λ h. omega arith; ten = λ h. omega arith; eleven = λ h. omega arith }
+own WrongKeyOrDamaged = record { zero = λ h. omega arith; ten = λ h. omega arith; eleven = λ h. omega arith }
+own (KeyFileHash kept found) = record { zero = λ h. omega arith; ten = λ h. omega arith; eleven = λ h. omega arith }
+own NotKdbx = record { zero = λ h. omega arith; ten = λ h. omega arith; eleven = λ h. omega arith }
+own (EndsEarly place) = record { zero = λ h. omega arith; ten = λ h. omega arith; eleven = λ h. omega arith }
+own (BadHeaderField id) = record { zero = λ h. omega arith; ten = λ h. omega arith; eleven = λ h. omega arith }
+own (BadDictionary place) = record { zero = λ h. omega arith; ten = λ h. omega arith; eleven = λ h. omega arith }
+own (Form place) = record { zero = λ h. omega arith; ten = λ h. omega arith; eleven = λ h. omega arith }
+own (MissingElement place) = record { zero = λ h. omega arith; ten = λ h. omega arith; eleven = λ h. omega arith }
+own (BadValue place) = record { zero = λ h. omega arith; ten = λ h. omega arith; eleven = λ h. omega arith }
+own (NilId place) = record { zero = λ h. omega arith; ten = λ h. omega arith; eleven = λ h. omega arith }
+own (DuplicateId id) = record { zero = λ h. omega arith; ten = λ h. omega arith; eleven = λ h. omega arith }
+own (BinaryRef number) = record { zero = λ h. omega arith; ten = λ h. omega arith; eleven = λ h. omega arith }
+own (BadKeyFile place) = record { zero = λ h. omega arith; ten = λ h. omega arith; eleven = λ h. omega arith }
+own (LineForm number) = record { zero = λ h. omega arith; ten = λ h. omega arith; eleven = λ h. omega arith }
+own (Version number) = record { zero = λ h. omega arith; ten = λ h. omega arith; eleven = λ h. omega arith }
+own (UnknownId id) = record { zero = λ h. omega arith; ten = λ h. omega arith; eleven = λ h. omega arith }
+own (StreamUnknown number) = record { zero = λ h. omega arith; ten = λ h. omega arith; eleven = λ h. omega arith }
+own Compressed = record { zero = λ h. omega arith; ten = λ h. omega arith; eleven = λ h. omega arith }
+own (Variant number) = record { zero = λ h. omega arith; ten = λ h. omega arith; eleven = λ h. omega arith }
+own NoSuchFile = record { zero = λ h. omega arith; ten = λ h. omega arith; eleven = λ h. omega arith }
+own TooLarge = record { zero = λ h. omega arith; ten = λ h. omega arith; eleven = λ h. omega arith }
+own Depth = record { zero = λ h. omega arith; ten = λ h. omega arith; eleven = λ h. omega arith }
+own TooDeep = record { zero = λ h. omega arith; ten = λ h. omega arith; eleven = λ h. omega arith }
+own TooMany = record { zero = λ h. omega arith; ten = λ h. omega arith; eleven = λ h. omega arith }
+own KdfLimit = record { zero = λ h. omega arith; ten = λ h. omega arith; eleven = λ h. omega arith }
+own StampLimit = record { zero = λ h. omega arith; ten = λ h. omega arith; eleven = λ h. omega arith }
+own LineLimit = record { zero = λ h. omega arith; ten = λ h. omega arith; eleven = λ h. omega arith }
+own OutOfMemory = record { zero = λ h. omega arith; ten = λ h. omega arith; eleven = λ h. omega arith }
+own (InputEnded number) = record { zero = λ h. omega arith; ten = λ h. omega arith; eleven = λ h. omega arith }
+
+-- ---- a call that printed
+
+-- What is known of it.
+pub record Printed (words : List (List ℕ)) (time : ℕ) (printed : List ℕ) (result : ℕ) (before now : Seen) (counts counts' : Counts) : Type 0 where
+  pub gives : WhereTold words before (λ w. EndsSo printed (answer_of words time w).answer before.store now.store
+      × IsLeft before.stream now.stream (answer_of words time w).left)
+  pub left : WhereTold words before (λ w. IsLeft before.left now.left (left_of words w.input))
+  pub errors : now.errors ≡ before.errors
+  pub wrote : IsPrinted printed result before.written now.written counts.out counts'.out
+  pub draft : KeepsDraft before.store now.store
+  pub held : WhereTold words before (λ w. IsOfTask words time w printed before.store now.store)
+  pub unwritten : writes_by (command_of words) ≡ false → IsSame before.store now.store
+  pub undrawn : draws_by (command_of words) ≡ false → now.stream ≡ before.stream
+  pub stream : LosesPrefix before.stream now.stream
+  pub some_file : IsOfSomeFile words time printed before.store now.store
+
+-- The outcome of words that end so.
+outcome_is : (words : List (List ℕ)) (time : ℕ) (w : World) (e : Ending) → (answer_of words time w).answer ≡ Ok e
+    → outcome words time w ≡ ended (left_of words w.input) (Ok e) (answer_of words time w).left
+outcome_is words time w e h = ap (λ (r : Result Ending Refusal). ended (left_of words w.input) r (answer_of words time w).left) h
+
+refusal_is : (words : List (List ℕ)) (time : ℕ) (w : World) (refusal : Refusal) → (answer_of words time w).answer ≡ Err refusal
+    → outcome words time w ≡ ended (left_of words w.input) (Err refusal) (answer_of words time w).left
+refusal_is words time w refusal h = ap (λ (r : Result Ending Refusal). ended (left_of words w.input) r (answer_of words time w).left) h
+
+module _ (words : List (List ℕ)) (time : ℕ) (printed : List ℕ) (result : ℕ) (before now : Seen) (counts counts' : Counts)
+    (p : Printed words time printed result before now counts counts') where
+  done : (w : World) → Tells words before w → result ≡ 0 → Gains before.written now.written printed → IsAsSaid (outcome words time w) result before now
+  done w t zero gains =
+      let g = p.gives w t in
+      subst (λ (o : Outcome). IsAsSaid o result before now) (sym (outcome_is words time w g.0.ending g.0.is))
+      (record {
+        status = zero;
+        text = subst (λ (x : List ℕ). Gains before.written now.written x) g.0.text gains;
+        line = unwritten before.errors now.errors p.errors;
+        store = g.0.store;
+        left = p.left w t;
+        stream = g.1;
+      })
+
+  as_said : WhereTold words before (λ w. (result ≡ 0) ⊎ ((result ≢ 9) × NoFaults counts counts') → IsAsSaid (outcome words time w) result before now)
+  as_said w t when =
+      elim p.wrote [
+        | inl whole ↦ done w t whole.0 whole.1
+        | inr part ↦ absurd (elim part.0 [
+          | inl nine ↦ elim when [ inl zero ↦ omega (arith, nine, zero) | inr calm ↦ calm.0 nine ]
+          | inr ten ↦ elim when [ inl zero ↦ omega (arith, ten.0, zero) | inr calm ↦ calm.1.out ten.1 ]
+        ])
+      ]
+
+  never : result ≢ 0 → result ≢ 9 → result ≢ 10 → ⊥
+  never some nine ten = elim p.wrote [ inl whole ↦ some whole.0 | inr part ↦ elim part.0 [ inl is ↦ nine is | inr is ↦ ten is.0 ] ]
+
+  cut : WhereTold words before (λ w. (result ≡ 9) ⊎ (result ≡ 10) → IsCut (outcome words time w) before now)
+  cut w t when =
+      let g = p.gives w t in
+      subst (λ (o : Outcome). IsCut o before now) (sym (outcome_is words time w g.0.ending g.0.is))
+      (record {
+        text = subst (λ (x : List ℕ). GainsPrefix before.written now.written x) g.0.text
+            (elim p.wrote [ inl whole ↦ whole_front before.written now.written printed whole.1 | inr part ↦ part.1 ]);
+        store = inr g.0.store;
+      })
+
+  gained : result ≡ 0 → Gains before.written now.written printed
+  gained zero =
+      elim p.wrote [
+        | inl whole ↦ whole.1
+        | inr part ↦ absurd (elim part.0 [ inl nine ↦ omega (arith, nine, zero) | inr ten ↦ omega (arith, ten.0, zero) ])
+      ]
+
+  safe : IsSafe result before now counts counts'
+  safe =
+      record {
+        store = λ h. absurd (never (λ x. omega (arith, x, h)) (λ x. omega (arith, x, h)) (λ x. omega (arith, x, h)));
+        output = λ h. elim p.wrote [
+          | inl whole ↦ absurd (omega (arith, h, whole.0))
+          | inr part ↦ elim part.0 [ inl nine ↦ absurd (omega (arith, h, nine)) | inr ten ↦ inl ten.1 ]
+        ];
+        input = λ h. absurd (never (λ x. omega (arith, x, h)) (λ x. omega (arith, x, h)) (λ x. omega (arith, x, h)));
+        text = λ some nine ten. absurd (never some nine ten);
+        files = λ some nine ten. absurd (never some nine ten);
+        draft = p.draft;
+        stream = p.stream;
+      }
+
+  complete : WhereTold words before (λ w. IsComplete words time w result counts counts')
+  complete w t ending carried calm =
+      elim p.wrote [ inl whole ↦ inl whole.0 | inr part ↦ elim part.0 [ inl nine ↦ inr nine | inr ten ↦ absurd (calm.out ten.1) ] ]
+
+  authentic : WhereTold words before (λ w. result ≡ 0 → IsAuthentic words time w before now)
+  authentic w t zero =
+      let g = p.gives w t in
+      let h = p.held w t in
+      record {
+        task = h.task;
+        is_task = is_task words w h.task h.gives;
+        change = h.of_dice.change;
+        makes = h.of_dice.makes;
+        text = subst (λ (x : List ℕ). Gains before.written now.written x) h.of_dice.text (gained zero);
+        reads_back = h.of_dice.reads_back;
+        ending = g.0.ending;
+        ends = ap (λ (a : StreamAnswer Ending). a.answer) (sym (answer_is words time w h.task h.gives)) ∙ g.0.is;
+        file = g.0.store;
+      }
+
+  pub printed_call : IsCall words time result before now counts counts'
+  printed_call = record {
+    safe = safe;
+    reads_only = p.unwritten;
+    draws_nothing = p.undrawn;
+    as_said = as_said;
+    refused = λ w t some nine ten. absurd (never some nine ten);
+    cut = cut;
+    authentic = authentic;
+    complete = complete;
+    some_file = λ zero. (printed, (p.some_file, gained zero));
+  }
+
+-- ---- a call that stopped
+
+-- What is known of it.
+pub record Stopped (words : List (List ℕ)) (time : ℕ) (stop : Stop) (result : ℕ) (before now : Seen) (counts counts' : Counts) : Type 0 where
+  pub gives : WhereTold words before (λ w. Ends (Err stop) (answer_of words time w) before.store now.store before.stream now.stream)
+  pub left : WhereTold words before (λ w. Leaves {X = Output} (Err stop) before.left now.left (left_of words w.input))
+  pub kept : KeepsFiles before.store now.store
+  pub written : now.written ≡ before.written
+  pub draft : KeepsDraft before.store now.store
+  pub unwritten : writes_by (command_of words) ≡ false → IsSame before.store now.store
+  pub undrawn : draws_by (command_of words) ≡ false → now.stream ≡ before.stream
+  pub stream : LosesPrefix before.stream now.stream
+  pub caused : IsCaused (files_named (command_of words)) counts.files counts'.files counts.absences counts'.absences counts.input counts'.input
+      counts.dice counts'.dice stop
+  pub told : IsTold stop result before.errors now.errors counts.err counts'.err
+
+module _ (words : List (List ℕ)) (time result : ℕ) (before now : Seen) (counts counts' : Counts) where
+  refused_so : (refusal : Refusal) → Stopped words time (Refused refusal) result before now counts counts' → (w : World) → Tells words before w
+      → result ≡ status_of refusal.reason → Gains before.errors now.errors (error_line refusal.subject (reason_text refusal.reason))
+      → IsAsSaid (outcome words time w) result before now
+  refused_so refusal s w t own line =
+      let g = s.gives w t in
+      subst (λ (o : Outcome). IsAsSaid o result before now) (sym (refusal_is words time w refusal g.0.is))
+      (record {
+        status = own;
+        text = unwritten before.written now.written s.written;
+        line = line;
+        store = g.0.same;
+        left = s.left w t;
+        stream = g.1;
+      })
+
+  -- The line was not written.
+  untold : (result ≡ 9) ⊎ ((result ≡ 10) × Increased counts.err counts'.err) → (result ≡ 0) ⊎ ((result ≢ 9) × NoFaults counts counts') → ⊥
+  untold (inl nine) when = elim when [ inl zero ↦ omega (arith, nine, zero) | inr calm ↦ calm.0 nine ]
+  untold (inr ten) when = elim when [ inl zero ↦ omega (arith, ten.0, zero) | inr calm ↦ calm.1.err ten.1 ]
+
+  neither : {R : Type 0} → (result ≡ 9) ⊎ ((result ≡ 10) × R) → result ≢ 9 → result ≢ 10 → ⊥
+  neither (inl is) nine ten = nine is
+  neither (inr is) nine ten = ten is.0
+
+  stopped_said : (stop : Stop) → Stopped words time stop result before now counts counts'
+      → WhereTold words before (λ w. (result ≡ 0) ⊎ ((result ≢ 9) × NoFaults counts counts') → IsAsSaid (outcome words time w) result before now)
+  stopped_said (Refused refusal) s w t when =
+      elim s.told [ inl own ↦ refused_so refusal s w t own.0 own.1 | inr other ↦ absurd (untold other when) ]
+  stopped_said (FileFault name) s w t when =
+      absurd (elim s.told [
+        | inl own ↦ elim when [ inl zero ↦ omega (arith, own.0, zero) | inr calm ↦ calm.1.files s.caused.0 ]
+        | inr other ↦ untold other when
+      ])
+  stopped_said InputFault s w t when =
+      absurd (elim s.told [
+        | inl own ↦ elim when [
+          | inl zero ↦ omega (arith, own.0, zero)
+          | inr calm ↦ elim s.caused [ inl i ↦ calm.1.input i | inr d ↦ calm.1.dice d ]
+        ]
+        | inr other ↦ untold other when
+      ])
+  stopped_said NoMemory s w t when = absurd (untold s.told when)
+
+  stopped_refused : (stop : Stop) → Stopped words time stop result before now counts counts'
+      → WhereTold words before (λ w. IsRefused (files_named (command_of words)) (outcome words time w) result before now counts counts')
+  stopped_refused (Refused refusal) s w t some nine ten =
+      elim s.told [ inl own ↦ inl (refused_so refusal s w t own.0 own.1) | inr other ↦ absurd (neither other nine ten) ]
+  stopped_refused (FileFault name) s w t some nine ten =
+      elim s.told [ inl own ↦ inr (inl (own.0, s.caused.0, (name, s.caused.1, own.1))) | inr other ↦ absurd (neither other nine ten) ]
+  stopped_refused InputFault s w t some nine ten =
+      elim s.told [ inl own ↦ inr (inr (own.0, s.caused, own.1)) | inr other ↦ absurd (neither other nine ten) ]
+  stopped_refused NoMemory s w t some nine ten = absurd (neither s.told nine ten)
+
+  store_cause : (stop : Stop) → Stopped words time stop result before now counts counts' → result ≡ 7
+      → Increased counts.absences counts'.absences ⊎ Increased counts.files counts'.files
+  store_cause (Refused refusal) s h =
+      elim s.told [
+        | inl is ↦ inl (s.caused (seven_missing refusal.reason (sym is.0 ∙ h)))
+        | inr other ↦ absurd (neither other (λ x. omega (arith, x, h)) (λ x. omega (arith, x, h)))
+      ]
+  store_cause (FileFault name) s h = inr s.caused.0
+  store_cause InputFault s h =
+      absurd (elim s.told [ inl is ↦ omega (arith, is.0, h) | inr other ↦ neither other (λ x. omega (arith, x, h)) (λ x. omega (arith, x, h)) ])
+  store_cause NoMemory s h = absurd (neither s.told (λ x. omega (arith, x, h)) (λ x. omega (arith, x, h)))
+
+  err_rose : (result ≡ 9) ⊎ ((result ≡ 10) × Increased counts.err counts'.err) → result ≡ 10
+      → Increased counts.out counts'.out ⊎ Increased counts.err counts'.err
+  err_rose (inl nine) h = absurd (omega (arith, nine, h))
+  err_rose (inr ten) h = inr ten.1
+
+  output_cause : (stop : Stop) → Stopped words time stop result before now counts counts' → result ≡ 10
+      → Increased counts.out counts'.out ⊎ Increased counts.err counts'.err
+  output_cause (Refused refusal) s h = elim s.told [ inl is ↦ absurd ((own refusal.reason).ten (sym is.0 ∙ h)) | inr other ↦ err_rose other h ]
+  output_cause (FileFault name) s h = elim s.told [ inl is ↦ absurd (omega (arith, is.0, h)) | inr other ↦ err_rose other h ]
+  output_cause InputFault s h = elim s.told [ inl is ↦ absurd (omega (arith, is.0, h)) | inr other ↦ err_rose other h ]
+  output_cause NoMemory s h = err_rose s.told h
+
+  input_cause : (stop : Stop) → Stopped words time stop result before now counts counts' → result ≡ 11
+      → Increased counts.input counts'.input ⊎ Increased counts.dice counts'.dice
+  input_cause (Refused refusal) s h =
+      absurd (elim s.told [
+        | inl is ↦ (own refusal.reason).eleven (sym is.0 ∙ h)
+        | inr other ↦ neither other (λ x. omega (arith, x, h)) (λ x. omega (arith, x, h))
+      ])
+  input_cause (FileFault name) s h =
+      absurd (elim s.told [ inl is ↦ omega (arith, is.0, h) | inr other ↦ neither other (λ x. omega (arith, x, h)) (λ x. omega (arith, x, h)) ])
+  input_cause InputFault s h = s.caused
+  input_cause NoMemory s h = absurd (neither s.told (λ x. omega (arith, x, h)) (λ x. omega (arith, x, h)))
+
+  not_done : (stop : Stop) → Stopped words time stop result before now counts counts' → result ≡ 0 → ⊥
+  not_done (Refused refusal) s h =
+      elim s.told [ inl is ↦ (own refusal.reason).zero (sym is.0 ∙ h) | inr other ↦ neither other (λ x. omega (arith, x, h)) (λ x. omega (arith, x, h)) ]
+  not_done (FileFault name) s h =
+      elim s.told [ inl is ↦ omega (arith, is.0, h) | inr other ↦ neither other (λ x. omega (arith, x, h)) (λ x. omega (arith, x, h)) ]
+  not_done InputFault s h =
+      elim s.told [ inl is ↦ omega (arith, is.0, h) | inr other ↦ neither other (λ x. omega (arith, x, h)) (λ x. omega (arith, x, h)) ]
+  not_done NoMemory s h = neither s.told (λ x. omega (arith, x, h)) (λ x. omega (arith, x, h))
+
+  stopped_complete : (stop : Stop) → Stopped words time stop result before now counts counts'
+      → WhereTold words before (λ w. IsComplete words time w result counts counts')
+  stopped_complete (Refused refusal) s w t ending carried calm =
+      let e = sym (s.gives w t).0.is ∙ is_given words time w ending carried in cc
+  stopped_complete (FileFault name) s w t ending carried calm = absurd (calm.files s.caused.0)
+  stopped_complete InputFault s w t ending carried calm = absurd (elim s.caused [ inl i ↦ calm.input i | inr d ↦ calm.dice d ])
+  stopped_complete NoMemory s w t ending carried calm = elim s.told [ inl nine ↦ inr nine | inr ten ↦ absurd (calm.err ten.1) ]
+
+  pub stopped_call : (stop : Stop) → Stopped words time stop result before now counts counts' → IsCall words time result before now counts counts'
+  stopped_call stop s = record {
+    safe = record {
+      store = λ h. store_cause stop s h;
+      output = λ h. output_cause stop s h;
+      input = λ h. input_cause stop s h;
+      text = λ some nine ten. s.written;
+      files = λ some nine ten. s.kept;
+      draft = s.draft;
+      stream = s.stream;
+    };
+    reads_only = s.unwritten;
+    draws_nothing = s.undrawn;
+    as_said = stopped_said stop s;
+    refused = stopped_refused stop s;
+    cut = λ w t when. record { text = no_front before.written now.written (outcome words time w).text s.written; store = inl s.kept };
+    authentic = λ w t zero. absurd (not_done stop s zero);
+    complete = stopped_complete stop s;
+    some_file = λ zero. absurd (not_done stop s zero);
+  }

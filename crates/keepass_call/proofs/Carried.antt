@@ -1,0 +1,316 @@
+-- How a task is carried out.
+use Rattle.std.proofs.Common.{◌≡◌, ◌≤◌, ◌+◌, ℕ, List, drop, refl, inl, inr, sym, ◌∙◌, ap, subst, Bool, true, false, Option, Some, None, option_map, Result, Ok, Err, arith}
+use Rattle.std.specs.Prelude.{IfErr, IfOk, IfSome, OnErr, OnOk, is_some, not}
+use Rattle.std.proofs.lemmas.List.{drop-drop}
+use Rattle.outside_core.specs.Counts.{Increased}
+use Rattle.outside_core.specs.Streams.{LosesPrefix}
+use Rattle.vault_model.specs.Tree.{BareDoc, Tree}
+use Rattle.kdbx_frame.specs.Settings.{IsInOrder}
+use Rattle.cli_answers.specs.declared.answers.Refusal.{Refusal}
+use Rattle.cli_answers.specs.declared.answers.Stop.{Stop}
+use Rattle.cli_answers.specs.declared.answers.Stop.TheVariants.{Refused, FileFault, InputFault, NoMemory}
+use Rattle.cli_answers.specs.Phases.{IsCommandStop, IsLeft, IsStreamStop, RefusesAskedStream, StreamAnswer, TellsStream, then_left, with_left}
+use Rattle.cli_databases.specs.declared.databases.Sealing.{Sealing}
+use Rattle.cli_databases.specs.Databases.{Opened}
+use Rattle.cli_databases.proofs.Stops.{rose_before}
+use Rattle.cli_lines.proofs.Inputs.{left_alone, left_so, told_by}
+use Rattle.cli_lines.specs.Lines.{Lines}
+use Rattle.cli_sealing.specs.Sealing.{Seals}
+use Rattle.cli_words.specs.declared.command.Command.{Command}
+use Rattle.cli_words.specs.declared.command.Command.TheVariants.{Ls, Add, Edit}
+use Rattle.cli_words.specs.Needs.{needs_of}
+use Rattle.cli_writing.specs.Held.{IsWritten}
+use Rattle.cli_writing.specs.Writing.{IsSame, IsWriteStop, KeepsDraft, KeepsFiles, NewFile, Store, Writes, plain_file}
+use Rattle.keepass_call.specs.declared.execute.Output.{Output}
+use Rattle.cli_listing.specs.Listing.{tree_listed}
+use Rattle.keepass_call.specs.Commands.{Change, change_of, draws_id, listing_of, writes}
+use Rattle.keepass_call.specs.Endings.{Ending, Ends, EndsRefused, EndsSo, EndsWith, HoldsNew, IsOfDice, IsOfSomeDice, ReadsBack, WritesNew, carried_out, ended_with, ending_with, ending_without, kept_sealing, new_file}
+use Rattle.keepass_call.specs.SeenChange.{doc_if, output_text}
+use Rattle.keepass_call.specs.Tasks.{Task, draws, task_with}
+
+-- ---- the file
+
+-- A plain document was written.
+pub plain_written : (result : Result (Unit {0}) Stop) (defined : Result NewFile Refusal) (before now : Store) (dice : Option (List ℕ)) (d : List ℕ)
+    → TellsStream false dice d → Writes result defined before now → WritesNew result (with_left defined d) before now dice dice
+plain_written (Ok u) defined before now dice d t h = (h, left_alone false dice d t)
+plain_written (Err (Refused refusal)) defined before now dice d t h = (h, left_alone false dice d t)
+plain_written (Err (FileFault name)) defined before now dice d t h = tt
+plain_written (Err InputFault) defined before now dice d t h = tt
+plain_written (Err NoMemory) defined before now dice d t h = tt
+
+-- A sealed one was.
+pub sealed_written : (result : Result (Unit {0}) Stop) (defined : StreamAnswer NewFile) (before now : Store) (dice dice' : Option (List ℕ)) (d : List ℕ)
+    → dice ≡ Some d → Seals result defined before now dice' → WritesNew result defined before now dice dice'
+sealed_written (Ok u) defined before now dice dice' d e h = (h.0, left_so dice dice' d defined.left e h.1)
+sealed_written (Err (Refused refusal)) defined before now dice dice' d e h = (h.0, left_so dice dice' d defined.left e h.1)
+sealed_written (Err (FileFault name)) defined before now dice dice' d e h = tt
+sealed_written (Err InputFault) defined before now dice dice' d e h = tt
+sealed_written (Err NoMemory) defined before now dice dice' d e h = tt
+
+pub plain_stop : (result : Result (Unit {0}) Stop) (name : List ℕ) (faults faults' dice : ℕ) → IfErr result (IsWriteStop name faults faults')
+    → IfErr result (IsCommandStop name faults faults' dice dice)
+plain_stop (Ok u) name faults faults' dice h = tt
+plain_stop (Err (Refused refusal)) name faults faults' dice h = h
+plain_stop (Err (FileFault told)) name faults faults' dice h = h
+plain_stop (Err InputFault) name faults faults' dice h = absurd h
+plain_stop (Err NoMemory) name faults faults' dice h = tt
+
+pub keeps_draft : (result : Result (Unit {0}) Stop) (defined : Result NewFile Refusal) (before now : Store)
+    → Writes result defined before now → OnErr result (KeepsFiles before now) → KeepsDraft before now
+keeps_draft (Ok u) defined before now h k = inl h.has.draft_name
+keeps_draft (Err stop) defined before now h k = k.draft
+
+-- What a command ends with whose file is this.
+with_file : (printed : List ℕ) (made : StreamAnswer NewFile) (file : NewFile) → made.answer ≡ Ok file
+    → then_left made (λ f left. with_left (Ok (ending_with printed f)) left) ≡ with_left (Ok (ending_with printed file)) made.left
+with_file printed made file h = ap (λ (r : Result NewFile Refusal). then_left (with_left r made.left) (λ f left. with_left (Ok (ending_with printed f)) left)) h
+
+without_file : (printed : List ℕ) (made : StreamAnswer NewFile) (refusal : Refusal) → made.answer ≡ Err refusal
+    → then_left made (λ f left. with_left (Ok (ending_with printed f)) left) ≡ with_left (Err refusal) made.left
+without_file printed made refusal h = ap (λ (r : Result NewFile Refusal). then_left (with_left r made.left) (λ f left. with_left (Ok (ending_with printed f)) left)) h
+
+ends_with_file : (result : Result (Unit {0}) Stop) (printed name : List ℕ) (sealing : Option Sealing) (doc : BareDoc) (d : List ℕ) (before now : Store) (dice dice' : Option (List ℕ))
+    → WritesNew result (new_file name sealing doc d) before now dice dice' → EndsWith printed result (ended_with name sealing printed (Some doc) d) before now dice dice'
+ends_with_file (Ok u) printed name sealing doc d before now dice dice' h =
+    subst (λ (a : StreamAnswer Ending). EndsSo printed a.answer before now × IsLeft dice dice' a.left) (sym (with_file printed (new_file name sealing doc d) h.0.file h.0.is))
+    (record { ending = ending_with printed h.0.file; is = refl; text = refl; store = h.0.has }, h.1)
+ends_with_file (Err (Refused refusal)) printed name sealing doc d before now dice dice' h =
+    subst (λ (a : StreamAnswer Ending). EndsRefused refusal a.answer before now × IsLeft dice dice' a.left) (sym (without_file printed (new_file name sealing doc d) refusal h.0.is))
+    (record { is = refl; same = h.0.same }, h.1)
+ends_with_file (Err (FileFault given)) printed name sealing doc d before now dice dice' h = tt
+ends_with_file (Err InputFault) printed name sealing doc d before now dice dice' h = tt
+ends_with_file (Err NoMemory) printed name sealing doc d before now dice dice' h = tt
+
+-- A document that is to be written was.
+pub written_so : (result : Result (Unit {0}) Stop) (printed name : List ℕ) (is_written : Bool) (sealing : Option Sealing) (doc : BareDoc) (d : List ℕ) (before now : Store) (dice dice' : Option (List ℕ))
+    → is_written ≡ true → WritesNew result (new_file name sealing doc d) before now dice dice'
+    → EndsWith printed result (ended_with name sealing printed (doc_if is_written doc) d) before now dice dice'
+written_so result printed name is_written sealing doc d before now dice dice' e h =
+    subst (λ (b : Bool). EndsWith printed result (ended_with name sealing printed (doc_if b doc) d) before now dice dice') (sym e)
+    (ends_with_file result printed name sealing doc d before now dice dice' h)
+
+pub reads_written : (result : Result (Unit {0}) Stop) (name : List ℕ) (is_written : Bool) (sealing : Option Sealing) (doc : BareDoc) (before now : Store)
+    → is_written ≡ true → OnOk result (IsWritten (HoldsNew sealing doc) name before now) → OnOk result (ReadsBack name sealing (doc_if is_written doc) before now)
+reads_written result name is_written sealing doc before now e h =
+    subst (λ (b : Bool). OnOk result (ReadsBack name sealing (doc_if b doc) before now)) (sym e) h
+
+-- None is written.
+pub none_written : (printed name : List ℕ) (is_written : Bool) (sealing : Option Sealing) (doc : BareDoc) (d : List ℕ) (before : Store) (asked : Bool) (dice : Option (List ℕ))
+    → is_written ≡ false → TellsStream asked dice d
+    → EndsWith printed (Ok tt) (ended_with name sealing printed (doc_if is_written doc) d) before before dice dice
+none_written printed name is_written sealing doc d before asked dice e t =
+    subst (λ (b : Bool). EndsWith printed (Ok tt) (ended_with name sealing printed (doc_if b doc) d) before before dice dice) (sym e) (
+      record {
+        ending = ending_without printed;
+        is = refl;
+        text = refl;
+        store = record { files = refl; draft_name = refl; draft_bytes = refl };
+      },
+      left_alone asked dice d t,
+    )
+
+pub reads_same : (name : List ℕ) (is_written : Bool) (sealing : Option Sealing) (doc : BareDoc) (before : Store) → is_written ≡ false
+    → ReadsBack name sealing (doc_if is_written doc) before before
+reads_same name is_written sealing doc before e =
+    subst (λ (b : Bool). ReadsBack name sealing (doc_if b doc) before before) (sym e) (record { files = refl; draft_name = refl; draft_bytes = refl })
+
+-- ---- the dice
+
+pub loses_both : (old mid new : Option (List ℕ)) → LosesPrefix old mid → LosesPrefix mid new → LosesPrefix old new
+loses_both None mid new h g = (0, g.1 ∙ ap (option_map (drop g.0)) h.1)
+loses_both (Some x) mid new h g = (h.0 + g.0, g.1 ∙ ap (option_map (drop g.0)) h.1 ∙ ap Some (drop-drop g.0 h.0 x))
+
+pub left_after : (old mid new : Option (List ℕ)) (l m : List ℕ) → IsLeft old mid l → IsLeft mid new m → IsLeft old new m
+left_after None mid new l m h g = g ∙ ap (option_map (λ (x : List ℕ). m)) h
+left_after (Some x) mid new l m h g = g ∙ ap (option_map (λ (x : List ℕ). m)) h
+
+-- A command that draws an id draws.
+pub tells_id : (command : Command) (dice : Option (List ℕ)) (d : List ℕ) → TellsStream (draws command) dice d → TellsStream (draws_id command) dice d
+tells_id command (Some x) d t = t
+tells_id (Ls access file group recursive flat) None d t = refl
+tells_id (Add access file entry asked) None d t = t
+tells_id (Edit access file entry asked) None d t = refl
+
+-- What is left is reported, where a file is sealed.
+pub tells_after : (asked sealed : Bool) (old mid : Option (List ℕ)) (d l : List ℕ) → (asked ≡ false → sealed ≡ false) → TellsStream asked old d → IsLeft old mid l
+    → TellsStream sealed mid l
+tells_after asked sealed (Some x) mid d l none t h = subst (λ (m : Option (List ℕ)). TellsStream sealed m l) (sym h) refl
+tells_after asked sealed None mid d l none t h = subst (λ (m : Option (List ℕ)). TellsStream sealed m l) (sym h) (none t)
+
+pub no_id : (command : Command) → draws command ≡ false → draws_id command ≡ false
+no_id (Ls access file group recursive flat) e = refl
+no_id (Add access file entry asked) e = e
+no_id (Edit access file entry asked) e = refl
+
+-- ---- a task
+
+-- What a task is carried out to whose command makes this change.
+carried_by : (time : ℕ) (task : Task) (line : Option (List ℕ)) (dice : List ℕ) (change : Change) → line ≡ task.lines.more
+    → (change_of time task.command line task.opened.doc dice).answer ≡ Ok change
+    → carried_out time task dice ≡ ended_with (needs_of task.command).file task.opened.sealing change.text change.doc (change_of time task.command line task.opened.doc dice).left
+unfolding carried_out
+carried_by time task line dice change e h =
+    ap (λ (l : Option (List ℕ)). then_left (change_of time task.command l task.opened.doc dice) (λ change left. ended_with (needs_of task.command).file task.opened.sealing change.text change.doc left)) (sym e)
+    ∙ ap (λ (r : Result Change Refusal). then_left (with_left r (change_of time task.command line task.opened.doc dice).left)
+    (λ change left. ended_with (needs_of task.command).file task.opened.sealing change.text change.doc left)) h
+
+refused_by : (time : ℕ) (task : Task) (line : Option (List ℕ)) (dice : List ℕ) (refusal : Refusal) → line ≡ task.lines.more
+    → (change_of time task.command line task.opened.doc dice).answer ≡ Err refusal
+    → carried_out time task dice ≡ with_left (Err refusal) (change_of time task.command line task.opened.doc dice).left
+unfolding carried_out
+refused_by time task line dice refusal e h =
+    ap (λ (l : Option (List ℕ)). then_left (change_of time task.command l task.opened.doc dice) (λ change left. ended_with (needs_of task.command).file task.opened.sealing change.text change.doc left)) (sym e)
+    ∙ ap (λ (r : Result Change Refusal). then_left (with_left r (change_of time task.command line task.opened.doc dice).left)
+    (λ change left. ended_with (needs_of task.command).file task.opened.sealing change.text change.doc left)) h
+
+-- The change was made and the file written, if one is.
+pub ends_by : (time : ℕ) (task : Task) (line : Option (List ℕ)) (dice name : List ℕ) (change : Change) (before now : Store) (old mid new : Option (List ℕ))
+    → line ≡ task.lines.more → name ≡ (needs_of task.command).file
+    → (change_of time task.command line task.opened.doc dice).answer ≡ Ok change → IsLeft old mid (change_of time task.command line task.opened.doc dice).left
+    → EndsWith change.text (Ok tt) (ended_with name task.opened.sealing change.text change.doc (change_of time task.command line task.opened.doc dice).left) before now mid new
+    → EndsSo change.text (carried_out time task dice).answer before now × IsLeft old new (carried_out time task dice).left
+ends_by time task line dice name change before now old mid new e n h l w =
+    let made = (change_of time task.command line task.opened.doc dice).left in
+    let there = subst (λ (f : List ℕ). EndsWith change.text (Ok tt) (ended_with f task.opened.sealing change.text change.doc made) before now mid new) n w in
+    subst (λ (t : StreamAnswer Ending). EndsSo change.text t.answer before now × IsLeft old new t.left) (sym (carried_by time task line dice change e h))
+    (there.0, left_after old mid new made (ended_with (needs_of task.command).file task.opened.sealing change.text change.doc made).left l there.1)
+
+-- The change was refused.
+pub change_refused : (stop : Stop) (time : ℕ) (task : Task) (line : Option (List ℕ)) (dice : List ℕ) (before : Store) (stream stream' : Option (List ℕ))
+    → line ≡ task.lines.more → RefusesAskedStream stop stream stream' (change_of time task.command line task.opened.doc dice)
+    → Ends (Err stop) (carried_out time task dice) before before stream stream'
+change_refused (Refused refusal) time task line dice before stream stream' e h =
+    subst (λ (t : StreamAnswer Ending). EndsRefused refusal t.answer before before × IsLeft stream stream' t.left) (sym (refused_by time task line dice refusal e h.0))
+    (record { is = refl; same = record { files = refl; draft_name = refl; draft_bytes = refl } }, h.1)
+change_refused (FileFault name) time task line dice before stream stream' e h = tt
+change_refused InputFault time task line dice before stream stream' e h = tt
+change_refused NoMemory time task line dice before stream stream' e h = tt
+
+-- The file was refused.
+pub file_refused : (stop : Stop) (time : ℕ) (task : Task) (line : Option (List ℕ)) (dice name : List ℕ) (change : Change) (before now : Store) (old mid new : Option (List ℕ))
+    → line ≡ task.lines.more → name ≡ (needs_of task.command).file
+    → (change_of time task.command line task.opened.doc dice).answer ≡ Ok change → IsLeft old mid (change_of time task.command line task.opened.doc dice).left
+    → EndsWith change.text (Err stop) (ended_with name task.opened.sealing change.text change.doc (change_of time task.command line task.opened.doc dice).left) before now mid new
+    → Ends (Err stop) (carried_out time task dice) before now old new
+file_refused (Refused refusal) time task line dice name change before now old mid new e n h l w =
+    let made = (change_of time task.command line task.opened.doc dice).left in
+    let there = subst (λ (f : List ℕ). EndsWith change.text (Err (Refused refusal)) (ended_with f task.opened.sealing change.text change.doc made) before now mid new) n w in
+    subst (λ (t : StreamAnswer Ending). EndsRefused refusal t.answer before now × IsLeft old new t.left) (sym (carried_by time task line dice change e h))
+    (there.0, left_after old mid new made (ended_with (needs_of task.command).file task.opened.sealing change.text change.doc made).left l there.1)
+file_refused (FileFault given) time task line dice name change before now old mid new e n h l w = tt
+file_refused InputFault time task line dice name change before now old mid new e n h l w = tt
+file_refused NoMemory time task line dice name change before now old mid new e n h l w = tt
+
+-- What was printed and written is of the change.
+pub of_dice : (time : ℕ) (task : Task) (line : Option (List ℕ)) (dice name printed : List ℕ) (change : Change) (before now : Store)
+    → line ≡ task.lines.more → name ≡ (needs_of task.command).file → printed ≡ change.text
+    → (change_of time task.command line task.opened.doc dice).answer ≡ Ok change → ReadsBack name task.opened.sealing change.doc before now
+    → IsOfDice time task dice printed before now
+of_dice time task line dice name printed change before now e n p h r = record {
+  change = change;
+  makes = subst (λ (l : Option (List ℕ)). (change_of time task.command l task.opened.doc dice).answer ≡ Ok change) e h;
+  text = p;
+  reads_back = subst (λ (f : List ℕ). ReadsBack f task.opened.sealing change.doc before now) n r;
+}
+
+-- ---- a key that is let go where nothing is written
+
+-- A listing ends so whatever its database is sealed with.
+listed_so : (name file : List ℕ) (recursive flat : Bool) (tree : Option Tree) (one other : Option Sealing) (dice : List ℕ)
+    → then_left (with_left (listing_of file recursive flat tree) dice) (λ change left. ended_with name one change.text change.doc left)
+    ≡ then_left (with_left (listing_of file recursive flat tree) dice) (λ change left. ended_with name other change.text change.doc left)
+listed_so name file recursive flat None one other dice = refl
+listed_so name file recursive flat (Some tree) one other dice = refl
+
+pub carried_kept : (time : ℕ) (command : Command) (lines : Lines) (doc : BareDoc) (sealing : Option Sealing) (dice : List ℕ)
+    → carried_out time (task_with command lines (record { doc = doc; sealing = kept_sealing (writes command) sealing })) dice
+    ≡ carried_out time (task_with command lines (record { doc = doc; sealing = sealing })) dice
+unfolding carried_out
+carried_kept time (Ls access file group recursive flat) lines doc sealing dice =
+    listed_so file file recursive flat (tree_listed group doc) None sealing dice
+carried_kept time (Add access file entry asked) lines doc sealing dice = refl
+carried_kept time (Edit access file entry asked) lines doc sealing dice = refl
+
+pub ends_kept : (time : ℕ) (command : Command) (lines : Lines) (doc : BareDoc) (sealing kept : Option Sealing) (d : List ℕ) (result : Result Output Stop) (before now : Store) (dice dice' : Option (List ℕ))
+    → kept ≡ kept_sealing (writes command) sealing
+    → Ends result (carried_out time (task_with command lines (record { doc = doc; sealing = kept })) d) before now dice dice'
+    → Ends result (carried_out time (task_with command lines (record { doc = doc; sealing = sealing })) d) before now dice dice'
+ends_kept time command lines doc sealing kept d result before now dice dice' k h =
+    subst (λ (a : StreamAnswer Ending). Ends result a before now dice dice') (carried_kept time command lines doc sealing d)
+    (subst (λ (s : Option Sealing). Ends result (carried_out time (task_with command lines (record { doc = doc; sealing = s })) d) before now dice dice') k h)
+
+-- It makes no document.
+listed_none : (file : List ℕ) (recursive flat : Bool) (tree : Option Tree) (change : Change) → listing_of file recursive flat tree ≡ Ok change → change.doc ≡ None
+listed_none file recursive flat None change h = cc
+listed_none file recursive flat (Some tree) change h = cc
+
+of_dice_kept : (time : ℕ) (command : Command) (lines : Lines) (doc : BareDoc) (sealing : Option Sealing) (d printed : List ℕ) (before now : Store)
+    → IsOfDice time (task_with command lines (record { doc = doc; sealing = kept_sealing (writes command) sealing })) d printed before now
+    → IsOfDice time (task_with command lines (record { doc = doc; sealing = sealing })) d printed before now
+of_dice_kept time (Ls access file group recursive flat) lines doc sealing d printed before now h = record {
+  change = h.change;
+  makes = h.makes;
+  text = h.text;
+  reads_back =
+      let none = listed_none file recursive flat (tree_listed group doc) h.change h.makes in
+      subst (λ (x : Option BareDoc). ReadsBack file sealing x before now) (sym none)
+      (subst (λ (x : Option BareDoc). ReadsBack file None x before now) none h.reads_back);
+}
+of_dice_kept time (Add access file entry asked) lines doc sealing d printed before now h = h
+of_dice_kept time (Edit access file entry asked) lines doc sealing d printed before now h = h
+
+pub all_kept : (time : ℕ) (command : Command) (lines : Lines) (doc : BareDoc) (sealing kept : Option Sealing) (d : List ℕ) (result : Result Output Stop) (before now : Store)
+    → kept ≡ kept_sealing (writes command) sealing
+    → IfOk result (λ output. IsOfDice time (task_with command lines (record { doc = doc; sealing = kept })) d (output_text output) before now)
+    → IfOk result (λ output. IsOfDice time (task_with command lines (record { doc = doc; sealing = sealing })) d (output_text output) before now)
+all_kept time command lines doc sealing kept d (Ok output) before now k h =
+    of_dice_kept time command lines doc sealing d (output_text output) before now
+    (subst (λ (s : Option Sealing). IsOfDice time (task_with command lines (record { doc = doc; sealing = s })) d (output_text output) before now) k h)
+all_kept time command lines doc sealing kept d (Err stop) before now k h = tt
+
+pub some_kept : (time : ℕ) (command : Command) (lines : Lines) (doc : BareDoc) (sealing kept : Option Sealing) (result : Result Output Stop) (before now : Store)
+    → kept ≡ kept_sealing (writes command) sealing
+    → IfOk result (λ output. IsOfSomeDice time (task_with command lines (record { doc = doc; sealing = kept })) (output_text output) before now)
+    → IfOk result (λ output. IsOfSomeDice time (task_with command lines (record { doc = doc; sealing = sealing })) (output_text output) before now)
+some_kept time command lines doc sealing kept (Ok output) before now k h = (
+  h.0,
+  of_dice_kept time command lines doc sealing h.0 (output_text output) before now
+      (subst (λ (s : Option Sealing). IsOfDice time (task_with command lines (record { doc = doc; sealing = s })) h.0 (output_text output) before now) k h.1),
+)
+some_kept time command lines doc sealing kept (Err stop) before now k h = tt
+
+-- A command that draws nothing seals nothing.
+undrawn_unsealed : (command : Command) (sealing : Option Sealing) → is_some sealing ≡ not (needs_of command).access.plain → draws command ≡ false
+    → is_some (kept_sealing (writes command) sealing) ≡ false
+undrawn_unsealed (Ls access file group recursive flat) sealing h e = refl
+undrawn_unsealed (Add access file entry asked) sealing h e = cc
+undrawn_unsealed (Edit access file entry asked) sealing h e = h ∙ e
+
+pub unsealed_kept : (command : Command) (sealing kept : Option Sealing) → kept ≡ kept_sealing (writes command) sealing
+    → is_some sealing ≡ not (needs_of command).access.plain → draws command ≡ false → is_some kept ≡ false
+unsealed_kept command sealing kept k h e = ap (λ (s : Option Sealing). is_some s) k ∙ undrawn_unsealed command sealing h e
+
+in_order_if : (is_written : Bool) (sealing : Option Sealing) → IfSome sealing (λ s. IsInOrder s.settings) → IfSome (kept_sealing is_written sealing) (λ s. IsInOrder s.settings)
+in_order_if true sealing h = h
+in_order_if false sealing h = tt
+
+pub in_order_kept : (is_written : Bool) (sealing kept : Option Sealing) → kept ≡ kept_sealing is_written sealing
+    → IfSome sealing (λ s. IsInOrder s.settings) → IfSome kept (λ s. IsInOrder s.settings)
+in_order_kept is_written sealing kept k h =
+    subst (λ (x : Option Sealing). IfSome x (λ s. IsInOrder s.settings)) (sym k) (in_order_if is_written sealing h)
+
+-- ---- causes
+
+pub stream_command : (stop : Stop) (name : List ℕ) (faults dice dice' : ℕ) → IsStreamStop dice dice' stop → IsCommandStop name faults faults dice dice' stop
+stream_command (Refused refusal) name faults dice dice' h = h
+stream_command (FileFault given) name faults dice dice' h = absurd h
+stream_command InputFault name faults dice dice' h = h
+stream_command NoMemory name faults dice dice' h = tt
+
+pub write_command : (stop : Stop) (given name : List ℕ) (faults faults' dice mid dice' : ℕ) → given ≡ name → dice ≤ mid → IsCommandStop given faults faults' mid dice' stop
+    → IsCommandStop name faults faults' dice dice' stop
+write_command (Refused refusal) given name faults faults' dice mid dice' e le h = h
+write_command (FileFault told) given name faults faults' dice mid dice' e le h = (h.0 ∙ e, h.1)
+write_command InputFault given name faults faults' dice mid dice' e le h = rose_before dice mid dice' le h
+write_command NoMemory given name faults faults' dice mid dice' e le h = tt

@@ -1,6 +1,0 @@
-use Rattle.keepass_call.proofs.Steps.{later_at_file}
-use Rattle.keepass_call.proofs.databases.open_held.Goals as goal
-
-pub returns-clause-cause : goal.returns-clause-cause
-returns-clause-cause g c =
-    later_at_file c.open_sealed.result _ c.args.file.now _ _ _ _ _ _ c.in_ok-key.ensures.faults c.in_ok-key.ensures.absences c.open_sealed.ensures.cause

@@ -1,0 +1,71 @@
+-- What a call is to do: its command, the lines that this asked for, and the database that was
+-- opened.
+use Rattle.std.specs.Prelude.{◌≡◌, ℕ, Bool, true, false, not, List, Result, Ok, Err}
+use Rattle.outside_core.specs.Files.{FileMap}
+use Rattle.outside_core.specs.Results.{◌>>=◌}
+use Rattle.cli_answers.specs.declared.answers.Refusal.{Refusal}
+use Rattle.cli_words.specs.declared.command.Command.{Command}
+use Rattle.cli_words.specs.declared.command.Command.TheVariants.{Ls, Add, Edit}
+use Rattle.cli_words.specs.Needs.{asks_line, needs_of}
+use Rattle.cli_words.specs.Words.{command_of}
+use Rattle.cli_lines.specs.Lines.{HasLines, Lines, lines_of}
+use Rattle.cli_databases.specs.Databases.{Opened, database_of}
+use Rattle.cli_databases.specs.SomeFiles.{SomeDatabase}
+use Rattle.keepass_call.specs.Commands.{writes}
+
+-- What a call is to do: its command, the lines that this asked for, and the database that was
+-- opened.
+pub record Task : Type 0 where
+  pub command : Command
+  pub lines : Lines
+  pub opened : Opened
+
+-- A task of this command, these lines and this database.
+abbrev pub task_with : Command → Lines → Opened → Task
+task_with command lines opened = record { command = command; lines = lines; opened = opened }
+
+-- What these words ask for over this input and these files: the command, the lines that are due,
+-- and the database that the command names.
+unfoldable pub task_of : List (List ℕ) → List ℕ → FileMap → Result Task Refusal
+task_of words input files = do
+  command ← command_of words
+  lines ← (lines_of (needs_of command) input).answer
+  opened ← database_of (needs_of command) lines.password files
+  Ok (task_with command lines opened)
+
+-- Whether words ask for a line.
+abbrev pub asked_by : Result Command Refusal → Bool
+asked_by (Ok command) = asks_line (needs_of command)
+asked_by (Err refusal) = false
+
+-- A command draws: for the id of a new entry, and for a sealed file.
+abbrev pub draws : Command → Bool
+draws (Ls access file group recursive flat) = false
+draws (Add access file entry asked) = true
+draws (Edit access file entry asked) = not access.plain
+
+-- Whether words are a command that draws.
+abbrev pub draws_by : Result Command Refusal → Bool
+draws_by (Ok command) = draws command
+draws_by (Err refusal) = false
+
+-- Whether words are a command that writes its database.
+abbrev pub writes_by : Result Command Refusal → Bool
+writes_by (Ok command) = writes command
+writes_by (Err refusal) = false
+
+-- What is left of the input after the lines that a command asks for.
+abbrev pub left_behind : Result Command Refusal → List ℕ → List ℕ
+left_behind (Ok command) input = (lines_of (needs_of command) input).left
+left_behind (Err refusal) input = input
+
+-- What is left of the input after the lines that the words ask for.
+abbrev pub left_of : List (List ℕ) → List ℕ → List ℕ
+left_of words input = left_behind (command_of words) input
+
+-- The words ask for this task, whose database some file holds, under lines of which each is there
+-- that is due.
+pub record HasSomeFile (words : List (List ℕ)) (task : Task) : Type 0 where
+  pub is_command : command_of words ≡ Ok task.command
+  pub has_lines : HasLines (needs_of task.command) task.lines
+  pub holds : SomeDatabase (needs_of task.command) task.lines.password task.opened

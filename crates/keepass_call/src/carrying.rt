@@ -1,0 +1,271 @@
+//! Carrying a task out: what its command makes of its database, and the file that is written.
+ghost use Rattle.std.specs.Prelude.{◌≡◌, ℕ, List, IfErr, IfOk, IfSome, OnErr, OnOk, false, is_some, not};
+ghost use Rattle.outside_core.specs.Streams.{LosesPrefix};
+ghost use Rattle.vault_model.specs.SeenDoc.{doc_seen};
+ghost use Rattle.kdbx_frame.specs.Settings.{IsInOrder};
+ghost use Rattle.cli_answers.specs.Phases.{IsCommandStop, TellsStream};
+ghost use Rattle.cli_lines.specs.Lines.{IsTextLine};
+ghost use Rattle.cli_lines.specs.SeenLines.{lines_seen};
+ghost use Rattle.cli_words.specs.Needs.{needs_of};
+ghost use Rattle.cli_databases.specs.SeenOpened.{opened_seen};
+ghost use Rattle.cli_writing.specs.Held.{IsWritten};
+ghost use Rattle.cli_writing.specs.Writing.{IsSame, KeepsDraft, KeepsFiles, store};
+ghost use Rattle.keepass_call.specs.Commands.{writes};
+ghost use Rattle.keepass_call.specs.Endings.{Ends, EndsWith, HoldsNew, IsOfDice, IsOfSomeDice, ReadsBack, WritesNew, carried_out, ended_with, kept_sealing, new_file};
+ghost use Rattle.keepass_call.specs.SeenChange.{doc_if, output_text, task_seen};
+ghost use Rattle.keepass_call.specs.Tasks.{draws, task_with};
+
+use crate::execute::{Output, perform};
+use crate::task::{Task, bytes_in};
+use cli_answers::Stop;
+use cli_databases::{Opened, Sealing, release_key};
+use cli_lines::Lines;
+use cli_sealing::write_sealed;
+use cli_words::Command;
+use cli_writing::write_plain;
+use outside_core::{Dice, FileStore};
+use std::alloc::Global;
+use vault_model::Doc;
+
+// The file of a command's database.
+fn file_of(command: &Command) -> &str
+    ensures { result.now ≡ (needs_of command.now).file }
+{
+    match command {
+        Command::Ls { file, .. } => file.as_str(),
+        Command::Add { file, .. } => file.as_str(),
+        Command::Edit { file, .. } => file.as_str(),
+    }
+}
+
+// Reports whether a command writes its database.
+fn is_writing(command: &Command) -> bool
+    ensures { result ≡ writes command.now }
+{
+    match command {
+        Command::Ls { .. } => false,
+        Command::Add { .. } => true,
+        Command::Edit { .. } => true,
+    }
+}
+
+// What a database is sealed with, if it is written again. Otherwise its composite key is cleared
+// and released.
+fn kept_if(is_written: bool, sealing: Option<Sealing>) -> Option<Sealing>
+    ensures { result ≡ kept_sealing is_written sealing }
+{
+    if is_written {
+        return sealing;
+    }
+    release_key(sealing);
+    None
+}
+
+// Writes a document into the file of this name: by itself, or sealed as its database was.
+fn write_anew<F: FileStore, D: Dice>(
+    alloc: Global,
+    files: &mut F,
+    dice: &mut D,
+    name: &str,
+    doc: &Doc,
+    sealing: &mut Option<Sealing>,
+) -> Result<(), Stop>
+    requires { IfSome sealing.old (λ s. IsInOrder s.settings) }
+    ensures told { (d : List ℕ) → TellsStream (is_some sealing.old) (D.stream dice.old) d
+        → WritesNew result (new_file name.now sealing.old (doc_seen doc.now) d)
+        (store (F.files files.old) (F.draft_name files.old) (F.draft_bytes files.old))
+        (store (F.files files.new) (F.draft_name files.new) (F.draft_bytes files.new))
+        (D.stream dice.old) (D.stream dice.new) }
+    ensures held { OnOk result (IsWritten (HoldsNew sealing.old (doc_seen doc.now)) name.now
+        (store (F.files files.old) (F.draft_name files.old) (F.draft_bytes files.old))
+        (store (F.files files.new) (F.draft_name files.new) (F.draft_bytes files.new))) }
+    ensures kept { OnErr result (KeepsFiles
+        (store (F.files files.old) (F.draft_name files.old) (F.draft_bytes files.old))
+        (store (F.files files.new) (F.draft_name files.new) (F.draft_bytes files.new))) }
+    ensures draft { KeepsDraft
+        (store (F.files files.old) (F.draft_name files.old) (F.draft_bytes files.old))
+        (store (F.files files.new) (F.draft_name files.new) (F.draft_bytes files.new)) }
+    ensures undrawn { is_some sealing.old ≡ false → D.stream dice.new ≡ D.stream dice.old }
+    ensures stream { LosesPrefix (D.stream dice.old) (D.stream dice.new) }
+    ensures cause { IfErr result (IsCommandStop name.now (F.faults files.old) (F.faults files.new)
+        (D.faults dice.old) (D.faults dice.new)) }
+{
+    match sealing {
+        None => write_plain(alloc, files, name, doc),
+        Some(sealing) => write_sealed(alloc, files, dice, name, doc, sealing),
+    }
+}
+
+// Writes the document of a database into the file of this name, if it is to be written.
+fn write_if<F: FileStore, D: Dice>(
+    alloc: Global,
+    files: &mut F,
+    dice: &mut D,
+    name: &str,
+    is_written: bool,
+    opened: &mut Opened,
+) -> Result<(), Stop>
+    requires { IfSome opened.old.sealing (λ s. IsInOrder s.settings) }
+    ensures told { (printed d : List ℕ)
+        → TellsStream (is_some opened.old.sealing) (D.stream dice.old) d
+        → EndsWith printed result (ended_with name.now opened.old.sealing printed
+        (doc_if is_written (doc_seen opened.old.doc)) d)
+        (store (F.files files.old) (F.draft_name files.old) (F.draft_bytes files.old))
+        (store (F.files files.new) (F.draft_name files.new) (F.draft_bytes files.new))
+        (D.stream dice.old) (D.stream dice.new) }
+    ensures held { OnOk result (ReadsBack name.now opened.old.sealing
+        (doc_if is_written (doc_seen opened.old.doc))
+        (store (F.files files.old) (F.draft_name files.old) (F.draft_bytes files.old))
+        (store (F.files files.new) (F.draft_name files.new) (F.draft_bytes files.new))) }
+    ensures kept { OnErr result (KeepsFiles
+        (store (F.files files.old) (F.draft_name files.old) (F.draft_bytes files.old))
+        (store (F.files files.new) (F.draft_name files.new) (F.draft_bytes files.new))) }
+    ensures draft { KeepsDraft
+        (store (F.files files.old) (F.draft_name files.old) (F.draft_bytes files.old))
+        (store (F.files files.new) (F.draft_name files.new) (F.draft_bytes files.new)) }
+    ensures unwritten { is_written ≡ false → IsSame
+        (store (F.files files.old) (F.draft_name files.old) (F.draft_bytes files.old))
+        (store (F.files files.new) (F.draft_name files.new) (F.draft_bytes files.new)) }
+    ensures undrawn { is_some opened.old.sealing ≡ false
+        → D.stream dice.new ≡ D.stream dice.old }
+    ensures stream { LosesPrefix (D.stream dice.old) (D.stream dice.new) }
+    ensures cause { IfErr result (IsCommandStop name.now (F.faults files.old) (F.faults files.new)
+        (D.faults dice.old) (D.faults dice.new)) }
+{
+    if is_written {
+        write_anew(alloc, files, dice, name, &opened.doc, &mut opened.sealing)
+    } else {
+        Ok(())
+    }
+}
+
+/// A command with its lines, at a moment in seconds since the year 1.
+#[derive(Clone, Copy)]
+struct Order<'a> {
+    command: &'a Command,
+    lines: &'a Lines,
+    now: u64,
+}
+
+// Carries a command out on the database that is lent: what it makes of the document, and then the
+// file, if one is written.
+fn carry_out_on<'a, F: FileStore, D: Dice>(
+    alloc: Global,
+    files: &mut F,
+    dice: &mut D,
+    order: Order<'a>,
+    opened: &mut Opened,
+) -> Result<Output, Stop>
+    requires text { IsTextLine (lines_seen order.lines.now).more }
+    requires in_order { IfSome opened.old.sealing (λ s. IsInOrder s.settings) }
+    requires sealed { draws order.command.now ≡ false → is_some opened.old.sealing ≡ false }
+    ensures told { (d : List ℕ) → TellsStream (draws order.entry.command.now) (D.stream dice.old) d
+        → Ends result (carried_out order.entry.now (task_with order.entry.command.now
+        (lines_seen order.entry.lines.now) (opened_seen opened.old)) d)
+        (store (F.files files.old) (F.draft_name files.old) (F.draft_bytes files.old))
+        (store (F.files files.new) (F.draft_name files.new) (F.draft_bytes files.new))
+        (D.stream dice.old) (D.stream dice.new) }
+    ensures of_dice { (d : List ℕ)
+        → TellsStream (draws order.entry.command.now) (D.stream dice.old) d
+        → IfOk result (λ output. IsOfDice order.entry.now (task_with order.entry.command.now
+        (lines_seen order.entry.lines.now) (opened_seen opened.old)) d (output_text output)
+        (store (F.files files.old) (F.draft_name files.old) (F.draft_bytes files.old))
+        (store (F.files files.new) (F.draft_name files.new) (F.draft_bytes files.new))) }
+    ensures some_dice { IfOk result (λ output. IsOfSomeDice order.entry.now
+        (task_with order.entry.command.now (lines_seen order.entry.lines.now)
+        (opened_seen opened.old)) (output_text output)
+        (store (F.files files.old) (F.draft_name files.old) (F.draft_bytes files.old))
+        (store (F.files files.new) (F.draft_name files.new) (F.draft_bytes files.new))) }
+    ensures kept { OnErr result (KeepsFiles
+        (store (F.files files.old) (F.draft_name files.old) (F.draft_bytes files.old))
+        (store (F.files files.new) (F.draft_name files.new) (F.draft_bytes files.new))) }
+    ensures draft { KeepsDraft
+        (store (F.files files.old) (F.draft_name files.old) (F.draft_bytes files.old))
+        (store (F.files files.new) (F.draft_name files.new) (F.draft_bytes files.new)) }
+    ensures unwritten { writes order.entry.command.now ≡ false → IsSame
+        (store (F.files files.old) (F.draft_name files.old) (F.draft_bytes files.old))
+        (store (F.files files.new) (F.draft_name files.new) (F.draft_bytes files.new)) }
+    ensures undrawn { draws order.entry.command.now ≡ false
+        → D.stream dice.new ≡ D.stream dice.old }
+    ensures stream { LosesPrefix (D.stream dice.old) (D.stream dice.new) }
+    ensures cause { IfErr result (IsCommandStop (needs_of order.entry.command.now).file
+        (F.faults files.old) (F.faults files.new) (D.faults dice.old) (D.faults dice.new)) }
+{
+    let change = perform(
+        alloc,
+        dice,
+        order.command,
+        bytes_in(&order.lines.more),
+        &mut opened.doc,
+        order.now,
+    )?;
+    write_if(
+        alloc,
+        files,
+        dice,
+        file_of(order.command),
+        change.is_written,
+        opened,
+    )?;
+    Ok(change.output)
+}
+
+/// Carries a task out: what its command makes of the document, and then the file, if one is
+/// written. What is printed is composed before the file is written, and printed after it.
+///
+/// Whatever the answer, the composite key of the database was cleared and released: at once, where
+/// the command writes no file.
+pub fn carry_out<F: FileStore, D: Dice>(
+    alloc: Global,
+    files: &mut F,
+    dice: &mut D,
+    task: Task,
+    now: u64,
+) -> Result<Output, Stop>
+    requires text { IsTextLine (lines_seen task.lines).more }
+    requires in_order { IfSome task.opened.sealing (λ s. IsInOrder s.settings) }
+    requires sealed { is_some task.opened.sealing ≡ not (needs_of task.command).access.plain }
+    ensures told { (d : List ℕ) → TellsStream (draws task.command) (D.stream dice.old) d
+        → Ends result (carried_out now (task_seen task) d)
+        (store (F.files files.old) (F.draft_name files.old) (F.draft_bytes files.old))
+        (store (F.files files.new) (F.draft_name files.new) (F.draft_bytes files.new))
+        (D.stream dice.old) (D.stream dice.new) }
+    ensures of_dice { (d : List ℕ) → TellsStream (draws task.command) (D.stream dice.old) d
+        → IfOk result (λ output. IsOfDice now (task_seen task) d (output_text output)
+        (store (F.files files.old) (F.draft_name files.old) (F.draft_bytes files.old))
+        (store (F.files files.new) (F.draft_name files.new) (F.draft_bytes files.new))) }
+    ensures some_dice { IfOk result (λ output. IsOfSomeDice now (task_seen task)
+        (output_text output)
+        (store (F.files files.old) (F.draft_name files.old) (F.draft_bytes files.old))
+        (store (F.files files.new) (F.draft_name files.new) (F.draft_bytes files.new))) }
+    ensures kept { OnErr result (KeepsFiles
+        (store (F.files files.old) (F.draft_name files.old) (F.draft_bytes files.old))
+        (store (F.files files.new) (F.draft_name files.new) (F.draft_bytes files.new))) }
+    ensures draft { KeepsDraft
+        (store (F.files files.old) (F.draft_name files.old) (F.draft_bytes files.old))
+        (store (F.files files.new) (F.draft_name files.new) (F.draft_bytes files.new)) }
+    ensures unwritten { writes task.command ≡ false → IsSame
+        (store (F.files files.old) (F.draft_name files.old) (F.draft_bytes files.old))
+        (store (F.files files.new) (F.draft_name files.new) (F.draft_bytes files.new)) }
+    ensures undrawn { draws task.command ≡ false → D.stream dice.new ≡ D.stream dice.old }
+    ensures stream { LosesPrefix (D.stream dice.old) (D.stream dice.new) }
+    ensures cause { IfErr result (IsCommandStop (needs_of task.command).file
+        (F.faults files.old) (F.faults files.new) (D.faults dice.old) (D.faults dice.new)) }
+{
+    let Task {
+        command,
+        lines,
+        opened: Opened { doc, sealing },
+    } = task;
+    let sealing = kept_if(is_writing(&command), sealing);
+    let mut opened = Opened { doc, sealing };
+    let order = Order {
+        command: &command,
+        lines: &lines,
+        now,
+    };
+    let answer = carry_out_on(alloc, files, dice, order, &mut opened);
+    let Opened { doc: _, sealing } = opened;
+    release_key(sealing);
+    answer
+}
