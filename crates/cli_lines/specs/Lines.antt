@@ -1,5 +1,5 @@
 -- The lines that a call takes from its input.
-use Rattle.std.specs.Prelude.{◌≡◌, ◌⊎◌, ℕ, ◌+◌, Bool, true, false, ◌&&◌, ◌==◌, if◌then◌else◌, nat_lt, drop, IsSome, List, [], ◌∷◌, codes, Option, None, Some, Result, Ok, Err}
+use Rattle.std.specs.Prelude.{◌≡◌, ◌⊎◌, ℕ, ◌+◌, Bool, true, false, ◌&&◌, ◌==◌, if◌then◌else◌, nat_lt, drop, is_some, IsSome, List, [], ◌∷◌, codes, Option, None, Some, Result, Ok, Err}
 use Rattle.std.specs.Str.{is_utf8}
 use Rattle.cli_answers.specs.declared.answers.Reason.TheVariants.{LineLimit, LineForm, InputEnded}
 use Rattle.cli_answers.specs.declared.answers.Refusal.{Refusal}
@@ -84,10 +84,10 @@ lines_of needs input =
 
 -- ---- lines that are there
 
--- Each line that is due is there.
+-- Each line is there exactly where it is due.
 pub record HasLines (needs : Needs) (lines : Lines) : Type 0 where
-  pub has_password : asks_password needs.access ≡ true → IsSome lines.password
-  pub has_more : needs.has_line ≡ true → IsSome lines.more
+  pub has_password : is_some lines.password ≡ asks_password needs.access
+  pub has_more : is_some lines.more ≡ needs.has_line
 
 -- A line is in UTF-8, if there is one.
 abbrev pub IsTextLine : Option (List ℕ) → Type 0

@@ -1,5 +1,5 @@
 //! The lines that a call takes from its input.
-ghost use Rattle.std.specs.Prelude.{◌≡◌, ◌≢◌, ◌≤◌, ◌<◌, ◌+◌, [], ◌∷◌, ℕ, List, length, IfErr, IfOk, IfSome, IsSome, Some, true};
+ghost use Rattle.std.specs.Prelude.{◌≡◌, ◌≢◌, ◌≤◌, ◌<◌, ◌+◌, [], ◌∷◌, ℕ, List, length, IfErr, IfOk, IfSome, is_some, Some, true};
 ghost use Rattle.std.specs.Str.{is_utf8};
 ghost use Rattle.outside_core.specs.Counts.{HasCause};
 ghost use Rattle.cli_lines.specs.Cutting.{ComesNext, Cuts, Ends, IsPushed, Puts, cut, weight};
@@ -168,7 +168,7 @@ fn read_if<S: Source>(
     ensures told { (i : List ℕ) → TellsStream due (S.left input.old) i
         → ReturnsAskedStream line_seen result (S.left input.old) (S.left input.new)
         (line_if due number i) }
-    ensures given { IfOk result (λ line. due ≡ true → IsSome (line_seen line)) }
+    ensures given { IfOk result (λ line. is_some (line_seen line) ≡ due) }
     ensures text { IfOk result (λ line. IsTextLine (line_seen line)) }
     ensures cause { IfErr result (IsStreamStop (S.faults input.old) (S.faults input.new)) }
     ensures faults { S.faults input.old ≤ S.faults input.new }

@@ -49,7 +49,7 @@ start_fits V31 = omega arith
 start_fits V40 = omega arith
 start_fits V41 = omega arith
 
-parts : (kdf seed iv stream start : List ℕ) → Draws
+abbrev parts : (kdf seed iv stream start : List ℕ) → Draws
 parts kdf seed iv stream start = record { kdf = kdf; seed = seed; iv = iv; stream = stream; start = start }
 
 same_parts : (d : Draws) (kdf seed iv stream start : List ℕ) → d.kdf ≡ kdf → d.seed ≡ seed → d.iv ≡ iv → d.stream ≡ stream → d.start ≡ start

@@ -10,16 +10,19 @@ use Rattle.cli_writing.specs.Drawing.{next_bytes}
 abbrev pub front_of : (n size : ℕ) → List ℕ → List ℕ
 front_of n size dice = next_bytes n dice ++ replicate (size - n) 0
 
--- What is left of the dice after the keys of a file, its IV, its stream's key and its first bytes.
+-- What is left of the dice after the seed or salt of the key derivation and the master seed.
 abbrev pub after_keys : List ℕ → List ℕ
 after_keys dice = drop 32 (drop 32 dice)
 
+-- And after the IV.
 abbrev pub after_iv : Settings → List ℕ → List ℕ
 after_iv s dice = drop (iv_len s.cipher) (after_keys dice)
 
+-- And after the key of the inner stream.
 abbrev pub after_stream : Settings → List ℕ → List ℕ
 after_stream s dice = drop (stream_len s.version) (after_iv s dice)
 
+-- And after the bytes that a deciphered file of KDBX 3.1 begins with: all that a file draws.
 abbrev pub after_draws : Settings → List ℕ → List ℕ
 after_draws s dice = drop (start_len s.version) (after_stream s dice)
 

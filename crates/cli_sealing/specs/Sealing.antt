@@ -20,7 +20,8 @@ use Rattle.cli_writing.specs.Writing.{NewFile, RefusesFile, Store, WritesFile}
 use Rattle.cli_sealing.specs.Draws.{after_draws, draws_of}
 
 -- The version of a file that is written anew: no earlier than it was, than the one that its document
--- needs, and than 4.0.
+-- needs, and than 4.0. No file of an earlier version is opened, so that none is raised for that last
+-- part alone.
 abbrev pub version_for : FileVersion → BareDoc → FileVersion
 version_for version doc = later V40 (later (needed_version doc) version)
 

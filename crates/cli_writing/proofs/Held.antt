@@ -42,8 +42,8 @@ written_alone (Ok u) content name bytes before now holds h = record {
 written_alone (Err stop) content name bytes before now holds h = tt
 
 -- A plain document that was written is held by its file.
-pub written_holds : (result : Result (Unit {0}) Stop) (doc : BareDoc) (name text : List ℕ) (before now : Store) → IsDoc doc → IsWritable doc
-    → write_outcome Plain NoKeystream None doc ≡ Ok text → Writes result (Ok (record { name = name; bytes = text })) before now
+pub written_holds : (result : Result (Unit {0}) Stop) (doc : BareDoc) (name text bytes : List ℕ) (before now : Store) → IsDoc doc → IsWritable doc
+    → write_outcome Plain NoKeystream None doc ≡ Ok text → bytes ≡ text → Writes result (Ok (record { name = name; bytes = bytes })) before now
     → OnOk result (IsWritten (HoldsPlain doc) name before now)
-written_holds result doc name text before now is writable e h =
-    written_alone result (HoldsPlain doc) name text before now (text_holds doc text is writable e) h
+written_holds result doc name text bytes before now is writable e same h =
+    written_alone result (HoldsPlain doc) name bytes before now (subst (HoldsPlain doc) (sym same) (text_holds doc text is writable e)) h

@@ -210,6 +210,7 @@ module _ (words : List (List ℕ)) (time : ℕ) (printed : List ℕ) (result : �
         input = λ h. absurd (never (λ x. omega (arith, x, h)) (λ x. omega (arith, x, h)) (λ x. omega (arith, x, h)));
         text = λ some nine ten. absurd (never some nine ten);
         files = λ some nine ten. absurd (never some nine ten);
+        errors = λ zero. p.errors;
         draft = p.draft;
         stream = p.stream;
       }
@@ -378,6 +379,7 @@ module _ (words : List (List ℕ)) (time result : ℕ) (before now : Seen) (coun
       input = λ h. input_cause stop s h;
       text = λ some nine ten. s.written;
       files = λ some nine ten. s.kept;
+      errors = λ zero. absurd (not_done stop s zero);
       draft = s.draft;
       stream = s.stream;
     };

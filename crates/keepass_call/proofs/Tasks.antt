@@ -1,6 +1,6 @@
 -- What a call asks for, phase after phase.
-use Rattle.std.proofs.Common.{◌≡◌, ℕ, List, refl, sym, ◌∙◌, ap, subst, Bool, true, false, Option, Some, None, option_map, Result, Ok, Err}
-use Rattle.std.specs.Prelude.{Contains, IfErr, is_some, not}
+use Rattle.std.proofs.Common.{◌≡◌, ℕ, List, refl, inl, inr, sym, ◌∙◌, ap, subst, Bool, true, false, Option, Some, None, option_map, Result, Ok, Err}
+use Rattle.std.specs.Prelude.{◌⊎◌, ◌||◌, not, Contains, IfErr, IsSome, is_some}
 use Rattle.outside_core.specs.Counts.{Increased}
 use Rattle.outside_core.specs.Files.{FileMap}
 use Rattle.outside_core.specs.Results.{◌>>=◌}
@@ -8,9 +8,10 @@ use Rattle.cli_answers.specs.declared.answers.Refusal.{Refusal}
 use Rattle.cli_answers.specs.declared.answers.Stop.{Stop}
 use Rattle.cli_answers.specs.declared.answers.Stop.TheVariants.{Refused, FileFault, InputFault, NoMemory}
 use Rattle.cli_answers.specs.Phases.{IsEarlyStop, IsFileStop, IsLeft, IsStreamStop, IsWordsStop, Leaves, RefusesAskedStream, Stops, TellsStream}
-use Rattle.cli_lines.specs.Lines.{HasLines, Lines, lines_of}
+use Rattle.cli_lines.specs.Lines.{CanOpen, HasLines, Lines, lines_of}
 use Rattle.cli_lines.proofs.Inputs.{left_alone}
-use Rattle.cli_words.specs.Needs.{Needs, asks_line, files_named, files_of, needs_of}
+use Rattle.cli_words.specs.Needs.{HasKey, Needs, asks_line, asks_password, files_named, files_of, needs_of}
+use Rattle.cli_words.specs.declared.command.Access.{Access}
 use Rattle.cli_words.specs.declared.command.Command.{Command}
 use Rattle.cli_databases.specs.Databases.{Opened, database_of}
 use Rattle.cli_databases.specs.SomeFiles.{SomeDatabase}
@@ -79,6 +80,23 @@ database_refused (Refused refusal) words input files command needs lines c same 
 database_refused (FileFault name) words input files command needs lines c same p h = tt
 database_refused InputFault words input files command needs lines c same p h = tt
 database_refused NoMemory words input files command needs lines c same p h = tt
+
+-- ---- what opens a database
+
+can_open_by : (plain no_password : Bool) (key password : Option (List ℕ)) → (plain ≡ false → no_password ≡ true → IsSome key)
+    → is_some password ≡ not (plain || no_password) → plain ≡ false → IsSome password ⊎ IsSome key
+can_open_by true no_password key password h k e = cc
+can_open_by false true key password h k e = inr (h refl refl)
+can_open_by false false key password h k e = inl k
+
+can_open : (access : Access) (password : Option (List ℕ)) → HasKey access → is_some password ≡ asks_password access → CanOpen access password
+can_open access password h k = can_open_by access.plain access.no_password access.key_file password h k
+
+-- The line that was asked for, or the key file, opens the database.
+pub can_open_needs : (command : Command) (needs : Needs) (lines : Lines) → needs ≡ needs_of command → HasKey (needs_of command).access
+    → HasLines needs lines → CanOpen needs.access lines.password
+can_open_needs command needs lines same h has =
+    can_open needs.access lines.password (subst (λ (n : Needs). HasKey n.access) (sym same) h) has.has_password
 
 -- ---- what is left of the input
 

@@ -153,8 +153,8 @@ pub record IsCut (said : Outcome) (before now : Seen) : Type 0 where
   pub store : KeepsFiles before.store now.store ⊎ Stores said.file before.store now.store
 
 -- Whatever is reported: statuses 7, 10 and 11 have their causes, a refusal prints nothing and
--- changes no file, the draft is the one of before, or there is none, and of the dice a prefix is
--- gone.
+-- changes no file, a call that was carried out writes nothing on standard error, the draft is the
+-- one of before, or there is none, and of the dice a prefix is gone.
 pub record IsSafe (result : ℕ) (before now : Seen) (counts counts' : Counts) : Type 0 where
   pub store : result ≡ 7 → Increased counts.absences counts'.absences
       ⊎ Increased counts.files counts'.files
@@ -163,6 +163,7 @@ pub record IsSafe (result : ℕ) (before now : Seen) (counts counts' : Counts) :
       ⊎ Increased counts.dice counts'.dice
   pub text : result ≢ 0 → result ≢ 9 → result ≢ 10 → now.written ≡ before.written
   pub files : result ≢ 0 → result ≢ 9 → result ≢ 10 → KeepsFiles before.store now.store
+  pub errors : result ≡ 0 → now.errors ≡ before.errors
   pub draft : KeepsDraft before.store now.store
   pub stream : LosesPrefix before.stream now.stream
 

@@ -1,1 +1,1 @@
-mod HeldDocuments
+pub mod HeldDocuments

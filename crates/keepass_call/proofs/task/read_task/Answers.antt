@@ -5,8 +5,13 @@ use Rattle.cli_databases.specs.SeenOpened.{opened_seen}
 use Rattle.cli_lines.specs.SeenLines.{lines_seen}
 use Rattle.cli_words.specs.SeenNeeds.{needs_seen}
 use Rattle.cli_words.specs.Words.{command_of}
-use Rattle.keepass_call.proofs.Tasks.{asked_needs, at_needs, database_refused, has_file_by_needs, lines_refused, needs_leave, needs_left, sealed_by_needs, task_by_needs}
+use Rattle.keepass_call.proofs.Tasks.{asked_needs, at_needs, can_open_needs, database_refused, has_file_by_needs, lines_refused, needs_leave, needs_left, sealed_by_needs, task_by_needs}
 use Rattle.keepass_call.proofs.task.read_task.Goals as goal
+
+pub open-requires : goal.open-requires
+open-requires g c =
+    rw c.bytes_in.ensures (can_open_needs c.in_ok-command.command (needs_seen c.needs_of-needs.result) (lines_seen c.in_ok-lines.lines)
+    c.needs_of-needs.ensures c.in_ok-command.ensures.has_key c.in_ok-lines.ensures.given)
 
 pub returns-in_err-opened-clause-cause : goal.returns-in_err-opened-clause-cause
 returns-in_err-opened-clause-cause g c =
