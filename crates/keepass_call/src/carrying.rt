@@ -7,19 +7,17 @@ ghost use Rattle.cli_answers.specs.Phases.{IsCommandStop, TellsStream};
 ghost use Rattle.cli_lines.specs.Lines.{IsTextLine};
 ghost use Rattle.cli_lines.specs.SeenLines.{lines_seen};
 ghost use Rattle.cli_words.specs.Needs.{needs_of};
-ghost use Rattle.cli_databases.specs.SeenOpened.{opened_seen};
 ghost use Rattle.cli_writing.specs.Held.{IsWritten};
 ghost use Rattle.cli_writing.specs.Writing.{IsSame, KeepsDraft, KeepsFiles, store};
 ghost use Rattle.keepass_call.specs.Commands.{writes};
 ghost use Rattle.keepass_call.specs.Endings.{Ends, EndsWith, HoldsNew, IsOfDice, IsOfSomeDice, ReadsBack, WritesNew, carried_out, ended_with, kept_sealing, new_file};
 ghost use Rattle.keepass_call.specs.SeenChange.{doc_if, output_text, task_seen};
-ghost use Rattle.keepass_call.specs.Tasks.{draws, task_with};
+ghost use Rattle.keepass_call.specs.Tasks.{draws};
 
 use crate::execute::{Output, perform};
 use crate::task::{Task, bytes_in};
 use cli_answers::Stop;
 use cli_databases::{Opened, Sealing, release_key};
-use cli_lines::Lines;
 use cli_sealing::write_sealed;
 use cli_words::Command;
 use cli_writing::write_plain;
@@ -49,16 +47,24 @@ fn is_writing(command: &Command) -> bool
     }
 }
 
-// What a database is sealed with, if it is written again. Otherwise its composite key is cleared
-// and released.
-fn kept_if(is_written: bool, sealing: Option<Sealing>) -> Option<Sealing>
-    ensures { result ≡ kept_sealing is_written sealing }
+// What a database is sealed with is kept if it is written again. Otherwise its composite key is
+// cleared and released.
+fn keep_if(is_written: bool, sealing: &mut Option<Sealing>)
+    ensures { sealing.new ≡ kept_sealing is_written sealing.old }
 {
-    if is_written {
-        return sealing;
+    if !is_written {
+        release_key(sealing.take());
     }
+}
+
+// Lets a task go, whose composite key is cleared and released.
+fn let_go(task: Task) {
+    let Task {
+        command: _,
+        lines: _,
+        opened: Opened { doc: _, sealing },
+    } = task;
     release_key(sealing);
-    None
 }
 
 // Writes a document into the file of this name: by itself, or sealed as its database was.
@@ -139,41 +145,30 @@ fn write_if<F: FileStore, D: Dice>(
     }
 }
 
-/// A command with its lines, at a moment in seconds since the year 1.
-#[derive(Clone, Copy)]
-struct Order<'a> {
-    command: &'a Command,
-    lines: &'a Lines,
-    now: u64,
-}
-
-// Carries a command out on the database that is lent: what it makes of the document, and then the
-// file, if one is written.
-fn carry_out_on<'a, F: FileStore, D: Dice>(
+// Carries a task out that is lent: what its command makes of the document, and then the file, if
+// one is written.
+fn carry_out_on<F: FileStore, D: Dice>(
     alloc: Global,
     files: &mut F,
     dice: &mut D,
-    order: Order<'a>,
-    opened: &mut Opened,
+    task: &mut Task,
+    now: u64,
 ) -> Result<Output, Stop>
-    requires text { IsTextLine (lines_seen order.lines.now).more }
-    requires in_order { IfSome opened.old.sealing (λ s. IsInOrder s.settings) }
-    requires sealed { draws order.command.now ≡ false → is_some opened.old.sealing ≡ false }
-    ensures told { (d : List ℕ) → TellsStream (draws order.entry.command.now) (D.stream dice.old) d
-        → Ends result (carried_out order.entry.now (task_with order.entry.command.now
-        (lines_seen order.entry.lines.now) (opened_seen opened.old)) d)
+    requires text { IsTextLine (lines_seen task.old.lines).more }
+    requires in_order { IfSome task.old.opened.sealing (λ s. IsInOrder s.settings) }
+    requires sealed { draws task.old.command ≡ false → is_some task.old.opened.sealing ≡ false }
+    ensures told { (d : List ℕ) → TellsStream (draws task.old.command) (D.stream dice.old) d
+        → Ends result (carried_out now (task_seen task.old) d)
         (store (F.files files.old) (F.draft_name files.old) (F.draft_bytes files.old))
         (store (F.files files.new) (F.draft_name files.new) (F.draft_bytes files.new))
         (D.stream dice.old) (D.stream dice.new) }
     ensures of_dice { (d : List ℕ)
-        → TellsStream (draws order.entry.command.now) (D.stream dice.old) d
-        → IfOk result (λ output. IsOfDice order.entry.now (task_with order.entry.command.now
-        (lines_seen order.entry.lines.now) (opened_seen opened.old)) d (output_text output)
+        → TellsStream (draws task.old.command) (D.stream dice.old) d
+        → IfOk result (λ output. IsOfDice now (task_seen task.old) d (output_text output)
         (store (F.files files.old) (F.draft_name files.old) (F.draft_bytes files.old))
         (store (F.files files.new) (F.draft_name files.new) (F.draft_bytes files.new))) }
-    ensures some_dice { IfOk result (λ output. IsOfSomeDice order.entry.now
-        (task_with order.entry.command.now (lines_seen order.entry.lines.now)
-        (opened_seen opened.old)) (output_text output)
+    ensures some_dice { IfOk result (λ output. IsOfSomeDice now (task_seen task.old)
+        (output_text output)
         (store (F.files files.old) (F.draft_name files.old) (F.draft_bytes files.old))
         (store (F.files files.new) (F.draft_name files.new) (F.draft_bytes files.new))) }
     ensures kept { OnErr result (KeepsFiles
@@ -182,30 +177,30 @@ fn carry_out_on<'a, F: FileStore, D: Dice>(
     ensures draft { KeepsDraft
         (store (F.files files.old) (F.draft_name files.old) (F.draft_bytes files.old))
         (store (F.files files.new) (F.draft_name files.new) (F.draft_bytes files.new)) }
-    ensures unwritten { writes order.entry.command.now ≡ false → IsSame
+    ensures unwritten { writes task.old.command ≡ false → IsSame
         (store (F.files files.old) (F.draft_name files.old) (F.draft_bytes files.old))
         (store (F.files files.new) (F.draft_name files.new) (F.draft_bytes files.new)) }
-    ensures undrawn { draws order.entry.command.now ≡ false
+    ensures undrawn { draws task.old.command ≡ false
         → D.stream dice.new ≡ D.stream dice.old }
     ensures stream { LosesPrefix (D.stream dice.old) (D.stream dice.new) }
-    ensures cause { IfErr result (IsCommandStop (needs_of order.entry.command.now).file
+    ensures cause { IfErr result (IsCommandStop (needs_of task.old.command).file
         (F.faults files.old) (F.faults files.new) (D.faults dice.old) (D.faults dice.new)) }
 {
     let change = perform(
         alloc,
         dice,
-        order.command,
-        bytes_in(&order.lines.more),
-        &mut opened.doc,
-        order.now,
+        &task.command,
+        bytes_in(&task.lines.more),
+        &mut task.opened.doc,
+        now,
     )?;
     write_if(
         alloc,
         files,
         dice,
-        file_of(order.command),
+        file_of(&task.command),
         change.is_written,
-        opened,
+        &mut task.opened,
     )?;
     Ok(change.output)
 }
@@ -219,7 +214,7 @@ pub fn carry_out<F: FileStore, D: Dice>(
     alloc: Global,
     files: &mut F,
     dice: &mut D,
-    task: Task,
+    mut task: Task,
     now: u64,
 ) -> Result<Output, Stop>
     requires text { IsTextLine (lines_seen task.lines).more }
@@ -252,20 +247,8 @@ pub fn carry_out<F: FileStore, D: Dice>(
     ensures cause { IfErr result (IsCommandStop (needs_of task.command).file
         (F.faults files.old) (F.faults files.new) (D.faults dice.old) (D.faults dice.new)) }
 {
-    let Task {
-        command,
-        lines,
-        opened: Opened { doc, sealing },
-    } = task;
-    let sealing = kept_if(is_writing(&command), sealing);
-    let mut opened = Opened { doc, sealing };
-    let order = Order {
-        command: &command,
-        lines: &lines,
-        now,
-    };
-    let answer = carry_out_on(alloc, files, dice, order, &mut opened);
-    let Opened { doc: _, sealing } = opened;
-    release_key(sealing);
+    keep_if(is_writing(&task.command), &mut task.opened.sealing);
+    let answer = carry_out_on(alloc, files, dice, &mut task, now);
+    let_go(task);
     answer
 }

@@ -1,6 +1,7 @@
 use Rattle.std.proofs.Common.{map}
 use Rattle.std.specs.Prelude.{string_bytes}
 use Rattle.std.proofs.lemmas.Result.{err_from_is_err_and}
+use Rattle.cli_writing.specs.Writing.{store}
 use Rattle.keepass_call.specs.SeenChange.{task_seen}
 use Rattle.cli_words.specs.Words.{command_of}
 use Rattle.keepass_call.proofs.Answered.{comes_to, command_caused, draft_after, draws_so, early_caused, ends_left, kept_after, of_task, prints_some, stop_leaves, stops_early, undrawn_after, unwritten_after}
@@ -37,7 +38,10 @@ returns-clause-kept g c =
 
 pub returns-clause-draft : goal.returns-clause-draft
 returns-clause-draft g c =
-    draft_after _ _ _
+    draft_after
+    (store (g.F.FileStore.files c.args.files.now) (g.F.FileStore.draft_name c.args.files.now) (g.F.FileStore.draft_bytes c.args.files.now))
+    (store (g.F.FileStore.files c.read_task.new.files) (g.F.FileStore.draft_name c.read_task.new.files) (g.F.FileStore.draft_bytes c.read_task.new.files))
+    (store (g.F.FileStore.files c.carry_out.new.files) (g.F.FileStore.draft_name c.carry_out.new.files) (g.F.FileStore.draft_bytes c.carry_out.new.files))
     (record { files = c.in_ok-task.ensures.files; draft_name = c.in_ok-task.ensures.draft_name; draft_bytes = c.in_ok-task.ensures.draft_bytes }) c.carry_out.ensures.draft
 
 pub returns-clause-unwritten : goal.returns-clause-unwritten
