@@ -60,10 +60,13 @@ fn keep_if(is_written: bool, sealing: &mut Option<Sealing>)
 // Lets a task go, whose composite key is cleared and released.
 fn let_go(task: Task) {
     let Task {
-        command: _,
-        lines: _,
-        opened: Opened { doc: _, sealing },
+        command,
+        lines,
+        opened: Opened { doc, sealing },
     } = task;
+    drop(command);
+    drop(lines);
+    drop(doc);
     release_key(sealing);
 }
 

@@ -74,8 +74,21 @@ pub fn read_task<F: FileStore, S: Source>(
 {
     let command = read_words(alloc, words)?;
     let needs = cli_words::needs_of(&command);
-    let lines = read_lines(alloc, input, needs)?;
-    let opened = open(alloc, files, needs, bytes_in(&lines.password))?;
+    let lines = match read_lines(alloc, input, needs) {
+        Ok(lines) => lines,
+        Err(stop) => {
+            drop(command);
+            return Err(stop);
+        }
+    };
+    let opened = match open(alloc, files, needs, bytes_in(&lines.password)) {
+        Ok(opened) => opened,
+        Err(stop) => {
+            drop(lines);
+            drop(command);
+            return Err(stop);
+        }
+    };
     Ok(Task {
         command,
         lines,
