@@ -1,5 +1,5 @@
 -- What commands make of a document.
-use Rattle.std.proofs.Common.{◌≡◌, ◌×◌, ℕ, List, [], refl, sym, ◌∙◌, ap, subst, Bool, true, false, Option, Some, None, Result, Ok, Err}
+use Rattle.std.proofs.Common.{◌≡◌, ℕ, List, length, refl, sym, ◌∙◌, ap, subst, Bool, true, false, Option, Some, None, Result, Ok, Err}
 use Rattle.std.specs.Prelude.{IfErr, IfOk, IfSome, is_some, if◌then◌else◌}
 use Rattle.std.specs.Borrow.{Bor}
 use Rattle.std.specs.Str.{is_utf8}
@@ -14,6 +14,8 @@ use Rattle.cli_answers.specs.declared.answers.Stop.{Stop}
 use Rattle.cli_answers.specs.declared.answers.Stop.TheVariants.{Refused, FileFault, InputFault, NoMemory}
 use Rattle.cli_answers.specs.Phases.{IsLeft, IsPlainStop, IsStreamStop, Returns, ReturnsAskedStream, StreamAnswer, TellsStream, after_left, then_left, with_left}
 use Rattle.cli_changes.specs.Entries.{AfterCommand, CommandChanges}
+use Rattle.cli_changes.specs.Ids.{new_id}
+use Rattle.cli_drawing.proofs.Drawn.{next_alone}
 use Rattle.cli_lines.specs.Lines.{IsTextLine}
 use Rattle.cli_words.specs.declared.command.Command.{Command}
 use Rattle.cli_words.specs.declared.command.Command.TheVariants.{Ls, Add, Edit, Mv, Rm, Mkdir, Rmdir}
@@ -113,3 +115,10 @@ stream_stop (Err (Refused refusal)) faults faults' h = h
 stream_stop (Err (FileFault name)) faults faults' h = absurd h
 stream_stop (Err InputFault) faults faults' h = absurd h
 stream_stop (Err NoMemory) faults faults' h = tt
+
+-- Bytes that were drawn make the id that is drawn of themselves.
+pub id_drawn : (is_made : Bool) (drawn id : List ℕ) → is_made ≡ true → length drawn ≡ 16 → id ≡ new_id drawn → (drawn_id is_made drawn).answer ≡ Ok id
+id_drawn true drawn id m l e =
+    ap (λ (b : List ℕ). (with_left {A = NodeId} (Ok (new_id b)) drawn).answer) (sym (next_alone 16 drawn l))
+    ∙ ap (λ (i : NodeId). (with_left {A = NodeId} (Ok i) drawn).answer) (sym e)
+id_drawn false drawn id m l e = cc

@@ -1,5 +1,5 @@
 -- What each command makes of its database.
-use Rattle.std.specs.Prelude.{ℕ, Bool, true, false, if◌then◌else◌, List, Option, None, Some, Result, Ok, Err}
+use Rattle.std.specs.Prelude.{ℕ, Bool, true, false, if◌then◌else◌, List, [], Option, None, Some, Result, Ok, Err}
 use Rattle.vault_model.specs.Db.{NodeId, nil_id}
 use Rattle.vault_model.specs.Tree.{BareDoc, Tree}
 use Rattle.tree_changes.specs.After.{needs_bin}

@@ -3,7 +3,7 @@
 
 mod ids;
 mod output;
-mod perform;
+mod performing;
 
 pub use output::{Change, Output, lend_text};
-pub use perform::{is_writing, perform};
+pub use performing::{is_writing, perform};

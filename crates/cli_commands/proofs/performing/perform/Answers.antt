@@ -2,7 +2,7 @@ use Rattle.vault_model.specs.SeenDoc.{doc_seen}
 use Rattle.tree_changes.specs.NewNodes.{lent_value}
 use Rattle.cli_commands.specs.Commands.{change_with, drawn_id}
 use Rattle.cli_commands.proofs.Changes.{none_made, returns_drawn, some_drawn, stream_stop, tells_made}
-use Rattle.cli_commands.proofs.perform.perform.Goals as goal
+use Rattle.cli_commands.proofs.performing.perform.Goals as goal
 
 pub returns-in-Ok-clause-told : goal.returns-in-Ok-clause-told
 returns-in-Ok-clause-told g c = λ d t.
