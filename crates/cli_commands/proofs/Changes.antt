@@ -78,7 +78,6 @@ pub tells_made : (makes : Bool) (command : Command) (doc : BareDoc) (dice : Opti
 tells_made makes command doc (Some x) d e t = t
 tells_made makes command doc None d e t = none_made makes command doc e t
 
-
 -- What a command makes with the id that was drawn.
 made_with : (F : NodeId → Result Change Refusal) (taken : StreamAnswer NodeId) (id : NodeId) → taken.answer ≡ Ok id
     → then_left taken (λ id left. with_left (F id) left) ≡ with_left (F id) taken.left
