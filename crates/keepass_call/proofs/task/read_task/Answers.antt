@@ -4,7 +4,7 @@ use Rattle.cli_databases.specs.SeenOpened.{opened_seen}
 use Rattle.cli_lines.specs.SeenLines.{lines_seen}
 use Rattle.cli_words.specs.SeenNeeds.{needs_seen}
 use Rattle.cli_words.specs.Words.{command_of}
-use Rattle.keepass_call.proofs.Tasks.{asked_needs, at_needs, can_open_needs, database_refused, has_file_by_needs, lines_refused, needs_leave, needs_left, sealed_by_needs, task_by_needs}
+use Rattle.keepass_call.proofs.Tasks.{asked_needs, at_needs, can_open_needs, database_refused, has_file_by_needs, lines_refused, needs_leave, needs_left, sealed_by_needs, stops_left, task_by_needs}
 use Rattle.keepass_call.proofs.task.read_task.Goals as goal
 
 pub open-requires : goal.open-requires
@@ -63,3 +63,10 @@ pub returns-clause-sealed : goal.returns-clause-sealed
 returns-clause-sealed g c =
     sealed_by_needs c.in_ok-command.command (needs_seen c.needs_of-needs.result) _ (opened_seen c.in-Ok-open.opened) c.needs_of-needs.ensures
     c.in-Ok-open.ensures.some_file
+
+pub returns-in-Err-open-clause-left : goal.returns-in-Err-open-clause-left
+returns-in-Err-open-clause-left g c = λ i isS.
+    let needs = needs_seen c.needs_of-needs.result in
+    stops_left c.in-Err-open.stop _ _ _ (needs_left (command_of (map string_bytes c.args.words.now)) c.in_ok-command.command needs _ _ i
+    c.in_ok-command.ensures.told c.needs_of-needs.ensures
+    (c.in-Ok.ensures.told i (asked_needs _ c.in_ok-command.command needs _ i c.in_ok-command.ensures.told c.needs_of-needs.ensures isS)).1)
