@@ -46,7 +46,7 @@ none_such test us e u h = is_false (test u) (λ t. no_least (filter test us) e u
 
 -- ---- kinds
 
-one_kind : (S : List Db) → least (kind_clashes S) ≡ None → HaveOneKind S
+pub one_kind : (S : List Db) → least (kind_clashes S) ≡ None → HaveOneKind S
 one_kind S none m n u h k e =
     is_false (contains_key n.groups u) (λ g.
     let held_u = held_by S m u h (or_left (contains_key m.entries u) (contains_key m.groups u) e) in
@@ -58,7 +58,7 @@ one_kind S none m n u h k e =
 -- ---- strays
 
 module _ (S : List Db) (some : IsNotEmpty S) (one : HaveOneRoot S) (sound : (m : Db) → IsIn m S → Sound m) where
-  acyclic : least (strays S) ≡ None → IsAcyclic S
+  pub acyclic : least (strays S) ≡ None → IsAcyclic S
   acyclic none u o =
       let passed = none_such (is_stray S) (ids S) none u (held_id S u (own_held S some one sound u o)) in
       elim (decide (list_any (is_id (root_of S)) (path S u))) [
@@ -133,7 +133,7 @@ rooted_root d r = at d.tree
     at (node u g es ts) = refl
 
 module _ (t : BareDoc) (ss : List BareDoc) (is : IsDoc t) (all : (s : BareDoc) → IsIn s ss → IsDoc s) (clear : least (root_clashes (t ∷ ss)) ≡ None) where
-  abbrev root : NodeId
+  abbrev pub root : NodeId
   root = id_of t.tree
 
   -- a source's nodes but its root have other ids than the target's root
@@ -146,16 +146,16 @@ module _ (t : BareDoc) (ss : List BareDoc) (is : IsDoc t) (all : (s : BareDoc) �
       apart (list_any (λ (d : BareDoc). is_id root (id_of d.tree)) (t ∷ ss)) clash
       (none_such (λ u. list_any (λ (d : BareDoc). is_id u (id_of d.tree)) (t ∷ ss)) (flat_map (λ (d : BareDoc). below_ids d.tree) (t ∷ ss)) clear root there))
 
-  source_is : (s : BareDoc) → IsIn s ss → IsDoc (rooted s root)
+  pub source_is : (s : BareDoc) → IsIn s ss → IsDoc (rooted s root)
   source_is s h = rooted_is_doc s root (all s h) (root_some t.tree is.no_nil) (off s h)
 
-  sound : (m : Db) → IsIn m (members t ss) → Sound m
+  pub sound : (m : Db) → IsIn m (members t ss) → Sound m
   sound m (inl p) = subst Sound p (document_sound t is)
   sound m (inr h) =
       let f = from_map (λ (s : BareDoc). db_in (rooted s root)) ss m h in
       subst Sound f.1.1 (document_sound (rooted f.0 root) (source_is f.0 f.1.0))
 
-  one_root : HaveOneRoot (members t ss)
+  pub one_root : HaveOneRoot (members t ss)
   one_root m (inl p) = ap (λ (x : Db). x.root) (sym p)
   one_root m (inr h) =
       let f = from_map (λ (s : BareDoc). db_in (rooted s root)) ss m h in
@@ -180,7 +180,7 @@ module _ (t : BareDoc) (ss : List BareDoc) (is : IsDoc t) (all : (s : BareDoc) �
 
 -- ---- the least of ids in another order
 
-lesser_joins : IsJoin lesser
+pub lesser_joins : IsJoin lesser
 lesser_joins = greater_join (back_total id_order.total) (λ x y e. sym (id_order.same y x e))
 
 lesser_one : (u v : NodeId) → (lesser u v ≡ u) ⊎ (lesser u v ≡ v)
