@@ -54,8 +54,8 @@ abbrev pub changes_at : Db → Db → NodeId → List Change
 changes_at a b u = entry_changes a b u ++ group_changes a b u
 
 -- some ids by rising id, each once
-abbrev pub rising : List NodeId → List NodeId
-rising us = keys (tabulate {R = id_cmp} us (λ u. Some true))
+abbrev pub rising_ids : List NodeId → List NodeId
+rising_ids us = keys (tabulate {R = id_cmp} us (λ u. Some true))
 
 -- the nodes of two databases
 abbrev pub nodes_of : Db → Db → List NodeId
@@ -63,7 +63,7 @@ nodes_of a b = (keys a.entries ++ keys a.groups) ++ (keys b.entries ++ keys b.gr
 
 -- the changes of all nodes
 abbrev pub node_changes : Db → Db → List Change
-node_changes a b = flat_map (changes_at a b) (rising (nodes_of a b))
+node_changes a b = flat_map (changes_at a b) (rising_ids (nodes_of a b))
 
 -- a change of the order alone is listed where there is no other
 abbrev pub or_order : Bool → List Change → List Change

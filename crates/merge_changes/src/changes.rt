@@ -3,7 +3,7 @@ ghost use Rattle.std.specs.Prelude.{◌≡◌, ◌++◌, [], ◌∷◌, cond, If
 ghost use Rattle.vault_model.specs.Unite.{tabulate};
 ghost use Rattle.document_equality.specs.Equality.{same_all, same_state, same_stats};
 ghost use Rattle.reference_tables.specs.Databases.{database};
-ghost use Rattle.merge_changes.specs.Changes.{all_changes, changes_at, entry_changes, group_changes, node_changes, nodes_of, or_order, rising, same_place, same_use, same_versions};
+ghost use Rattle.merge_changes.specs.Changes.{all_changes, changes_at, entry_changes, group_changes, node_changes, nodes_of, or_order, rising_ids, same_place, same_use, same_versions};
 
 use outside_core::{List, NoMemory};
 use reference_tables::databases::Database;
@@ -182,7 +182,7 @@ pub fn table_of_ids(alloc: Global, ids: &[Uuid]) -> Result<Table<bool>, NoMemory
 /// The nodes of two databases, by rising id and each once.
 fn rising_nodes(alloc: Global, before: &Database, after: &Database) -> Result<Vec<Uuid>, NoMemory>
     ensures { IfOk result (λ us. us.items
-        ≡ rising (nodes_of (database before.now) (database after.now))) }
+        ≡ rising_ids (nodes_of (database before.now) (database after.now))) }
 {
     let mut ids = Vec::new(alloc);
     push_both(&mut ids, &before.entries, &before.groups)?;

@@ -3,7 +3,7 @@ ghost use Rattle.std.specs.Prelude.{◌≡◌, IfOk};
 ghost use Rattle.vault_model.specs.Db.{steps};
 ghost use Rattle.vault_model.specs.Join.{above, trail};
 ghost use Rattle.reference_tables.specs.Databases.{databases};
-ghost use Rattle.merge_changes.specs.Changes.{rising};
+ghost use Rattle.merge_changes.specs.Changes.{rising_ids};
 ghost use Rattle.merge_checks.specs.Cycles.{cycle_above};
 
 use merge_changes::changes::table_of_ids;
@@ -50,7 +50,7 @@ fn trail_from(
 
 /// Some ids by rising id, each once.
 fn rising_list(alloc: Global, ids: &[Uuid]) -> Result<List<Uuid>, NoMemory>
-    ensures { IfOk result (λ us. us ≡ rising ids.now) }
+    ensures { IfOk result (λ us. us ≡ rising_ids ids.now) }
 {
     let table = table_of_ids(alloc, ids)?;
     let mut list = List::new(alloc);
