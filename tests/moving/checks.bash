@@ -6,7 +6,7 @@ moving=$top/tests/moving
 # command in turn.
 command_refusals() {
   awk -F '\t' -v OFS='\t' '
-    BEGIN { split("mv rm mkdir rmdir", commands, " "); split("Bank\tWork Bank New Work", paths, " ") }
+    BEGIN { split("mv,rm,mkdir,rmdir", commands, ","); split("Bank\tWork,Bank,New,Work", paths, ",") }
     $1 == "file" { print; next }
     $2 > 0 && $2 != 2 && $7 == "ls" && $NF == "FILE" {
       turn = count++ % 4 + 1
