@@ -9,6 +9,8 @@ mod changes;
 #[cfg(test)]
 mod documents;
 #[cfg(test)]
+mod moves;
+#[cfg(test)]
 mod opening;
 #[cfg(test)]
 mod plain;

@@ -60,8 +60,8 @@ fn values_of<'a>(asked: &'a Asked, password: Option<&'a [u8]>) -> Values<'a>
     }
 }
 
-// A moment as a time of the calendar.
-fn time_of(now: u64) -> Result<Stamp, TreeFail>
+/// A moment as a time of the calendar, which ends with the year 9999.
+pub fn time_of(now: u64) -> Result<Stamp, TreeFail>
     ensures { MatchResult result (λ time. spec.time_of now ≡ Ok time)
         (λ fail. spec.time_of now ≡ Err fail) }
 {
@@ -129,8 +129,8 @@ pub fn add_entry(
     }
 }
 
-// The title of the entry that a path names.
-fn entry_title<'a>(doc: &'a Doc, path: &str) -> &'a [u8]
+/// The title of the entry that a path names, and nothing where it names none.
+pub fn entry_title<'a>(doc: &'a Doc, path: &str) -> &'a [u8]
     ensures { result.now ≡ spec.entry_title path.now (doc_seen doc.now) }
 {
     let Some(id) = find_entry(doc, path) else {

@@ -27,7 +27,7 @@ fn tree_answer(fail: TreeFail) -> Reason
 }
 
 /// The stop of a command whose document, which is of this file, was not changed.
-pub(crate) fn unchanged(alloc: Global, fail: TreeFail, file: &str) -> Stop
+pub fn unchanged(alloc: Global, fail: TreeFail, file: &str) -> Stop
     ensures is { IsUnchanged fail file.now result }
     ensures plain { IsPlainStop result }
 {

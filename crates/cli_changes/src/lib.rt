@@ -6,5 +6,6 @@ mod fails;
 mod ids;
 mod texts;
 
-pub use entries::{Given, add_entry, edit_entry};
+pub use entries::{Given, add_entry, edit_entry, entry_title, time_of};
+pub use fails::unchanged;
 pub use ids::new_id;

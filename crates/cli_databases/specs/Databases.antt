@@ -23,7 +23,7 @@ use Rattle.kdbx_open.specs.declared.fail.OpenFail.TheVariants as sealed
 use Rattle.kdbx_open.specs.Causes.{file_limit}
 use Rattle.kdbx_open.specs.Files.{opening_of}
 use Rattle.kdbx_open.specs.Opening.{FileContents}
-use Rattle.cli_databases.specs.declared.databases.Sealing.{Sealing}
+use Rattle.kdbx_open.specs.declared.sealings.Sealing.{Sealing}
 use Rattle.cli_answers.specs.declared.answers.Reason.{Reason}
 use Rattle.cli_answers.specs.declared.answers.Reason.TheVariants as answer
 use Rattle.cli_answers.specs.declared.answers.Reason.TheVariants.{NoSuchFile, TooLarge, OutOfMemory}

@@ -19,8 +19,8 @@ ghost use Rattle.cli_words.specs.SeenNeeds.{needs_seen};
 use cli_answers::{Reason, Stop, refused};
 use cli_words::{Access, Needs};
 use doc_read::{DocFail, ReadDoc, read_parts, resolve};
-use kdbx_frame::{FrameFail, Settings};
-use kdbx_open::{FILE_LIMIT, OpenFail, open_file};
+use kdbx_frame::FrameFail;
+use kdbx_open::{FILE_LIMIT, OpenFail, Sealing, open_file};
 use key_core::{KeyFileFail, composite, read_key_file};
 use mac_core::BlockFail;
 use outside_core::{FileStore, List, NoMemory, Text};
@@ -29,34 +29,12 @@ use std::alloc::Global;
 use stream_core::InnerStream;
 use vault_model::{Doc, DocForm};
 
-/// What the file of a database is sealed with.
-pub struct Sealing {
-    /// The settings of the file, which are in order.
-    pub settings: Settings,
-    /// The composite key that opened it, which must be cleared and released.
-    pub composite: Key,
-}
-
 /// A database that was opened.
 pub struct Opened {
     /// Its document.
     pub doc: Doc,
     /// What its file is sealed with, unless it is a plain document.
     pub sealing: Option<Sealing>,
-}
-
-/// Clears and releases the composite key of a database, where it has one.
-pub fn release_key(sealing: Option<Sealing>) {
-    if let Some(
-        Sealing {
-            settings: _,
-            mut composite,
-        },
-    ) = sealing
-    {
-        composite.clear();
-        composite.release();
-    }
 }
 
 // What is refused when a file is not read.

@@ -3,4 +3,4 @@
 
 mod databases;
 
-pub use databases::{Opened, Sealing, open, release_key};
+pub use databases::{Opened, open};

@@ -1,5 +1,6 @@
 pub mod Flags
 pub mod FlagWords
+pub mod Keys
 pub mod Positions
 pub mod PrefixCases
 pub mod Saying

@@ -5,7 +5,7 @@ use Rattle.cli_words.specs.declared.options.CommandName.{CommandName}
 use Rattle.cli_words.specs.declared.options.CommandOption.{CommandOption}
 use Rattle.cli_words.specs.Laws.{with_positions}
 use Rattle.cli_words.specs.Prefixes.{strip_prefix}
-use Rattle.cli_words.specs.Words.{Said, is_option, nothing_said, with_next, with_option, with_position, with_word, with_words}
+use Rattle.cli_words.specs.Words.{Said, is_option, nothing_said, with_later, with_next, with_option, with_position, with_word, with_words}
 use Rattle.cli_words.proofs.FlagWords.{read_option}
 use Rattle.cli_words.proofs.Saying.{IfSaid, IsState, by_unless, same_from, words_appended}
 
@@ -21,10 +21,15 @@ word_after command word said e d =
     ∙ ap (λ (b : Bool). cond (is_option word && not b) (with_option command said (strip_prefix (codes "--") word) (strip_prefix (codes "-") word)) (with_position said word said.first)) e
     ∙ no_option (is_option word) _ _
 
+later_keeps : (word : List ℕ) (said : Said) (second : Option (List ℕ)) → IsState true None said
+    → IfSaid (IsState true None) (with_later said word second)
+later_keeps word said None p = p
+later_keeps word said (Some second) p = by_unless (IsState true None) _ _ p
+
 position_keeps : (word : List ℕ) (said : Said) (first : Option (List ℕ)) → IsState true None said
     → IfSaid (IsState true None) (with_position said word first)
 position_keeps word said None p = p
-position_keeps word said (Some first) p = by_unless (IsState true None) _ _ p
+position_keeps word said (Some first) p = later_keeps word said said.second p
 
 -- All words after `--`.
 words_after : (command : CommandName) (words : List (List ℕ)) (said : Said) → IsState true None said

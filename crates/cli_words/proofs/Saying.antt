@@ -8,7 +8,7 @@ use Rattle.cli_words.specs.declared.options.CommandOption.{CommandOption}
 use Rattle.cli_words.specs.Laws.{lack_end}
 use Rattle.cli_words.specs.Options.{has_value, letter_option, name_option}
 use Rattle.cli_words.specs.Prefixes.{after_sign, before_sign, strip_prefix}
-use Rattle.cli_words.specs.Words.{Said, by_letter, is_option, unless_given, with_due, with_flag, with_given, with_joined, with_letters, with_long, with_name, with_next, with_option, with_position, with_short, with_word, with_words, without_sign}
+use Rattle.cli_words.specs.Words.{Said, by_letter, is_option, unless_given, with_due, with_flag, with_given, with_joined, with_later, with_letters, with_long, with_name, with_next, with_option, with_position, with_short, with_word, with_words, without_sign}
 use Rattle.cli_words.proofs.Flags.{joined, same_step, with_flags}
 
 -- What is said, if anything is, has a property.
@@ -100,9 +100,13 @@ option_opens command said (Some (b ∷ bs)) letters h p =
 option_opens command said None (Some letters) h p = short_opens command said letters p
 option_opens command said None None h p = refl
 
+later_opens : (said : Said) (word : List ℕ) (second : Option (List ℕ)) → IsOpen said → IfSaid IsOpen (with_later said word second)
+later_opens said word None p = p
+later_opens said word (Some second) p = by_unless IsOpen _ _ p
+
 position_opens : (said : Said) (word : List ℕ) (first : Option (List ℕ)) → IsOpen said → IfSaid IsOpen (with_position said word first)
 position_opens said word None p = p
-position_opens said word (Some first) p = by_unless IsOpen _ _ p
+position_opens said word (Some first) p = later_opens said word said.second p
 
 -- Only the word `--` is `--` with nothing after it.
 only_end : (word : List ℕ) → bytes_eq word (codes "--") ≡ false → strip_prefix (codes "--") word ≢ Some []

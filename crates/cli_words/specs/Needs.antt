@@ -3,7 +3,7 @@ use Rattle.std.specs.Prelude.{◌≡◌, ℕ, Bool, false, true, IsSome, ◌||�
 use Rattle.cli_answers.specs.declared.answers.Refusal.{Refusal}
 use Rattle.cli_words.specs.declared.command.Access.{Access}
 use Rattle.cli_words.specs.declared.command.Command.{Command}
-use Rattle.cli_words.specs.declared.command.Command.TheVariants.{Ls, Add, Edit}
+use Rattle.cli_words.specs.declared.command.Command.TheVariants.{Ls, Add, Edit, Mv, Rm, Mkdir, Rmdir}
 
 -- What a command asks for: the file of a database and how it is opened, and whether a line of the
 -- input is due after those that open it.
@@ -20,6 +20,11 @@ needs_of (Add access file entry asked) =
     record { access = access; file = file; has_line = asked.password }
 needs_of (Edit access file entry asked) =
     record { access = access; file = file; has_line = asked.password }
+needs_of (Mv access file moved group) =
+    record { access = access; file = file; has_line = false }
+needs_of (Rm access file entry) = record { access = access; file = file; has_line = false }
+needs_of (Mkdir access file group) = record { access = access; file = file; has_line = false }
+needs_of (Rmdir access file group) = record { access = access; file = file; has_line = false }
 
 -- A database asks for a line: its password, unless it is a plain document or has none.
 abbrev pub asks_password : Access → Bool

@@ -1,5 +1,5 @@
 -- The commands by their names, and the options that each of them takes.
-use Rattle.std.specs.Prelude.{ℕ, Bool, true, false, not, ◌==◌, if◌then◌else◌, List, codes, Option, None, Some}
+use Rattle.std.specs.Prelude.{ℕ, Bool, true, false, ◌==◌, if◌then◌else◌, List, codes, Option, None, Some}
 use Rattle.std.specs.Str.{bytes_eq}
 use Rattle.std.specs.Option.{option_and_then}
 use Rattle.cli_words.specs.declared.options.CommandName.{CommandName}
@@ -13,7 +13,11 @@ command_named word =
     if bytes_eq word (codes "ls") then Some name.Ls
     else (if bytes_eq word (codes "add") then Some name.Add
     else (if bytes_eq word (codes "edit") then Some name.Edit
-    else None))
+    else (if bytes_eq word (codes "mv") then Some name.Mv
+    else (if bytes_eq word (codes "rm") then Some name.Rm
+    else (if bytes_eq word (codes "mkdir") then Some name.Mkdir
+    else (if bytes_eq word (codes "rmdir") then Some name.Rmdir
+    else None))))))
 
 -- The place of an option among all of them.
 abbrev pub place_of : CommandOption → ℕ
@@ -48,12 +52,30 @@ abbrev pub is_ls : CommandName → Bool
 is_ls name.Ls = true
 is_ls name.Add = false
 is_ls name.Edit = false
+is_ls name.Mv = false
+is_ls name.Rm = false
+is_ls name.Mkdir = false
+is_ls name.Rmdir = false
 
 -- A command is `edit`.
 abbrev pub is_edit : CommandName → Bool
 is_edit name.Ls = false
 is_edit name.Add = false
 is_edit name.Edit = true
+is_edit name.Mv = false
+is_edit name.Rm = false
+is_edit name.Mkdir = false
+is_edit name.Rmdir = false
+
+-- A command gives an entry values.
+abbrev pub gives_values : CommandName → Bool
+gives_values name.Ls = false
+gives_values name.Add = true
+gives_values name.Edit = true
+gives_values name.Mv = false
+gives_values name.Rm = false
+gives_values name.Mkdir = false
+gives_values name.Rmdir = false
 
 -- Whether a command takes an option: each takes those that open a database and `--quiet`.
 abbrev pub is_taken_by : CommandName → CommandOption → Bool
@@ -64,10 +86,10 @@ is_taken_by command Plain = true
 is_taken_by command NoPassword = true
 is_taken_by command KeyFile = true
 is_taken_by command Title = is_edit command
-is_taken_by command User = not (is_ls command)
-is_taken_by command Url = not (is_ls command)
-is_taken_by command Notes = not (is_ls command)
-is_taken_by command EntryPassword = not (is_ls command)
+is_taken_by command User = gives_values command
+is_taken_by command Url = gives_values command
+is_taken_by command Notes = gives_values command
+is_taken_by command EntryPassword = gives_values command
 
 -- The option of a letter.
 abbrev pub option_of_letter : ℕ → Option CommandOption

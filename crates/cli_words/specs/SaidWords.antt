@@ -16,4 +16,5 @@ said_seen said = record {
   ended = said.ended;
   first = text_seen said.first;
   second = text_seen said.second;
+  third = text_seen said.third;
 }

@@ -8,7 +8,7 @@ use Rattle.cli_answers.specs.Messages.{refusal_of}
 use Rattle.cli_words.specs.declared.command.Access.{Access}
 use Rattle.cli_words.specs.declared.command.Asked.{Asked}
 use Rattle.cli_words.specs.declared.command.Command.{Command}
-use Rattle.cli_words.specs.declared.command.Command.TheVariants.{Ls, Add, Edit}
+use Rattle.cli_words.specs.declared.command.Command.TheVariants.{Ls, Add, Edit, Mv, Rm, Mkdir, Rmdir}
 use Rattle.cli_words.specs.declared.options.CommandName.{CommandName}
 use Rattle.cli_words.specs.declared.options.CommandName.TheVariants as name
 use Rattle.cli_words.specs.declared.options.CommandOption.{CommandOption}
@@ -24,14 +24,15 @@ is_option (b ∷ []) = false
 is_option (b ∷ c ∷ bs) = b == 45
 
 -- What the words after a command's name say: the text of each option that was given, a flag's being
--- empty; the option whose value is due in the next word; whether `--` was there, after which no word
--- is an option; and the two positions.
+-- empty; the option whose value is due in the next word; whether `--` was there, after which no
+-- word is an option; and the three positions.
 pub record Said : Type 0 where
   pub given : List (Option (List ℕ))
   pub due : Option CommandOption
   pub ended : Bool
   pub first : Option (List ℕ)
   pub second : Option (List ℕ)
+  pub third : Option (List ℕ)
 
 -- What no words say.
 abbrev pub nothing_said : Said
@@ -41,6 +42,7 @@ nothing_said = record {
   ended = false;
   first = None;
   second = None;
+  third = None;
 }
 
 -- The text of an option, where it was given.
@@ -128,11 +130,16 @@ with_option command said (Some name) letters = with_name command said name
 with_option command said None (Some letters) = with_short command said letters
 with_option command said None None = None
 
--- The first position, or the second.
+-- The second position, or the third.
+abbrev pub with_later : Said → List ℕ → Option (List ℕ) → Option Said
+with_later said word None = Some (record said { second = Some word })
+with_later said word (Some second) =
+    unless_given (is_some said.third) (record said { third = Some word })
+
+-- The first position, or a later one.
 abbrev pub with_position : Said → List ℕ → Option (List ℕ) → Option Said
 with_position said word None = Some (record said { first = Some word })
-with_position said word (Some first) =
-    unless_given (is_some said.second) (record said { second = Some word })
+with_position said word (Some first) = with_later said word said.second
 
 -- A word where this option's value is due: the value, which is no option; or else an option or a
 -- position.
@@ -217,18 +224,55 @@ edit_at said (Some file) (Some entry) = edit_if (has_change said) said file entr
 edit_at said (Some file) None = wrong_words
 edit_at said None entry = wrong_words
 
+-- `mv DATABASE NODE GROUP`
+abbrev pub move_at : Said → (first second third : Option (List ℕ)) → Result Command Refusal
+move_at said (Some file) (Some moved) (Some group) = Ok (Mv (access_of said) file moved group)
+move_at said (Some file) (Some moved) None = wrong_words
+move_at said (Some file) None group = wrong_words
+move_at said None moved group = wrong_words
+
+-- `rm DATABASE ENTRY`
+abbrev pub remove_at : Said → Option (List ℕ) → Option (List ℕ) → Result Command Refusal
+remove_at said (Some file) (Some entry) = Ok (Rm (access_of said) file entry)
+remove_at said (Some file) None = wrong_words
+remove_at said None entry = wrong_words
+
+-- `mkdir DATABASE GROUP`
+abbrev pub make_group_at : Said → Option (List ℕ) → Option (List ℕ) → Result Command Refusal
+make_group_at said (Some file) (Some group) = Ok (Mkdir (access_of said) file group)
+make_group_at said (Some file) None = wrong_words
+make_group_at said None group = wrong_words
+
+-- `rmdir DATABASE GROUP`
+abbrev pub remove_group_at : Said → Option (List ℕ) → Option (List ℕ) → Result Command Refusal
+remove_group_at said (Some file) (Some group) = Ok (Rmdir (access_of said) file group)
+remove_group_at said (Some file) None = wrong_words
+remove_group_at said None group = wrong_words
+
+-- A command of two positions, which must have no third.
+abbrev pub without_third : Option (List ℕ) → Result Command Refusal → Result Command Refusal
+without_third None command = command
+without_third (Some word) command = wrong_words
+
 -- The command of this name with these positions.
-abbrev pub command_at : CommandName → Said → Option (List ℕ) → Option (List ℕ)
+abbrev pub command_at : CommandName → Said → (first second third : Option (List ℕ))
     → Result Command Refusal
-command_at name.Ls said first second = list_at said first second
-command_at name.Add said first second = add_at said first second
-command_at name.Edit said first second = edit_at said first second
+command_at name.Ls said first second third = without_third third (list_at said first second)
+command_at name.Add said first second third = without_third third (add_at said first second)
+command_at name.Edit said first second third = without_third third (edit_at said first second)
+command_at name.Mv said first second third = move_at said first second third
+command_at name.Rm said first second third = without_third third (remove_at said first second)
+command_at name.Mkdir said first second third =
+    without_third third (make_group_at said first second)
+command_at name.Rmdir said first second third =
+    without_third third (remove_group_at said first second)
 
 -- The command of this name whose other words say this.
 abbrev pub command_saying : CommandName → Option Said → Result Command Refusal
 command_saying command None = wrong_words
 command_saying command (Some said) =
-    if is_whole said then command_at command said said.first said.second else wrong_words
+    if is_whole said then command_at command said said.first said.second said.third
+    else wrong_words
 
 -- The command of this name with these words after it.
 abbrev pub command_by : Option CommandName → List (List ℕ) → Result Command Refusal

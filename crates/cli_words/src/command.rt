@@ -68,4 +68,42 @@ pub enum Command {
         /// The values that are other than before.
         asked: Asked,
     },
+    /// Moves an entry or a group into another group.
+    Mv {
+        /// How the database is opened.
+        access: Access,
+        /// The file of the database.
+        file: Text,
+        /// The path of what is moved: a group's where it ends with a slash.
+        node: Text,
+        /// The path of the group that it is moved into.
+        group: Text,
+    },
+    /// Puts an entry into the bin, or deletes it.
+    Rm {
+        /// How the database is opened.
+        access: Access,
+        /// The file of the database.
+        file: Text,
+        /// The path of the entry.
+        entry: Text,
+    },
+    /// Adds a group to a database.
+    Mkdir {
+        /// How the database is opened.
+        access: Access,
+        /// The file of the database.
+        file: Text,
+        /// The path of the group.
+        group: Text,
+    },
+    /// Puts a group into the bin, or deletes it with all that is in it.
+    Rmdir {
+        /// How the database is opened.
+        access: Access,
+        /// The file of the database.
+        file: Text,
+        /// The path of the group.
+        group: Text,
+    },
 }

@@ -123,17 +123,100 @@ fn edit_at(
     })
 }
 
+// The command `mv` of a node and a group.
+fn move_at(
+    alloc: Global,
+    said: &SaidWords<'_>,
+    file: &str,
+    node: &str,
+    group: &str,
+) -> Result<Command, NoMemory>
+    ensures { IfOk result (λ command. Ok command ≡ spec.move_at (said_seen said.now)
+        (Some file.now) (Some node.now) (Some group.now)) }
+{
+    Ok(Command::Mv {
+        access: access_of(alloc, said)?,
+        file: Text::of(alloc, file)?,
+        node: Text::of(alloc, node)?,
+        group: Text::of(alloc, group)?,
+    })
+}
+
+// The command `rm` of an entry.
+fn remove_at(
+    alloc: Global,
+    said: &SaidWords<'_>,
+    file: &str,
+    entry: &str,
+) -> Result<Command, NoMemory>
+    ensures { IfOk result (λ command. Ok command ≡ spec.remove_at (said_seen said.now)
+        (Some file.now) (Some entry.now)) }
+{
+    Ok(Command::Rm {
+        access: access_of(alloc, said)?,
+        file: Text::of(alloc, file)?,
+        entry: Text::of(alloc, entry)?,
+    })
+}
+
+// The command `mkdir` of a group.
+fn make_group_at(
+    alloc: Global,
+    said: &SaidWords<'_>,
+    file: &str,
+    group: &str,
+) -> Result<Command, NoMemory>
+    ensures { IfOk result (λ command. Ok command ≡ spec.make_group_at (said_seen said.now)
+        (Some file.now) (Some group.now)) }
+{
+    Ok(Command::Mkdir {
+        access: access_of(alloc, said)?,
+        file: Text::of(alloc, file)?,
+        group: Text::of(alloc, group)?,
+    })
+}
+
+// The command `rmdir` of a group.
+fn remove_group_at(
+    alloc: Global,
+    said: &SaidWords<'_>,
+    file: &str,
+    group: &str,
+) -> Result<Command, NoMemory>
+    ensures { IfOk result (λ command. Ok command ≡ spec.remove_group_at (said_seen said.now)
+        (Some file.now) (Some group.now)) }
+{
+    Ok(Command::Rmdir {
+        access: access_of(alloc, said)?,
+        file: Text::of(alloc, file)?,
+        group: Text::of(alloc, group)?,
+    })
+}
+
 // The command of this name with what its other words say, which are whole.
 fn command_at(alloc: Global, command: CommandName, said: &SaidWords<'_>) -> Result<Command, Stop>
     ensures told { Returns (λ command. command) result (spec.command_at command
-        (said_seen said.now) (said_seen said.now).first (said_seen said.now).second) }
+        (said_seen said.now) (said_seen said.now).first (said_seen said.now).second
+        (said_seen said.now).third) }
     ensures cause { IfErr result IsWordsStop }
 {
-    match (command, said.first, said.second) {
-        (CommandName::Ls, Some(file), group) => Ok(list_at(alloc, said, file, group)?),
-        (CommandName::Add, Some(file), Some(entry)) => Ok(add_at(alloc, said, file, entry)?),
-        (CommandName::Edit, Some(file), Some(entry)) if has_change(said) => {
+    match (command, said.first, said.second, said.third) {
+        (CommandName::Ls, Some(file), group, None) => Ok(list_at(alloc, said, file, group)?),
+        (CommandName::Add, Some(file), Some(entry), None) => Ok(add_at(alloc, said, file, entry)?),
+        (CommandName::Edit, Some(file), Some(entry), None) if has_change(said) => {
             Ok(edit_at(alloc, said, file, entry)?)
+        }
+        (CommandName::Mv, Some(file), Some(node), Some(group)) => {
+            Ok(move_at(alloc, said, file, node, group)?)
+        }
+        (CommandName::Rm, Some(file), Some(entry), None) => {
+            Ok(remove_at(alloc, said, file, entry)?)
+        }
+        (CommandName::Mkdir, Some(file), Some(group), None) => {
+            Ok(make_group_at(alloc, said, file, group)?)
+        }
+        (CommandName::Rmdir, Some(file), Some(group), None) => {
+            Ok(remove_group_at(alloc, said, file, group)?)
         }
         _ => Err(refused(alloc, Reason::WrongWords, "words")),
     }
@@ -152,6 +235,7 @@ fn command_by(alloc: Global, command: CommandName, words: &[String]) -> Result<C
 }
 
 /// The command that the words are.
+#[tactic(auto, using(crate::proofs::Keys::has_key))]
 pub fn read_words(alloc: Global, words: &[String]) -> Result<Command, Stop>
     ensures told { Returns (λ command. command) result (command_of (map string_bytes words.now)) }
     ensures has_key { IfOk result (λ command. HasKey (needs_of command).access) }

@@ -48,6 +48,26 @@ pub fn needs_of(command: &Command) -> Needs<'_>
             file,
             has_line: asked.password,
         },
+        Command::Mv { access, file, .. } => Needs {
+            access,
+            file,
+            has_line: false,
+        },
+        Command::Rm { access, file, .. } => Needs {
+            access,
+            file,
+            has_line: false,
+        },
+        Command::Mkdir { access, file, .. } => Needs {
+            access,
+            file,
+            has_line: false,
+        },
+        Command::Rmdir { access, file, .. } => Needs {
+            access,
+            file,
+            has_line: false,
+        },
     }
 }
 

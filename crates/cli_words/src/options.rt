@@ -11,6 +11,14 @@ pub enum CommandName {
     Add,
     /// `edit`
     Edit,
+    /// `mv`
+    Mv,
+    /// `rm`
+    Rm,
+    /// `mkdir`
+    Mkdir,
+    /// `rmdir`
+    Rmdir,
 }
 
 /// An option of a command.
@@ -51,6 +59,10 @@ pub(crate) fn command_named(name: &str) -> Option<CommandName>
         "ls" => Some(CommandName::Ls),
         "add" => Some(CommandName::Add),
         "edit" => Some(CommandName::Edit),
+        "mv" => Some(CommandName::Mv),
+        "rm" => Some(CommandName::Rm),
+        "mkdir" => Some(CommandName::Mkdir),
+        "rmdir" => Some(CommandName::Rmdir),
         _ => None,
     }
 }
@@ -97,10 +109,10 @@ pub(crate) fn is_taken_by(command: CommandName, option: CommandOption) -> bool
         CommandOption::Recursive => is_ls(command),
         CommandOption::Flat => is_ls(command),
         CommandOption::Title => is_edit(command),
-        CommandOption::User => !is_ls(command),
-        CommandOption::Url => !is_ls(command),
-        CommandOption::Notes => !is_ls(command),
-        CommandOption::EntryPassword => !is_ls(command),
+        CommandOption::User => gives_values(command),
+        CommandOption::Url => gives_values(command),
+        CommandOption::Notes => gives_values(command),
+        CommandOption::EntryPassword => gives_values(command),
         _ => true,
     }
 }
@@ -120,6 +132,17 @@ fn is_edit(command: CommandName) -> bool
     ensures { result ≡ spec.is_edit command }
 {
     match command {
+        CommandName::Edit => true,
+        _ => false,
+    }
+}
+
+// Reports whether a command gives an entry values.
+fn gives_values(command: CommandName) -> bool
+    ensures { result ≡ spec.gives_values command }
+{
+    match command {
+        CommandName::Add => true,
         CommandName::Edit => true,
         _ => false,
     }

@@ -22,6 +22,7 @@ pub(crate) struct SaidWords<'a> {
     ended: bool,
     pub(crate) first: Option<&'a str>,
     pub(crate) second: Option<&'a str>,
+    pub(crate) third: Option<&'a str>,
 }
 
 // Reports whether a word is an option: two or more bytes, of which the first is `-`.
@@ -234,21 +235,35 @@ fn with_option<'a>(
     }
 }
 
-// The first position, or the second after it.
+// The second position, or the third after it.
+fn with_later<'a>(said: SaidWords<'a>, word: &'a str) -> Option<SaidWords<'a>>
+    ensures { option_map said_seen result ≡ spec.with_later (said_seen said.entry) word.now
+        (said_seen said.entry).second }
+{
+    match (said.second, said.third) {
+        (None, _) => Some(SaidWords {
+            second: Some(word),
+            ..said
+        }),
+        (Some(_), None) => Some(SaidWords {
+            third: Some(word),
+            ..said
+        }),
+        (Some(_), Some(_)) => None,
+    }
+}
+
+// The first position, or a later one.
 fn with_position<'a>(said: SaidWords<'a>, word: &'a str) -> Option<SaidWords<'a>>
     ensures { option_map said_seen result ≡ spec.with_position (said_seen said.entry) word.now
         (said_seen said.entry).first }
 {
-    match (said.first, said.second) {
-        (None, _) => Some(SaidWords {
+    match said.first {
+        None => Some(SaidWords {
             first: Some(word),
             ..said
         }),
-        (Some(_), None) => Some(SaidWords {
-            second: Some(word),
-            ..said
-        }),
-        (Some(_), Some(_)) => None,
+        Some(_) => with_later(said, word),
     }
 }
 
@@ -276,6 +291,7 @@ pub(crate) fn said_by<'a>(command: CommandName, words: &'a [String]) -> Option<S
         ended: false,
         first: None,
         second: None,
+        third: None,
     };
     for word in words {
         said = with_word(command, said, word.as_str())?;

@@ -1,8 +1,6 @@
-//! The phases of a command that writes: what is drawn for ids, and the file that is written.
+//! The file that a command writes: a plain document, put whole into it.
 #![tactic(auto)]
 
-mod drawing;
 mod writing;
 
-pub use drawing::draw_id;
 pub use writing::write_plain;

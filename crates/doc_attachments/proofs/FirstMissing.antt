@@ -1,8 +1,8 @@
 -- Which of several missing references is first in the text.
-use Rattle.std.proofs.Common.{◌≡◌, ◌<◌, ◌+◌, ℕ, suc, Bool, true, false, Option, None, Some, List, [], ◌∷◌, ◌++◌, drop, get_or, length, map, refl, sym, ap, ◌∙◌, arith, leb}
-use Rattle.std.proofs.Math.Seq.{drop-cons}
+use Rattle.std.proofs.Common.{◌≡◌, ◌<◌, ◌+◌, ℕ, Bool, true, false, Option, None, Some, List, [], ◌∷◌, ◌++◌, drop, get_or, length, map, refl, sym, ap, ◌∙◌, arith, leb}
 use Rattle.std.proofs.lemmas.Bool.Decides.{nat_tests}
 use Rattle.std.specs.List.{flat_map}
+use Rattle.doc_attachments.proofs.Lists.{one_left}
 use Rattle.doc_forms.specs.Attachments.{Missing, earlier_missing, first_missing, first_missing_of}
 
 -- ---- the first of what is missing
@@ -59,9 +59,7 @@ pub one_passed : {X Y : Type 0} (view : X → Y) (missing : Y → List Missing) 
     → its ≡ first_missing (missing (view x)) → later ≡ first_missing_of so_far its
     → first_missing_of later (first_missing (flat_map missing (map view (drop (at + 1) items)))) ≡ whole
 one_passed view missing items at x so_far its later whole within is known of_item is_later =
-    let next : suc at ≡ at + 1 = omega arith in
-    let left : drop at items ≡ x ∷ drop (at + 1) items =
-    drop-cons items at x within ∙ ap (λ y. y ∷ drop (suc at) items) (sym is) ∙ ap (λ n. x ∷ drop n items) next in
+    let left : drop at items ≡ x ∷ drop (at + 1) items = one_left items at x within is in
     ap (λ o. first_missing_of o (first_missing (flat_map missing (map view (drop (at + 1) items)))))
     (is_later ∙ ap (first_missing_of so_far) of_item)
     ∙ (first_more missing so_far (view x) (map view (drop (at + 1) items))

@@ -9,9 +9,11 @@ ghost use Rattle.std.specs.Prelude.{◌≡◌, ◌++◌, [], ◌∷◌, IfOk, On
 
 use doc_forms::Binary;
 use outside_core::{List, NoMemory};
+use secret_core::Secret;
 use std::alloc::Global;
 use std::collections::BTreeMap;
 use std::marker::Model;
+use std::rc::Rc;
 use vault_model::PoolItem;
 
 /// Puts an item after the others.
@@ -21,6 +23,16 @@ pub(crate) fn push<T: Drop>(list: &mut List<T>, item: T) -> Result<(), NoMemory>
     match list.push(item) {
         Ok(()) => Ok(()),
         Err(_item) => Err(NoMemory),
+    }
+}
+
+/// The same bytes, which one more shares.
+pub(crate) fn share_bytes(bytes: &Rc<Secret>) -> Result<Rc<Secret>, NoMemory>
+    ensures { IfOk result (λ b. b.value.bytes ≡ bytes.now.value.bytes) }
+{
+    match bytes.clone() {
+        Ok(bytes) => Ok(bytes),
+        Err(_) => Err(NoMemory),
     }
 }
 
@@ -34,7 +46,7 @@ pub(crate) fn number_binaries(alloc: Global, given: &[PoolItem]) -> Result<List<
     for item in given {
         let binary = Binary {
             number,
-            bytes: item.bytes.clone()?,
+            bytes: share_bytes(&item.bytes)?,
             hidden: item.hidden,
         };
         push(&mut binaries, binary)?;
@@ -90,7 +102,9 @@ impl<'a> Pool<'a> {
     pub(crate) fn get(&self, number: u64) -> Option<&Binary>
         ensures { option_map binary_seen (option_copied result) ≡ spec.binary_of self.now number }
     {
-        let position = self.positions.get(&number)?;
-        self.binaries.get(*position)
+        match self.positions.get(&number) {
+            Some(position) => self.binaries.get(*position),
+            None => None,
+        }
     }
 }

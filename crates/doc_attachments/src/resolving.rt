@@ -2,29 +2,19 @@
 
 ghost use Rattle.doc_forms.specs.Attachments as spec;
 ghost use Rattle.doc_forms.specs.SeenDrafts.{attachment_seen, draft_seen, entry_seen, version_seen};
+ghost use Rattle.doc_attachments.specs.Lists.{IsPushed};
 ghost use Rattle.doc_attachments.specs.Trees.{with_attachments};
-ghost use Rattle.std.specs.Prelude.{◌≡◌, IfOk, Ok, map};
+ghost use Rattle.std.specs.Prelude.{◌≡◌, [], IfOk, Ok, OnOk, map};
 ghost use Rattle.vault_model.specs.Seen.{bare_attachment};
 ghost use Rattle.vault_model.specs.SeenNodes.{bare_version, entry_row, tree_seen};
 
-use crate::pools::{Pool, push};
+use crate::pools::{Pool, push, share_bytes};
 use doc_forms::{AttachmentDraft, EntryDraft, GroupDraft, SourceDraft, VersionDraft};
 use outside_core::{List, NoMemory, Text};
 use secret_core::Secret;
 use std::alloc::Global;
 use std::rc::Rc;
 use vault_model::{Attachment, Entry, Group, Version};
-
-/// Both of two that were made, or else a refusal.
-fn both<A: Drop, B: Drop>(
-    first: Result<A, NoMemory>,
-    second: Result<B, NoMemory>,
-) -> Result<(A, B), NoMemory>
-    ensures first { IfOk result (λ both. first ≡ Ok both.0) }
-    ensures second { IfOk result (λ both. second ≡ Ok both.1) }
-{
-    Ok((first?, second?))
-}
 
 /// What was kept with what was made, or else a refusal.
 pub(crate) fn kept_with<A: Drop, B: Drop>(
@@ -34,7 +24,54 @@ pub(crate) fn kept_with<A: Drop, B: Drop>(
     ensures kept { IfOk result (λ both. both.0 ≡ kept) }
     ensures made { IfOk result (λ both. made ≡ Ok both.1) }
 {
-    Ok((kept, made?))
+    match made {
+        Ok(made) => Ok((kept, made)),
+        Err(refusal) => Err(refusal),
+    }
+}
+
+/// Both of two that were made, or else a refusal.
+fn both<A: Drop, B: Drop>(
+    first: Result<A, NoMemory>,
+    second: Result<B, NoMemory>,
+) -> Result<(A, B), NoMemory>
+    ensures first { IfOk result (λ both. first ≡ Ok both.0) }
+    ensures second { IfOk result (λ both. second ≡ Ok both.1) }
+{
+    match first {
+        Ok(first) => kept_with(first, second),
+        Err(refusal) => Err(refusal),
+    }
+}
+
+/// Bytes that several may share.
+fn own_bytes(alloc: Global, bytes: Secret) -> Result<Rc<Secret>, NoMemory>
+    ensures { IfOk result (λ b. b.value.bytes ≡ bytes.bytes) }
+{
+    match Rc::new(alloc, bytes) {
+        Ok(bytes) => Ok(bytes),
+        Err(_) => Err(NoMemory),
+    }
+}
+
+/// Puts what was made after the others, or else refuses.
+fn push_made<T: Drop>(list: &mut List<T>, made: Result<T, NoMemory>) -> Result<(), NoMemory>
+    ensures { OnOk result (IsPushed list.old made list.new) }
+{
+    match made {
+        Ok(item) => push(list, item),
+        Err(refusal) => Err(refusal),
+    }
+}
+
+/// Memory that several may share, with no bytes.
+fn no_bytes(alloc: Global) -> Result<Rc<Secret>, NoMemory>
+    ensures { IfOk result (λ b. b.value.bytes ≡ []) }
+{
+    match Secret::with_room(alloc, 0) {
+        Ok(bytes) => own_bytes(alloc, bytes),
+        Err(refusal) => Err(refusal),
+    }
 }
 
 /// The bytes of an attachment, which are shared. Where it refers to no binary, it has none.
@@ -47,10 +84,10 @@ fn resolved_bytes(
         ≡ (spec.resolved_attachment pool.now (attachment_seen draft.now)).bytes) }
 {
     match &draft.source {
-        SourceDraft::OwnBytes(bytes) => Ok(bytes.clone()?),
+        SourceDraft::OwnBytes(bytes) => share_bytes(bytes),
         SourceDraft::PoolNumber(_, number) => match pool.get(*number) {
-            Some(binary) => Ok(binary.bytes.clone()?),
-            None => Ok(Rc::new(alloc, Secret::with_room(alloc, 0)?)?),
+            Some(binary) => share_bytes(&binary.bytes),
+            None => no_bytes(alloc),
         },
     }
 }
@@ -101,7 +138,7 @@ fn resolved_attachments(
 {
     let mut resolved = List::new(alloc);
     for draft in drafts {
-        push(&mut resolved, resolved_attachment(alloc, pool, draft)?)?;
+        push_made(&mut resolved, resolved_attachment(alloc, pool, draft))?;
     }
     Ok(resolved)
 }
@@ -155,7 +192,7 @@ fn resolved_versions(
 {
     let mut resolved = List::new(alloc);
     for draft in drafts {
-        push(&mut resolved, resolved_version(alloc, pool, draft)?)?;
+        push_made(&mut resolved, resolved_version(alloc, pool, draft))?;
     }
     Ok(resolved)
 }
@@ -196,7 +233,7 @@ fn resolved_entries(
 {
     let mut resolved = List::new(alloc);
     for draft in drafts {
-        push(&mut resolved, resolved_entry(alloc, pool, draft)?)?;
+        push_made(&mut resolved, resolved_entry(alloc, pool, draft))?;
     }
     Ok(resolved)
 }
@@ -251,7 +288,7 @@ fn resolved_groups(
 {
     let mut resolved = List::new(alloc);
     for draft in drafts {
-        push(&mut resolved, resolved_tree(alloc, pool, draft)?)?;
+        push_made(&mut resolved, resolved_tree(alloc, pool, draft))?;
     }
     Ok(resolved)
 }

@@ -1,6 +1,6 @@
 //! Attachments before their bytes are resolved.
 
-ghost use Rattle.std.specs.Prelude.{codes, Ok, option_map};
+ghost use Rattle.std.specs.Prelude.{◌≡◌, [], codes, Ok, option_map};
 ghost use Rattle.markup_grammar.specs.Attributes.{attribute_text};
 ghost use Rattle.markup_grammar.specs.Escapes.{unescaped};
 ghost use Rattle.doc_entries.specs.AttachmentTexts.{value_by_text};
@@ -38,9 +38,20 @@ fn source_in_text(alloc: Global, text: ElementText) -> Result<Option<SourceDraft
     ensures { Returns (λ o. option_map source_seen o) result
         (Ok (option_map spec.own_bytes (bytes_in (text_seen text)))) }
 {
-    match SecretBytes::from_text(alloc, text)? {
-        Some(bytes) => Ok(Some(own_source(alloc, bytes)?)),
-        None => Ok(None),
+    match SecretBytes::from_text(alloc, text) {
+        Ok(Some(bytes)) => Ok(Some(own_source(alloc, bytes)?)),
+        Ok(None) => Ok(None),
+        Err(refusal) => Err(refusal),
+    }
+}
+
+/// The binary of a number, where there is one, to which a `Value` at an offset refers.
+fn source_of_number(offset: usize, number: Option<u64>) -> Option<SourceDraft>
+    ensures { option_map source_seen result ≡ option_map (spec.pool_number offset) number }
+{
+    match number {
+        Some(number) => Some(SourceDraft::PoolNumber(offset, number)),
+        None => None,
     }
 }
 
@@ -49,10 +60,9 @@ fn source_in_pool(alloc: Global, offset: usize, raw: &str) -> Result<Option<Sour
     ensures { Returns (λ o. option_map source_seen o) result
         (Ok (option_map (spec.pool_number offset) (number64 (unescaped raw.now)))) }
 {
-    let digits = resolved(alloc, raw)?;
-    match number64(digits.lend(0, digits.len())) {
-        Some(number) => Ok(Some(SourceDraft::PoolNumber(offset, number))),
-        None => Ok(None),
+    match resolved(alloc, raw) {
+        Ok(digits) => Ok(source_of_number(offset, number64(digits.lend(0, digits.len())))),
+        Err(refusal) => Err(refusal),
     }
 }
 
@@ -140,15 +150,28 @@ impl Parts for AttachmentKnown {
     }
 }
 
+/// No bytes, which are the attachment's own.
+fn no_source(alloc: Global) -> Result<SourceDraft, DocFail>
+    ensures { Returns source_seen result (Ok (spec.own_bytes [])) }
+{
+    match no_text(alloc) {
+        Ok(bytes) => own_source(alloc, bytes),
+        Err(refusal) => Err(refusal),
+    }
+}
+
 /// An attachment of which nothing is known yet.
 fn no_attachment(alloc: Global) -> Result<AttachmentDraft, DocFail>
     ensures { Returns attachment_seen result (Ok spec.no_attachment) }
 {
-    Ok(AttachmentDraft {
-        name: Text::new(alloc),
-        source: own_source(alloc, no_text(alloc)?)?,
-        hidden: false,
-    })
+    match no_source(alloc) {
+        Ok(source) => Ok(AttachmentDraft {
+            name: Text::new(alloc),
+            source,
+            hidden: false,
+        }),
+        Err(refusal) => Err(refusal),
+    }
 }
 
 /// The attachment whose start tag was given.

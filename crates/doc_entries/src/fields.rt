@@ -26,12 +26,14 @@ struct FieldDraft {
 fn no_field(alloc: Global) -> Result<Field, DocFail>
     ensures { Returns bare_field result (Ok spec.no_field) }
 {
-    let value = no_text(alloc)?;
-    Ok(Field {
-        key: Text::new(alloc),
-        value,
-        hidden: false,
-    })
+    match no_text(alloc) {
+        Ok(value) => Ok(Field {
+            key: Text::new(alloc),
+            value,
+            hidden: false,
+        }),
+        Err(refusal) => Err(refusal),
+    }
 }
 
 impl Parts for FieldDraft {

@@ -1,23 +1,27 @@
 -- Groups: what one is when its children and its end have been read.
-use Rattle.std.specs.Prelude.{if◌then◌else◌}
-use Rattle.std.proofs.Common.{◌≡◌, ℕ, Bool, Option, List, [], ◌∷◌, ◌++◌, length, map, refl, ap, sym, ◌∙◌, subst, arith, Result, Ok, Err}
-use Rattle.markup_grammar.specs.Elements.{Content, last, also, cut, element, own_text, innermost, open_contents}
+use Rattle.std.specs.Prelude.{◌-◌, ◌==◌, if◌then◌else◌, bytes_eq, codes, not}
+use Rattle.std.proofs.Common.{◌≡◌, ℕ, Bool, true, false, Option, List, [], ◌∷◌, ◌++◌, length, map, refl, ap, sym, ◌∙◌, subst, arith, Result, Ok, Err}
+use Rattle.std.proofs.lemmas.Bool.{ne_eqb}
+use Rattle.markup_grammar.specs.Elements.{Element, Content, last, also, cut, element, own_text, innermost, open_contents}
 use Rattle.vault_model.specs.Db.{NodeId}
 use Rattle.doc_forms.specs.declared.cursor.Cursor.{Cursor}
 use Rattle.doc_forms.specs.declared.drafts.GroupDraft.{GroupDraft}
 use Rattle.doc_forms.specs.declared.fails.DocFail.{DocFail}
-use Rattle.doc_forms.specs.declared.fails.DocFail.TheVariants.{BadValue}
-use Rattle.doc_forms.specs.Groups.{ReadTree, node, GroupParts, no_group, group, group_parts, group_child, append_tree, beside, record_of}
+use Rattle.doc_forms.specs.declared.fails.DocFail.TheVariants.{BadValue, TooDeep}
+use Rattle.doc_forms.specs.Groups.{ReadTree, node, GroupParts, no_group, group, group_parts, group_child, group_rows, append_tree, beside, record_of}
 use Rattle.doc_forms.specs.ElementTexts.{ElementText, Setting, text_at_end}
-use Rattle.doc_forms.specs.Children.{all_children, children_and_end, count_node}
+use Rattle.doc_forms.specs.Children.{all_children, by_name, children_and_end, count_node, offset_of}
 use Rattle.doc_forms.specs.Entries.{node_id}
 use Rattle.doc_forms.specs.Refusals.{Fails, Returns}
 use Rattle.outside_core.specs.Results.{◌>>=◌}
 use Rattle.doc_forms.specs.SeenDrafts.{side_by_side, draft_seen}
+use Rattle.doc_walk.proofs.Branches.{put_in, refused_in}
+use Rattle.doc_walk.proofs.Goes.{refused}
 use Rattle.doc_walk.proofs.Pieces.{carried, given_same, on_ok}
+use Rattle.doc_walk.proofs.Rests.{same_rest}
 use Rattle.doc_walk.specs.declared.walk.Tag.{Tag}
 use Rattle.doc_walk.specs.Steps.{Course, Rest, Steps}
-use Rattle.doc_walk.specs.Tags.{contents_step}
+use Rattle.doc_walk.specs.Tags.{child_step, contents_step}
 use Rattle.doc_groups.proofs.Places.{one_more_seen}
 use Rattle.doc_groups.specs.GroupSteps.{group_step, id_at_end, whole_group}
 
@@ -135,3 +139,77 @@ one_more (t ∷ ts) tree = ap (beside t) (one_more ts tree)
 pub one_more_draft : (drafts : List GroupDraft) (draft : GroupDraft)
     → side_by_side (map draft_seen (drafts ++ draft ∷ [])) ≡ append_tree (side_by_side (map draft_seen drafts)) (draft_seen draft)
 one_more_draft drafts draft = ap side_by_side (one_more_seen draft_seen drafts draft) ∙ one_more (map draft_seen drafts) (draft_seen draft)
+
+-- ---- a child of a group
+
+-- by whether it is a group, and whether no level is left
+abbrev child_if : Bool → Bool → Setting → ℕ → GroupParts → Element → Cursor → Result (GroupParts × Cursor) DocFail
+child_if is_group too_deep s levels p e cursor =
+    if is_group
+    then (if too_deep then Err (TooDeep (offset_of e))
+    else (group s (levels - 1) true e cursor >>= λ x. Ok (record p { groups = append_tree p.groups x.0 }, x.1)))
+    else by_name s (group_rows s) p e cursor
+
+abbrev step_if : Bool → Bool → ℕ → GroupParts → Tag → Rest GroupParts
+step_if is_group too_deep levels p tag s content cursor =
+    child_if is_group too_deep s levels p (element tag.offset tag.name.now tag.attrs.raw.now content) cursor
+
+child_as : {X : Type 0} (view : X → GroupParts) (old new : Course) (r : Result X DocFail) (is_group too_deep : Bool) (levels : ℕ) (p : GroupParts) (tag : Tag)
+    → bytes_eq tag.name.now (codes "Group") ≡ is_group → (levels == 0) ≡ too_deep
+    → Steps view old new r (step_if is_group too_deep levels p tag)
+    → Steps view old new r (child_step (λ s. group_child s levels) p tag)
+child_as view old new r is_group too_deep levels p tag named deep steps =
+    same_rest view old new r (step_if is_group too_deep levels p tag) (child_step (λ s. group_child s levels) p tag)
+    (λ s content cursor.
+    ap (λ b. step_if is_group b levels p tag s content cursor) (sym deep)
+    ∙ ap (λ b. step_if b (levels == 0) levels p tag s content cursor) (sym named))
+    steps
+
+not_true : (b d : Bool) → b ≡ not d → b ≡ true → d ≡ false
+not_true b true is e = cc
+not_true b false is e = refl
+
+not_false : (b d : Bool) → b ≡ not d → b ≡ false → d ≡ true
+not_false b true is e = refl
+not_false b false is e = cc
+
+-- one that is no group
+pub other_child : {X : Type 0} (view : X → GroupParts) (old new : Course) (r : Result X DocFail) (levels : ℕ) (p : GroupParts) (tag : Tag) (differs : Bool)
+    → differs ≡ not (bytes_eq tag.name.now (codes "Group")) → differs ≡ true
+    → Steps view old new r (child_step (λ s. by_name s (group_rows s)) p tag)
+    → Steps view old new r (child_step (λ s. group_child s levels) p tag)
+other_child view old new r levels p tag differs is e steps = child_as view old new r false (levels == 0) levels p tag (not_true differs _ is e) refl steps
+
+-- a group where no level is left
+pub too_deep : {X : Type 0} (view : X → GroupParts) (old : Course) (levels : ℕ) (p : GroupParts) (tag : Tag) (differs : Bool)
+    → differs ≡ not (bytes_eq tag.name.now (codes "Group")) → differs ≡ false → levels ≡ 0
+    → Steps view old old (Err (TooDeep tag.offset)) (child_step (λ s. group_child s levels) p tag)
+too_deep view old levels p tag differs is e none =
+    child_as view old old (Err (TooDeep tag.offset)) true true levels p tag (not_false differs _ is e) (ap (λ n. n == 0) none)
+    (refused view old old (step_if true true levels p tag) (TooDeep tag.offset) refl refl)
+
+-- a group that is read, and put with those before it
+pub group_added : {Z : Type 0} (old new : Course) (draft : GroupDraft) (q : GroupParts) (r : Result Z DocFail) (levels : ℕ) (p : GroupParts) (tag : Tag) (differs : Bool)
+    → differs ≡ not (bytes_eq tag.name.now (codes "Group")) → differs ≡ false → (levels ≡ 0 → ⊥)
+    → Steps draft_seen old new (Ok draft) (group_step (levels - 1) true tag)
+    → Returns (λ _. q) r (Ok (record p { groups = append_tree p.groups (draft_seen draft) }))
+    → Steps (λ _. q) old new r (child_step (λ s. group_child s levels) p tag)
+group_added old new draft q r levels p tag differs is e some steps puts =
+    child_as (λ _. q) old new r true false levels p tag (not_false differs _ is e) (ne_eqb levels 0 some)
+    (put_in (λ (t : ReadTree). let p' : GroupParts = record p { groups = append_tree p.groups t } in p') steps puts)
+
+-- or refused
+pub group_refused : {Z : Type 0} (view : Z → GroupParts) (old new : Course) (fail : DocFail) (levels : ℕ) (p : GroupParts) (tag : Tag) (differs : Bool)
+    → differs ≡ not (bytes_eq tag.name.now (codes "Group")) → differs ≡ false → (levels ≡ 0 → ⊥)
+    → Steps draft_seen old new (Err fail) (group_step (levels - 1) true tag)
+    → Steps view old new (Err fail) (child_step (λ s. group_child s levels) p tag)
+group_refused view old new fail levels p tag differs is e some steps =
+    child_as view old new (Err fail) true false levels p tag (not_false differs _ is e) (ne_eqb levels 0 some)
+    (refused_in (λ (t : ReadTree). let p' : GroupParts = record p { groups = append_tree p.groups t } in p') steps)
+
+-- ---- where memory runs out
+
+-- what says nothing of a value refuses nothing of an element
+pub no_memory : {A X Y : Type 0} (view : X → Y) (old new : Course) (rest : Rest Y) (e : DocFail) (w : A) → Fails e (Ok w) → new.setting ≡ old.setting → Steps view old new (Err e) rest
+no_memory view old new rest e w fails same =
+    refused view old new rest e (carried e (Ok w) (rest old.setting (innermost (open_contents old.answers)) old.cursor) (λ (never : Ok w ≡ Err e). cc) fails) same

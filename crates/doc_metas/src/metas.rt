@@ -17,6 +17,7 @@ use doc_values::{
     HashOrNone, IdValue, Number32, Signed32, Signed64, TextValue, TimeValue, TrueUnlessFalse,
 };
 use doc_walk::{Parts, Tag, Walk, custom_data, read_whole};
+use std::mem;
 use vault_model::DocForm;
 
 /// Reads a child of `Meta` where binaries are in the document: `Binaries`, after those that
@@ -174,11 +175,19 @@ impl Parts for MetaDraft {
     }
 }
 
+/// What is known of a `Meta` at its end.
+fn builder_of(draft: MetaDraft) -> MetaBuilder
+    ensures { meta_parts result ≡ meta_parts draft.known }
+{
+    draft.known
+}
+
 /// Puts what is known of a `Meta` in its place.
 fn put_meta(into: &mut MetaBuilder, draft: MetaDraft)
     ensures { meta_parts into.new ≡ meta_parts draft.known }
 {
-    *into = draft.known;
+    let before = mem::replace(into, builder_of(draft));
+    drop(before);
 }
 
 /// A `Meta`, whose start tag was given, put in its place.

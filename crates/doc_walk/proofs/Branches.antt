@@ -1,12 +1,12 @@
 -- A branch of a match on names: the element of that name, as its row reads it.
-use Rattle.std.proofs.Common.{◌≡◌, ℕ, Option, List, [], ◌++◌, refl, ap, sym, ◌∙◌, append-nil, Result, Ok, Err}
+use Rattle.std.proofs.Common.{◌≡◌, ℕ, Option, List, [], refl, ap, sym, ◌∙◌, append-nil, Result, Ok, Err}
 use Rattle.outside_core.specs.Results.{◌>>=◌}
 use Rattle.markup_grammar.specs.Elements.{element, innermost, open_contents}
 use Rattle.doc_forms.specs.declared.cursor.Cursor.{Cursor}
 use Rattle.doc_forms.specs.declared.fails.DocFail.{DocFail}
 use Rattle.doc_forms.specs.ElementTexts.{ElementText, Setting}
-use Rattle.doc_forms.specs.Children.{Child, by_name, unknown_child}
-use Rattle.doc_forms.specs.Refusals.{Fails, Returns}
+use Rattle.doc_forms.specs.Children.{Child, by_name}
+use Rattle.doc_forms.specs.Refusals.{Returns}
 use Rattle.doc_walk.proofs.Pieces.{carried}
 use Rattle.doc_walk.proofs.Rests.{same_rest, kept_step}
 use Rattle.doc_walk.proofs.Rows.{Differs, later_rows}

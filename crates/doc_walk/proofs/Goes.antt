@@ -1,9 +1,8 @@
 -- A walk inside an element: what is left says what the whole says.
-use Rattle.std.proofs.Common.{◌≡◌, ℕ, ◌<◌, ◌≤◌, List, [], ◌∷◌, ◌++◌, length, refl, ap, sym, ◌∙◌, subst, arith, false, Result, Ok, Err, OnOk}
+use Rattle.std.proofs.Common.{◌≡◌, ℕ, ◌≤◌, List, [], ◌∷◌, ◌++◌, length, refl, ap, sym, ◌∙◌, subst, arith, false, Result, Ok, Err}
 use Rattle.markup_grammar.specs.Answers.{Answer, start, words, stop, form, depth}
 use Rattle.markup_grammar.specs.Elements.{element, innermost, outer_contents, open_contents}
 use Rattle.markup_grammar.specs.Escapes.{unescaped}
-use Rattle.doc_forms.specs.declared.cursor.Cursor.{Cursor}
 use Rattle.doc_forms.specs.declared.fails.DocFail.{DocFail}
 use Rattle.doc_forms.specs.declared.fails.DocFail.TheVariants.{Form, Depth}
 use Rattle.doc_forms.specs.ElementTexts.{Setting, is_protected, text_at_end, read_rest}

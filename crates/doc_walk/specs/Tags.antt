@@ -1,5 +1,5 @@
 -- What a start tag begins.
-use Rattle.std.specs.Prelude.{[], List, ℕ, Ok, Option}
+use Rattle.std.specs.Prelude.{[], Ok, Option}
 use Rattle.markup_grammar.specs.Elements.{element}
 use Rattle.doc_forms.specs.ElementTexts.{Setting, read_rest}
 use Rattle.doc_forms.specs.Children.{Child, value_by, children_and_end, count_node}

@@ -3,7 +3,7 @@ use Rattle.std.proofs.Common.{◌≡◌, ◌≤◌, ◌+◌, ◌-◌, ℕ, zero,
 use Rattle.std.specs.FinMap.{get, contains_key}
 use Rattle.std.specs.List.{list_any}
 use Rattle.vault_model.specs.Db.{NodeId, Place, place_cmp, Db, parent_or, steps, Reaches, Sound}
-use Rattle.vault_model.specs.Join.{is_id, root_of, latest, above, is_held, buried, own, ids, trail, path, kept, IsIn, Allowed}
+use Rattle.vault_model.specs.Join.{is_id, root_of, latest, above, is_held, buried, own, ids, trail, path, kept, IsIn, IsNotEmpty, HaveOneRoot, Allowed}
 use Rattle.vault_model.specs.Unite.{greater}
 use Rattle.vault_model.proofs.Ids.{same_id, id_itself}
 use Rattle.join_laws.proofs.Facts.{held_by, held_id, latest_found, root_held, trail_head, trail_keeps}
@@ -26,7 +26,7 @@ trail_next S (suc n) v u h =
     ]
 
 -- what stands on a trail is some steps up
-trail_step : (S : List Db) (n : ℕ) (v u : NodeId) → list_any (is_id u) (trail S n v) ≡ true → (i : ℕ) × ((i ≤ n) × (steps (above S) i v ≡ u))
+pub trail_step : (S : List Db) (n : ℕ) (v u : NodeId) → list_any (is_id u) (trail S n v) ≡ true → (i : ℕ) × ((i ≤ n) × (steps (above S) i v ≡ u))
 trail_step S zero v u h = elim (or_cases (is_id u v) false h) [ inl p ↦ (zero, (omega arith, sym (same_id u v p))) | inr k ↦ apart false k refl ]
 trail_step S (suc n) v u h =
     elim (or_cases (is_id u v) (list_any (is_id u) (trail S n (above S v))) h) [
@@ -34,12 +34,13 @@ trail_step S (suc n) v u h =
       | inr k ↦ let r = trail_step S n (above S v) u k in let less = r.1.0 in (suc r.0, (omega (arith, less), r.1.1))
     ]
 
-module _ (S : List Db) (al : Allowed S) (sound : (m : Db) → IsIn m S → Sound m) where
+-- members of one root
+module _ (S : List Db) (some : IsNotEmpty S) (one : HaveOneRoot S) (sound : (m : Db) → IsIn m S → Sound m) where
   pub root_latest : latest S (root_of S) ≡ None
   root_latest =
       none-gather (greater place_cmp) (map (λ (m : Db). get m.places (root_of S)) S) (λ o h.
       let f = from_map (λ (m : Db). get m.places (root_of S)) S o h in
-      sym f.1.1 ∙ ap (get f.0.places) (sym (al.root f.0 f.1.0)) ∙ (sound f.0 f.1.0).top)
+      sym f.1.1 ∙ ap (get f.0.places) (sym (one f.0 f.1.0)) ∙ (sound f.0 f.1.0).top)
 
   pub root_stays : above S (root_of S) ≡ root_of S
   root_stays = ap (parent_or (root_of S)) root_latest
@@ -48,7 +49,7 @@ module _ (S : List Db) (al : Allowed S) (sound : (m : Db) → IsIn m S → Sound
   unfolding own
   own_held u e =
       elim (or_cases (is_id u (root_of S)) (is_held S u && not (buried S u)) e) [
-        | inl r ↦ ap (is_held S) (same_id u (root_of S) r) ∙ root_held S al.some sound
+        | inl r ↦ ap (is_held S) (same_id u (root_of S) r) ∙ root_held S some sound
         | inr k ↦ (and_true (is_held S u) (not (buried S u)) k).0
       ]
 
@@ -56,7 +57,7 @@ module _ (S : List Db) (al : Allowed S) (sound : (m : Db) → IsIn m S → Sound
   unfolding own
   root_own = or_left (is_id (root_of S) (root_of S)) (is_held S (root_of S) && not (buried S (root_of S))) (id_itself (root_of S))
 
-  parent_held : (u : NodeId) (o : Option Place) → latest S u ≡ o → is_held S u ≡ true → is_held S (parent_or u o) ≡ true
+  pub parent_held : (u : NodeId) (o : Option Place) → latest S u ≡ o → is_held S u ≡ true → is_held S (parent_or u o) ≡ true
   parent_held u None l e = e
   parent_held u (Some p) l e =
       let f = latest_found S u p l in
@@ -65,15 +66,9 @@ module _ (S : List Db) (al : Allowed S) (sound : (m : Db) → IsIn m S → Sound
   pub held_above : (u : NodeId) → is_held S u ≡ true → is_held S (above S u) ≡ true
   held_above u e = parent_held u (latest S u) refl e
 
-  steps_held : (n : ℕ) (u : NodeId) → is_held S u ≡ true → is_held S (steps (above S) n u) ≡ true
+  pub steps_held : (n : ℕ) (u : NodeId) → is_held S u ≡ true → is_held S (steps (above S) n u) ≡ true
   steps_held zero u e = e
   steps_held (suc n) u e = steps_held n (above S u) (held_above u e)
-
-  -- an own node's path ends at the root
-  pub own_arrives : (u : NodeId) → own S u ≡ true → steps (above S) (length (ids S)) u ≡ root_of S
-  own_arrives u e =
-      let r = al.acyclic u e in
-      reached_within (above S) (root_of S) root_stays r.0 (ids S) u (λ i. inr (held_id S (steps (above S) i u) (steps_held i u (own_held u e)))) r.1
 
   -- who keeps a node
   pub keeper : (u : NodeId) → kept S u ≡ true → (v : NodeId) × ((own S v ≡ true) × (list_any (is_id u) (path S v) ≡ true))
@@ -88,23 +83,31 @@ module _ (S : List Db) (al : Allowed S) (sound : (m : Db) → IsIn m S → Sound
       any_true (λ (w : NodeId). own S w && list_any (is_id u) (path S w)) (ids S) v (held_id S v (own_held v e))
       (and_both (own S v) (list_any (is_id u) (path S v)) e h)
 
+-- members that can be joined
+module _ (S : List Db) (al : Allowed S) (sound : (m : Db) → IsIn m S → Sound m) where
+  -- an own node's path ends at the root
+  pub own_arrives : (u : NodeId) → own S u ≡ true → steps (above S) (length (ids S)) u ≡ root_of S
+  own_arrives u e =
+      let r = al.acyclic u e in
+      reached_within (above S) (root_of S) (root_stays S al.some al.root sound) r.0 (ids S) u (λ i. inr (held_id S (steps (above S) i u) (steps_held S al.some al.root sound i u (own_held S al.some al.root sound u e)))) r.1
+
   pub kept_held : (u : NodeId) → kept S u ≡ true → is_held S u ≡ true
-  kept_held u e = let k = keeper u e in trail_keeps S (is_held S) held_above (length (ids S)) k.0 u (own_held k.0 k.1.0) k.1.1
+  kept_held u e = let k = keeper S al.some al.root sound u e in trail_keeps S (is_held S) (held_above S al.some al.root sound) (length (ids S)) k.0 u (own_held S al.some al.root sound k.0 k.1.0) k.1.1
 
   pub kept_root : kept S (root_of S) ≡ true
-  kept_root = keeps (root_of S) (root_of S) root_own (trail_head S (length (ids S)) (root_of S))
+  kept_root = keeps S al.some al.root sound (root_of S) (root_of S) (root_own S al.some al.root sound) (trail_head S (length (ids S)) (root_of S))
 
   pub kept_above : (u : NodeId) → kept S u ≡ true → kept S (above S u) ≡ true
   kept_above u e =
-      let k = keeper u e in
+      let k = keeper S al.some al.root sound u e in
       elim (trail_next S (length (ids S)) k.0 u k.1.1) [
-        | inl h ↦ keeps k.0 (above S u) k.1.0 h
-        | inr p ↦ let r : u ≡ root_of S = p ∙ own_arrives k.0 k.1.0 in ap (kept S) (ap (above S) r ∙ root_stays) ∙ kept_root
+        | inl h ↦ keeps S al.some al.root sound k.0 (above S u) k.1.0 h
+        | inr p ↦ let r : u ≡ root_of S = p ∙ own_arrives k.0 k.1.0 in ap (kept S) (ap (above S) r ∙ root_stays S al.some al.root sound) ∙ kept_root
       ]
 
   pub kept_reaches : (u : NodeId) → kept S u ≡ true → Reaches (above S) u (root_of S)
   kept_reaches u e =
-      let k = keeper u e in
+      let k = keeper S al.some al.root sound u e in
       let n = length (ids S) in
       let t = trail_step S n k.0 u k.1.1 in
       let within = t.1.0 in

@@ -21,6 +21,7 @@ use Rattle.join_laws.proofs.Laid.{db_entries, db_groups, in_list, list_in}
 use Rattle.vault_model.proofs.Orders.{id_order, mark_order, bytes_order}
 use Rattle.join_laws.proofs.Paths.{steps_add}
 use Rattle.join_laws.proofs.Semilattice.{some-gather}
+use Rattle.join_laws.specs.NodesBelow.{below_ids}
 use Rattle.join_laws.proofs.Tables.{find_in, some_find, get_entry, entry_get, get_single}
 use Rattle.vault_model.proofs.Tests.{and_true, not_true, or_cases, or_left, or_right, apart, is_false, none_of, some_of, some_is, decide, in_front, in_back, in_either, in_map, from_map, in_flat, from_flat}
 use Rattle.join_laws.proofs.Unite.{get-unite_all, tie, ties}
@@ -32,11 +33,11 @@ all_in test (y ∷ ys) x a (inl p) = ap test (sym p) ∙ (and_true (test y) (lis
 all_in test (y ∷ ys) x a (inr h) = all_in test ys x (and_true (test y) (list_all test ys) a).1 h
 
 -- no id stands twice, as a fact of each
-abbrev AreDistinct : List NodeId → Type 0
+abbrev pub AreDistinct : List NodeId → Type 0
 AreDistinct [] = Unit {0}
 AreDistinct (u ∷ us) = (list_any (is_id u) us ≡ false) × AreDistinct us
 
-distinct_from : (us : List NodeId) → are_distinct us ≡ true → AreDistinct us
+pub distinct_from : (us : List NodeId) → are_distinct us ≡ true → AreDistinct us
 distinct_from [] e = tt
 distinct_from (u ∷ us) e =
     let both = and_true (not (list_any (is_id u) us)) (are_distinct us) e in
@@ -44,31 +45,27 @@ distinct_from (u ∷ us) e =
 
 -- ---- ids that stand once
 
-distinct_head : (u : NodeId) (us : List NodeId) → AreDistinct (u ∷ us) → IsIn u us → ⊥
+pub distinct_head : (u : NodeId) (us : List NodeId) → AreDistinct (u ∷ us) → IsIn u us → ⊥
 distinct_head u us d h = apart (list_any (is_id u) us) (list_in u us h) d.0
 
-distinct_front : (xs ys : List NodeId) → AreDistinct (xs ++ ys) → AreDistinct xs
+pub distinct_front : (xs ys : List NodeId) → AreDistinct (xs ++ ys) → AreDistinct xs
 distinct_front [] ys d = tt
 distinct_front (x ∷ xs) ys d =
     (is_false (list_any (is_id x) xs) (λ e. distinct_head x (xs ++ ys) d (in_front xs ys x (in_list x xs e))), distinct_front xs ys d.1)
 
-distinct_back : (xs ys : List NodeId) → AreDistinct (xs ++ ys) → AreDistinct ys
+pub distinct_back : (xs ys : List NodeId) → AreDistinct (xs ++ ys) → AreDistinct ys
 distinct_back [] ys d = d
 distinct_back (x ∷ xs) ys d = distinct_back xs ys d.1
 
-distinct_apart : (xs ys : List NodeId) → AreDistinct (xs ++ ys) → (u : NodeId) → IsIn u xs → IsIn u ys → ⊥
+pub distinct_apart : (xs ys : List NodeId) → AreDistinct (xs ++ ys) → (u : NodeId) → IsIn u xs → IsIn u ys → ⊥
 distinct_apart [] ys d u h k = h
 distinct_apart (x ∷ xs) ys d u (inl p) k = distinct_head x (xs ++ ys) d (in_back xs ys x (subst (λ (v : NodeId). IsIn v ys) (sym p) k))
 distinct_apart (x ∷ xs) ys d u (inr h) k = distinct_apart xs ys d.1 u h k
 
 -- ---- the ids of the rows of a tree
 
-abbrev entry_ids : List (NodeId × EntryRecord) → List NodeId
+abbrev pub entry_ids : List (NodeId × EntryRecord) → List NodeId
 entry_ids es = map (λ (e : NodeId × EntryRecord). e.0) es
-
--- all ids but the root's
-abbrev pub below_ids : Tree → List NodeId
-below_ids (node v r es ts) = entry_ids es ++ node_ids_all ts
 
 abbrev all_below : Trees → List NodeId
 all_below none = []
@@ -84,7 +81,7 @@ below_node (node v r es ts) u h = inr h
 head_node : (t : Tree) → IsIn (id_of t) (node_ids t)
 head_node (node v r es ts) = inl refl
 
-heads_nodes : (ts : Trees) (u : NodeId) → IsIn u (ids_of ts) → IsIn u (node_ids_all ts)
+pub heads_nodes : (ts : Trees) (u : NodeId) → IsIn u (ids_of ts) → IsIn u (node_ids_all ts)
 heads_nodes none u h = h
 heads_nodes (beside t ts) u (inl p) = in_front (node_ids t) (node_ids_all ts) u (subst (λ (v : NodeId). IsIn v (node_ids t)) p (head_node t))
 heads_nodes (beside t ts) u (inr h) = in_back (node_ids t) (node_ids_all ts) u (heads_nodes ts u h)
@@ -150,7 +147,7 @@ own_apart v es ts u d h k =
 
 -- a child's parent is one
 mutual
-  one_parent : (t : Tree) (g h u : NodeId) → AreDistinct (node_ids t) → IsKid (child_rows t) g u → IsKid (child_rows t) h u → g ≡ h
+  pub one_parent : (t : Tree) (g h u : NodeId) → AreDistinct (node_ids t) → IsKid (child_rows t) g u → IsKid (child_rows t) h u → g ≡ h
   one_parent (node v r es ts) g h u d (c, (inl p, k)) (e, (inl q, l)) = ap (λ (x : NodeId × Children). x.0) (sym p) ∙ ap (λ (x : NodeId × Children). x.0) q
   one_parent (node v r es ts) g h u d (c, (inl p, k)) (e, (inr j, l)) =
       absurd (own_apart v es ts u d (subst (λ (x : NodeId × Children). IsIn u (x.1.entries ++ x.1.groups)) (sym p) k) (kids_below ts h u (e, (j, l))))
@@ -175,7 +172,7 @@ mutual
 
 -- the rows of a tree are of its nodes
 mutual
-  row_node : (t : Tree) (g : NodeId) (c : Children) → IsIn (g, c) (child_rows t) → IsIn g (node_ids t)
+  pub row_node : (t : Tree) (g : NodeId) (c : Children) → IsIn (g, c) (child_rows t) → IsIn g (node_ids t)
   row_node (node v r es ts) g c (inl p) = inl (ap (λ (x : NodeId × Children). x.0) p)
   row_node (node v r es ts) g c (inr h) = inr (in_back (entry_ids es) (node_ids_all ts) g (rows_nodes ts g c h))
 
@@ -189,7 +186,7 @@ mutual
 
 -- a group has one row of children
 mutual
-  one_row : (t : Tree) (g : NodeId) (b c : Children) → AreDistinct (node_ids t) → IsIn (g, b) (child_rows t) → IsIn (g, c) (child_rows t) → b ≡ c
+  pub one_row : (t : Tree) (g : NodeId) (b c : Children) → AreDistinct (node_ids t) → IsIn (g, b) (child_rows t) → IsIn (g, c) (child_rows t) → b ≡ c
   one_row (node v r es ts) g b c d (inl p) (inl q) = ap (λ (x : NodeId × Children). x.1) (sym p) ∙ ap (λ (x : NodeId × Children). x.1) q
   one_row (node v r es ts) g b c d (inl p) (inr j) =
       absurd (distinct_head v (entry_ids es ++ node_ids_all ts) d (in_back (entry_ids es) (node_ids_all ts) v (subst (λ (x : NodeId). IsIn x (node_ids_all ts)) (ap (λ (x : NodeId × Children). x.0) (sym p)) (rows_nodes ts g c j))))
@@ -219,7 +216,7 @@ mutual
         | inr i ↦ in_back (entry_ids es) (node_ids_all ts) u (entries_nodes ts u e i)
       ]
 
-  entries_nodes : (ts : Trees) (u : NodeId) (e : EntryRecord) → IsIn (u, e) (entry_rows_all ts) → IsIn u (node_ids_all ts)
+  pub entries_nodes : (ts : Trees) (u : NodeId) (e : EntryRecord) → IsIn (u, e) (entry_rows_all ts) → IsIn u (node_ids_all ts)
   entries_nodes none u e h = absurd h
   entries_nodes (beside t ts) u e h =
       elim (in_either (entry_rows t) (entry_rows_all ts) (u, e) h) [
@@ -232,7 +229,7 @@ mutual
   group_node (node v r es ts) u g (inl p) = inl (ap (λ (x : NodeId × GroupRecord). x.0) p)
   group_node (node v r es ts) u g (inr h) = inr (in_back (entry_ids es) (node_ids_all ts) u (groups_nodes ts u g h))
 
-  groups_nodes : (ts : Trees) (u : NodeId) (g : GroupRecord) → IsIn (u, g) (group_rows_all ts) → IsIn u (node_ids_all ts)
+  pub groups_nodes : (ts : Trees) (u : NodeId) (g : GroupRecord) → IsIn (u, g) (group_rows_all ts) → IsIn u (node_ids_all ts)
   groups_nodes none u g h = absurd h
   groups_nodes (beside t ts) u g h =
       elim (in_either (group_rows t) (group_rows_all ts) (u, g) h) [
@@ -242,7 +239,7 @@ mutual
 
 -- no id is an entry's and a group's
 mutual
-  kinds_apart : (t : Tree) (u : NodeId) (e : EntryRecord) (g : GroupRecord) → AreDistinct (node_ids t) → IsIn (u, e) (entry_rows t) → IsIn (u, g) (group_rows t) → ⊥
+  pub kinds_apart : (t : Tree) (u : NodeId) (e : EntryRecord) (g : GroupRecord) → AreDistinct (node_ids t) → IsIn (u, e) (entry_rows t) → IsIn (u, g) (group_rows t) → ⊥
   kinds_apart (node v r es ts) u e g d h (inl q) =
       distinct_head v (entry_ids es ++ node_ids_all ts) d (subst (λ (x : NodeId). IsIn x (entry_ids es ++ node_ids_all ts)) (ap (λ (x : NodeId × GroupRecord). x.0) (sym q)) (entry_node (node v r es ts) u e h))
   kinds_apart (node v r es ts) u e g d h (inr j) =
@@ -298,7 +295,7 @@ mutual
       ]
 
 mutual
-  row_group : (t : Tree) (g : NodeId) (c : Children) → IsIn (g, c) (child_rows t) → (r : GroupRecord) × IsIn (g, r) (group_rows t)
+  pub row_group : (t : Tree) (g : NodeId) (c : Children) → IsIn (g, c) (child_rows t) → (r : GroupRecord) × IsIn (g, r) (group_rows t)
   row_group (node v r es ts) g c (inl p) = (r, inl (λ i. (ap (λ (x : NodeId × Children). x.0) p i, r)))
   row_group (node v r es ts) g c (inr h) = let f = rows_groups ts g c h in (f.0, inr f.1)
 
@@ -397,7 +394,7 @@ versions_not_empty e =
 -- ---- the database
 
 module _ (d : BareDoc) (is : IsDoc d) where
-  distinct : AreDistinct (node_ids d.tree)
+  pub distinct : AreDistinct (node_ids d.tree)
   distinct = distinct_from (node_ids d.tree) is.distinct
 
   abbrev pub s : Shape
@@ -414,7 +411,7 @@ module _ (d : BareDoc) (is : IsDoc d) where
   unfolding shape_of
   shape_group u = get-from_entries id_order.total (group_rows d.tree) u
 
-  shape_kids : (u : NodeId) → get s.children u ≡ find id_cmp u (child_rows d.tree)
+  pub shape_kids : (u : NodeId) → get s.children u ≡ find id_cmp u (child_rows d.tree)
   unfolding shape_of
   shape_kids u = get-from_entries id_order.total (child_rows d.tree) u
 
@@ -448,12 +445,12 @@ module _ (d : BareDoc) (is : IsDoc d) where
       let o = option_some (λ (r : GroupRecord). r.state) (get s.groups u) g (sym (db_groups s u) ∙ e) in
       (o.0, (find_in id_order.total id_order.same (group_rows d.tree) u o.0 (sym (shape_group u) ∙ o.1.0), o.1.1))
 
-  entry_there : (u : NodeId) (e : EntryRecord) → IsIn (u, e) (entry_rows d.tree) → contains_key db.entries u ≡ true
+  pub entry_there : (u : NodeId) (e : EntryRecord) → IsIn (u, e) (entry_rows d.tree) → contains_key db.entries u ≡ true
   entry_there u e h =
       let f = some_find id_order.total id_order.same (entry_rows d.tree) u e h in
       ap is_some (db_entries s u ∙ ap (option_map versions_of) (shape_entry u ∙ f.1))
 
-  group_there : (u : NodeId) (r : GroupRecord) → IsIn (u, r) (group_rows d.tree) → contains_key db.groups u ≡ true
+  pub group_there : (u : NodeId) (r : GroupRecord) → IsIn (u, r) (group_rows d.tree) → contains_key db.groups u ≡ true
   group_there u r h =
       let f = some_find id_order.total id_order.same (group_rows d.tree) u r h in
       ap is_some (db_groups s u ∙ ap (option_map (λ (g : GroupRecord). g.state)) (shape_group u ∙ f.1))

@@ -226,7 +226,7 @@ module _ (S : List Db) (al : Allowed S) (sound : (m : Db) → IsIn m S → Sound
   pub join_sound : Sound (join S)
   join_sound = record {
     root = ap (contains_key (join S).groups) (join_root S) ∙ root_group;
-    top = ap (get (join S).places) (join_root S) ∙ join_places S (root_of S) ∙ both_none (kept S (root_of S)) (latest S (root_of S)) (root_latest S al sound);
+    top = ap (get (join S).places) (join_root S) ∙ join_places S (root_of S) ∙ both_none (kept S (root_of S)) (latest S (root_of S)) (root_latest S al.some al.root sound);
     kinds = λ u e. let k = entry_kept u e in is_false (contains_key (join S).groups u) (λ g.
         let l = group_kept u g in
         apart (contains_key l.1.0.groups u) l.1.1.1 (al.kinds k.1.0 l.1.0 u k.1.1.0 l.1.1.0 k.1.1.1));

@@ -15,11 +15,11 @@ use Rattle.vault_model.proofs.Tests.{decide, apart, some_of, none_of, is_false, 
 use Rattle.join_laws.proofs.Unite.{tie, ties}
 use Rattle.join_laws.proofs.Versions.{never}
 
-both_parts : (a b : Bool) → T (a && b) → T a × T b
+pub both_parts : (a b : Bool) → T (a && b) → T a × T b
 both_parts true b h = (tt, h)
 both_parts false b h = absurd h
 
-is_less : (r : Ordering) → T (is_lt r) → r ≡ Less
+pub is_less : (r : Ordering) → T (is_lt r) → r ≡ Less
 is_less Less h = refl
 is_less Equal h = absurd h
 is_less Greater h = absurd h
@@ -39,7 +39,7 @@ module _ {K X : Type 0} {R : K → K → Ordering} (o : IsTotalOrder R) (same : 
         | inr t ↦ inr (find_in ds q x (sym (ap (λ b. cond b (Some d.1) (find R q ds)) t) ∙ e))
       ]
 
-  below_in : (k : K) (es : List (K × X)) (e : K × X) → T (below_all R k es) → IsIn e es → R k e.0 ≡ Less
+  pub below_in : (k : K) (es : List (K × X)) (e : K × X) → T (below_all R k es) → IsIn e es → R k e.0 ≡ Less
   below_in k [] e h i = absurd i
   below_in k (d ∷ ds) e h (inl p) = ap (λ (w : K × X). R k w.0) (sym p) ∙ is_less (R k d.0) (both_parts (is_lt (R k d.0)) (below_all R k ds) h).0
   below_in k (d ∷ ds) e h (inr i) = below_in k ds e (both_parts (is_lt (R k d.0)) (below_all R k ds) h).1 i

@@ -26,7 +26,7 @@ module _ {A : Type 0} (m : FinMap id_cmp A) where
   with_cases u (Some x) rows e (inl p) = inl (ap (λ (w : NodeId × A). w.0) (sym p), ap (λ (w : NodeId × A). Some w.1) p)
   with_cases u (Some x) rows e (inr h) = inr h
 
-  records_right : (us : List NodeId) (e : NodeId × A) → IsIn e (with_records m us) → (get m e.0 ≡ Some e.1) × IsIn e.0 us
+  pub records_right : (us : List NodeId) (e : NodeId × A) → IsIn e (with_records m us) → (get m e.0 ≡ Some e.1) × IsIn e.0 us
   records_right [] e h = absurd h
   records_right (u ∷ us) e h =
       elim (with_cases u (get m u) (with_records m us) e h) [
@@ -69,7 +69,7 @@ trees_ids : (s : Shape) (k : ℕ) (cs : List (NodeId × GroupRecord)) → ids_of
 trees_ids s k [] = refl
 trees_ids s k (c ∷ cs) = λ i. tree_id s k c.0 c.1 i ∷ trees_ids s k cs i
 
-entries_among : (ts : List Tree) (e : NodeId × EntryRecord) → IsIn e (entry_rows_all (all_trees ts)) → (t : Tree) × (IsIn t ts × IsIn e (entry_rows t))
+pub entries_among : (ts : List Tree) (e : NodeId × EntryRecord) → IsIn e (entry_rows_all (all_trees ts)) → (t : Tree) × (IsIn t ts × IsIn e (entry_rows t))
 entries_among [] e h = absurd h
 entries_among (t ∷ ts) e h =
     elim (in_either (entry_rows t) (entry_rows_all (all_trees ts)) e h) [
@@ -77,7 +77,7 @@ entries_among (t ∷ ts) e h =
       | inr k ↦ let f = entries_among ts e k in (f.0, (inr f.1.0, f.1.1))
     ]
 
-groups_among : (ts : List Tree) (e : NodeId × GroupRecord) → IsIn e (group_rows_all (all_trees ts)) → (t : Tree) × (IsIn t ts × IsIn e (group_rows t))
+pub groups_among : (ts : List Tree) (e : NodeId × GroupRecord) → IsIn e (group_rows_all (all_trees ts)) → (t : Tree) × (IsIn t ts × IsIn e (group_rows t))
 groups_among [] e h = absurd h
 groups_among (t ∷ ts) e h =
     elim (in_either (group_rows t) (group_rows_all (all_trees ts)) e h) [
@@ -110,7 +110,7 @@ among_children (x ∷ xs) t e (inr h) k = in_back (child_rows x) (child_rows_all
 
 -- ---- each row of a made tree is the shape's
 
-entries_right : (s : Shape) (k : ℕ) (g : NodeId) (r : GroupRecord) (e : NodeId × EntryRecord) → IsIn e (entry_rows (tree_of s k g r)) → get s.entries e.0 ≡ Some e.1
+pub entries_right : (s : Shape) (k : ℕ) (g : NodeId) (r : GroupRecord) (e : NodeId × EntryRecord) → IsIn e (entry_rows (tree_of s k g r)) → get s.entries e.0 ≡ Some e.1
 entries_right s zero g r e h =
     elim (in_either (with_records s.entries (kids s g).entries) [] e h) [
       | inl x ↦ (records_right s.entries (kids s g).entries e x).0
@@ -125,7 +125,7 @@ entries_right s (suc k) g r e h =
           entries_right s k c.0.0 c.0.1 e (subst (λ (t : Tree). IsIn e (entry_rows t)) (sym c.1.1) f.1.1)
     ]
 
-groups_right : (s : Shape) (k : ℕ) (g : NodeId) (r : GroupRecord) (e : NodeId × GroupRecord) → get s.groups g ≡ Some r → IsIn e (group_rows (tree_of s k g r)) → get s.groups e.0 ≡ Some e.1
+pub groups_right : (s : Shape) (k : ℕ) (g : NodeId) (r : GroupRecord) (e : NodeId × GroupRecord) → get s.groups g ≡ Some r → IsIn e (group_rows (tree_of s k g r)) → get s.groups e.0 ≡ Some e.1
 groups_right s zero g r e q (inl p) = subst (λ (w : NodeId × GroupRecord). get s.groups w.0 ≡ Some w.1) p q
 groups_right s zero g r e q (inr h) = absurd h
 groups_right s (suc k) g r e q (inl p) = subst (λ (w : NodeId × GroupRecord). get s.groups w.0 ≡ Some w.1) p q

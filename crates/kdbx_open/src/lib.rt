@@ -6,6 +6,8 @@ mod documents;
 mod fail;
 pub mod laws;
 mod opening;
+mod sealings;
 
 pub use fail::OpenFail;
 pub use opening::{FILE_LIMIT, Opened, open_file};
+pub use sealings::{Sealing, release_key};

@@ -12,12 +12,12 @@ use Rattle.cli_lines.proofs.Inputs.{left_alone}
 use Rattle.cli_words.specs.Needs.{files_named, key_files, needs_of}
 use Rattle.cli_words.specs.declared.command.Command.{Command}
 use Rattle.cli_writing.specs.Writing.{IsSame, KeepsDraft, KeepsFiles, Store}
-use Rattle.keepass_call.specs.declared.execute.Output.{Output}
+use Rattle.cli_commands.specs.declared.output.Output.{Output}
 use Rattle.keepass_call.specs.declared.task.Task as memory
-use Rattle.keepass_call.specs.Commands.{writes}
+use Rattle.cli_commands.specs.Commands.{writes}
 use Rattle.keepass_call.specs.Endings.{Ending, Ends, EndsRefused, IsOfDice, IsOfSomeDice, carried_out}
 use Rattle.keepass_call.specs.Outcome.{IsOfSomeFile, IsOfTask, World, answer_of}
-use Rattle.keepass_call.specs.SeenChange.{output_text}
+use Rattle.cli_commands.specs.SeenChange.{output_text}
 use Rattle.cli_words.specs.Words.{command_of}
 use Rattle.keepass_call.specs.Tasks.{HasSomeFile, Task, draws, draws_by, task_of, writes_by}
 

@@ -13,12 +13,12 @@ use Rattle.cli_answers.specs.Messages.{error_line, reason_text, status_of}
 use Rattle.cli_answers.specs.Phases.{IsCaused, IsLeft, Leaves, StreamAnswer}
 use Rattle.cli_words.specs.Needs.{files_named}
 use Rattle.cli_writing.specs.Writing.{IsSame, KeepsDraft, KeepsFiles}
-use Rattle.keepass_call.specs.declared.execute.Output.{Output}
+use Rattle.cli_commands.specs.declared.output.Output.{Output}
 use Rattle.keepass_call.specs.Call.{IsCall}
 use Rattle.keepass_call.specs.Endings.{Ending, Ends, EndsRefused, EndsSo, Stores}
 use Rattle.keepass_call.specs.Held.{IsAuthentic, IsComplete}
 use Rattle.keepass_call.specs.Outcome.{Counts, Gains, IsAsSaid, IsCut, IsOfSomeFile, IsOfTask, IsRefused, IsSafe, NoFaults, Outcome, PrintsOfSomeFile, Seen, Tells, TellsFault, WhereTold, World, answer_of, ended, outcome}
-use Rattle.keepass_call.specs.SeenChange.{output_text}
+use Rattle.cli_commands.specs.SeenChange.{output_text}
 use Rattle.cli_words.specs.Words.{command_of}
 use Rattle.keepass_call.specs.Tasks.{draws_by, left_of, writes_by}
 use Rattle.keepass_call.specs.Telling.{IsPrinted, IsTold}

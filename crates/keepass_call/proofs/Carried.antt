@@ -10,22 +10,22 @@ use Rattle.cli_answers.specs.declared.answers.Refusal.{Refusal}
 use Rattle.cli_answers.specs.declared.answers.Stop.{Stop}
 use Rattle.cli_answers.specs.declared.answers.Stop.TheVariants.{Refused, FileFault, InputFault, NoMemory}
 use Rattle.cli_answers.specs.Phases.{IsCommandStop, IsLeft, IsStreamStop, RefusesAskedStream, StreamAnswer, TellsStream, then_left, with_left}
-use Rattle.cli_databases.specs.declared.databases.Sealing.{Sealing}
+use Rattle.kdbx_open.specs.declared.sealings.Sealing.{Sealing}
 use Rattle.cli_databases.specs.Databases.{Opened}
 use Rattle.cli_databases.proofs.Stops.{rose_before}
 use Rattle.cli_lines.proofs.Inputs.{left_alone, left_so, told_by}
 use Rattle.cli_lines.specs.Lines.{Lines}
 use Rattle.cli_sealing.specs.Sealing.{Seals}
 use Rattle.cli_words.specs.declared.command.Command.{Command}
-use Rattle.cli_words.specs.declared.command.Command.TheVariants.{Ls, Add, Edit}
+use Rattle.cli_words.specs.declared.command.Command.TheVariants.{Ls, Add, Edit, Mv, Rm, Mkdir, Rmdir}
 use Rattle.cli_words.specs.Needs.{needs_of}
 use Rattle.cli_writing.specs.Held.{IsWritten}
 use Rattle.cli_writing.specs.Writing.{IsSame, IsWriteStop, KeepsDraft, KeepsFiles, NewFile, Store, Writes, plain_file}
-use Rattle.keepass_call.specs.declared.execute.Output.{Output}
+use Rattle.cli_commands.specs.declared.output.Output.{Output}
 use Rattle.cli_listing.specs.Listing.{tree_listed}
-use Rattle.keepass_call.specs.Commands.{Change, change_of, draws_id, listing_of, writes}
+use Rattle.cli_commands.specs.Commands.{Change, change_of, draws_id, listing_of, writes}
 use Rattle.keepass_call.specs.Endings.{Ending, Ends, EndsRefused, EndsSo, EndsWith, HoldsNew, IsOfDice, IsOfSomeDice, ReadsBack, WritesNew, carried_out, ended_with, ending_with, ending_without, kept_sealing, new_file}
-use Rattle.keepass_call.specs.SeenChange.{doc_if, output_text}
+use Rattle.cli_commands.specs.SeenChange.{doc_if, output_text}
 use Rattle.keepass_call.specs.Tasks.{Task, draws, task_with}
 
 -- ---- the file
@@ -131,6 +131,10 @@ tells_id command (Some x) d t = t
 tells_id (Ls access file group recursive flat) None d t = refl
 tells_id (Add access file entry asked) None d t = t
 tells_id (Edit access file entry asked) None d t = refl
+tells_id (Mv access file node group) None d t = refl
+tells_id (Rm access file entry) None d t = t
+tells_id (Mkdir access file group) None d t = t
+tells_id (Rmdir access file group) None d t = t
 
 -- What is left is reported, where a file is sealed.
 pub tells_after : (asked sealed : Bool) (old mid : Option (List ℕ)) (d l : List ℕ) → (asked ≡ false → sealed ≡ false) → TellsStream asked old d → IsLeft old mid l
@@ -142,6 +146,10 @@ pub no_id : (command : Command) → draws command ≡ false → draws_id command
 no_id (Ls access file group recursive flat) e = refl
 no_id (Add access file entry asked) e = e
 no_id (Edit access file entry asked) e = refl
+no_id (Mv access file node group) e = refl
+no_id (Rm access file entry) e = e
+no_id (Mkdir access file group) e = e
+no_id (Rmdir access file group) e = e
 
 -- ---- a task
 
@@ -231,6 +239,10 @@ carried_kept time (Ls access file group recursive flat) lines doc sealing dice =
     listed_so file file recursive flat (tree_listed group doc) None sealing dice
 carried_kept time (Add access file entry asked) lines doc sealing dice = refl
 carried_kept time (Edit access file entry asked) lines doc sealing dice = refl
+carried_kept time (Mv access file node group) lines doc sealing dice = refl
+carried_kept time (Rm access file entry) lines doc sealing dice = refl
+carried_kept time (Mkdir access file group) lines doc sealing dice = refl
+carried_kept time (Rmdir access file group) lines doc sealing dice = refl
 
 pub ends_kept : (time : ℕ) (command : Command) (lines : Lines) (doc : BareDoc) (sealing kept : Option Sealing) (d : List ℕ) (result : Result Output Stop) (before now : Store) (dice dice' : Option (List ℕ))
     → kept ≡ kept_sealing (writes command) sealing
@@ -259,6 +271,10 @@ of_dice_kept time (Ls access file group recursive flat) lines doc sealing d prin
 }
 of_dice_kept time (Add access file entry asked) lines doc sealing d printed before now h = h
 of_dice_kept time (Edit access file entry asked) lines doc sealing d printed before now h = h
+of_dice_kept time (Mv access file node group) lines doc sealing d printed before now h = h
+of_dice_kept time (Rm access file entry) lines doc sealing d printed before now h = h
+of_dice_kept time (Mkdir access file group) lines doc sealing d printed before now h = h
+of_dice_kept time (Rmdir access file group) lines doc sealing d printed before now h = h
 
 pub all_kept : (time : ℕ) (command : Command) (lines : Lines) (doc : BareDoc) (sealing kept : Option Sealing) (d : List ℕ) (result : Result Output Stop) (before now : Store)
     → kept ≡ kept_sealing (writes command) sealing
@@ -286,6 +302,10 @@ undrawn_unsealed : (command : Command) (sealing : Option Sealing) → is_some se
 undrawn_unsealed (Ls access file group recursive flat) sealing h e = refl
 undrawn_unsealed (Add access file entry asked) sealing h e = cc
 undrawn_unsealed (Edit access file entry asked) sealing h e = h ∙ e
+undrawn_unsealed (Mv access file node group) sealing h e = h ∙ e
+undrawn_unsealed (Rm access file entry) sealing h e = cc
+undrawn_unsealed (Mkdir access file group) sealing h e = cc
+undrawn_unsealed (Rmdir access file group) sealing h e = cc
 
 pub unsealed_kept : (command : Command) (sealing kept : Option Sealing) → kept ≡ kept_sealing (writes command) sealing
     → is_some sealing ≡ not (needs_of command).access.plain → draws command ≡ false → is_some kept ≡ false

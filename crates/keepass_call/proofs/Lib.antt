@@ -1,6 +1,5 @@
 pub mod Answered
 pub mod Calls
 pub mod Carried
-pub mod Changes
 pub mod HeldTasks
 pub mod Tasks

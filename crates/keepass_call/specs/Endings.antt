@@ -6,14 +6,14 @@ use Rattle.cli_answers.specs.declared.answers.Stop.{Stop}
 use Rattle.cli_answers.specs.declared.answers.Stop.TheVariants.{Refused, FileFault, InputFault, NoMemory}
 use Rattle.cli_answers.specs.Phases.{IsLeft, StreamAnswer, then_left, with_left}
 use Rattle.cli_words.specs.Needs.{needs_of}
-use Rattle.cli_databases.specs.declared.databases.Sealing.{Sealing}
+use Rattle.kdbx_open.specs.declared.sealings.Sealing.{Sealing}
 use Rattle.cli_writing.specs.Held.{HoldsPlain, IsWritten}
 use Rattle.cli_writing.specs.Writing.{HasFile, IsSame, NewFile, RefusesFile, Store, WritesFile, plain_file}
 use Rattle.cli_sealing.specs.Held.{HoldsSealed}
 use Rattle.cli_sealing.specs.Sealing.{sealed_file, settings_for}
-use Rattle.keepass_call.specs.declared.execute.Output.{Output}
-use Rattle.keepass_call.specs.Commands.{Change, change_of}
-use Rattle.keepass_call.specs.SeenChange.{output_text}
+use Rattle.cli_commands.specs.declared.output.Output.{Output}
+use Rattle.cli_commands.specs.Commands.{Change, change_of}
+use Rattle.cli_commands.specs.SeenChange.{output_text}
 use Rattle.keepass_call.specs.Tasks.{Task}
 
 -- ---- what is defined

@@ -5,7 +5,7 @@ use Rattle.cli_words.specs.Needs.{needs_of}
 use Rattle.cli_words.specs.Words.{command_of}
 use Rattle.cli_lines.specs.Lines.{lines_of}
 use Rattle.cli_databases.specs.Held.{Holds}
-use Rattle.keepass_call.specs.Commands.{Change, change_of}
+use Rattle.cli_commands.specs.Commands.{Change, change_of}
 use Rattle.keepass_call.specs.Endings.{Ending, ReadsBack, Stores, carried_out}
 use Rattle.keepass_call.specs.Outcome.{Counts, Gains, NoFaults, Seen, World}
 use Rattle.keepass_call.specs.Tasks.{Task}

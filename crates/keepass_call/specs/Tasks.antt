@@ -5,13 +5,13 @@ use Rattle.outside_core.specs.Files.{FileMap}
 use Rattle.outside_core.specs.Results.{◌>>=◌}
 use Rattle.cli_answers.specs.declared.answers.Refusal.{Refusal}
 use Rattle.cli_words.specs.declared.command.Command.{Command}
-use Rattle.cli_words.specs.declared.command.Command.TheVariants.{Ls, Add, Edit}
+use Rattle.cli_words.specs.declared.command.Command.TheVariants.{Ls, Add, Edit, Mv, Rm, Mkdir, Rmdir}
 use Rattle.cli_words.specs.Needs.{asks_line, needs_of}
 use Rattle.cli_words.specs.Words.{command_of}
 use Rattle.cli_lines.specs.Lines.{HasLines, Lines, lines_of}
 use Rattle.cli_databases.specs.Databases.{Opened, database_of}
 use Rattle.cli_databases.specs.SomeFiles.{SomeDatabase}
-use Rattle.keepass_call.specs.Commands.{writes}
+use Rattle.cli_commands.specs.Commands.{writes}
 
 -- What a call is to do: its command, the lines that this asked for, and the database that was
 -- opened.
@@ -38,11 +38,15 @@ abbrev pub asked_by : Result Command Refusal → Bool
 asked_by (Ok command) = asks_line (needs_of command)
 asked_by (Err refusal) = false
 
--- A command draws: for the id of a new entry, and for a sealed file.
+-- A command draws: for the id of a node that it may make, and for a sealed file.
 abbrev pub draws : Command → Bool
 draws (Ls access file group recursive flat) = false
 draws (Add access file entry asked) = true
 draws (Edit access file entry asked) = not access.plain
+draws (Mv access file node group) = not access.plain
+draws (Rm access file entry) = true
+draws (Mkdir access file group) = true
+draws (Rmdir access file group) = true
 
 -- Whether words are a command that draws.
 abbrev pub draws_by : Result Command Refusal → Bool

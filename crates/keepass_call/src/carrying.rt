@@ -9,18 +9,20 @@ ghost use Rattle.cli_lines.specs.SeenLines.{lines_seen};
 ghost use Rattle.cli_words.specs.Needs.{needs_of};
 ghost use Rattle.cli_writing.specs.Held.{IsWritten};
 ghost use Rattle.cli_writing.specs.Writing.{IsSame, KeepsDraft, KeepsFiles, store};
-ghost use Rattle.keepass_call.specs.Commands.{writes};
+ghost use Rattle.cli_commands.specs.Commands.{writes};
 ghost use Rattle.keepass_call.specs.Endings.{Ends, EndsWith, HoldsNew, IsOfDice, IsOfSomeDice, ReadsBack, WritesNew, carried_out, ended_with, kept_sealing, new_file};
-ghost use Rattle.keepass_call.specs.SeenChange.{doc_if, output_text, task_seen};
+ghost use Rattle.cli_commands.specs.SeenChange.{doc_if, output_text};
+ghost use Rattle.keepass_call.specs.SeenTask.{task_seen};
 ghost use Rattle.keepass_call.specs.Tasks.{draws};
 
-use crate::execute::{Output, perform};
 use crate::task::{Task, bytes_in};
 use cli_answers::Stop;
-use cli_databases::{Opened, Sealing, release_key};
+use cli_commands::{Output, is_writing, perform};
+use cli_databases::Opened;
 use cli_sealing::write_sealed;
 use cli_words::Command;
 use cli_writing::write_plain;
+use kdbx_open::{Sealing, release_key};
 use outside_core::{Dice, FileStore};
 use std::alloc::Global;
 use vault_model::Doc;
@@ -29,22 +31,7 @@ use vault_model::Doc;
 fn file_of(command: &Command) -> &str
     ensures { result.now ≡ (needs_of command.now).file }
 {
-    match command {
-        Command::Ls { file, .. } => file.as_str(),
-        Command::Add { file, .. } => file.as_str(),
-        Command::Edit { file, .. } => file.as_str(),
-    }
-}
-
-// Reports whether a command writes its database.
-fn is_writing(command: &Command) -> bool
-    ensures { result ≡ writes command.now }
-{
-    match command {
-        Command::Ls { .. } => false,
-        Command::Add { .. } => true,
-        Command::Edit { .. } => true,
-    }
+    cli_words::needs_of(command).file.as_str()
 }
 
 // What a database is sealed with is kept if it is written again. Otherwise its composite key is
@@ -60,10 +47,13 @@ fn keep_if(is_written: bool, sealing: &mut Option<Sealing>)
 // Lets a task go, whose composite key is cleared and released.
 fn let_go(task: Task) {
     let Task {
-        command: _,
-        lines: _,
-        opened: Opened { doc: _, sealing },
+        command,
+        lines,
+        opened: Opened { doc, sealing },
     } = task;
+    drop(command);
+    drop(lines);
+    drop(doc);
     release_key(sealing);
 }
 

@@ -2,7 +2,6 @@
 #![tactic(auto)]
 
 mod carrying;
-mod execute;
 mod run;
 mod task;
 

@@ -8,15 +8,15 @@ ghost use Rattle.cli_writing.specs.Writing.{IsSame, KeepsDraft, KeepsFiles, stor
 ghost use Rattle.keepass_call.specs.Call.{IsCall};
 ghost use Rattle.keepass_call.specs.Endings.{Ends};
 ghost use Rattle.keepass_call.specs.Outcome.{IsOfSomeFile, IsOfTask, World, answer_of, counts, seen};
-ghost use Rattle.keepass_call.specs.SeenChange.{output_text};
+ghost use Rattle.cli_commands.specs.SeenChange.{output_text};
 ghost use Rattle.cli_words.specs.Words.{command_of};
 ghost use Rattle.keepass_call.specs.Tasks.{asked_by, draws_by, left_of, writes_by};
 ghost use Rattle.keepass_call.specs.Telling.{IsPrinted, IsTold, IsUnwritten, TellsLine};
 
 use crate::carrying::carry_out;
-use crate::execute::{Output, lend_text};
 use crate::task::read_task;
 use cli_answers::{Reason, Stop, line, status, text_of_reason};
+use cli_commands::{Output, lend_text};
 use outside_core::{Dice, FileStore, NoMemory, Sink, SinkFail, Source, write_all};
 use std::alloc::Global;
 

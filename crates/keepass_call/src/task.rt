@@ -6,7 +6,7 @@ ghost use Rattle.cli_answers.specs.Phases.{IsEarlyStop, Leaves, Returns, TellsSt
 ghost use Rattle.cli_lines.specs.Lines.{IsTextLine};
 ghost use Rattle.cli_lines.specs.SeenLines.{lines_seen};
 ghost use Rattle.cli_words.specs.Needs.{files_named, needs_of};
-ghost use Rattle.keepass_call.specs.SeenChange.{task_seen};
+ghost use Rattle.keepass_call.specs.SeenTask.{task_seen};
 ghost use Rattle.cli_words.specs.Words.{command_of};
 ghost use Rattle.keepass_call.specs.Tasks.{HasSomeFile, asked_by, left_of, task_of};
 
@@ -74,8 +74,21 @@ pub fn read_task<F: FileStore, S: Source>(
 {
     let command = read_words(alloc, words)?;
     let needs = cli_words::needs_of(&command);
-    let lines = read_lines(alloc, input, needs)?;
-    let opened = open(alloc, files, needs, bytes_in(&lines.password))?;
+    let lines = match read_lines(alloc, input, needs) {
+        Ok(lines) => lines,
+        Err(stop) => {
+            drop(command);
+            return Err(stop);
+        }
+    };
+    let opened = match open(alloc, files, needs, bytes_in(&lines.password)) {
+        Ok(opened) => opened,
+        Err(stop) => {
+            drop(lines);
+            drop(command);
+            return Err(stop);
+        }
+    };
     Ok(Task {
         command,
         lines,

@@ -14,14 +14,10 @@ use Rattle.join_laws.proofs.Versions.{never, version_stays}
 use Rattle.merge_core.specs.JoinLaws.{IsThere}
 use Rattle.merge_core.proofs.Regroup.{part_kept}
 
--- each version of an entry that no member has deleted is in the join
-pub version_there : (S : List Db) (m : Db) (u : NodeId) (v : Versions) (k : Mark) (s : Stats) → Agreed S → IsIn m S → get m.entries u ≡ Some v → get v k ≡ Some s
-    → ((n : Db) → IsIn n S → get n.tombs u ≡ None) → IsThere (join S) u k s
-version_there S m u v k s a h e g none =
-    let part : IsPart S S = (not_empty S m h, λ n i. i) in
-    let holds_u : holds m u ≡ true = or_left (contains_key m.entries u) (contains_key m.groups u) (some_is (get m.entries u) v e) in
-    let is_own = own_from_alive a.compatible S part u (held_by S m u h holds_u) none in
-    let is_kept : kept S u ≡ true = part_kept S S a part u ∙ is_own in
+-- each version of a kept entry is in the join
+pub kept_version : (S : List Db) (m : Db) (u : NodeId) (v : Versions) (k : Mark) (s : Stats) → IsIn m S → kept S u ≡ true → get m.entries u ≡ Some v → get v k ≡ Some s
+    → IsThere (join S) u k s
+kept_version S m u v k s h is_kept e g =
     let member : IsIn (Some v) (map (λ (n : Db). get n.entries u) S) =
     subst (λ (o : Option Versions). IsIn o (map (λ (n : Db). get n.entries u) S)) e (in_map (λ (n : Db). get n.entries u) S m h) in
     let all = some-gather (unite stats_join) (map (λ (n : Db). get n.entries u) S) v member in
@@ -34,6 +30,16 @@ version_there S m u v k s a h e g none =
       accessed = there.1.1.0;
       usage = there.1.1.1;
     }
+
+-- each version of an entry that no member has deleted is in the join
+pub version_there : (S : List Db) (m : Db) (u : NodeId) (v : Versions) (k : Mark) (s : Stats) → Agreed S → IsIn m S → get m.entries u ≡ Some v → get v k ≡ Some s
+    → ((n : Db) → IsIn n S → get n.tombs u ≡ None) → IsThere (join S) u k s
+version_there S m u v k s a h e g none =
+    let part : IsPart S S = (not_empty S m h, λ n i. i) in
+    let holds_u : holds m u ≡ true = or_left (contains_key m.entries u) (contains_key m.groups u) (some_is (get m.entries u) v e) in
+    let is_own = own_from_alive a.compatible S part u (held_by S m u h holds_u) none in
+    let is_kept : kept S u ≡ true = part_kept S S a part u ∙ is_own in
+    kept_version S m u v k s h is_kept e g
   where
     not_empty : (R : List Db) (x : Db) → IsIn x R → IsNotEmpty R
     not_empty [] x i = absurd i

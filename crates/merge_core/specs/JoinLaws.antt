@@ -79,6 +79,12 @@ pub record IsThere (m : Db) (u : NodeId) (k : Mark) (s : Stats) : Type 0 where
   pub accessed : s.accessed ≤ stats.accessed
   pub usage : s.usage ≤ stats.usage
 
+-- each version that a member has of a kept entry is in the join, whether the members agree or not
+abbrev pub KeptVersionsStay : Type 0
+KeptVersionsStay = (S : List Db) (m : Db) (u : NodeId) (v : Versions) (k : Mark) (s : Stats)
+    → IsIn m S → kept S u ≡ true → get m.entries u ≡ Some v → get v k ≡ Some s
+    → IsThere (join S) u k s
+
 -- each version of each entry that a member holds and none has deleted is in the join
 abbrev pub VersionsStay : Type 0
 VersionsStay = (S : List Db) (m : Db) (u : NodeId) (v : Versions) (k : Mark) (s : Stats) → Agreed S

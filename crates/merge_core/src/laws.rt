@@ -4,7 +4,7 @@
 ghost use Rattle.vault_model.specs.Join.{Agreed};
 ghost use Rattle.join_laws.specs.Laws.{DocumentsAreSound, JoinsAreSound, LaysSettle};
 ghost use Rattle.merge_core.specs.Example.{copies};
-ghost use Rattle.merge_core.specs.JoinLaws.{OwnIsAlive, ParentsAreOwn, KeptIsOwn, JoinHoldsOwn, JoinKeepsTombs, JoinsAgree, JoinOfJoins, PlansAgree, DocumentsAgree, VersionsStay, MergesAgain, SchedulesAgree, SameLearnedSameDb, OneIsAgreed};
+ghost use Rattle.merge_core.specs.JoinLaws.{OwnIsAlive, ParentsAreOwn, KeptIsOwn, JoinHoldsOwn, JoinKeepsTombs, JoinsAgree, JoinOfJoins, PlansAgree, DocumentsAgree, KeptVersionsStay, VersionsStay, MergesAgain, SchedulesAgree, SameLearnedSameDb, OneIsAgreed};
 
 /// What every part of an agreed set inherits: an id is own exactly where a member holds it and none
 /// has a tombstone of it; the latest parent of an own node is own, so the kept nodes are the own
@@ -28,10 +28,12 @@ pub fn plans()
     ensures documents { DocumentsAgree }
 {}
 
-/// Each version of each entry that a member of an agreed set holds and none has deleted is in the
-/// join, used at least so late and so often.
+/// Each version that a member has of a kept entry is in the join, used at least so late and so
+/// often, whether the members agree or not; and so is each version of each entry that a member of an
+/// agreed set holds and none has deleted.
 pub fn revisions()
-    ensures { VersionsStay }
+    ensures kept { KeptVersionsStay }
+    ensures agreed { VersionsStay }
 {}
 
 /// A merge of what is already in a settled target leaves the target as it is.

@@ -70,7 +70,7 @@ fn two_edits(rt: HostRuntime) -> Result<(), Fail> {
     let joined = join(alloc, &copies)?;
     assert!(rt; has_versions(&joined, &[(10, b"a"), (20, b"b"), (30, b"c")]));
     assert!(rt; stands(&joined, BANK, ROOT, 10));
-    assert!(rt; joined.tombs.rows().len() == 0);
+    assert!(rt; joined.tombs.iter().next().is_none());
     Ok(())
 }
 

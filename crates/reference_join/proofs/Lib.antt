@@ -1,4 +1,4 @@
-mod GatherMembers
-mod JoinKnown
-mod Members
-mod Trails
+pub mod GatherMembers
+pub mod JoinKnown
+pub mod Members
+pub mod Trails

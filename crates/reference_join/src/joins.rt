@@ -41,7 +41,7 @@ fn join_versions<'a>(
 }
 
 /// All versions that the members have of an entry.
-fn all_versions<'a>(
+pub fn all_versions<'a>(
     alloc: Global,
     members: &[Database<'a>],
     id: &Uuid,
@@ -71,7 +71,7 @@ fn join_state<'a>(
 }
 
 /// What all members have of a group, made one.
-fn joined_state<'a>(members: &[Database<'a>], id: &Uuid) -> Option<LentState<'a>>
+pub fn joined_state<'a>(members: &[Database<'a>], id: &Uuid) -> Option<LentState<'a>>
     ensures { result ≡ gather state_join (map (λ m. table.get m.groups id.now)
         (databases members.now)) }
 {
@@ -94,7 +94,7 @@ fn later_time(first: Option<Stamp>, second: Option<Stamp>) -> Option<Stamp>
 }
 
 /// The latest tombstone of an id.
-fn latest_tomb(members: &[Database], id: &Uuid) -> Option<Stamp>
+pub fn latest_tomb(members: &[Database], id: &Uuid) -> Option<Stamp>
     ensures { result ≡ gather max (map (λ m. table.get m.tombs id.now) (databases members.now)) }
 {
     let mut latest = None;
@@ -243,7 +243,7 @@ fn joined_tombs(
 }
 
 /// The shared values of all members, made one.
-fn joined_meta<'a>(alloc: Global, members: &[Database<'a>]) -> Result<LentMeta<'a>, NoMemory>
+pub fn joined_meta<'a>(alloc: Global, members: &[Database<'a>]) -> Result<LentMeta<'a>, NoMemory>
     requires { 0 < length members.now }
     ensures { IfOk result (λ m. shared_meta m ≡ (join (databases members.now)).meta) }
 {

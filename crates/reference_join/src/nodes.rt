@@ -50,7 +50,7 @@ pub fn latest(members: &[Database], id: &Uuid) -> Option<Placement>
 }
 
 /// The latest parent of a node; the root has no place, and stays.
-fn above(members: &[Database], id: &Uuid) -> Uuid
+pub fn above(members: &[Database], id: &Uuid) -> Uuid
     ensures { result ≡ above (databases members.now) id.now }
 {
     match latest(members, id) {
@@ -116,7 +116,7 @@ pub fn is_own(members: &[Database], id: &Uuid) -> bool
 }
 
 /// All ids that a member holds, those of entries before those of groups, member by member.
-pub(crate) fn all_ids(alloc: Global, members: &[Database]) -> Result<Vec<Uuid>, NoMemory>
+pub fn all_ids(alloc: Global, members: &[Database]) -> Result<Vec<Uuid>, NoMemory>
     ensures { IfOk result (λ us. us.items ≡ ids (databases members.now)) }
 {
     let mut held = Vec::new(alloc);
@@ -127,7 +127,7 @@ pub(crate) fn all_ids(alloc: Global, members: &[Database]) -> Result<Vec<Uuid>, 
 }
 
 /// All ids that a member knows of, those of nodes, of places and of tombstones.
-pub(crate) fn known_ids(alloc: Global, members: &[Database]) -> Result<Vec<Uuid>, NoMemory>
+pub fn known_ids(alloc: Global, members: &[Database]) -> Result<Vec<Uuid>, NoMemory>
     ensures { IfOk result (λ us. us.items ≡ known_ids (databases members.now)) }
 {
     let mut known = Vec::new(alloc);
@@ -139,7 +139,7 @@ pub(crate) fn known_ids(alloc: Global, members: &[Database]) -> Result<Vec<Uuid>
 }
 
 /// Whether a node is among another one and those that so many steps up lead to.
-pub(crate) fn is_on_trail(members: &[Database], steps: usize, from: Uuid, id: &Uuid) -> bool
+pub fn is_on_trail(members: &[Database], steps: usize, from: Uuid, id: &Uuid) -> bool
     ensures { result ≡ list_any (is_id id.now) (trail (databases members.now) steps from) }
 {
     let mut left = steps;

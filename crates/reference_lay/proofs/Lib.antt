@@ -1,2 +1,3 @@
 mod AppendWanted
+mod PutUnder
 mod RecordRows

@@ -2,20 +2,21 @@
 ghost use Rattle.std.specs.Prelude.{◌≡◌, ◌++◌, [], ◌∷◌, Some, cond, not, IfOk, OnOk, map};
 ghost use Rattle.std.specs.Option.{option_map, unwrap_or};
 ghost use Rattle.std.specs.FinMap as table;
-ghost use Rattle.std.specs.List.{list_any, filter};
-ghost use Rattle.vault_model.specs.Join.{is_id};
-ghost use Rattle.vault_model.specs.Shape.{in_order, kids, laid_children, laid_group, laid_meta, laid_stay, lay, new_view, no_stay, stay_in, stay_of, record_of, ids_in_group, stands_in, version_of, versions_in};
+ghost use Rattle.std.specs.List.{filter};
+ghost use Rattle.vault_model.specs.Shape.{in_order, kids, laid_children, laid_group, laid_meta, laid_stay, lay, new_view, no_stay, stay_in, stay_of, record_of, version_of, versions_in};
 ghost use Rattle.vault_model.specs.Unite.{tabulate};
 ghost use Rattle.reference_tables.specs.Databases.{database, shared_meta};
+ghost use Rattle.reference_lay.specs.Parents.{AreUnder, ids_under};
 ghost use Rattle.reference_lay.specs.Shapes.{meta_of, shape};
 
+use crate::id_lists::IdList;
+use crate::parents::by_parent;
 use crate::shapes::{Children, LentEntry, LentGroup, LentVersion, Shape, ShapeMeta, Stay};
 use outside_core::NoMemory;
 use reference_tables::databases::Database;
 use reference_tables::icons::{ItemTable, LentIcon, LentItem};
-use reference_tables::ids::{is_same, push_ids};
+use reference_tables::ids::{is_same, push_ids, table_of};
 use reference_tables::metas::LentMeta;
-use reference_tables::placements::Placement;
 use reference_tables::states::LentState;
 use reference_tables::tables::{Table, put_some};
 use reference_tables::version_keys::VersionKey;
@@ -23,18 +24,6 @@ use reference_tables::versions::VersionTable;
 use std::alloc::Global;
 use uuid::Uuid;
 use vault_model::{GroupView, Stamp, Stats};
-
-/// Whether an id is among some.
-fn is_among(id: &Uuid, ids: &[Uuid]) -> bool
-    ensures { result ≡ list_any (is_id id.now) ids.now }
-{
-    for other in ids {
-        if is_same(id, other) {
-            return true;
-        }
-    }
-    false
-}
 
 /// Appends an id where it is wanted. A refusal means that memory ran out.
 fn push_if(order: &mut Vec<Uuid>, id: Uuid, is_wanted: bool) -> Result<(), NoMemory>
@@ -48,24 +37,28 @@ fn push_if(order: &mut Vec<Uuid>, id: Uuid, is_wanted: bool) -> Result<(), NoMem
 
 /// Appends those that were there before and still are, as they were. A refusal means that memory
 /// ran out.
-fn push_kept(order: &mut Vec<Uuid>, before: &[Uuid], present: &[Uuid]) -> Result<(), NoMemory>
+fn push_kept(order: &mut Vec<Uuid>, before: &[Uuid], present: &Table<bool>) -> Result<(), NoMemory>
     ensures { OnOk result (order.new.items ≡ order.old.items
-        ++ filter (λ u. list_any (is_id u) present.now) before.now) }
+        ++ filter (λ u. table.contains_key present.now u) before.now) }
 {
     for id in before {
-        let is_kept = is_among(id, present);
+        let is_kept = present.get(id).is_some();
         push_if(order, *id, is_kept)?;
     }
     Ok(())
 }
 
 /// Appends those that were not there before, in their order. A refusal means that memory ran out.
-fn push_newcomers(order: &mut Vec<Uuid>, before: &[Uuid], present: &[Uuid]) -> Result<(), NoMemory>
+fn push_newcomers(
+    order: &mut Vec<Uuid>,
+    before: &Table<bool>,
+    present: &[Uuid],
+) -> Result<(), NoMemory>
     ensures { OnOk result (order.new.items ≡ order.old.items
-        ++ filter (λ u. not (list_any (is_id u) before.now)) present.now) }
+        ++ filter (λ u. not (table.contains_key before.now u)) present.now) }
 {
     for id in present {
-        let is_new = !is_among(id, before);
+        let is_new = before.get(id).is_none();
         push_if(order, *id, is_new)?;
     }
     Ok(())
@@ -75,37 +68,12 @@ fn push_newcomers(order: &mut Vec<Uuid>, before: &[Uuid], present: &[Uuid]) -> R
 fn in_order(alloc: Global, before: &[Uuid], present: &[Uuid]) -> Result<Vec<Uuid>, NoMemory>
     ensures { IfOk result (λ us. us.items ≡ in_order before.now present.now) }
 {
+    let now = table_of(alloc, present)?;
+    let old = table_of(alloc, before)?;
     let mut order = Vec::new(alloc);
-    push_kept(&mut order, before, present)?;
-    push_newcomers(&mut order, before, present)?;
+    push_kept(&mut order, before, &now)?;
+    push_newcomers(&mut order, &old, present)?;
     Ok(order)
-}
-
-/// Whether a place is in this group.
-fn stands_in(group: &Uuid, place: Option<Placement>) -> bool
-    ensures { result ≡ stands_in group.now place }
-{
-    match place {
-        Some(place) => is_same(group, &place.parent),
-        None => false,
-    }
-}
-
-/// Those of some ids that are in a group, in their order.
-fn standing(
-    alloc: Global,
-    laid: &Database,
-    group: &Uuid,
-    ids: &[Uuid],
-) -> Result<Vec<Uuid>, NoMemory>
-    ensures { IfOk result (λ us. us.items ≡ ids_in_group (database laid.now) group.now ids.now) }
-{
-    let mut standing = Vec::new(alloc);
-    for id in ids {
-        let stands = stands_in(group, laid.places.get(id).copied());
-        push_if(&mut standing, *id, stands)?;
-    }
-    Ok(standing)
 }
 
 /// The ids of a table, by rising id.
@@ -137,69 +105,52 @@ fn old_groups<'s>(older: &'s Shape, group: &Uuid) -> &'s [Uuid]
     }
 }
 
-/// The entries that are in a group, by rising id.
-fn present_entries(alloc: Global, laid: &Database, group: &Uuid) -> Result<Vec<Uuid>, NoMemory>
-    ensures { IfOk result (λ us. us.items ≡ ids_in_group (database laid.now) group.now
-        (table.keys laid.now.entries)) }
+/// The entries that are in each group, by rising id.
+fn entries_by_group(alloc: Global, laid: &Database) -> Result<Table<IdList>, NoMemory>
+    ensures { IfOk result (AreUnder (database laid.now) (table.keys laid.now.entries)) }
 {
     let ids = ids_of(alloc, &laid.entries)?;
-    let present = standing(alloc, laid, group, ids.as_slice())?;
-    Ok(present)
+    let lists = by_parent(alloc, ids.as_slice(), &laid.places)?;
+    Ok(lists)
 }
 
-/// The groups that are in a group, by rising id.
-fn present_groups(alloc: Global, laid: &Database, group: &Uuid) -> Result<Vec<Uuid>, NoMemory>
-    ensures { IfOk result (λ us. us.items ≡ ids_in_group (database laid.now) group.now
-        (table.keys laid.now.groups)) }
+/// The groups that are in each group, by rising id.
+fn groups_by_group(alloc: Global, laid: &Database) -> Result<Table<IdList>, NoMemory>
+    ensures { IfOk result (AreUnder (database laid.now) (table.keys laid.now.groups)) }
 {
     let ids = ids_of(alloc, &laid.groups)?;
-    let present = standing(alloc, laid, group, ids.as_slice())?;
-    Ok(present)
+    let lists = by_parent(alloc, ids.as_slice(), &laid.places)?;
+    Ok(lists)
 }
 
-/// The entries of a group as they are laid.
-fn ordered_entries(
-    alloc: Global,
-    laid: &Database,
-    older: &Shape,
-    group: &Uuid,
-) -> Result<Vec<Uuid>, NoMemory>
-    ensures { IfOk result (λ us. us.items ≡ (laid_children (database laid.now) (shape older.now)
-        group.now).entries) }
+/// The ids that a table has for a group.
+fn ids_under<'t>(children: &'t Table<IdList>, group: &Uuid) -> &'t [Uuid]
+    ensures { result.now ≡ ids_under children.now group.now }
 {
-    let present = present_entries(alloc, laid, group)?;
-    let order = in_order(alloc, old_entries(older, group), present.as_slice())?;
-    Ok(order)
+    match children.get(group) {
+        Some(ids) => ids.as_slice(),
+        None => &[],
+    }
 }
 
-/// The groups of a group as they are laid.
-fn ordered_groups(
-    alloc: Global,
-    laid: &Database,
-    older: &Shape,
-    group: &Uuid,
-) -> Result<Vec<Uuid>, NoMemory>
-    ensures { IfOk result (λ us. us.items ≡ (laid_children (database laid.now) (shape older.now)
-        group.now).groups) }
-{
-    let present = present_groups(alloc, laid, group)?;
-    let order = in_order(alloc, old_groups(older, group), present.as_slice())?;
-    Ok(order)
-}
-
-/// A group's children: those that it had in the older document and still has, and then the
-/// newcomers by rising id.
+/// A group's children, of those that are in each group: those that it had in the older document and
+/// still has, and then the newcomers by rising id.
 fn laid_children(
     alloc: Global,
-    laid: &Database,
+    _laid: &Database,
     older: &Shape,
+    entries: &Table<IdList>,
+    groups: &Table<IdList>,
     group: &Uuid,
 ) -> Result<Children, NoMemory>
-    ensures { IfOk result (λ s. s ≡ laid_children (database laid.now) (shape older.now) group.now) }
+    requires entries { AreUnder (database _laid.now) (table.keys _laid.now.entries) entries.now }
+    requires groups { AreUnder (database _laid.now) (table.keys _laid.now.groups) groups.now }
+    ensures { IfOk result (λ s. s ≡ laid_children (database _laid.now) (shape older.now)
+        group.now) }
 {
-    let entries = ordered_entries(alloc, laid, older, group)?;
-    let groups = ordered_groups(alloc, laid, older, group)?;
-    Ok(Children::new(entries, groups))
+    let ordered_entries = in_order(alloc, old_entries(older, group), ids_under(entries, group))?;
+    let ordered_groups = in_order(alloc, old_groups(older, group), ids_under(groups, group))?;
+    Ok(Children::new(ordered_entries, ordered_groups))
 }
 
 /// The stay of what is in no group.
@@ -376,10 +327,12 @@ fn all_children(alloc: Global, laid: &Database, older: &Shape) -> Result<Table<C
     ensures { IfOk result (λ t. t ≡ tabulate (table.keys laid.now.groups)
         (λ g. Some (laid_children (database laid.now) (shape older.now) g))) }
 {
+    let entries = entries_by_group(alloc, laid)?;
+    let groups = groups_by_group(alloc, laid)?;
     let ids = ids_of(alloc, &laid.groups)?;
     let mut children = Table::new(alloc);
     for id in ids.as_slice() {
-        let siblings = laid_children(alloc, laid, older, id)?;
+        let siblings = laid_children(alloc, laid, older, &entries, &groups, id)?;
         put_some(&mut children, *id, Some(siblings))?;
     }
     Ok(children)
@@ -403,8 +356,8 @@ fn icons_of<'a>(alloc: Global, icons: &Table<LentIcon<'a>>) -> Result<Vec<LentIc
     ensures { IfOk result (λ is. is.items ≡ table.values icons.now) }
 {
     let mut values = Vec::new(alloc);
-    for row in icons.rows() {
-        values.push(row.1.again())?;
+    for (_, icon) in icons.iter() {
+        values.push(icon.again())?;
     }
     Ok(values)
 }

@@ -1,6 +1,8 @@
-//! A database laid over an older document, plainly and slowly: a program whose contracts are the
-//! definitions themselves.
+//! A database laid over an older document: a program whose contracts are the definitions
+//! themselves.
 #![tactic(auto)]
 
+mod id_lists;
 pub mod laying;
+mod parents;
 pub mod shapes;

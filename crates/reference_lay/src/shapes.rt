@@ -63,6 +63,13 @@ impl<'a> LentVersion<'a> {
     {
         &self.mark
     }
+
+    /// How the version was used.
+    pub fn stats(&self) -> Stats
+        ensures { result ≡ self.now.stats }
+    {
+        self.stats
+    }
 }
 
 /// An entry without its group: since when it is there and where it was before, its current version,
@@ -168,6 +175,13 @@ impl<'a> LentGroup<'a> {
         ensures { result ≡ record { placed = self.now.placed; previous = self.now.previous } }
     {
         self.stay
+    }
+
+    /// The group's state.
+    pub fn state(&self) -> &LentState<'a>
+        ensures { result.now ≡ self.now.state }
+    {
+        &self.state
     }
 
     /// How the group was last looked at.

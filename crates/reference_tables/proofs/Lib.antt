@@ -1,4 +1,6 @@
 pub mod FillTables
+pub mod IdSets
 pub mod ListSteps
 pub mod PutRows
+pub mod TreeMaps
 pub mod UniteMaps

@@ -100,7 +100,7 @@ impl<'a> Ord for LentKey<'a> {
 
 /// Orders icons by their times and then by the rest.
 #[tactic(auto, unfolding(vault_model::specs::Orders::icon_cmp))]
-fn compare_icons(first: &Icon, second: &Icon) -> Ordering
+pub fn compare_icons(first: &Icon, second: &Icon) -> Ordering
     ensures { result ≡ icon_cmp first.now second.now }
 {
     first.changed.cmp(&second.changed).then(
@@ -134,6 +134,13 @@ impl<'a> LentIcon<'a> {
         LentIcon { icon }
     }
 
+    /// The icon itself.
+    pub fn icon(&self) -> &'a Icon
+        ensures { result.now ≡ self.now }
+    {
+        self.icon
+    }
+
     /// The later of two icons, and of one time the greater.
     fn later(&self, other: &LentIcon<'a>) -> LentIcon<'a>
         ensures { result ≡ greater icon_cmp self.now other.now }
@@ -160,6 +167,13 @@ impl<'a> LentItem<'a> {
         ensures { result ≡ item.now }
     {
         LentItem { item }
+    }
+
+    /// The item itself.
+    pub fn item(&self) -> &'a Item
+        ensures { result.now ≡ self.now }
+    {
+        self.item
     }
 
     /// The later of two items, and of one time the greater.
@@ -304,7 +318,7 @@ pub fn add_icons<'a>(
 ) -> Result<(), NoMemory>
     ensures { OnOk result (icons.new ≡ unite (greater icon_cmp) more.now icons.old) }
 {
-    for (id, icon) in more.rows() {
+    for (id, icon) in more.iter() {
         add_icon(icons, *id, icon)?;
     }
     Ok(())

@@ -1,10 +1,13 @@
 //! Ids, and lists of them.
-ghost use Rattle.std.specs.Prelude.{◌≡◌, OnOk, ◌++◌};
+ghost use Rattle.std.specs.Prelude.{◌≡◌, IfOk, OnOk, ◌++◌};
 ghost use Rattle.std.specs.FinMap as table;
+ghost use Rattle.std.specs.List.{list_any};
+ghost use Rattle.vault_model.specs.Db.{NodeId};
 ghost use Rattle.vault_model.specs.Join.{is_id};
 
 use crate::tables::Table;
 use outside_core::NoMemory;
+use std::alloc::Global;
 use uuid::Uuid;
 
 /// Whether two ids are the same.
@@ -18,8 +21,8 @@ pub fn is_same(first: &Uuid, second: &Uuid) -> bool
 pub fn push_ids<X>(ids: &mut Vec<Uuid>, from: &Table<X>) -> Result<(), NoMemory>
     ensures { OnOk result (ids.new.items ≡ ids.old.items ++ table.keys from.now) }
 {
-    for row in from.rows() {
-        ids.push(row.0)?;
+    for (id, _) in from.iter() {
+        ids.push(*id)?;
     }
     Ok(())
 }
@@ -37,4 +40,16 @@ pub fn push_both<X, Y>(
     push_ids(ids, first)?;
     push_ids(ids, second)?;
     Ok(())
+}
+
+/// A table that has just some ids.
+pub fn table_of(alloc: Global, ids: &[Uuid]) -> Result<Table<bool>, NoMemory>
+    ensures { IfOk result (λ t. (u : NodeId) → table.contains_key t u
+        ≡ list_any (is_id u) ids.now) }
+{
+    let mut has = Table::new(alloc);
+    for id in ids {
+        has.put(*id, true)?;
+    }
+    Ok(has)
 }

@@ -27,7 +27,7 @@ pub struct LentMeta<'a> {
 
 /// Orders the settings of the bin: off below on, then by its id.
 #[tactic(auto, unfolding(vault_model::specs::Orders::bin_cmp))]
-fn compare_bins(first: &Bin, second: &Bin) -> Ordering
+pub fn compare_bins(first: &Bin, second: &Bin) -> Ordering
     ensures { result ≡ bin_cmp first.now second.now }
 {
     first
@@ -55,7 +55,7 @@ fn compare_protections(first: &Protection, second: &Protection) -> Ordering
 
 /// Orders settings, field by field.
 #[tactic(auto, unfolding(vault_model::specs::Orders::settings_cmp))]
-fn compare_settings(first: &MetaSettings, second: &MetaSettings) -> Ordering
+pub fn compare_settings(first: &MetaSettings, second: &MetaSettings) -> Ordering
     ensures { result ≡ settings_cmp first.now second.now }
 {
     let limits = first

@@ -43,6 +43,20 @@ impl<'a> LentState<'a> {
         self.modified
     }
 
+    /// What the group says.
+    pub fn content(&self) -> &'a GroupContent
+        ensures { result.now ≡ self.now.content }
+    {
+        self.content
+    }
+
+    /// How the group was used.
+    pub fn stats(&self) -> Stats
+        ensures { result ≡ self.now.stats }
+    {
+        self.stats
+    }
+
     /// The state with the greater mark; of equal marks the later access and the greater use.
     #[tactic(auto, unfolding(vault_model::specs::Db::group_mark_cmp))]
     pub fn join(&self, other: &LentState<'a>) -> LentState<'a>

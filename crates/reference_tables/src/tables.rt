@@ -4,31 +4,29 @@ ghost use Rattle.std.specs.Option.{option_copied};
 ghost use Rattle.std.specs.FinMap as map;
 ghost use Rattle.vault_model.specs.Unite.{put_some};
 
-use crate::rows;
 use outside_core::NoMemory;
 use std::alloc::Global;
+use std::collections::BTreeMap;
+use std::collections::btree_map::Iter;
 use std::marker::Model;
 use uuid::Uuid;
 
 /// A finite map from ids, which contracts see as that map.
 #[derive(Drop)]
 pub struct Table<X> {
-    rows: Vec<(Uuid, X)>,
+    rows: BTreeMap<Uuid, X>,
 }
 
 impl<X> Model for Table<X> {
-    ghost use Rattle.std.specs.Prelude.{T};
     ghost use Rattle.std.specs.Coded.{coded_list, coded_ℕ};
-    ghost use Rattle.std.specs.FinMap.{FinMap, code, from_sorted, is_sorted};
+    ghost use Rattle.std.specs.FinMap.{FinMap, code, from_entries};
     ghost use Rattle.vault_model.specs.Db.{id_cmp};
 
     ghost Value = { FinMap id_cmp X };
 
     ghost coded = { code (coded_list coded_ℕ) X.code };
 
-    ghost view = { λ t. from_sorted t.rows.items };
-
-    ghost invariant = { λ t. T (is_sorted id_cmp t.rows.items) };
+    ghost view = { λ t. from_entries t.rows.entries };
 }
 
 impl<X> Table<X> {
@@ -37,7 +35,7 @@ impl<X> Table<X> {
         ensures { result ≡ map.empty }
     {
         Table {
-            rows: Vec::new(alloc),
+            rows: BTreeMap::new(alloc),
         }
     }
 
@@ -45,14 +43,14 @@ impl<X> Table<X> {
     pub fn get(&self, id: &Uuid) -> Option<&X>
         ensures { option_copied result ≡ map.get self.now id.now }
     {
-        rows::find(self.rows.as_slice(), id)
+        self.rows.get(id)
     }
 
     /// The ids and what is at them, by rising id.
-    pub fn rows(&self) -> &[(Uuid, X)]
-        ensures { result.now ≡ map.entries self.now }
+    pub fn iter(&self) -> Iter<'_, Uuid, X>
+        ensures { result ≡ map.entries self.now }
     {
-        self.rows.as_slice()
+        self.rows.iter()
     }
 }
 
@@ -63,8 +61,16 @@ impl<X: Drop> Table<X> {
         ensures ok { OnOk result (self.new ≡ map.insert self.old id value) }
         ensures err { OnErr result (self.new ≡ self.old) }
     {
-        rows::put(&mut self.rows, id, value)?;
+        self.rows.insert(id, value)?;
         Ok(())
+    }
+
+    /// Takes out what is at an id.
+    pub fn remove(&mut self, id: &Uuid) -> Option<X>
+        ensures removed { self.new ≡ map.remove self.old id.now }
+        ensures taken { result ≡ map.get self.old id.now }
+    {
+        self.rows.remove(id)
     }
 }
 

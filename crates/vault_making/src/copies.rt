@@ -8,8 +8,8 @@ use outside_core::{List, NoMemory, Text};
 use std::alloc::Global;
 use vault_model::{Association, Attachment, AutoType, Content, Field, Item, Version};
 
-// Puts an item at the end of a list.
-fn put_last<T: Drop>(list: &mut List<T>, item: T) -> Result<(), NoMemory>
+/// Puts an item at the end of a list. A refusal means that memory ran out.
+pub fn put_last<T: Drop>(list: &mut List<T>, item: T) -> Result<(), NoMemory>
     ensures { OnOk result (list.new ≡ list.old ++ item ∷ []) }
 {
     match list.push(item) {
@@ -18,13 +18,15 @@ fn put_last<T: Drop>(list: &mut List<T>, item: T) -> Result<(), NoMemory>
     }
 }
 
-fn copy_text(alloc: Global, text: &Text) -> Result<Text, NoMemory>
+/// A copy of a text.
+pub fn copy_text(alloc: Global, text: &Text) -> Result<Text, NoMemory>
     ensures { IfOk result (λ copy. copy ≡ text.now) }
 {
     Text::of(alloc, text.as_str())
 }
 
-fn copy_item(alloc: Global, item: &Item) -> Result<Item, NoMemory>
+/// A copy of a custom item.
+pub fn copy_item(alloc: Global, item: &Item) -> Result<Item, NoMemory>
     ensures { IfOk result (λ copy. copy ≡ item.now) }
 {
     Ok(Item {
@@ -34,7 +36,8 @@ fn copy_item(alloc: Global, item: &Item) -> Result<Item, NoMemory>
     })
 }
 
-fn copy_items(alloc: Global, items: &[Item]) -> Result<List<Item>, NoMemory>
+/// Copies of custom items, in their order.
+pub fn copy_items(alloc: Global, items: &[Item]) -> Result<List<Item>, NoMemory>
     ensures { IfOk result (λ copy. copy ≡ items.now) }
 {
     let mut copy = List::new(alloc);
@@ -115,7 +118,8 @@ fn copy_attachments(alloc: Global, attachments: &[Attachment]) -> Result<List<At
     Ok(copy)
 }
 
-fn copy_content(alloc: Global, content: &Content) -> Result<Content, NoMemory>
+/// A copy of what a version says, which shares the bytes of attachments.
+pub fn copy_content(alloc: Global, content: &Content) -> Result<Content, NoMemory>
     ensures { IfOk result (λ copy. bare_content copy ≡ bare_content content.now) }
 {
     Ok(Content {

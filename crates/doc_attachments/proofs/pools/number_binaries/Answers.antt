@@ -1,5 +1,4 @@
-use Rattle.std.proofs.Common.{ap, arith}
-use Rattle.secret_core.specs.Secret.{SecretBuffer}
+use Rattle.std.proofs.Common.{ap, arith, List, ℕ}
 use Rattle.doc_attachments.proofs.Lists.{numbered_more}
 use Rattle.doc_attachments.proofs.pools.number_binaries.Goals as goal
 
@@ -10,5 +9,5 @@ loop-item-preserved c =
       number = omega (arith, known.number);
       made = numbered_more c.args.given.now c.loop-item.item-index c.item-item.result c.loop-item.binaries c.push.new.list c.loop-item.number _ _
           c.loop-item-test.true c.item-item.is known.made c.in_ok-push.ensures
-          (ap (λ (secret : SecretBuffer). record { number = c.loop-item.number; bytes = secret.bytes; hidden = c.item-item.result.hidden }) c.in_ok-clone.ensures.cases);
+          (ap (λ (bytes : List ℕ). record { number = c.loop-item.number; bytes = bytes; hidden = c.item-item.result.hidden }) c.in_ok-share_bytes.ensures);
     }

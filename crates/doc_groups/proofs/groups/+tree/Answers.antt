@@ -1,11 +1,12 @@
-use Rattle.std.proofs.Common.{◌≡◌, ◌++◌, ◌∙◌, sym, Ok, Err}
+use Rattle.std.proofs.Common.{◌≡◌, [], ◌++◌, refl, ◌∙◌, sym, Ok, Err}
 use Rattle.markup_grammar.specs.Escapes.{unescaped}
 use Rattle.std.proofs.lemmas.Result.{err_from_is_err_and}
 use Rattle.doc_forms.specs.SeenTexts.{text_seen}
 use Rattle.doc_forms.specs.Groups.{group_child}
+use Rattle.doc_forms.specs.declared.fails.DocFail.TheVariants.{NoMemory}
 use Rattle.doc_forms.specs.SeenDrafts.{group_parts_seen}
-use Rattle.doc_walk.proofs.Goes.{all_words, all_shown, all_child, all_refused, all_end, all_unended, all_form, all_depth}
-use Rattle.doc_groups.proofs.GroupWalks.{begun, ended, children_refused}
+use Rattle.doc_walk.proofs.Goes.{all_from, at_start, refused, all_words, all_shown, all_child, all_refused, all_end, all_unended, all_form, all_depth}
+use Rattle.doc_groups.proofs.GroupWalks.{begun, ended, children_refused, group_added, group_refused, no_memory, other_child, too_deep}
 use Rattle.doc_groups.proofs.groups.+tree.Goals as goal
 
 pub group_children-pieces-preserved-in-Continue-branch-3 : goal.group_children-pieces-preserved-in-Continue-branch-3
@@ -91,3 +92,54 @@ group-returns-in-Err t c =
     let steps = rw c.in-Err.ensures at c.group_children-read.ensures in
     children_refused c.args.levels c.args.fits c.args.tag.now c.args.walk.now c.group_children-read.new.walk (group_parts_seen c.group_children-read.new.known) c.in-Err.refusal
     (begun c.args.levels c.args.tag.now c.args.walk.now c.group_children-read.new.walk (Err c.in-Err.refusal) (group_parts_seen c.no_group-known.result) (group_parts_seen c.group_children-read.new.known) c.no_group-known.ensures steps)
+
+pub group_child-returns-then-ne : goal.group_child-returns-then-ne
+group_child-returns-then-ne t c =
+    other_child (λ _. group_parts_seen c.read_child.new.known) c.args.walk.now c.read_child.new.walk c.read_child.result c.args.levels (group_parts_seen c.args.known.now) c.args.tag.now
+    c.ne.result c.ne.ensures c.if-ne.true c.read_child.ensures
+
+pub group_child-returns-then-levels-eq0 : goal.group_child-returns-then-levels-eq0
+group_child-returns-then-levels-eq0 t c =
+    too_deep (λ _. group_parts_seen c.args.known.now) c.args.walk.now c.args.levels (group_parts_seen c.args.known.now) c.args.tag.now
+    c.ne.result c.ne.ensures c.if-ne.false c.if-levels-eq0.true
+
+pub group_child-returns : goal.group_child-returns
+group_child-returns t c =
+    group_added c.args.walk.now c.group.new.walk c.in_ok-draft.draft (group_parts_seen c.add_group.new.known) c.add_group.result c.args.levels (group_parts_seen c.args.known.now) c.args.tag.now
+    c.ne.result c.ne.ensures c.if-ne.false c.if-levels-eq0.false c.in_ok-draft.ensures c.add_group.ensures
+
+pub group_child-returns-in_err-draft : goal.group_child-returns-in_err-draft
+group_child-returns-in_err-draft t c =
+    let p = err_from_is_err_and c.from_residual.result c.from_residual.ensures.1 in
+    rw (p.1, p.2)
+    (group_refused (λ _. group_parts_seen c.args.known.now) c.args.walk.now c.group.new.walk c.in_err-draft.field-0.0 c.args.levels (group_parts_seen c.args.known.now) c.args.tag.now
+    c.ne.result c.ne.ensures c.if-ne.false c.if-levels-eq0.false c.in_err-draft.ensures)
+
+pub group_children-returns-in_err-hides : goal.group_children-returns-in_err-hides
+group_children-returns-in_err-hides t c =
+    let p = err_from_is_err_and c.from_residual.result c.from_residual.ensures.1 in
+    rw (p.1, p.2) (no_memory _ c.args.walk.now c.args.walk.now _ c.in_err-hides.field-0.0 _ c.in_err-hides.ensures refl)
+
+pub group_children-returns-in_err-text : goal.group_children-returns-in_err-text
+group_children-returns-in_err-text t c =
+    let p = err_from_is_err_and c.from_residual-in_err-text.result c.from_residual-in_err-text.ensures.1 in
+    rw (p.1, p.2) (no_memory _ c.args.walk.now c.args.walk.now _ c.in_err-text.field-0.0 _ c.in_err-text.ensures refl)
+
+pub group_children-pieces-init : goal.group_children-pieces-init
+group_children-pieces-init t c =
+    let bytes : c.in_ok-text.text.bytes ≡ [] = cc c.in_ok-text.ensures in
+    rw bytes
+    (record {
+      hides = cc c.in_ok-hides.ensures;
+      goes = at_start c.args.walk.now (all_from (λ s. group_child s c.args.levels) c.args.tag.now.offset c.args.tag.now.attrs.raw.now [] (group_parts_seen c.args.known.now));
+    })
+
+pub group_children-returns-in_err-text-in-Ok-Words : goal.group_children-returns-in_err-text-in-Ok-Words
+group_children-returns-in_err-text-in-Ok-Words t c =
+    let p = err_from_is_err_and c.from_residual-in_err-text-in-Ok-Words.result c.from_residual-in_err-text-in-Ok-Words.ensures.1 in
+    rw (p.1, p.2)
+    (no_memory _ c.args.walk.now c.next_piece.new.self _ c.in_err-text-in-Ok-Words.field-0.0 _ c.in_err-text-in-Ok-Words.ensures (c.next_piece.ensures.setting ∙ c.pieces.invariant.goes.setting))
+
+pub group_children-returns-in-Ok-Finish : goal.group_children-returns-in-Ok-Finish
+group_children-returns-in-Ok-Finish t c =
+    refused _ c.args.walk.now c.next_piece.new.self _ NoMemory tt (c.next_piece.ensures.setting ∙ c.pieces.invariant.goes.setting)

@@ -1,6 +1,4 @@
 use Rattle.std.proofs.Common.{◌≡◌, true, Ok, ap, sym, subst, ◌∙◌}
-use Rattle.std.specs.List.{insert}
-use Rattle.doc_forms.specs.Tables.{put}
 use Rattle.doc_values.proofs.RisingLists.{rises_without}
 use Rattle.doc_values.proofs.Puts.{put_done}
 use Rattle.doc_values.proofs.RisingLists.{rises_put}

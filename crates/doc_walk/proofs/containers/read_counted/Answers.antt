@@ -13,4 +13,4 @@ returns-in_err-parts g c =
 pub returns-in_err-count : goal.returns-in_err-count
 returns-in_err-count g c =
     let p = err_from_is_err_and c.from_residual-in_err-count.result c.from_residual-in_err-count.ensures.1 in
-    rw (p.1, p.2) (too_many c.in_ok-parts.ensures c.in_err-count.ensures.gives c.count.ensures.setting)
+    rw (p.1, p.2) (too_many {mid = c.read_whole.new.walk} c.in_ok-parts.ensures c.in_err-count.ensures.gives c.count.ensures.setting)

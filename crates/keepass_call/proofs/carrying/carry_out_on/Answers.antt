@@ -4,8 +4,9 @@ use Rattle.std.proofs.lemmas.Result.{err_from_is_err_and}
 use Rattle.vault_model.specs.SeenDoc.{doc_seen}
 use Rattle.tree_changes.specs.NewNodes.{lent_value}
 use Rattle.cli_lines.specs.Lines.{IsTextLine}
-use Rattle.keepass_call.specs.Commands.{change_of}
-use Rattle.keepass_call.specs.SeenChange.{change_seen, task_seen}
+use Rattle.cli_commands.specs.Commands.{change_of}
+use Rattle.cli_commands.specs.SeenChange.{change_seen}
+use Rattle.keepass_call.specs.SeenTask.{task_seen}
 use Rattle.keepass_call.proofs.Carried.{change_refused, ends_by, file_refused, left_after, loses_both, no_id, of_dice, stream_command, tells_after, tells_id, write_command}
 use Rattle.keepass_call.proofs.carrying.carry_out_on.Goals as goal
 

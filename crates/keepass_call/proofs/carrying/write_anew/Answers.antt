@@ -1,7 +1,7 @@
 use Rattle.std.proofs.Common.{◌≡◌, true, false, refl}
 use Rattle.cli_lines.proofs.Inputs.{told_by}
 use Rattle.keepass_call.proofs.Carried.{keeps_draft, plain_stop, plain_written, sealed_written}
-use Rattle.keepass_call.proofs.Changes.{loses_none}
+use Rattle.cli_commands.proofs.Changes.{loses_none}
 use Rattle.keepass_call.proofs.carrying.write_anew.Goals as goal
 
 pub returns-in-None-clause-told : goal.returns-in-None-clause-told

@@ -1,6 +1,6 @@
 use Rattle.std.proofs.Common.{refl}
 use Rattle.std.specs.Prelude.{map, string_bytes}
-use Rattle.keepass_call.specs.SeenChange.{output_text}
+use Rattle.cli_commands.specs.SeenChange.{output_text}
 use Rattle.keepass_call.proofs.Calls.{printed_call, stopped_call}
 use Rattle.keepass_call.proofs.run.keepass.Goals as goal
 

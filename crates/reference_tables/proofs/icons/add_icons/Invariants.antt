@@ -1,4 +1,4 @@
-use Rattle.std.proofs.Common.{◌≡◌, drop}
+use Rattle.std.proofs.Common.{◌≡◌}
 use Rattle.vault_model.specs.Orders.{icon_cmp}
 use Rattle.vault_model.specs.Unite.{greater, unite}
 use Rattle.vault_model.proofs.Orders.{id_order}
@@ -7,4 +7,4 @@ use Rattle.reference_tables.proofs.icons.add_icons.Given as goal
 
 abbrev pub invariant-loop-id : goal.invariant-loop-id
 invariant-loop-id l =
-    unite (greater icon_cmp) (unite_rows id_order.total id_order.same (greater icon_cmp) (drop l.id-index l.id-items)) l.icons ≡ unite (greater icon_cmp) l.more l.fn.icons
+    unite (greater icon_cmp) (unite_rows id_order.total id_order.same (greater icon_cmp) l.id-iterator) l.icons ≡ unite (greater icon_cmp) l.more l.fn.icons

@@ -1,0 +1,123 @@
+-- What commands make of a document.
+use Rattle.std.proofs.Common.{◌≡◌, ℕ, List, length, refl, sym, ◌∙◌, ap, subst, Bool, true, false, Option, Some, None, Result, Ok, Err}
+use Rattle.std.specs.Prelude.{IfErr, IfOk, IfSome, is_some, if◌then◌else◌}
+use Rattle.std.specs.Borrow.{Bor}
+use Rattle.std.specs.Str.{is_utf8}
+use Rattle.outside_core.specs.Streams.{LosesPrefix}
+use Rattle.secret_core.specs.Secret.{SecretBuffer}
+use Rattle.vault_model.specs.Db.{NodeId}
+use Rattle.vault_model.specs.Tree.{BareDoc}
+use Rattle.tree_changes.specs.After.{needs_bin}
+use Rattle.tree_changes.specs.NewNodes.{lent_value}
+use Rattle.cli_answers.specs.declared.answers.Refusal.{Refusal}
+use Rattle.cli_answers.specs.declared.answers.Stop.{Stop}
+use Rattle.cli_answers.specs.declared.answers.Stop.TheVariants.{Refused, FileFault, InputFault, NoMemory}
+use Rattle.cli_answers.specs.Phases.{IsLeft, IsPlainStop, IsStreamStop, Returns, ReturnsAskedStream, StreamAnswer, TellsStream, after_left, then_left, with_left}
+use Rattle.cli_changes.specs.Entries.{AfterCommand, CommandChanges}
+use Rattle.cli_changes.specs.Ids.{new_id}
+use Rattle.cli_drawing.proofs.Drawn.{next_alone}
+use Rattle.cli_lines.specs.Lines.{IsTextLine}
+use Rattle.cli_words.specs.declared.command.Command.{Command}
+use Rattle.cli_words.specs.declared.command.Command.TheVariants.{Ls, Add, Edit, Mv, Rm, Mkdir, Rmdir}
+use Rattle.cli_commands.specs.declared.output.Change as declared
+use Rattle.cli_commands.specs.Commands.{Change, bin_id, change_of, change_with, drawn_id, draws_id, makes_node, new_document, writes}
+use Rattle.cli_commands.specs.SeenChange.{change_seen, reported}
+
+-- A line that is lent.
+pub lent_text : (lent : Option (Bor (List ℕ))) → IsTextLine (lent_value lent) → IfSome lent (λ line. is_utf8 line.now ≡ true)
+lent_text None h = tt
+lent_text (Some line) h = h
+
+-- ---- a command that reports
+
+pub returns_reported : (report : Result SecretBuffer Stop) (r : Result AfterCommand Refusal) (old new : BareDoc) → CommandChanges report r old new
+    → Returns (λ change. change_seen change new) (reported report) (new_document r)
+returns_reported (Ok text) r old new h = ap new_document h
+returns_reported (Err (Refused refusal)) r old new h = ap new_document h.0
+returns_reported (Err (FileFault name)) r old new h = tt
+returns_reported (Err InputFault) r old new h = tt
+returns_reported (Err NoMemory) r old new h = tt
+
+pub written_reported : (report : Result SecretBuffer Stop) → IfOk (reported report) (λ change. change.is_written ≡ true)
+written_reported (Ok text) = refl
+written_reported (Err stop) = tt
+
+pub cause_reported : (report : Result SecretBuffer Stop) → IfErr report IsPlainStop → IfErr (reported report) IsPlainStop
+cause_reported (Ok text) h = tt
+cause_reported (Err stop) h = h
+
+needed_bin : (needed : Bool) (id : NodeId) → is_some (if needed then Some id else None) ≡ needed
+needed_bin true id = refl
+needed_bin false id = refl
+
+-- A bin has an id exactly where it is needed.
+pub bin_needed : (bin : Option NodeId) (id : NodeId) (doc : BareDoc) → bin ≡ bin_id id doc → is_some bin ≡ needs_bin doc
+bin_needed bin id doc e = ap is_some e ∙ needed_bin (needs_bin doc) id
+
+-- ---- what is drawn
+
+pub loses_none : (before : Option (List ℕ)) → LosesPrefix before before
+loses_none None = (0, refl)
+loses_none (Some rest) = (0, refl)
+
+-- A command that makes a node draws an id.
+makes_drawn : (command : Command) (doc : BareDoc) → draws_id command ≡ false → makes_node command doc ≡ false
+makes_drawn (Ls access file group recursive flat) doc e = refl
+makes_drawn (Add access file entry asked) doc e = e
+makes_drawn (Edit access file entry asked) doc e = refl
+makes_drawn (Mv access file node group) doc e = refl
+makes_drawn (Rm access file entry) doc e = cc
+makes_drawn (Mkdir access file group) doc e = e
+makes_drawn (Rmdir access file group) doc e = cc
+
+pub none_made : (makes : Bool) (command : Command) (doc : BareDoc) → makes ≡ makes_node command doc → draws_id command ≡ false → makes ≡ false
+none_made makes command doc e h = e ∙ makes_drawn command doc h
+
+pub tells_made : (makes : Bool) (command : Command) (doc : BareDoc) (dice : Option (List ℕ)) (d : List ℕ) → makes ≡ makes_node command doc
+    → TellsStream (draws_id command) dice d → TellsStream makes dice d
+tells_made makes command doc (Some x) d e t = t
+tells_made makes command doc None d e t = none_made makes command doc e t
+
+-- What a command makes with the id that was drawn.
+made_with : (F : NodeId → Result Change Refusal) (taken : StreamAnswer NodeId) (id : NodeId) → taken.answer ≡ Ok id
+    → then_left taken (λ id left. with_left (F id) left) ≡ with_left (F id) taken.left
+made_with F taken id e = ap (λ (a : Result NodeId Refusal). after_left a taken.left (λ id left. with_left (F id) left)) e
+
+returns_with : (result : Result declared.Change Stop) (defined : Result Change Refusal) (new : BareDoc) (before now : Option (List ℕ)) (left : List ℕ)
+    → IsLeft before now left → Returns (λ change. change_seen change new) result defined
+    → ReturnsAskedStream (λ change. change_seen change new) result before now (with_left defined left)
+returns_with (Ok change) defined new before now left l h = (h, l)
+returns_with (Err (Refused refusal)) defined new before now left l h = (h, l)
+returns_with (Err (FileFault name)) defined new before now left l h = tt
+returns_with (Err InputFault) defined new before now left l h = tt
+returns_with (Err NoMemory) defined new before now left l h = tt
+
+-- A command gave this with an id that was drawn, or stopped.
+pub returns_drawn : (result : Result declared.Change Stop) (F : NodeId → Result Change Refusal) (taken : StreamAnswer NodeId) (id : NodeId) (new : BareDoc) (before now : Option (List ℕ))
+    → taken.answer ≡ Ok id → IsLeft before now taken.left → Returns (λ change. change_seen change new) result (F id)
+    → ReturnsAskedStream (λ change. change_seen change new) result before now (then_left taken (λ id left. with_left (F id) left))
+returns_drawn result F taken id new before now e l h =
+    subst (λ (a : StreamAnswer Change). ReturnsAskedStream (λ change. change_seen change new) result before now a) (sym (made_with F taken id e))
+    (returns_with result (F id) new before now taken.left l h)
+
+-- It does over some dice.
+pub some_drawn : (result : Result declared.Change Stop) (F : NodeId → Result Change Refusal) (makes : Bool) (id : NodeId) (new : BareDoc)
+    → ((d : List ℕ) × ((drawn_id makes d).answer ≡ Ok id)) → Returns (λ change. change_seen change new) result (F id)
+    → IfOk result (λ change. (d : List ℕ) × ((then_left (drawn_id makes d) (λ id left. with_left (F id) left)).answer ≡ Ok (change_seen change new)))
+some_drawn (Ok change) F makes id new some h =
+    (some.0, ap (λ (a : StreamAnswer Change). a.answer) (made_with F (drawn_id makes some.0) id some.1) ∙ h)
+some_drawn (Err stop) F makes id new some h = tt
+
+pub stream_stop : (result : Result declared.Change Stop) (faults faults' : ℕ) → IfErr result IsPlainStop → IfErr result (IsStreamStop faults faults')
+stream_stop (Ok change) faults faults' h = tt
+stream_stop (Err (Refused refusal)) faults faults' h = h
+stream_stop (Err (FileFault name)) faults faults' h = absurd h
+stream_stop (Err InputFault) faults faults' h = absurd h
+stream_stop (Err NoMemory) faults faults' h = tt
+
+-- Bytes that were drawn make the id that is drawn of themselves.
+pub id_drawn : (is_made : Bool) (drawn id : List ℕ) → is_made ≡ true → length drawn ≡ 16 → id ≡ new_id drawn → (drawn_id is_made drawn).answer ≡ Ok id
+id_drawn true drawn id m l e =
+    ap (λ (b : List ℕ). (with_left {A = NodeId} (Ok (new_id b)) drawn).answer) (sym (next_alone 16 drawn l))
+    ∙ ap (λ (i : NodeId). (with_left {A = NodeId} (Ok i) drawn).answer) (sym e)
+id_drawn false drawn id m l e = cc

@@ -1,0 +1,29 @@
+-- What is seen of a command's change in memory.
+use Rattle.std.specs.Prelude.{ℕ, Bool, true, false, List, Option, None, Some, Result, Ok, Err}
+use Rattle.secret_core.specs.Secret.{SecretBuffer}
+use Rattle.vault_model.specs.Tree.{BareDoc}
+use Rattle.cli_answers.specs.declared.answers.Stop.{Stop}
+use Rattle.cli_commands.specs.declared.output.Change as declared
+use Rattle.cli_commands.specs.declared.output.Output.{Output}
+use Rattle.cli_commands.specs.declared.output.Output.TheVariants.{Listing, Report}
+use Rattle.cli_commands.specs.Commands.{Change}
+
+-- The text that a command prints.
+abbrev pub output_text : Output → List ℕ
+output_text (Listing text) = text
+output_text (Report text) = text.bytes
+
+-- The document, if it is to be written.
+abbrev pub doc_if : Bool → BareDoc → Option BareDoc
+doc_if true doc = Some doc
+doc_if false doc = None
+
+-- A command's change, after which the document is this.
+abbrev pub change_seen : declared.Change → BareDoc → Change
+change_seen change doc =
+    record { text = output_text change.output; doc = doc_if change.is_written doc }
+
+-- The change of a command that reports this, and whose document is to be written.
+abbrev pub reported : Result SecretBuffer Stop → Result declared.Change Stop
+reported (Ok text) = Ok (record { output = Report text; is_written = true })
+reported (Err stop) = Err stop

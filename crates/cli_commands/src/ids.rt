@@ -1,0 +1,58 @@
+//! The ids of the nodes that commands make.
+ghost use Rattle.std.specs.Prelude.{◌≡◌, ◌≤◌, ℕ, List, IfErr, IfOk, Ok, false};
+ghost use Rattle.outside_core.specs.Counts.{Increased};
+ghost use Rattle.outside_core.specs.Streams.{LosesPrefix};
+ghost use Rattle.vault_model.specs.SeenDoc.{doc_seen};
+ghost use Rattle.cli_answers.specs.Phases.{IsLeft, TellsStream};
+ghost use Rattle.cli_commands.specs.Commands as spec;
+
+use cli_changes::new_id;
+use cli_drawing::draw_id;
+use cli_words::Command;
+use outside_core::{Dice, DiceFail};
+use tree_moves::needs_bin;
+use uuid::Uuid;
+use vault_model::Doc;
+
+/// Reports whether a command makes a node in a document, whose id has to be drawn.
+pub(crate) fn makes_node(command: &Command, doc: &Doc) -> bool
+    ensures { result ≡ spec.makes_node command.now (doc_seen doc.now) }
+{
+    match command {
+        Command::Ls { .. } => false,
+        Command::Add { .. } => true,
+        Command::Edit { .. } => false,
+        Command::Mv { .. } => false,
+        Command::Rm { .. } => needs_bin(doc),
+        Command::Mkdir { .. } => true,
+        Command::Rmdir { .. } => needs_bin(doc),
+    }
+}
+
+/// Draws the id of a node that is made. Where none is made, nothing is drawn and the id is nil.
+pub(crate) fn draw_if<D: Dice>(dice: &mut D, is_made: bool) -> Result<Uuid, DiceFail>
+    ensures told { (d : List ℕ) → TellsStream is_made (D.stream dice.old) d
+        → IfOk result (λ id. ((spec.drawn_id is_made d).answer ≡ Ok id)
+        × IsLeft (D.stream dice.old) (D.stream dice.new) (spec.drawn_id is_made d).left) }
+    ensures some_dice { IfOk result (λ id. (d : List ℕ)
+        × ((spec.drawn_id is_made d).answer ≡ Ok id)) }
+    ensures undrawn { is_made ≡ false → D.stream dice.new ≡ D.stream dice.old }
+    ensures stream { LosesPrefix (D.stream dice.old) (D.stream dice.new) }
+    ensures cause { IfErr result (λ _. Increased (D.faults dice.old) (D.faults dice.new)) }
+    ensures faults { D.faults dice.old ≤ D.faults dice.new }
+{
+    if !is_made {
+        return Ok(Uuid::nil());
+    }
+    match draw_id(dice) {
+        Ok(drawn) => Ok(new_id(drawn)),
+        Err(fail) => Err(fail),
+    }
+}
+
+/// The id of the bin that a removal makes, where it needs one.
+pub(crate) fn bin_id(id: Uuid, doc: &Doc) -> Option<Uuid>
+    ensures { result ≡ spec.bin_id id (doc_seen doc.now) }
+{
+    if needs_bin(doc) { Some(id) } else { None }
+}

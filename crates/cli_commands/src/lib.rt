@@ -1,0 +1,9 @@
+//! What each command makes of its database, what it prints, and what it draws.
+#![tactic(auto)]
+
+mod ids;
+mod output;
+mod performing;
+
+pub use output::{Change, Output, lend_text};
+pub use performing::{is_writing, perform};

@@ -1,0 +1,48 @@
+//! What a command prints, and whether its database is to be written.
+ghost use Rattle.std.specs.Prelude.{◌≡◌};
+ghost use Rattle.cli_commands.specs.SeenChange as spec;
+
+use cli_answers::Stop;
+use outside_core::Bytes;
+use secret_core::Secret;
+
+/// What a command prints.
+#[derive(Drop)]
+pub enum Output {
+    /// A listing.
+    Listing(Bytes),
+    /// The report of a change, in memory that is wiped, since a title may be secret.
+    Report(Secret),
+}
+
+/// What a command makes of its database, which it changes in place.
+#[derive(Drop)]
+pub struct Change {
+    /// What the command prints.
+    pub output: Output,
+    /// Whether the database is to be written.
+    pub is_written: bool,
+}
+
+/// Lends the text that a command prints.
+pub fn lend_text(output: &Output) -> &[u8]
+    ensures { result.now ≡ spec.output_text output.now }
+{
+    match output {
+        Output::Listing(text) => text.as_slice(),
+        Output::Report(text) => text.lend(0, text.len()),
+    }
+}
+
+/// The change of a command that reports this, and whose database is to be written.
+pub(crate) fn reported(report: Result<Secret, Stop>) -> Result<Change, Stop>
+    ensures { result ≡ spec.reported report }
+{
+    match report {
+        Ok(text) => Ok(Change {
+            output: Output::Report(text),
+            is_written: true,
+        }),
+        Err(stop) => Err(stop),
+    }
+}

@@ -1,0 +1,4 @@
+//! Whether two documents are equal.
+#![tactic(auto)]
+
+pub mod equality;

@@ -1,0 +1,4 @@
+//! Documents merged into one.
+#![tactic(auto)]
+
+pub mod merging;

@@ -1,0 +1,252 @@
+//! Documents merged into one.
+ghost use Rattle.std.specs.Prelude.{◌≡◌, ◌∷◌, None, Ok, Err, IfOk, map, true};
+ghost use Rattle.vault_model.specs.Join.{join};
+ghost use Rattle.vault_model.specs.Proper.{rises};
+ghost use Rattle.vault_model.specs.SeenDoc.{doc_seen};
+ghost use Rattle.vault_model.specs.Tree.{LEVELS, db_in, lay_doc};
+ghost use Rattle.merge_laws.specs.Marking.{strays};
+ghost use Rattle.merge_laws.specs.Refusals.{IsMerge, kind_clashes, least, members, root_clashes};
+ghost use Rattle.reference_tables.specs.Databases.{database, databases};
+ghost use Rattle.merge_join.specs.Marks.{AreKept, AreKnown};
+ghost use Rattle.document_merge.specs.Merging.{HandsBack, IsFailOf, IsMergeCall, IsMergeResult, level_stage, kind_stage, merge_result, path_stage};
+
+use document_equality::equality::{same_doc, same_meta, same_tombs};
+use merge_building::laid::laid_doc;
+use merge_building::metas::made_meta;
+use merge_changes::changes::{Change, changes};
+use merge_checks::copies::members_of;
+use merge_checks::cycles::cycle_above;
+use merge_checks::kinds::kind_clash;
+use merge_checks::levels::deepest;
+use merge_checks::roots::root_clash;
+use merge_join::joins::{join_marked, rising_ids};
+use merge_join::marking::{JoinRefusal, kept_marks};
+use merge_shapes::shapes::shape_of;
+use outside_core::{List, NoMemory};
+use reference_lay::laying::lay;
+use reference_tables::databases::Database;
+use reference_tables::tables::Table;
+use std::alloc::Global;
+use uuid::Uuid;
+use vault_model::Doc;
+
+/// Why documents are not merged.
+#[derive(Drop)]
+pub enum MergeFail {
+    /// A root has this id in one document, and a node that is not its root in some.
+    RootClash(Uuid),
+    /// An entry has this id in one document and a group in another.
+    KindClash(Uuid),
+    /// Latest moves make a cycle of these nodes.
+    MoveCycle(List<Uuid>),
+    /// This node would be below the last level.
+    TooDeep(Uuid),
+    /// Memory ran out.
+    NoMemory,
+}
+
+impl From<NoMemory> for MergeFail {
+    ghost use Rattle.document_merge.specs.declared.merging.MergeFail.TheVariants as fail;
+
+    ghost from_gives = { λ _ e. e ≡ fail.NoMemory };
+
+    fn from(_failed: NoMemory) -> MergeFail {
+        MergeFail::NoMemory
+    }
+}
+
+/// A merged document, whether it differs from the target, and what changed.
+#[derive(Drop)]
+pub struct Merged {
+    pub doc: Doc,
+    pub changed: bool,
+    pub changes: List<Change>,
+}
+
+/// A refusal, and the target handed back as it was unless memory ran out.
+#[derive(Drop)]
+pub struct Refused {
+    pub why: MergeFail,
+    pub target: Option<Doc>,
+}
+
+/// A merged document with what changed.
+fn report<'a>(
+    alloc: Global,
+    target: &'a Doc,
+    _sources: &[Doc],
+    before: &Database<'a>,
+    joined: &Database<'a>,
+    doc: Doc,
+) -> Result<Merged, MergeFail>
+    requires before { database before.now ≡ db_in (doc_seen target.now) }
+    requires joined { database joined.now
+        ≡ join (members (doc_seen target.now) (map doc_seen _sources.now)) }
+    ensures { IsMergeResult (Ok (doc_seen doc)) (doc_seen target.now) (map doc_seen _sources.now)
+        result }
+{
+    let is_meta_same = same_meta(&target.meta, &doc.meta);
+    let are_tombs_same = same_tombs(target.tombs.as_slice(), doc.tombs.as_slice());
+    let is_same = same_doc(target, &doc);
+    let changes = changes(alloc, before, joined, is_meta_same, are_tombs_same, is_same)?;
+    Ok(Merged {
+        doc,
+        changed: !is_same,
+        changes,
+    })
+}
+
+/// The joined database laid over the target.
+fn laid<'a>(
+    alloc: Global,
+    target: &'a Doc,
+    _sources: &[Doc],
+    joined: &Database<'a>,
+) -> Result<Doc, NoMemory>
+    requires joined { database joined.now
+        ≡ join (members (doc_seen target.now) (map doc_seen _sources.now)) }
+    requires merge { IsMerge (doc_seen target.now) (map doc_seen _sources.now) }
+    ensures { IfOk result (λ d. doc_seen d ≡ lay_doc LEVELS
+        (join (members (doc_seen target.now) (map doc_seen _sources.now))) (doc_seen target.now)) }
+{
+    let older = shape_of(alloc, target)?;
+    let newer = lay(alloc, joined, &older)?;
+    let meta = made_meta(alloc, &newer.meta)?;
+    let doc = laid_doc(alloc, &newer, meta)?;
+    Ok(doc)
+}
+
+/// The join of the members laid over the target, where no kept node is too deep.
+fn merge_joined<'a>(
+    alloc: Global,
+    target: &'a Doc,
+    sources: &[Doc],
+    copies: &[Database<'a>],
+    joined: &Database<'a>,
+) -> Result<Merged, MergeFail>
+    requires copies { databases copies.now
+        ≡ members (doc_seen target.now) (map doc_seen sources.now) }
+    requires merge { IsMerge (doc_seen target.now) (map doc_seen sources.now) }
+    requires joined { database joined.now ≡ join (databases copies.now) }
+    ensures { IsMergeResult (Ok (lay_doc LEVELS
+        (join (members (doc_seen target.now) (map doc_seen sources.now))) (doc_seen target.now)))
+        (doc_seen target.now) (map doc_seen sources.now) result }
+{
+    let doc = laid(alloc, target, sources, joined)?;
+    report(alloc, target, sources, &copies[0], joined, doc)
+}
+
+/// Documents merged whose own nodes all have a path to the root; the kept nodes are marked.
+fn merge_marked<'a>(
+    alloc: Global,
+    target: &'a Doc,
+    sources: &[Doc],
+    copies: &[Database<'a>],
+    known: &[Uuid],
+    marked: &Table<bool>,
+) -> Result<Merged, MergeFail>
+    requires clear { least (root_clashes (doc_seen target.now ∷ map doc_seen sources.now)) ≡ None }
+    requires copies { databases copies.now
+        ≡ members (doc_seen target.now) (map doc_seen sources.now) }
+    requires kinds { least (kind_clashes (databases copies.now)) ≡ None }
+    requires rising { rises (λ u. u) known.now ≡ true }
+    requires known { AreKnown (databases copies.now) known.now }
+    requires kept { AreKept (databases copies.now) marked.now }
+    requires strays { least (strays (databases copies.now)) ≡ None }
+    ensures { IsMergeResult (level_stage (doc_seen target.now) (map doc_seen sources.now))
+        (doc_seen target.now) (map doc_seen sources.now) result }
+{
+    let found = deepest(copies, marked, known);
+    if let Some(id) = found {
+        return Err(MergeFail::TooDeep(id));
+    }
+    let joined = join_marked(alloc, copies, marked, known)?;
+    merge_joined(alloc, target, sources, copies, &joined)
+}
+
+/// Why documents are not merged, where their databases are not joined.
+fn fail_of(alloc: Global, copies: &[Database], refusal: JoinRefusal) -> MergeFail
+    ensures { IsFailOf (databases copies.now) refusal result }
+{
+    match refusal {
+        JoinRefusal::Stray(id) => match cycle_above(alloc, copies, id) {
+            Ok(ids) => MergeFail::MoveCycle(ids),
+            Err(_failed) => MergeFail::NoMemory,
+        },
+        JoinRefusal::NoMemory => MergeFail::NoMemory,
+    }
+}
+
+/// Documents merged in which each id is of one kind.
+fn merge_kinds<'a>(
+    alloc: Global,
+    target: &'a Doc,
+    sources: &[Doc],
+    copies: &[Database<'a>],
+    known: &[Uuid],
+) -> Result<Merged, MergeFail>
+    requires clear { least (root_clashes (doc_seen target.now ∷ map doc_seen sources.now)) ≡ None }
+    requires copies { databases copies.now
+        ≡ members (doc_seen target.now) (map doc_seen sources.now) }
+    requires kinds { least (kind_clashes (databases copies.now)) ≡ None }
+    requires rising { rises (λ u. u) known.now ≡ true }
+    requires known { AreKnown (databases copies.now) known.now }
+    ensures { IsMergeResult (path_stage (doc_seen target.now) (map doc_seen sources.now))
+        (doc_seen target.now) (map doc_seen sources.now) result }
+{
+    match kept_marks(alloc, copies, known) {
+        Ok(marked) => merge_marked(alloc, target, sources, copies, known, &marked),
+        Err(refusal) => Err(fail_of(alloc, copies, refusal)),
+    }
+}
+
+/// Documents merged in which no node but a root has a root's id.
+fn merge_members(alloc: Global, target: &Doc, sources: &[Doc]) -> Result<Merged, MergeFail>
+    requires clear { least (root_clashes (doc_seen target.now ∷ map doc_seen sources.now)) ≡ None }
+    ensures { IsMergeResult (kind_stage (doc_seen target.now) (map doc_seen sources.now))
+        (doc_seen target.now) (map doc_seen sources.now) result }
+{
+    let copies = members_of(alloc, target, sources)?;
+    let known = rising_ids(alloc, copies.as_slice())?;
+    let found = kind_clash(copies.as_slice(), known.as_slice());
+    if let Some(id) = found {
+        return Err(MergeFail::KindClash(id));
+    }
+    merge_kinds(alloc, target, sources, copies.as_slice(), known.as_slice())
+}
+
+/// Documents merged, all of them lent.
+pub fn merge_lent(alloc: Global, target: &Doc, sources: &[Doc]) -> Result<Merged, MergeFail>
+    ensures { IsMergeResult (merge_result (doc_seen target.now) (map doc_seen sources.now))
+        (doc_seen target.now) (map doc_seen sources.now) result }
+{
+    let found = root_clash(alloc, target, sources)?;
+    if let Some(id) = found {
+        return Err(MergeFail::RootClash(id));
+    }
+    merge_members(alloc, target, sources)
+}
+
+/// A refusal with the target, or without it where memory ran out.
+fn handing_back(why: MergeFail, target: Doc) -> Refused
+    ensures why { result.why ≡ why }
+    ensures target { HandsBack (doc_seen target) why result.target }
+{
+    let target = match &why {
+        MergeFail::NoMemory => None,
+        _ => Some(target),
+    };
+    Refused { why, target }
+}
+
+/// The target merged with some sources: the first refusal, or the target with the join of all laid
+/// over it.
+pub fn merge(alloc: Global, target: Doc, sources: &[Doc]) -> Result<Merged, Refused>
+    ensures { IsMergeCall (merge_result (doc_seen target) (map doc_seen sources.now))
+        (doc_seen target) (map doc_seen sources.now) result }
+{
+    match merge_lent(alloc, &target, sources) {
+        Ok(merged) => Ok(merged),
+        Err(why) => Err(handing_back(why, target)),
+    }
+}

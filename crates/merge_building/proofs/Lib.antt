@@ -1,0 +1,2 @@
+pub mod BuiltTrees
+pub mod LaidParts

@@ -1,0 +1,77 @@
+-- The changes from one database to another, by rising id.
+use Rattle.std.specs.Prelude.{Bool, true, false, ◌&&◌, cond, List, [], ◌∷◌, ◌++◌, Option, None, Some}
+use Rattle.std.specs.FinMap.{entries, get, keys}
+use Rattle.std.specs.List.{flat_map}
+use Rattle.std.specs.Ordering.{eq_by_cmp}
+use Rattle.vault_model.specs.declared.contents.Stats.{Stats}
+use Rattle.vault_model.specs.Db.{NodeId, id_cmp, Mark, mark_cmp, Versions, Place, Db}
+use Rattle.vault_model.specs.Join.{is_id}
+use Rattle.vault_model.specs.Unite.{tabulate}
+use Rattle.merge_changes.specs.declared.changes.Change.{Change}
+use Rattle.merge_changes.specs.declared.changes.Change.TheVariants.{Created, Updated, Moved, Deleted, Metadata, Deletions, Order}
+use Rattle.merge_changes.specs.declared.changes.Kind.{Kind}
+use Rattle.merge_changes.specs.declared.changes.Kind.TheVariants.{Entry, Group}
+use Rattle.document_equality.specs.Equality.{same_all, same_nat, same_state, same_stats}
+
+-- marks with their stats
+abbrev pub same_use : Mark × Stats → Mark × Stats → Bool
+same_use v w = eq_by_cmp mark_cmp v.0 w.0 && same_stats v.1 w.1
+
+-- all versions of an entry
+abbrev pub same_versions : Versions → Versions → Bool
+same_versions v w = same_all same_use (entries v) (entries w)
+
+-- places, where there are any
+abbrev pub same_place : Option Place → Option Place → Bool
+same_place None None = true
+same_place None (Some q) = false
+same_place (Some p) None = false
+same_place (Some p) (Some q) =
+    same_nat p.placed q.placed && (is_id p.parent q.parent && is_id p.previous q.previous)
+
+-- the changes of a node of one kind: it is there only now; it has another value, or another place;
+-- it was there only before
+abbrev pub kind_changes : {A : Type 0} → (A → A → Bool) → Kind → NodeId → Bool → Option A
+    → Option A → List Change
+kind_changes same kind u stays None None = []
+kind_changes same kind u stays None (Some y) = Created kind u ∷ []
+kind_changes same kind u stays (Some x) None = Deleted kind u ∷ []
+kind_changes same kind u stays (Some x) (Some y) = cond (same x y) [] (Updated kind u ∷ [])
+    ++ cond stays [] (Moved kind u ∷ [])
+
+-- the changes of an entry of this id
+abbrev pub entry_changes : Db → Db → NodeId → List Change
+entry_changes a b u = kind_changes same_versions Entry u
+    (same_place (get a.places u) (get b.places u)) (get a.entries u) (get b.entries u)
+
+-- the changes of a group of this id
+abbrev pub group_changes : Db → Db → NodeId → List Change
+group_changes a b u = kind_changes same_state Group u
+    (same_place (get a.places u) (get b.places u)) (get a.groups u) (get b.groups u)
+
+-- the changes of the node of an id
+abbrev pub changes_at : Db → Db → NodeId → List Change
+changes_at a b u = entry_changes a b u ++ group_changes a b u
+
+-- some ids by rising id, each once
+abbrev pub rising_ids : List NodeId → List NodeId
+rising_ids us = keys (tabulate {R = id_cmp} us (λ u. Some true))
+
+-- the nodes of two databases
+abbrev pub nodes_of : Db → Db → List NodeId
+nodes_of a b = (keys a.entries ++ keys a.groups) ++ (keys b.entries ++ keys b.groups)
+
+-- the changes of all nodes
+abbrev pub node_changes : Db → Db → List Change
+node_changes a b = flat_map (changes_at a b) (rising_ids (nodes_of a b))
+
+-- a change of the order alone is listed where there is no other
+abbrev pub or_order : Bool → List Change → List Change
+or_order same [] = cond same [] (Order ∷ [])
+or_order same (c ∷ cs) = c ∷ cs
+
+-- the changes of a database: of its nodes, of what it says of itself, of its tombstones, and of its
+-- order, where these are found to be the same or not
+abbrev pub all_changes : Db → Db → Bool → Bool → Bool → List Change
+all_changes a b metas tombs same = or_order same (node_changes a b
+    ++ (cond metas [] (Metadata ∷ []) ++ cond tombs [] (Deletions ∷ [])))

@@ -1,0 +1,232 @@
+//! The changes from one database to another.
+ghost use Rattle.std.specs.Prelude.{◌≡◌, ◌++◌, [], ◌∷◌, cond, IfOk, OnOk, Some, true};
+ghost use Rattle.vault_model.specs.Unite.{tabulate};
+ghost use Rattle.document_equality.specs.Equality.{same_all, same_state, same_stats};
+ghost use Rattle.reference_tables.specs.Databases.{database};
+ghost use Rattle.merge_changes.specs.Changes.{all_changes, changes_at, entry_changes, group_changes, node_changes, nodes_of, or_order, rising_ids, same_place, same_use, same_versions};
+
+use outside_core::{List, NoMemory};
+use reference_tables::databases::Database;
+use reference_tables::ids::{push_both, push_ids};
+use reference_tables::placements::Placement;
+use reference_tables::states::LentState;
+use reference_tables::tables::{Table, put_some};
+use reference_tables::version_keys::VersionKey;
+use reference_tables::versions::VersionTable;
+use std::alloc::Global;
+use uuid::Uuid;
+use vault_model::{Stats, compare_group};
+
+/// What a node is.
+#[derive(Clone, Copy, Debug, PartialEq, Eq)]
+pub enum Kind {
+    Entry,
+    Group,
+}
+
+/// A change of a node, or of the document.
+#[derive(Clone, Copy, Debug, PartialEq, Eq)]
+pub enum Change {
+    /// The node is there only now.
+    Created(Kind, Uuid),
+    /// The node's versions, or its state, are others.
+    Updated(Kind, Uuid),
+    /// The node has another place.
+    Moved(Kind, Uuid),
+    /// The node was there only before.
+    Deleted(Kind, Uuid),
+    /// What the document says of itself is other.
+    Metadata,
+    /// The tombstones are others.
+    Deletions,
+    /// Only the order of nodes is other.
+    Order,
+}
+
+/// Whether two uses are equal.
+fn is_use_same(first: Stats, second: Stats) -> bool
+    ensures { result ≡ same_stats first second }
+{
+    first.accessed.cmp(&second.accessed).is_eq() && first.usage.cmp(&second.usage).is_eq()
+}
+
+/// Whether two versions are equal in mark and use.
+fn is_version_same(first: &(VersionKey, Stats), second: &(VersionKey, Stats)) -> bool
+    ensures { result ≡ same_use first.now second.now }
+{
+    first.0.cmp(&second.0).is_eq() && is_use_same(first.1, second.1)
+}
+
+/// Whether two lists of versions are equal.
+fn are_rows_same(first: &[(VersionKey, Stats)], second: &[(VersionKey, Stats)]) -> bool
+    ensures { result ≡ same_all same_use first.now second.now }
+{
+    if first.len() != second.len() {
+        return false;
+    }
+    for (at, version) in first.iter().enumerate() {
+        if !is_version_same(version, &second[at]) {
+            return false;
+        }
+    }
+    true
+}
+
+/// Whether all versions of two entries are equal.
+fn are_versions_same(first: &VersionTable, second: &VersionTable) -> bool
+    ensures { result ≡ same_versions first.now second.now }
+{
+    are_rows_same(first.rows(), second.rows())
+}
+
+/// Whether the states of two groups are equal.
+fn is_state_same(first: &LentState, second: &LentState) -> bool
+    ensures { result ≡ same_state first.now second.now }
+{
+    first.modified().cmp(&second.modified()).is_eq()
+        && compare_group(first.content(), second.content()).is_eq()
+        && is_use_same(first.stats(), second.stats())
+}
+
+/// Whether two places are equal.
+fn is_place_same(first: Option<Placement>, second: Option<Placement>) -> bool
+    ensures { result ≡ same_place first second }
+{
+    match (first, second) {
+        (None, None) => true,
+        (Some(old), Some(new)) => {
+            old.placed.cmp(&new.placed).is_eq()
+                && old.parent.cmp(&new.parent).is_eq()
+                && old.previous.cmp(&new.previous).is_eq()
+        }
+        _ => false,
+    }
+}
+
+/// Appends a change unless nothing changed. A refusal means that memory ran out.
+fn push_unless(changes: &mut List<Change>, change: Change, is_same: bool) -> Result<(), NoMemory>
+    ensures { OnOk result (changes.new ≡ changes.old ++ cond is_same [] (change ∷ [])) }
+{
+    if is_same {
+        return Ok(());
+    }
+    match changes.push(change) {
+        Ok(()) => Ok(()),
+        Err(_change) => Err(NoMemory),
+    }
+}
+
+/// Appends the changes of an entry. A refusal means that memory ran out.
+fn push_entry(
+    changes: &mut List<Change>,
+    before: &Database,
+    after: &Database,
+    id: Uuid,
+) -> Result<(), NoMemory>
+    ensures { OnOk result (changes.new
+        ≡ changes.old ++ entry_changes (database before.now) (database after.now) id) }
+{
+    match (before.entries.get(&id), after.entries.get(&id)) {
+        (None, None) => Ok(()),
+        (None, Some(_)) => push_unless(changes, Change::Created(Kind::Entry, id), false),
+        (Some(_), None) => push_unless(changes, Change::Deleted(Kind::Entry, id), false),
+        (Some(old), Some(new)) => {
+            let is_same = are_versions_same(old, new);
+            let stays = is_place_same(
+                before.places.get(&id).copied(),
+                after.places.get(&id).copied(),
+            );
+            push_unless(changes, Change::Updated(Kind::Entry, id), is_same)?;
+            push_unless(changes, Change::Moved(Kind::Entry, id), stays)
+        }
+    }
+}
+
+/// Appends the changes of a group. A refusal means that memory ran out.
+fn push_group(
+    changes: &mut List<Change>,
+    before: &Database,
+    after: &Database,
+    id: Uuid,
+) -> Result<(), NoMemory>
+    ensures { OnOk result (changes.new
+        ≡ changes.old ++ group_changes (database before.now) (database after.now) id) }
+{
+    match (before.groups.get(&id), after.groups.get(&id)) {
+        (None, None) => Ok(()),
+        (None, Some(_)) => push_unless(changes, Change::Created(Kind::Group, id), false),
+        (Some(_), None) => push_unless(changes, Change::Deleted(Kind::Group, id), false),
+        (Some(old), Some(new)) => {
+            let is_same = is_state_same(old, new);
+            let stays = is_place_same(
+                before.places.get(&id).copied(),
+                after.places.get(&id).copied(),
+            );
+            push_unless(changes, Change::Updated(Kind::Group, id), is_same)?;
+            push_unless(changes, Change::Moved(Kind::Group, id), stays)
+        }
+    }
+}
+
+/// Some ids in a table, each once.
+pub fn table_of_ids(alloc: Global, ids: &[Uuid]) -> Result<Table<bool>, NoMemory>
+    ensures { IfOk result (λ t. t ≡ tabulate ids.now (λ u. Some true)) }
+{
+    let mut table = Table::new(alloc);
+    for id in ids {
+        put_some(&mut table, *id, Some(true))?;
+    }
+    Ok(table)
+}
+
+/// The nodes of two databases, by rising id and each once.
+fn rising_nodes(alloc: Global, before: &Database, after: &Database) -> Result<Vec<Uuid>, NoMemory>
+    ensures { IfOk result (λ us. us.items
+        ≡ rising_ids (nodes_of (database before.now) (database after.now))) }
+{
+    let mut ids = Vec::new(alloc);
+    push_both(&mut ids, &before.entries, &before.groups)?;
+    push_both(&mut ids, &after.entries, &after.groups)?;
+    let table = table_of_ids(alloc, ids.as_slice())?;
+    let mut rising = Vec::new(alloc);
+    push_ids(&mut rising, &table)?;
+    Ok(rising)
+}
+
+/// The changes of all nodes, by rising id.
+fn changed_nodes(
+    alloc: Global,
+    before: &Database,
+    after: &Database,
+) -> Result<List<Change>, NoMemory>
+    ensures { IfOk result (λ cs. cs ≡ node_changes (database before.now) (database after.now)) }
+{
+    let ids = rising_nodes(alloc, before, after)?;
+    let mut changes = List::new(alloc);
+    for id in ids.as_slice() {
+        push_entry(&mut changes, before, after, *id)?;
+        push_group(&mut changes, before, after, *id)?;
+    }
+    Ok(changes)
+}
+
+/// The changes of a database: of its nodes by rising id, of what it says of itself, of its
+/// tombstones; of its order alone where there is no other change.
+pub fn changes(
+    alloc: Global,
+    before: &Database,
+    after: &Database,
+    is_meta_same: bool,
+    are_tombs_same: bool,
+    is_same: bool,
+) -> Result<List<Change>, NoMemory>
+    ensures { IfOk result (λ cs. cs ≡ all_changes (database before.now) (database after.now)
+        is_meta_same are_tombs_same is_same) }
+{
+    let mut changes = changed_nodes(alloc, before, after)?;
+    push_unless(&mut changes, Change::Metadata, is_meta_same)?;
+    push_unless(&mut changes, Change::Deletions, are_tombs_same)?;
+    let is_listed = changes.len() > 0;
+    push_unless(&mut changes, Change::Order, is_listed || is_same)?;
+    Ok(changes)
+}

@@ -1,0 +1,4 @@
+//! What changes when documents are merged.
+#![tactic(auto)]
+
+pub mod changes;

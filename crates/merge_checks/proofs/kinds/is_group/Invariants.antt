@@ -1,0 +1,7 @@
+use Rattle.std.proofs.Common.{◌≡◌, drop}
+use Rattle.merge_laws.specs.Refusals.{is_group}
+use Rattle.reference_tables.specs.Databases.{databases}
+use Rattle.merge_checks.proofs.kinds.is_group.Given as goal
+
+abbrev pub invariant-loop-copy : goal.invariant-loop-copy
+invariant-loop-copy l = is_group (databases l.copies) l.id ≡ is_group (databases (drop l.copy-index l.copies)) l.id

@@ -1,0 +1,71 @@
+//! The cycle that the way up from a node ends in.
+ghost use Rattle.std.specs.Prelude.{◌≡◌, IfOk};
+ghost use Rattle.vault_model.specs.Db.{steps};
+ghost use Rattle.vault_model.specs.Join.{above, trail};
+ghost use Rattle.reference_tables.specs.Databases.{databases};
+ghost use Rattle.merge_changes.specs.Changes.{rising_ids};
+ghost use Rattle.merge_checks.specs.Cycles.{cycle_above};
+
+use merge_changes::changes::table_of_ids;
+use outside_core::{List, NoMemory};
+use reference_join::nodes::{above, all_ids};
+use reference_tables::databases::Database;
+use std::alloc::Global;
+use uuid::Uuid;
+use vault_making::copies::put_last;
+
+/// The node that so many steps up lead to.
+fn steps_up(copies: &[Database], from: Uuid, count: usize) -> Uuid
+    ensures { result ≡ steps (above (databases copies.now)) count from }
+{
+    let mut at = from;
+    let mut left = count;
+    while left > 0 {
+        at = above(copies, &at);
+        left -= 1;
+    }
+    at
+}
+
+/// A node and those above it, so many steps up.
+fn trail_from(
+    alloc: Global,
+    copies: &[Database],
+    from: Uuid,
+    count: usize,
+) -> Result<Vec<Uuid>, NoMemory>
+    ensures { IfOk result (λ us. us.items ≡ trail (databases copies.now) count from) }
+{
+    let mut trail = Vec::new(alloc);
+    let mut at = from;
+    let mut left = count;
+    while left > 0 {
+        trail.push(at)?;
+        at = above(copies, &at);
+        left -= 1;
+    }
+    trail.push(at)?;
+    Ok(trail)
+}
+
+/// Some ids by rising id, each once.
+fn rising_list(alloc: Global, ids: &[Uuid]) -> Result<List<Uuid>, NoMemory>
+    ensures { IfOk result (λ us. us ≡ rising_ids ids.now) }
+{
+    let table = table_of_ids(alloc, ids)?;
+    let mut list = List::new(alloc);
+    for (id, _) in table.iter() {
+        put_last(&mut list, *id)?;
+    }
+    Ok(list)
+}
+
+/// The cycle that the way up from a node ends in, by rising id.
+pub fn cycle_above(alloc: Global, copies: &[Database], from: Uuid) -> Result<List<Uuid>, NoMemory>
+    ensures { IfOk result (λ us. us ≡ cycle_above (databases copies.now) from) }
+{
+    let held = all_ids(alloc, copies)?;
+    let at = steps_up(copies, from, held.len());
+    let trail = trail_from(alloc, copies, at, held.len())?;
+    rising_list(alloc, trail.as_slice())
+}

@@ -1,0 +1,2 @@
+pub mod KnownIds
+pub mod NotEmpty

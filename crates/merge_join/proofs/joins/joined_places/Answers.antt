@@ -1,0 +1,20 @@
+-- Filled at each known id, the table is that of the join.
+use Rattle.std.proofs.Common.{◌≤◌, length, arith, ap, sym, ◌∙◌}
+use Rattle.std.specs.FinMap.{get}
+use Rattle.std.specs.List.{list_any}
+use Rattle.vault_model.specs.Join.{is_id, join}
+use Rattle.reference_tables.specs.Databases.{databases}
+use Rattle.reference_tables.proofs.FillTables.{fill, fill_whole}
+use Rattle.reference_tables.proofs.ListSteps.{drop_end}
+use Rattle.reference_join.proofs.JoinKnown.{places_known}
+use Rattle.merge_join.proofs.joins.joined_places.Goals as goal
+
+pub returns : goal.returns
+returns c =
+    let S = databases c.args.members.now in
+    let J = (join S).places in
+    let known = c.args.known.now in
+    let end : length known ≤ c.loop-id.id-index = omega arith in
+    sym (ap (fill (get J) c.loop-id.places) (drop_end known c.loop-id.id-index end))
+    ∙ sym c.loop-id.invariant
+    ∙ fill_whole J known (λ q h. places_known S q (sym (c.requires.known q) ∙ h))

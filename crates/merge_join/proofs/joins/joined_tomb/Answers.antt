@@ -1,0 +1,17 @@
+-- What is kept is_marked what all members have of it.
+use Rattle.std.proofs.Common.{cond, not, max, map, None, ap, sym, ◌∙◌}
+use Rattle.std.specs.FinMap.{get}
+use Rattle.vault_model.specs.Db.{Db}
+use Rattle.vault_model.specs.Unite.{gather}
+use Rattle.join_laws.proofs.Facts.{join_tombs}
+use Rattle.reference_tables.specs.Databases.{databases}
+use Rattle.merge_join.proofs.joins.joined_tomb.Goals as goal
+
+pub returns-then-is_kept : goal.returns-then-is_kept
+returns-then-is_kept c =
+    sym (join_tombs (databases c.args.members.now) c.args.id.now ∙ ap (λ b. cond (not b) (gather max (map (λ (m : Db). get m.tombs c.args.id.now) (databases c.args.members.now))) None) (sym c.if-is_kept.ensures))
+
+pub returns-else-is_kept : goal.returns-else-is_kept
+returns-else-is_kept c =
+    c.latest_tomb.ensures
+    ∙ sym (join_tombs (databases c.args.members.now) c.args.id.now ∙ ap (λ b. cond (not b) (gather max (map (λ (m : Db). get m.tombs c.args.id.now) (databases c.args.members.now))) None) (sym c.if-is_kept.ensures))

@@ -1,0 +1,3 @@
+pub mod ReadColumns
+pub mod ReadRows
+pub mod SeenRoots

@@ -1,0 +1,15 @@
+use Rattle.std.proofs.Common.{◌≡◌, ◌≤◌, length, map, drop}
+use Rattle.std.specs.FinMap.{from_entries}
+use Rattle.std.specs.List.{filter}
+use Rattle.merge_reading.specs.Rows.{is_other, tomb_row}
+use Rattle.merge_reading.proofs.lending.tombs_of.Given as goal
+
+abbrev pub invariant-loop-at : goal.invariant-loop-at
+invariant-loop-at l =
+    record {
+      within : l.at ≤ length l.tombs;
+      read : l.table ≡ from_entries (map tomb_row (filter (is_other l.root) (drop l.at l.tombs)));
+    }
+
+abbrev pub decreases-loop-at : goal.decreases-loop-at
+decreases-loop-at l = l.at

@@ -1,0 +1,3 @@
+pub mod OwnShape
+pub mod PutNodes
+pub mod SeenNodes
