@@ -26,6 +26,7 @@ pub(crate) fn makes_node(command: &Command, doc: &Doc) -> bool
         Command::Rm { .. } => needs_bin(doc),
         Command::Mkdir { .. } => true,
         Command::Rmdir { .. } => needs_bin(doc),
+        Command::Merge { .. } => false,
     }
 }
 

@@ -1,6 +1,6 @@
 //! What the program can be asked to do.
 
-use outside_core::Text;
+use outside_core::{List, Text};
 
 /// How a database is opened.
 #[derive(Drop)]
@@ -105,5 +105,20 @@ pub enum Command {
         file: Text,
         /// The path of the group.
         group: Text,
+    },
+    /// Merges databases into a database.
+    Merge {
+        /// How the target is opened.
+        access: Access,
+        /// The file of the target.
+        file: Text,
+        /// The files of the sources, of which there are 1 to 16.
+        sources: List<Text>,
+        /// How each source is opened.
+        from: Access,
+        /// Whether each source has the password of the target.
+        same: bool,
+        /// Whether no file is written.
+        dry: bool,
     },
 }
