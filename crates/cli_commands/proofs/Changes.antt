@@ -21,7 +21,7 @@ use Rattle.cli_words.specs.declared.command.Command.{Command}
 use Rattle.cli_words.specs.declared.command.Command.TheVariants.{Ls, Add, Edit, Mv, Rm, Mkdir, Rmdir}
 use Rattle.cli_commands.specs.declared.output.Change as declared
 use Rattle.cli_commands.specs.Commands.{Change, bin_id, change_of, change_with, drawn_id, draws_id, makes_node, new_document, writes}
-use Rattle.cli_commands.specs.SeenChange.{change_seen, reported}
+use Rattle.cli_commands.specs.SeenChange.{change_seen, change_reported}
 
 -- A line that is lent.
 pub lent_text : (lent : Option (Bor (List ℕ))) → IsTextLine (lent_value lent) → IfSome lent (λ line. is_utf8 line.now ≡ true)
@@ -31,20 +31,26 @@ lent_text (Some line) h = h
 -- ---- a command that reports
 
 pub returns_reported : (report : Result SecretBuffer Stop) (r : Result AfterCommand Refusal) (old new : BareDoc) → CommandChanges report r old new
-    → Returns (λ change. change_seen change new) (reported report) (new_document r)
+    → Returns (λ change. change_seen change new) (change_reported report) (new_document r)
 returns_reported (Ok text) r old new h = ap new_document h
 returns_reported (Err (Refused refusal)) r old new h = ap new_document h.0
 returns_reported (Err (FileFault name)) r old new h = tt
 returns_reported (Err InputFault) r old new h = tt
 returns_reported (Err NoMemory) r old new h = tt
 
-pub written_reported : (report : Result SecretBuffer Stop) → IfOk (reported report) (λ change. change.is_written ≡ true)
+pub written_reported : (report : Result SecretBuffer Stop) → IfOk (change_reported report) (λ change. change.is_written ≡ true)
 written_reported (Ok text) = refl
 written_reported (Err stop) = tt
 
-pub cause_reported : (report : Result SecretBuffer Stop) → IfErr report IsPlainStop → IfErr (reported report) IsPlainStop
+pub cause_reported : (report : Result SecretBuffer Stop) → IfErr report IsPlainStop → IfErr (change_reported report) IsPlainStop
 cause_reported (Ok text) h = tt
 cause_reported (Err stop) h = h
+
+-- A refusal changes nothing.
+pub unchanged_reported : (report : Result SecretBuffer Stop) (r : Result AfterCommand Refusal) (old new : BareDoc) → CommandChanges report r old new
+    → IfErr (change_reported report) (λ _. new ≡ old)
+unchanged_reported (Ok text) r old new h = tt
+unchanged_reported (Err stop) r old new h = h.1
 
 needed_bin : (needed : Bool) (id : NodeId) → is_some (if needed then Some id else None) ≡ needed
 needed_bin true id = refl

@@ -57,7 +57,7 @@ listing_of file recursive flat None = Err (refusal_of NoSuchPath file)
 listing_of file recursive flat (Some tree) = Ok
     (record { text = group_lines recursive flat [] tree; doc = None })
 
--- What a command makes that has another document after it.
+-- The change of a command that leaves another document, or its refusal.
 abbrev pub new_document : Result AfterCommand Refusal → Result Change Refusal
 new_document (Ok after) = Ok (record { text = after.text; doc = Some after.doc })
 new_document (Err refusal) = Err refusal

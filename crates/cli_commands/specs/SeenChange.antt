@@ -24,6 +24,6 @@ change_seen change doc =
     record { text = output_text change.output; doc = doc_if change.is_written doc }
 
 -- The change of a command that reports this, and whose document is to be written.
-abbrev pub reported : Result SecretBuffer Stop → Result declared.Change Stop
-reported (Ok text) = Ok (record { output = Report text; is_written = true })
-reported (Err stop) = Err stop
+abbrev pub change_reported : Result SecretBuffer Stop → Result declared.Change Stop
+change_reported (Ok text) = Ok (record { output = Report text; is_written = true })
+change_reported (Err stop) = Err stop

@@ -36,7 +36,7 @@ pub fn lend_text(output: &Output) -> &[u8]
 
 /// The change of a command that reports this, and whose database is to be written.
 pub(crate) fn reported(report: Result<Secret, Stop>) -> Result<Change, Stop>
-    ensures { result ≡ spec.reported report }
+    ensures { result ≡ spec.change_reported report }
 {
     match report {
         Ok(text) => Ok(Change {

@@ -77,6 +77,7 @@ fn change_document<'a>(
     ensures told { Returns (λ change. change_seen change (doc_seen doc.new)) result
         (change_with now command.now (lent_value line.entry) id (doc_seen doc.old)) }
     ensures written { IfOk result (λ change. change.is_written ≡ writes command.now) }
+    ensures unchanged { IfErr result (λ _. doc_seen doc.new ≡ doc_seen doc.old) }
     ensures cause { IfErr result IsPlainStop }
 {
     match command {
@@ -198,6 +199,7 @@ pub fn perform<'a, D: Dice>(
         × ((change_of now command.now (lent_value line.entry) (doc_seen doc.old) d).answer
         ≡ Ok (change_seen change (doc_seen doc.new)))) }
     ensures written { IfOk result (λ change. change.is_written ≡ writes command.now) }
+    ensures unchanged { IfErr result (λ _. doc_seen doc.new ≡ doc_seen doc.old) }
     ensures undrawn { draws_id command.now ≡ false → D.stream dice.new ≡ D.stream dice.old }
     ensures stream { LosesPrefix (D.stream dice.old) (D.stream dice.new) }
     ensures cause { IfErr result (IsStreamStop (D.faults dice.old) (D.faults dice.new)) }

@@ -16,7 +16,7 @@ use Rattle.vault_model.specs.SeenNodes.{entry_row}
 use Rattle.vault_model.specs.Shape.{BareVersion, EntryRecord, GroupRecord}
 use Rattle.vault_model.specs.Tree.{BareDoc, Tree, Trees, node, none, beside}
 
--- numbers, and truth values
+-- two numbers are equal
 abbrev pub same_nat : ℕ → ℕ → Bool
 same_nat = eq_by_cmp nat_cmp
 
@@ -31,11 +31,11 @@ same_all same (x ∷ xs) (y ∷ ys) = same x y && same_all same xs ys
 abbrev pub same_stats : Stats → Stats → Bool
 same_stats s t = same_nat s.accessed t.accessed && same_nat s.usage t.usage
 
--- marks
+-- two marks are equal
 abbrev pub same_mark : Mark → Mark → Bool
 same_mark a b = same_nat a.modified b.modified && eq_by_cmp content_cmp a.content b.content
 
--- versions
+-- two versions are equal, in their use too
 abbrev pub same_version : BareVersion → BareVersion → Bool
 same_version v w = same_mark v.mark w.mark && same_stats v.stats w.stats
 
@@ -48,7 +48,7 @@ same_entry e f =
     && (same_version e.1.current f.1.current
     && same_all same_version e.1.history f.1.history)))
 
--- what groups are
+-- two groups' states are equal
 abbrev pub same_state : GroupState → GroupState → Bool
 same_state s t =
     same_nat s.modified t.modified
@@ -121,7 +121,7 @@ same_meta m n =
     && (same_all (eq_by_cmp icon_cmp) m.icons n.icons
     && (eq_by_cmp (slice_cmp item_cmp) m.items n.items && same_meta_view m.view n.view)))
 
--- documents
+-- two documents are equal
 abbrev pub same_doc : BareDoc → BareDoc → Bool
 same_doc d e =
     same_tree d.tree e.tree

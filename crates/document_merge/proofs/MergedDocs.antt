@@ -1,5 +1,5 @@
 -- Documents in memory keep what every document keeps, and what is merged of them can be laid.
-use Rattle.std.proofs.Common.{◌≡◌, ◌<◌, Bool, true, List, [], ◌∷◌, Option, Some, None, Err, length, arith, map, get_or, is_some, refl, sym, ap, subst, ◌∙◌}
+use Rattle.std.proofs.Common.{◌≡◌, ◌<◌, true, List, [], ◌∷◌, Option, Some, None, Err, length, arith, map, get_or, is_some, refl, sym, ap, subst, ◌∙◌}
 use Rattle.std.specs.FinMap.{contains_key, get}
 use Rattle.std.specs.Option.{option_map}
 use Rattle.vault_model.specs.declared.documents.Doc.{Doc}
@@ -11,7 +11,7 @@ use Rattle.vault_model.specs.Tree.{BareDoc, IsDoc, LEVELS}
 use Rattle.join_laws.proofs.Laid.{lay_groups, lay_root}
 use Rattle.vault_model.proofs.Tests.{from_map}
 use Rattle.merge_laws.specs.Marking.{strays}
-use Rattle.merge_laws.specs.Refusals.{IsMerge, kind_clashes, least, members, root_clashes, too_deep}
+use Rattle.merge_laws.specs.Refusals.{CanMerge, kind_clashes, least, members, root_clashes, too_deep}
 use Rattle.merge_laws.proofs.Refused.{acyclic, merged_is, one_kind, one_root, sound}
 use Rattle.merge_join.specs.declared.marking.JoinRefusal.{JoinRefusal}
 use Rattle.merge_join.specs.declared.marking.JoinRefusal.TheVariants.{Stray}
@@ -35,7 +35,7 @@ module _ (t : Doc) (ds : List Doc) (S : List Db) (are : S ≡ members (doc_seen 
   pub all_rooted : HaveOneRoot S
   all_rooted = subst HaveOneRoot (sym are) (one_root (doc_seen t) (map doc_seen ds) (is_doc t) (are_docs ds) clear)
 
-  pub all_merge : least (kind_clashes S) ≡ None → least (strays S) ≡ None → least (too_deep LEVELS S) ≡ None → IsMerge (doc_seen t) (map doc_seen ds)
+  pub all_merge : least (kind_clashes S) ≡ None → least (strays S) ≡ None → least (too_deep LEVELS S) ≡ None → CanMerge (doc_seen t) (map doc_seen ds)
   all_merge kinds ways levels =
       merged_is (doc_seen t) (map doc_seen ds) (is_doc t) (are_docs ds) clear
       (ap (λ (R : List Db). least (kind_clashes R)) (sym are) ∙ kinds)

@@ -1,5 +1,5 @@
 -- What a merge of documents results in.
-use Rattle.std.specs.Prelude.{◌≡◌, true, false, List, ◌∷◌, Option, None, Some, Result, Ok, Err}
+use Rattle.std.specs.Prelude.{◌≡◌, false, List, ◌∷◌, Option, None, Some, Result, Ok, Err}
 use Rattle.std.specs.Option.{option_map}
 use Rattle.vault_model.specs.declared.documents.Doc.{Doc}
 use Rattle.vault_model.specs.Db.{NodeId, Db}

@@ -5,7 +5,7 @@ ghost use Rattle.vault_model.specs.Proper.{rises};
 ghost use Rattle.vault_model.specs.SeenDoc.{doc_seen};
 ghost use Rattle.vault_model.specs.Tree.{LEVELS, db_in, lay_doc};
 ghost use Rattle.merge_laws.specs.Marking.{strays};
-ghost use Rattle.merge_laws.specs.Refusals.{IsMerge, kind_clashes, least, members, root_clashes};
+ghost use Rattle.merge_laws.specs.Refusals.{CanMerge, kind_clashes, least, members, root_clashes};
 ghost use Rattle.reference_tables.specs.Databases.{database, databases};
 ghost use Rattle.merge_join.specs.Marks.{AreKept, AreKnown};
 ghost use Rattle.document_merge.specs.Merging.{HandsBack, IsFailOf, IsMergeCall, IsMergeResult, level_stage, kind_stage, merge_result, path_stage};
@@ -17,9 +17,9 @@ use merge_changes::changes::{Change, changes};
 use merge_checks::copies::members_of;
 use merge_checks::cycles::cycle_above;
 use merge_checks::kinds::kind_clash;
-use merge_checks::levels::deepest;
+use merge_checks::levels::least_too_deep;
 use merge_checks::roots::root_clash;
-use merge_join::joins::{join_marked, rising_ids};
+use merge_join::joins::{join_marked, rising_known_ids};
 use merge_join::marking::{JoinRefusal, kept_marks};
 use merge_shapes::shapes::shape_of;
 use outside_core::{List, NoMemory};
@@ -33,7 +33,8 @@ use vault_model::Doc;
 /// Why documents are not merged.
 #[derive(Drop)]
 pub enum MergeFail {
-    /// A root has this id in one document, and a node that is not its root in some.
+    /// This id is a root's in one document, and in some document that of a node that is not its
+    /// root.
     RootClash(Uuid),
     /// An entry has this id in one document and a group in another.
     KindClash(Uuid),
@@ -105,7 +106,7 @@ fn laid<'a>(
 ) -> Result<Doc, NoMemory>
     requires joined { database joined.now
         ≡ join (members (doc_seen target.now) (map doc_seen _sources.now)) }
-    requires merge { IsMerge (doc_seen target.now) (map doc_seen _sources.now) }
+    requires can_merge { CanMerge (doc_seen target.now) (map doc_seen _sources.now) }
     ensures { IfOk result (λ d. doc_seen d ≡ lay_doc LEVELS
         (join (members (doc_seen target.now) (map doc_seen _sources.now))) (doc_seen target.now)) }
 {
@@ -126,7 +127,7 @@ fn merge_joined<'a>(
 ) -> Result<Merged, MergeFail>
     requires copies { databases copies.now
         ≡ members (doc_seen target.now) (map doc_seen sources.now) }
-    requires merge { IsMerge (doc_seen target.now) (map doc_seen sources.now) }
+    requires can_merge { CanMerge (doc_seen target.now) (map doc_seen sources.now) }
     requires joined { database joined.now ≡ join (databases copies.now) }
     ensures { IsMergeResult (Ok (lay_doc LEVELS
         (join (members (doc_seen target.now) (map doc_seen sources.now))) (doc_seen target.now)))
@@ -156,7 +157,7 @@ fn merge_marked<'a>(
     ensures { IsMergeResult (level_stage (doc_seen target.now) (map doc_seen sources.now))
         (doc_seen target.now) (map doc_seen sources.now) result }
 {
-    let found = deepest(copies, marked, known);
+    let found = least_too_deep(copies, marked, known);
     if let Some(id) = found {
         return Err(MergeFail::TooDeep(id));
     }
@@ -207,7 +208,7 @@ fn merge_members(alloc: Global, target: &Doc, sources: &[Doc]) -> Result<Merged,
         (doc_seen target.now) (map doc_seen sources.now) result }
 {
     let copies = members_of(alloc, target, sources)?;
-    let known = rising_ids(alloc, copies.as_slice())?;
+    let known = rising_known_ids(alloc, copies.as_slice())?;
     let found = kind_clash(copies.as_slice(), known.as_slice());
     if let Some(id) = found {
         return Err(MergeFail::KindClash(id));

@@ -14,7 +14,7 @@ use std::alloc::Global;
 use vault_making::copies::put_last;
 use vault_model::{Doc, Meta, Stamp, Tombstone};
 
-/// The levels of groups below the root.
+/// So many levels below the root are built; a document has one less.
 const BELOW: u64 = 128;
 
 /// The tombstones of a table, by rising id.

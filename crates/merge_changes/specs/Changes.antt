@@ -13,15 +13,15 @@ use Rattle.merge_changes.specs.declared.changes.Kind.{Kind}
 use Rattle.merge_changes.specs.declared.changes.Kind.TheVariants.{Entry, Group}
 use Rattle.document_equality.specs.Equality.{same_all, same_nat, same_state, same_stats}
 
--- marks with their stats
+-- two marks are the same, and used the same
 abbrev pub same_use : Mark × Stats → Mark × Stats → Bool
 same_use v w = eq_by_cmp mark_cmp v.0 w.0 && same_stats v.1 w.1
 
--- all versions of an entry
+-- two entries have the same versions, used the same
 abbrev pub same_versions : Versions → Versions → Bool
 same_versions v w = same_all same_use (entries v) (entries w)
 
--- places, where there are any
+-- two places are the same, or neither is there
 abbrev pub same_place : Option Place → Option Place → Bool
 same_place None None = true
 same_place None (Some q) = false
@@ -65,13 +65,14 @@ nodes_of a b = (keys a.entries ++ keys a.groups) ++ (keys b.entries ++ keys b.gr
 abbrev pub node_changes : Db → Db → List Change
 node_changes a b = flat_map (changes_at a b) (rising_ids (nodes_of a b))
 
--- a change of the order alone is listed where there is no other
+-- where nothing else is listed and the documents differ, their arrangement does: that of siblings,
+-- or of an entry's versions
 abbrev pub or_order : Bool → List Change → List Change
 or_order same [] = cond same [] (Order ∷ [])
 or_order same (c ∷ cs) = c ∷ cs
 
 -- the changes of a database: of its nodes, of what it says of itself, of its tombstones, and of its
--- order, where these are found to be the same or not
+-- arrangement, where these are found to be the same or not
 abbrev pub all_changes : Db → Db → Bool → Bool → Bool → List Change
 all_changes a b metas tombs same = or_order same (node_changes a b
     ++ (cond metas [] (Metadata ∷ []) ++ cond tombs [] (Deletions ∷ [])))

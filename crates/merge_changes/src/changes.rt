@@ -29,17 +29,18 @@ pub enum Kind {
 pub enum Change {
     /// The node is there only now.
     Created(Kind, Uuid),
-    /// The node's versions, or its state, are others.
+    /// The node's versions with their use, or its state, differ.
     Updated(Kind, Uuid),
-    /// The node has another place.
+    /// The node's place differs: its time, its parent or its previous parent.
     Moved(Kind, Uuid),
     /// The node was there only before.
     Deleted(Kind, Uuid),
-    /// What the document says of itself is other.
+    /// What the document says of itself differs.
     Metadata,
-    /// The tombstones are others.
+    /// The tombstones differ.
     Deletions,
-    /// Only the order of nodes is other.
+    /// Nothing else that is listed differs, and the documents do: siblings, or an entry's versions,
+    /// are arranged in another way.
     Order,
 }
 
@@ -211,7 +212,7 @@ fn changed_nodes(
 }
 
 /// The changes of a database: of its nodes by rising id, of what it says of itself, of its
-/// tombstones; of its order alone where there is no other change.
+/// tombstones; and, where these are all the same and the documents are not, of its arrangement.
 pub fn changes(
     alloc: Global,
     before: &Database,

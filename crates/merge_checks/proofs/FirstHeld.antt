@@ -11,7 +11,7 @@ use Rattle.join_laws.proofs.Facts.{held_by, held_id}
 use Rattle.join_laws.proofs.Laid.{in_list, list_in}
 use Rattle.vault_model.proofs.Tests.{and_true, any_found, from_filter, in_filter, or_left}
 use Rattle.merge_laws.specs.Marking.{first_such}
-use Rattle.merge_laws.specs.Refusals.{depth_of, is_entry, is_group, is_too_deep, least}
+use Rattle.merge_laws.specs.Refusals.{allowed_steps, is_entry, is_group, is_too_deep, least}
 use Rattle.merge_laws.proofs.Refused.{first_least, same_least}
 use Rattle.merge_join.specs.Marks.{AllSound, AreKnown}
 use Rattle.merge_join.proofs.KnownIds.{held_known}
@@ -36,4 +36,4 @@ two_held S u e =
 
 pub deep_held : (S : List Db) (al : Allowed S) (sound : AllSound S) (n : ℕ) (u : NodeId) → is_too_deep n S u ≡ true → is_held S u ≡ true
 deep_held S al sound n u e =
-    kept_held S al sound u (and_true (kept S u) (not (list_any (is_id (root_of S)) (trail S (depth_of n S u) u))) e).0
+    kept_held S al sound u (and_true (kept S u) (not (list_any (is_id (root_of S)) (trail S (allowed_steps n S u) u))) e).0

@@ -5,7 +5,7 @@ ghost use Rattle.vault_model.specs.Join.{Allowed, is_id, root_of, trail};
 ghost use Rattle.vault_model.specs.Proper.{rises};
 ghost use Rattle.vault_model.specs.Tree.{LEVELS};
 ghost use Rattle.merge_laws.specs.Marking.{first_such};
-ghost use Rattle.merge_laws.specs.Refusals.{depth_of, is_too_deep, least, too_deep};
+ghost use Rattle.merge_laws.specs.Refusals.{allowed_steps, is_too_deep, least, too_deep};
 ghost use Rattle.reference_tables.specs.Databases.{databases};
 ghost use Rattle.merge_join.specs.Marks.{AllSound, AreKept, AreKnown};
 
@@ -19,8 +19,8 @@ use uuid::Uuid;
 const MOST_LEVELS: usize = 128;
 
 /// So many steps up a node may be from the root.
-fn depth_of(copies: &[Database], id: &Uuid) -> usize
-    ensures { result ≡ depth_of LEVELS (databases copies.now) id.now }
+fn allowed_steps(copies: &[Database], id: &Uuid) -> usize
+    ensures { result ≡ allowed_steps LEVELS (databases copies.now) id.now }
 {
     if is_entry(copies, id) {
         MOST_LEVELS
@@ -36,7 +36,7 @@ fn is_too_deep(copies: &[Database], marked: &Table<bool>, id: &Uuid) -> bool
     ensures { result ≡ is_too_deep LEVELS (databases copies.now) id.now }
 {
     let is_kept = marked.get(id).is_some();
-    is_kept && !is_on_trail(copies, depth_of(copies, id), *id, &copies[0].root)
+    is_kept && !is_on_trail(copies, allowed_steps(copies, id), *id, &copies[0].root)
 }
 
 /// The first of some ids that is below the last level.
@@ -55,7 +55,7 @@ fn first_too_deep(copies: &[Database], marked: &Table<bool>, known: &[Uuid]) -> 
 
 /// The least kept node below the last level, where the kept nodes are marked and all known ids are
 /// given, rising.
-pub fn deepest(copies: &[Database], marked: &Table<bool>, known: &[Uuid]) -> Option<Uuid>
+pub fn least_too_deep(copies: &[Database], marked: &Table<bool>, known: &[Uuid]) -> Option<Uuid>
     requires some { 0 < length copies.now }
     requires allowed { Allowed (databases copies.now) }
     requires sound { AllSound (databases copies.now) }

@@ -1,5 +1,5 @@
 -- All ids that members know, by rising id: those that are held are among them, and the first stray is the least.
-use Rattle.std.proofs.Common.{◌≡◌, ◌++◌, Bool, true, false, not, ◌||◌, inl, inr, List, refl, sym, ◌∙◌}
+use Rattle.std.proofs.Common.{◌≡◌, ◌++◌, Bool, true, not, inl, inr, List, refl, ◌∙◌}
 use Rattle.std.specs.Cmp.{both_ways}
 use Rattle.std.specs.FinMap.{FinMap, contains_key, entries, entries_sorted, keys}
 use Rattle.std.specs.List.{list_any, filter}

@@ -28,7 +28,7 @@ fn is_kept(_members: &[Database], marked: &Table<bool>, id: &Uuid) -> bool
 }
 
 /// All ids that a member knows of, by rising id and each once.
-pub fn rising_ids(alloc: Global, members: &[Database]) -> Result<Vec<Uuid>, NoMemory>
+pub fn rising_known_ids(alloc: Global, members: &[Database]) -> Result<Vec<Uuid>, NoMemory>
     ensures rising { IfOk result (λ us. rises (λ u. u) us.items ≡ true) }
     ensures known { IfOk result (λ us. AreKnown (databases members.now) us.items) }
 {
@@ -173,9 +173,9 @@ fn joined_tombs(
     Ok(tombs)
 }
 
-/// Copies of one database made one: the nodes are the kept ones, which are marked, each with all that
-/// the members have of it, at its latest place, and what is not kept has its latest tombstone. The
-/// only refusal is that memory ran out.
+/// Copies of one database made one: the nodes are the kept ones, which are marked, each with all
+/// that the members have of it, at its latest place, and what is not kept has its latest tombstone.
+/// The only refusal is that memory ran out.
 pub fn join_marked<'a>(
     alloc: Global,
     members: &[Database<'a>],

@@ -24,7 +24,7 @@ use Rattle.vault_model.proofs.Tests.{or_left, or_right, or_false, and_true, and_
 use Rattle.join_laws.proofs.Versions.{never, some_from}
 use Rattle.join_laws.specs.NodesBelow.{below_ids}
 use Rattle.merge_laws.specs.Marking.{first_such, is_stray, strays}
-use Rattle.merge_laws.specs.Refusals.{lesser, least, members, root_clashes, is_entry, is_group, kind_clashes, depth_of, is_too_deep, too_deep, IsMerge}
+use Rattle.merge_laws.specs.Refusals.{lesser, least, members, root_clashes, is_entry, is_group, kind_clashes, allowed_steps, is_too_deep, too_deep, CanMerge}
 use Rattle.merge_laws.proofs.LaidDocs.{laid_is_doc}
 use Rattle.join_laws.proofs.Allowed.{own_held, trail_step}
 use Rattle.merge_laws.proofs.Rooted.{rooted_is_doc}
@@ -110,13 +110,13 @@ module _ (S : List Db) (al : Allowed S) (sound : (m : Db) → IsIn m S → Sound
       apart (contains_key g.1.0.groups u) g.1.1.1 (al.kinds f.0 g.1.0 u f.1.0 g.1.1.0 f.1.1)) in
       let here = held_id S u (held_by S g.1.0 u g.1.1.0 (or_right (contains_key g.1.0.entries u) (contains_key g.1.0.groups u) g.1.1.1)) in
       let passed = none_such (is_too_deep n S) (ids S) none u here in
-      elim (decide (list_any (is_id (root_of S)) (trail S (depth_of n S u) u))) [
+      elim (decide (list_any (is_id (root_of S)) (trail S (allowed_steps n S u) u))) [
         | inl t ↦
             let r = trail_step S (n - 1) u (root_of S) (ap (λ b. list_any (is_id (root_of S)) (trail S (cond b n (n - 1)) u)) (sym no_entry) ∙ t) in
             let far = no_nearer d r.0 u deep r.1.1 in
             let within = r.1.0 in
             omega (arith, far, within, more)
-        | inr t ↦ apart (kept S u && not (list_any (is_id (root_of S)) (trail S (depth_of n S u) u))) (λ i. g.0 i && not (t i)) passed
+        | inr t ↦ apart (kept S u && not (list_any (is_id (root_of S)) (trail S (allowed_steps n S u) u))) (λ i. g.0 i && not (t i)) passed
       ]
 
 -- ---- documents
@@ -161,7 +161,7 @@ module _ (t : BareDoc) (ss : List BareDoc) (is : IsDoc t) (all : (s : BareDoc) �
       let f = from_map (λ (s : BareDoc). db_in (rooted s root)) ss m h in
       ap (λ (x : Db). x.root) (sym f.1.1) ∙ db_root (rooted f.0 root) (source_is f.0 f.1.0) ∙ rooted_root f.0 root ∙ sym (db_root t is)
 
-  pub merged_is : least (kind_clashes (members t ss)) ≡ None → least (strays (members t ss)) ≡ None → least (too_deep LEVELS (members t ss)) ≡ None → IsMerge t ss
+  pub merged_is : least (kind_clashes (members t ss)) ≡ None → least (strays (members t ss)) ≡ None → least (too_deep LEVELS (members t ss)) ≡ None → CanMerge t ss
   merged_is kinds no_strays levels =
       let al : Allowed (members t ss) = record {
         some = tt;

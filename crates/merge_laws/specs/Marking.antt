@@ -14,8 +14,8 @@ Marks = FinMap id_cmp Bool
 abbrev pub is_marked : Marks → NodeId → Bool
 is_marked t u = contains_key t u
 
--- the number of steps up to the first node that passes a test, where some were taken before and so
--- many more may be
+-- how many steps up the first node is that passes a test: some were taken before, and at most so
+-- many more are taken
 abbrev pub climb : (NodeId → Bool) → (NodeId → NodeId) → ℕ → ℕ → NodeId → Option ℕ
 climb test up taken zero u = cond (test u) (Some taken) None
 climb test up taken (suc n) u = cond (test u) (Some taken) (climb test up (suc taken) n (up u))

@@ -42,19 +42,19 @@ abbrev pub kind_clashes : List Db → List NodeId
 kind_clashes S = filter (λ u. is_entry S u && is_group S u) (ids S)
 
 -- so many steps up a node may be from the root: an entry is at the level of its group
-abbrev pub depth_of : ℕ → List Db → NodeId → ℕ
-depth_of n S u = cond (is_entry S u) n (n - 1)
+abbrev pub allowed_steps : ℕ → List Db → NodeId → ℕ
+allowed_steps n S u = cond (is_entry S u) n (n - 1)
 
 -- a kept node below the last of n levels
 abbrev pub is_too_deep : ℕ → List Db → NodeId → Bool
-is_too_deep n S u = kept S u && not (list_any (is_id (root_of S)) (trail S (depth_of n S u) u))
+is_too_deep n S u = kept S u && not (list_any (is_id (root_of S)) (trail S (allowed_steps n S u) u))
 
 -- all of them
 unfoldable pub too_deep : ℕ → List Db → List NodeId
 too_deep n S = filter (is_too_deep n S) (ids S)
 
 -- Documents that no refusal is about can be joined, and what is laid is a document.
-pub record IsMerge (t : BareDoc) (ss : List BareDoc) : Type 0 where
+pub record CanMerge (t : BareDoc) (ss : List BareDoc) : Type 0 where
   pub sound : (m : Db) → IsIn m (members t ss) → Sound m
   pub allowed : Allowed (members t ss)
   pub joined : Sound (join (members t ss))
@@ -66,7 +66,7 @@ MergesAreDocuments = (t : BareDoc) (ss : List BareDoc) → IsDoc t
     → ((s : BareDoc) → IsIn s ss → IsDoc s)
     → least (root_clashes (t ∷ ss)) ≡ None → least (kind_clashes (members t ss)) ≡ None
     → least (strays (members t ss)) ≡ None → least (too_deep LEVELS (members t ss)) ≡ None
-    → IsMerge t ss
+    → CanMerge t ss
 
 -- lists with the same ids have the same least
 abbrev pub LeastIsOfIds : Type 0

@@ -4,9 +4,9 @@
 ghost use Rattle.merge_laws.specs.Documents.{LaysAreDocuments, RootedAreDocuments, RootedAtHome};
 ghost use Rattle.merge_laws.specs.Refusals.{FirstIsLeast, LeastIsOfIds, MergesAreDocuments};
 
-/// What is laid over a document keeps what every document keeps, and so does a document whose root
-/// takes another id that none of its nodes has; under the id of its own root a document is as it
-/// was.
+/// A sound database that fits the levels, laid over a document, keeps what every document keeps, and
+/// so does a document whose root takes an id that no other node of it has; under the id of its own
+/// root a document is as it was.
 pub fn documents()
     ensures laid { LaysAreDocuments }
     ensures rooted { RootedAreDocuments }

@@ -1,10 +1,10 @@
 -- Lists read from their ends into maps, and the database of a document of its parts.
-use Rattle.std.proofs.Common.{◌≡◌, ◌<◌, ◌≤◌, ◌-◌, ℕ, Bool, true, false, cond, List, [], ◌∷◌, Some, map, drop, length, get_or, refl, sym, ap, ◌∙◌}
+use Rattle.std.proofs.Common.{◌≡◌, ◌<◌, ◌≤◌, ◌-◌, ℕ, Bool, true, false, cond, List, ◌∷◌, Some, map, drop, length, get_or, refl, sym, ap, ◌∙◌}
 use Rattle.std.specs.declared.cmp.Ordering.{Ordering}
-use Rattle.std.specs.FinMap.{FinMap, from_entries, get, insert, get-from_entries, get-insert, same_map}
+use Rattle.std.specs.FinMap.{FinMap, from_entries, insert, get-from_entries, get-insert, same_map}
 use Rattle.std.specs.List.{filter}
 use Rattle.std.specs.Ordering.{eq_by_cmp}
-use Rattle.vault_model.specs.Db.{Db, SharedMeta, NodeId, id_cmp}
+use Rattle.vault_model.specs.Db.{Db, NodeId}
 use Rattle.vault_model.specs.Shape.{db_of, shared_of}
 use Rattle.vault_model.specs.Tree.{BareDoc, Tree, db_in, id_of, node, rooted, shape_of, with_id, with_previous}
 use Rattle.vault_model.proofs.Orders.{IsOrder}

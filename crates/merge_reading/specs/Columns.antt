@@ -34,7 +34,7 @@ abbrev pub with_entries : NodeId → List (NodeId × EntryRecord) → Columns �
 with_entries p [] c = c
 with_entries p (e ∷ es) c = with_entries p es (with_entry p e c)
 
--- a group put to its parent's groups
+-- the place of a group, in its parent, put to the columns
 abbrev pub with_place : NodeId → Tree → Columns → Columns
 with_place p t c = record c { places = insert c.places (id_of t) (place_at (tree_stay t) p) }
 

@@ -1,9 +1,9 @@
 -- A document's tree put into empty tables has what its shape has.
-use Rattle.std.proofs.Common.{◌≡◌, List, [], ◌∷◌, ◌++◌, Option, Some, refl, sym, ap, ◌∙◌}
+use Rattle.std.proofs.Common.{◌≡◌, List, [], ◌∷◌, Some, refl, sym, ap, ◌∙◌}
 use Rattle.std.specs.FinMap.{FinMap, empty, get, find, insert}
 use Rattle.vault_model.specs.Db.{NodeId, id_cmp}
 use Rattle.vault_model.specs.Join.{IsIn}
-use Rattle.vault_model.specs.Shape.{Children, EntryRecord, GroupRecord}
+use Rattle.vault_model.specs.Shape.{EntryRecord}
 use Rattle.vault_model.specs.Tree.{Tree, node, Trees, none, beside, BareDoc, entry_rows, entry_rows_all, group_rows, group_rows_all, child_rows, child_rows_all, shape_of, IsDoc}
 use Rattle.vault_model.proofs.Orders.{id_order}
 use Rattle.join_laws.proofs.SoundDoc.{distinct, one_row, shape_entry, shape_group, shape_kids}

@@ -1,5 +1,5 @@
 -- Which ids a table has when one more is put.
-use Rattle.std.proofs.Common.{◌≡◌, ◌||◌, Bool, true, false, cond, Option, Some, is_some, refl, sym, ap, ◌∙◌}
+use Rattle.std.proofs.Common.{◌≡◌, ◌||◌, Bool, true, false, cond, Some, is_some, refl, ap, ◌∙◌}
 use Rattle.std.specs.FinMap.{FinMap, get, contains_key, insert, get-insert}
 use Rattle.vault_model.specs.Db.{NodeId, id_cmp}
 use Rattle.vault_model.specs.Join.{is_id}

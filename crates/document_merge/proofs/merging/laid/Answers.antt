@@ -12,4 +12,4 @@ pub laid_doc-requires-clause-root : goal.laid_doc-requires-clause-root
 laid_doc-requires-clause-root c =
     let m = database c.args.joined.now in
     subst (λ (s : Shape). contains_key s.groups s.root ≡ true) (sym c.in_ok-newer.ensures)
-    (laid_root m (shape c.in_ok-older.older) (subst Sound (sym c.requires.joined) c.requires.merge.joined))
+    (laid_root m (shape c.in_ok-older.older) (subst Sound (sym c.requires.joined) c.requires.can_merge.joined))

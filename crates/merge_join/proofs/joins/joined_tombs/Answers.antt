@@ -1,8 +1,7 @@
 -- Filled at each known id, the table is that of the join.
 use Rattle.std.proofs.Common.{◌≤◌, length, arith, ap, sym, ◌∙◌}
 use Rattle.std.specs.FinMap.{get}
-use Rattle.std.specs.List.{list_any}
-use Rattle.vault_model.specs.Join.{is_id, join}
+use Rattle.vault_model.specs.Join.{join}
 use Rattle.reference_tables.specs.Databases.{databases}
 use Rattle.reference_tables.proofs.FillTables.{fill, fill_whole}
 use Rattle.reference_tables.proofs.ListSteps.{drop_end}

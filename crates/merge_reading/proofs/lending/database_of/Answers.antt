@@ -2,7 +2,6 @@
 use Rattle.std.proofs.Common.{map, ap, refl, ◌∙◌}
 use Rattle.std.specs.FinMap.{from_entries}
 use Rattle.std.specs.List.{filter}
-use Rattle.vault_model.specs.declared.nodes.Tombstone.{Tombstone}
 use Rattle.vault_model.specs.SeenDoc.{doc_seen}
 use Rattle.merge_reading.specs.Rows.{is_other, tomb_row}
 use Rattle.merge_reading.proofs.ReadRows.{of_parts}

@@ -6,7 +6,7 @@ use Rattle.vault_model.specs.Db.{NodeId}
 use Rattle.vault_model.specs.Join.{is_id}
 use Rattle.vault_model.specs.Proper.{rises}
 use Rattle.merge_join.proofs.KnownIds.{keys_rise}
-use Rattle.merge_join.proofs.joins.rising_ids.Goals as goal
+use Rattle.merge_join.proofs.joins.rising_known_ids.Goals as goal
 
 pub returns-clause-rising : goal.returns-clause-rising
 returns-clause-rising c =
