@@ -2,8 +2,8 @@ use Rattle.std.specs.Prelude.{option_map}
 use Rattle.std.proofs.Common.{◌≡◌, length}
 use Rattle.markup_grammar.specs.Elements.{innermost, open_contents}
 use Rattle.doc_forms.specs.SeenDrafts.{file_parts}
-use Rattle.doc_groups.specs.GroupSteps.{parts_left}
-use Rattle.doc_groups.proofs.document.read_rest.Given as goal
+use Rattle.doc_read.specs.TextSteps.{parts_left}
+use Rattle.doc_read.proofs.document.read_rest.Given as goal
 
 -- What the rest of the text says at first is what it says from here on.
 abbrev pub invariant-pieces : goal.invariant-pieces

@@ -7,8 +7,8 @@ ghost use Rattle.doc_forms.specs.SeenDrafts.{file_parts};
 ghost use Rattle.doc_walk.specs.Steps.{Steps};
 ghost use Rattle.doc_walk.specs.Tags.{child_step, contents_step};
 
-use crate::roots::root;
 use doc_forms::{DocFail, FileBuilder};
+use doc_groups::root;
 use doc_metas::{meta, no_meta};
 use doc_walk::{Parts, Tag, Walk, put, read_whole};
 use std::alloc::Global;

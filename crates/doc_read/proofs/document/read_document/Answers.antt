@@ -1,9 +1,9 @@
 use Rattle.std.specs.Prelude.{option_map}
 use Rattle.doc_forms.specs.SeenDrafts.{file_parts}
 use Rattle.doc_forms.specs.SeenTexts.{setting_of}
-use Rattle.doc_groups.proofs.Places.{read_after}
-use Rattle.doc_groups.proofs.TextPieces.{at_start}
-use Rattle.doc_groups.proofs.document.read_document.Goals as goal
+use Rattle.doc_read.proofs.OnlyRoot.{read_after}
+use Rattle.doc_read.proofs.TextPieces.{at_start}
+use Rattle.doc_read.proofs.document.read_document.Goals as goal
 
 pub returns : goal.returns
 returns c =

@@ -3,7 +3,7 @@ use Rattle.doc_forms.specs.Metas.{MetaParts}
 use Rattle.doc_forms.specs.SeenDrafts.{file_parts}
 use Rattle.doc_walk.proofs.Branches.{passed_over}
 use Rattle.doc_walk.proofs.Rests.{kept_in}
-use Rattle.doc_groups.proofs.outermost.FileDraftParts.read_child.Goals as goal
+use Rattle.doc_read.proofs.outermost.FileDraftParts.read_child.Goals as goal
 
 pub returns-in-Meta : goal.returns-in-Meta
 returns-in-Meta c = rw c.in-Meta.is (kept_in (λ (v : MetaParts). let p : FileParts = record (file_parts c.args.self.now.file) { meta = v } in p) c.meta.ensures)

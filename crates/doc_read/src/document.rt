@@ -8,7 +8,7 @@ ghost use Rattle.doc_forms.specs.Documents as spec;
 ghost use Rattle.doc_forms.specs.Refusals.{Returns};
 ghost use Rattle.doc_forms.specs.SeenDrafts.{file_parts};
 ghost use Rattle.doc_forms.specs.SeenTexts.{setting_of};
-ghost use Rattle.doc_groups.specs.GroupSteps.{parts_left};
+ghost use Rattle.doc_read.specs.TextSteps.{parts_left};
 ghost use Rattle.doc_walk.specs.Steps.{Steps};
 ghost use Rattle.doc_walk.specs.Tags.{child_step};
 
@@ -72,7 +72,7 @@ fn read_rest(known: &mut Option<FileBuilder>, walk: &mut Walk<'_>) -> Result<(),
 }
 
 /// What a text says up to its end, read with a stream at its start.
-pub fn read_document(
+pub(crate) fn read_document(
     alloc: Global,
     text: &[u8],
     form: DocForm,

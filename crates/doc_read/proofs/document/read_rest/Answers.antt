@@ -3,8 +3,8 @@ use Rattle.std.proofs.Common.{◌∙◌, sym, subst}
 use Rattle.std.proofs.lemmas.Result.{err_from_is_err_and}
 use Rattle.doc_forms.specs.Refusals.{Fails}
 use Rattle.doc_forms.specs.SeenDrafts.{file_parts}
-use Rattle.doc_groups.proofs.TextPieces.{after_words, after_element, element_refused, at_finish, at_form, at_depth}
-use Rattle.doc_groups.proofs.document.read_rest.Goals as goal
+use Rattle.doc_read.proofs.TextPieces.{after_words, after_element, element_refused, at_finish, at_form, at_depth}
+use Rattle.doc_read.proofs.document.read_rest.Goals as goal
 
 pub pieces-preserved-in-Continue-1 : goal.pieces-preserved-in-Continue-1
 pieces-preserved-in-Continue-1 c =

@@ -14,7 +14,7 @@ use Rattle.outside_core.specs.Results.{◌>>=◌}
 use Rattle.doc_forms.specs.Refusals.{Fails, Returns}
 use Rattle.doc_walk.proofs.Pieces.{carried}
 use Rattle.doc_walk.specs.Steps.{Course, course_of}
-use Rattle.doc_groups.specs.GroupSteps.{parts_left}
+use Rattle.doc_read.specs.TextSteps.{parts_left}
 
 -- where nothing of the text has been read
 pub at_start : {X : Type 0} (view : X → Option FileParts) (r : Result X DocFail) (s : Setting) (text : List ℕ) (walk : Course) (reader : List Answer)

@@ -3,8 +3,8 @@ use Rattle.std.proofs.Common.{Some, ◌∙◌}
 use Rattle.std.proofs.lemmas.Result.{err_from_is_err_and}
 use Rattle.doc_forms.specs.Documents.{FileParts, RootParts}
 use Rattle.doc_forms.specs.SeenDrafts.{file_parts, root_parts}
-use Rattle.doc_groups.proofs.Places.{first_one, second_one, refused_one, same_some}
-use Rattle.doc_groups.proofs.outermost.root_child.Goals as goal
+use Rattle.doc_read.proofs.OnlyRoot.{first_one, second_one, refused_one, same_some}
+use Rattle.doc_read.proofs.outermost.root_child.Goals as goal
 
 pub returns-then-fits : goal.returns-then-fits
 returns-then-fits c =
