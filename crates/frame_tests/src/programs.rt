@@ -1,9 +1,10 @@
 //! Headers that other programs wrote. What they hold was read by KeePassXC and by a reader in
 //! Python.
-use crate::bytes::bytes_of;
-use crate::headers::{answer, version_name};
-use kdbx_frame::{Cipher, read_header};
+use crate::bytes::are_digits;
+use crate::headers::{answer, header_of, version_name};
+use kdbx_frame::{Cipher, Header, Settings};
 use key_core::{ArgonKind, Kdf};
+use std::process::Abort;
 use std::test::Fail;
 
 // Written by keepassxc-cli 2.7.4 (Debian), `mkdir` in a database: KDBX 4.0 with AES and Argon2d. It
@@ -40,70 +41,82 @@ fn costs(kdf: &Kdf) -> Option<(ArgonKind, u64, u64, u32, &[u8])> {
     }
 }
 
+// Whether these are the numbers, and the salt in hexadecimal.
+fn are_costs(kdf: &Kdf, numbers: (ArgonKind, u64, u64, u32), salt: &str) -> bool {
+    match costs(kdf) {
+        Some((kind, passes, bytes, lanes, found)) => {
+            (kind, passes, bytes, lanes) == numbers && are_digits(found, salt)
+        }
+        None => false,
+    }
+}
+
 #[test]
 fn headers_of_keepassxc_are_read(rt: HostRuntime) -> Result<(), Fail> {
-    let bytes = bytes_of(rt.alloc(), KEEPASSXC)?;
-    let found = answer(rt.alloc(), bytes.as_slice())?;
-    assert_eq!(rt; found.as_str(), "Compressed(1)");
-    let bytes = bytes_of(rt.alloc(), KEEPASSXC_41)?;
-    let found = answer(rt.alloc(), bytes.as_slice())?;
-    assert_eq!(rt; found.as_str(), "Compressed(1)");
+    for words in [KEEPASSXC, KEEPASSXC_41] {
+        let found = answer(rt.alloc(), words)?;
+        assert_eq!(rt; found.as_str(), "Compressed(1)");
+    }
     Ok(())
+}
+
+fn assert_pykeepass(rt: &impl Abort, header: &Header) {
+    assert_eq!(rt; header.size, 249);
+    assert_eq!(rt; version_name(header.settings.version), "V40");
+    assert_eq!(rt; header.settings.cipher, Cipher::ChaCha);
+    assert!(rt;
+        are_costs(
+            &header.settings.kdf,
+            (ArgonKind::D, 14, 67_108_864, 2),
+            "7839e86543e0449b3d6cc46b95b4bbab7d519c7eb01d9cf59d64d82f6ab1a15f",
+        )
+    );
+    assert!(rt;
+        are_digits(
+            &header.seed,
+            "b52178a734d0b577423679d02ab37dd17cb6781861d216c7d32d52c354ab2123",
+        )
+    );
+    assert!(rt; are_digits(&header.iv, "a0a1a2a3a4a5a6a7a8a9aaab00000000"));
+    assert!(rt; header.settings.public.is_none());
 }
 
 #[test]
 fn a_header_of_pykeepass_is_read(rt: HostRuntime) -> Result<(), Fail> {
-    let alloc = rt.alloc();
-    let bytes = bytes_of(alloc, PYKEEPASS)?;
-    let header = read_header(alloc, bytes.as_slice(), bytes.len() as u64)?;
-    let seed = bytes_of(
-        alloc,
-        "b52178a734d0b577423679d02ab37dd17cb6781861d216c7d32d52c354ab2123",
-    )?;
-    let salt = bytes_of(
-        alloc,
-        "7839e86543e0449b3d6cc46b95b4bbab7d519c7eb01d9cf59d64d82f6ab1a15f",
-    )?;
-    let iv = bytes_of(alloc, "a0a1a2a3a4a5a6a7a8a9aaab *4")?;
-    assert_eq!(rt; header.size, 249);
-    assert_eq!(rt; version_name(header.settings.version), "V40");
-    assert_eq!(rt; header.settings.cipher, Cipher::ChaCha);
-    assert_eq!(rt;
-        costs(&header.settings.kdf),
-        Some((ArgonKind::D, 14, 67_108_864, 2, salt.as_slice()))
-    );
-    assert_eq!(rt; header.seed.as_slice(), seed.as_slice());
-    assert_eq!(rt; header.iv.as_slice(), iv.as_slice());
-    assert!(rt; header.settings.public.is_none());
+    let header = header_of(rt.alloc(), PYKEEPASS)?;
+    assert_pykeepass(&rt, &header);
     Ok(())
+}
+
+// Whether there is public data with these bytes.
+fn is_public(settings: &Settings, digits: &str) -> bool {
+    match &settings.public {
+        Some(bytes) => are_digits(bytes.as_slice(), digits),
+        None => false,
+    }
+}
+
+fn assert_file_kdbx(rt: &impl Abort, header: &Header) {
+    assert_eq!(rt; header.size, 280);
+    assert_eq!(rt; header.settings.cipher, Cipher::Twofish);
+    assert!(rt;
+        are_costs(
+            &header.settings.kdf,
+            (ArgonKind::Id, 3, 8_388_608, 4),
+            "c765e206b8dada5ccba1a2386af3e68c67f186e1046856a8d9f9a978bdd42bd9",
+        )
+    );
+    assert!(rt;
+        is_public(
+            &header.settings,
+            "000142080000006e69636b6e616d650600000066616d696c7900",
+        )
+    );
 }
 
 #[test]
 fn a_header_of_file_kdbx_is_read(rt: HostRuntime) -> Result<(), Fail> {
-    let alloc = rt.alloc();
-    let bytes = bytes_of(alloc, FILE_KDBX)?;
-    let header = read_header(alloc, bytes.as_slice(), bytes.len() as u64)?;
-    let salt = bytes_of(
-        alloc,
-        "c765e206b8dada5ccba1a2386af3e68c67f186e1046856a8d9f9a978bdd42bd9",
-    )?;
-    let public = bytes_of(
-        alloc,
-        "000142080000006e69636b6e616d650600000066616d696c7900",
-    )?;
-    assert_eq!(rt; header.size, 280);
-    assert_eq!(rt; header.settings.cipher, Cipher::Twofish);
-    assert_eq!(rt;
-        costs(&header.settings.kdf),
-        Some((ArgonKind::Id, 3, 8_388_608, 4, salt.as_slice()))
-    );
-    assert_eq!(rt;
-        header
-            .settings
-            .public
-            .as_ref()
-            .map(|bytes| bytes.as_slice()),
-        Some(public.as_slice())
-    );
+    let header = header_of(rt.alloc(), FILE_KDBX)?;
+    assert_file_kdbx(&rt, &header);
     Ok(())
 }
