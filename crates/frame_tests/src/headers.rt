@@ -169,9 +169,8 @@ pub fn answer(alloc: Global, words: &str) -> Result<String, Fail> {
 
 // A row's name, its header in words, and the answer.
 fn parts(row: &str) -> Option<(&str, &str, &str)> {
-    let (name, rest) = row.split_once(" | ")?;
-    let (words, wanted) = rest.split_once(" | ")?;
-    Some((name, words, wanted))
+    let mut parts = row.split(" | ");
+    Some((parts.next()?, parts.next()?, parts.next()?))
 }
 
 #[test]

@@ -43,44 +43,46 @@ fn answer(alloc: Global, words: &str) -> Result<String, Fail> {
     answer_on(alloc, bytes.as_slice())
 }
 
+// Inner fields in words, and the answer.
+const ROWS: &[(&str, &str)] = &[
+    ("", "Truncated(0)"),
+    ("01040000", "Truncated(4)"),
+    ("0104000000030000", "Truncated(8)"),
+    ("010400000003000000 0201000000aa", "Truncated(15)"),
+    ("010400000003000000 0201000000aa 0000000000", "Ok(3, 20)"),
+    (
+        "0201000000aa 010400000002000000 0002000000bbcc 3c",
+        "Ok(2, 22)",
+    ),
+    (
+        "010400000003000000 0200000000 6301000000aa 03020000000000 0000000000 ff",
+        "Ok(3, 32)",
+    ),
+    ("010400000003000000 0103000000030000", "FieldTwice(1)"),
+    ("0200000000 0200000000", "FieldTwice(2)"),
+    ("0103000000030000", "FieldLength(1, 3)"),
+    ("01080000000300000000000000", "FieldLength(1, 8)"),
+    ("0300000000", "FieldLength(3, 0)"),
+    ("0300000000 0200000000 0200000000", "FieldLength(3, 0)"),
+    ("0000000000", "FieldMissing(1)"),
+    ("0200000000 0000000000", "FieldMissing(1)"),
+    ("010400000003000000 0000000000", "FieldMissing(2)"),
+];
+
 #[test]
 fn inner_fields_have_their_answers(rt: HostRuntime) -> Result<(), Fail> {
-    let rows = [
-        ("", "Truncated(0)"),
-        ("01040000", "Truncated(4)"),
-        ("0104000000030000", "Truncated(8)"),
-        ("010400000003000000 0201000000aa", "Truncated(15)"),
-        ("010400000003000000 0201000000aa 0000000000", "Ok(3, 20)"),
-        (
-            "0201000000aa 010400000002000000 0002000000bbcc 3c",
-            "Ok(2, 22)",
-        ),
-        (
-            "010400000003000000 0200000000 6301000000aa 03020000000000 0000000000 ff",
-            "Ok(3, 32)",
-        ),
-        ("010400000003000000 0103000000030000", "FieldTwice(1)"),
-        ("0200000000 0200000000", "FieldTwice(2)"),
-        ("0103000000030000", "FieldLength(1, 3)"),
-        ("01080000000300000000000000", "FieldLength(1, 8)"),
-        ("0300000000", "FieldLength(3, 0)"),
-        ("0300000000 0200000000 0200000000", "FieldLength(3, 0)"),
-        ("0000000000", "FieldMissing(1)"),
-        ("0200000000 0000000000", "FieldMissing(1)"),
-        ("010400000003000000 0000000000", "FieldMissing(2)"),
-    ];
-    for (words, wanted) in rows {
+    for (words, wanted) in ROWS {
         let found = answer(rt.alloc(), words)?;
-        assert_eq!(rt; found.as_str(), wanted, "{words}");
+        assert_eq!(rt; found.as_str(), *wanted, "{words}");
     }
     Ok(())
 }
 
-// The inner fields of `INNER`, with the number of its bytes.
-fn inner_of_pykeepass(alloc: Global) -> Result<(Inner, usize), Fail> {
-    let bytes = bytes_of(alloc, INNER)?;
+// The inner fields of a row's words.
+fn inner_of(alloc: Global, words: &str) -> Result<Inner, Fail> {
+    let bytes = bytes_of(alloc, words)?;
     match read(alloc, bytes.as_slice()) {
-        Ok(inner) => Ok((inner, bytes.len())),
+        Ok(inner) => Ok(inner),
         Err(fail) => Err(fail.into()),
     }
 }
@@ -95,8 +97,8 @@ fn is_file(file: Option<&PoolItem>, bytes: &[u8], hidden: bool) -> bool {
 
 #[test]
 fn inner_fields_of_another_program_are_read(rt: HostRuntime) -> Result<(), Fail> {
-    let (inner, len) = inner_of_pykeepass(rt.alloc())?;
-    assert_eq!(rt; (inner.stream_id, inner.size), (3, len));
+    let inner = inner_of(rt.alloc(), INNER)?;
+    assert_eq!(rt; (inner.stream_id, inner.size), (3, INNER.len() / 2));
     assert!(rt;
         are_digits(
             inner.stream_key.lend(0, inner.stream_key.len()),

@@ -26,29 +26,29 @@ const PYKEEPASS: &str =
 const FILE_KDBX: &str =
     "03d9a29a67fb4bb5000004000210000000ad68f29f576f4bb9a36ad47af965346c03040000000000000004200000006f4d056cf7cd370c85d99088dac6389bb2baf3232dc7e3eb6d6b918da9a5687507100000008f089a0cbe8bc2d447cf8bbb4b0bf1fd0b8b000000000142050000002455554944100000009e298b1956db4773b23dfc3ec6f0a1e605010000004908000000030000000000000005010000004d080000000000800000000000040100000050040000000400000042010000005320000000c765e206b8dada5ccba1a2386af3e68c67f186e1046856a8d9f9a978bdd42bd90401000000560400000013000000000c1a000000000142080000006e69636b6e616d650600000066616d696c79000000000000571bae6829fb1ce4792506c50d721a19d02de166ff3f3a27d86698bd61a92611dd4095317e768eee8fc567609b7a80488f88a716e4a89a6d950da62c1d379d60";
 
-// The numbers of an Argon2 in the order type, passes, memory in bytes, lanes, and the salt; none of
-// AES.
-fn costs(kdf: &Kdf) -> Option<(ArgonKind, u64, u64, u32, &[u8])> {
+// Whether these are the type, passes, memory in bytes and lanes of an Argon2, and its salt in
+// hexadecimal.
+fn are_costs(kdf: &Kdf, numbers: (ArgonKind, u64, u64, u32), digits: &str) -> bool {
     match kdf {
-        Kdf::Aes { .. } => None,
+        Kdf::Aes { .. } => false,
         Kdf::Argon {
             kind,
             passes,
             bytes,
             lanes,
             salt,
-        } => Some((*kind, *passes, *bytes, *lanes, salt.as_slice())),
+        } => { (*kind, *passes, *bytes, *lanes) == numbers && are_digits(salt.as_slice(), digits) }
     }
 }
 
-// Whether these are the numbers, and the salt in hexadecimal.
-fn are_costs(kdf: &Kdf, numbers: (ArgonKind, u64, u64, u32), salt: &str) -> bool {
-    match costs(kdf) {
-        Some((kind, passes, bytes, lanes, found)) => {
-            (kind, passes, bytes, lanes) == numbers && are_digits(found, salt)
-        }
-        None => false,
-    }
+// The length of a header, its version and its cipher.
+fn summary(header: &Header) -> (usize, &'static str, Cipher) {
+    let Settings {
+        version,
+        cipher,
+        ..
+    } = &header.settings;
+    (header.size, version_name(*version), *cipher)
 }
 
 #[test]
@@ -61,9 +61,7 @@ fn headers_of_keepassxc_are_read(rt: HostRuntime) -> Result<(), Fail> {
 }
 
 fn assert_pykeepass(rt: &impl Abort, header: &Header) {
-    assert_eq!(rt; header.size, 249);
-    assert_eq!(rt; version_name(header.settings.version), "V40");
-    assert_eq!(rt; header.settings.cipher, Cipher::ChaCha);
+    assert_eq!(rt; summary(header), (249, "V40", Cipher::ChaCha));
     assert!(rt;
         are_costs(
             &header.settings.kdf,
@@ -97,8 +95,7 @@ fn is_public(settings: &Settings, digits: &str) -> bool {
 }
 
 fn assert_file_kdbx(rt: &impl Abort, header: &Header) {
-    assert_eq!(rt; header.size, 280);
-    assert_eq!(rt; header.settings.cipher, Cipher::Twofish);
+    assert_eq!(rt; summary(header), (280, "V40", Cipher::Twofish));
     assert!(rt;
         are_costs(
             &header.settings.kdf,
