@@ -16,12 +16,14 @@ use Rattle.cli_answers.specs.Phases.{IsLeft, IsPlainStop, IsStreamStop, Returns,
 use Rattle.cli_changes.specs.Entries.{AfterCommand, CommandChanges}
 use Rattle.cli_changes.specs.Ids.{new_id}
 use Rattle.cli_drawing.proofs.Drawn.{next_alone}
+use Rattle.cli_merging.specs.Merging.{AfterMerge, MergeChanges}
+use Rattle.cli_merging.specs.declared.merging.MergeReport.{MergeReport}
 use Rattle.cli_lines.specs.Lines.{IsTextLine}
 use Rattle.cli_words.specs.declared.command.Command.{Command}
-use Rattle.cli_words.specs.declared.command.Command.TheVariants.{Ls, Add, Edit, Mv, Rm, Mkdir, Rmdir}
+use Rattle.cli_words.specs.declared.command.Command.TheVariants.{Ls, Add, Edit, Move, Remove, MakeGroup, RemoveGroup, Merge}
 use Rattle.cli_commands.specs.declared.output.Change as declared
-use Rattle.cli_commands.specs.Commands.{Change, bin_id, change_of, change_with, drawn_id, draws_id, makes_node, new_document, writes}
-use Rattle.cli_commands.specs.SeenChange.{change_seen, change_reported}
+use Rattle.cli_commands.specs.Commands.{Change, bin_id, change_of, change_with, drawn_id, draws_id, makes_node, merged_change, new_document}
+use Rattle.cli_commands.specs.SeenChange.{change_reported, change_seen, doc_if, merge_change}
 
 -- A line that is lent.
 pub lent_text : (lent : Option (Bor (List ℕ))) → IsTextLine (lent_value lent) → IfSome lent (λ line. is_utf8 line.now ≡ true)
@@ -38,9 +40,8 @@ returns_reported (Err (FileFault name)) r old new h = tt
 returns_reported (Err InputFault) r old new h = tt
 returns_reported (Err NoMemory) r old new h = tt
 
-pub written_reported : (report : Result SecretBuffer Stop) → IfOk (change_reported report) (λ change. change.is_written ≡ true)
-written_reported (Ok text) = refl
-written_reported (Err stop) = tt
+pub unwritten_reported : (report : Result SecretBuffer Stop) → true ≡ false → IfOk (change_reported report) (λ change. change.is_written ≡ false)
+unwritten_reported report h = cc
 
 pub cause_reported : (report : Result SecretBuffer Stop) → IfErr report IsPlainStop → IfErr (change_reported report) IsPlainStop
 cause_reported (Ok text) h = tt
@@ -51,6 +52,20 @@ pub unchanged_reported : (report : Result SecretBuffer Stop) (r : Result AfterCo
     → IfErr (change_reported report) (λ _. new ≡ old)
 unchanged_reported (Ok text) r old new h = tt
 unchanged_reported (Err stop) r old new h = h.1
+
+-- ---- a merge
+
+written_doc : (is_written : Bool) (new : BareDoc) → (if is_written then Some new else None) ≡ doc_if is_written new
+written_doc true new = refl
+written_doc false new = refl
+
+pub returns_merged : (report : Result MergeReport Stop) (r : Result AfterMerge Refusal) (old new : BareDoc) → MergeChanges report r old new
+    → Returns (λ change. change_seen change new) (merge_change report) (merged_change r)
+returns_merged (Ok report) r old new h = ap merged_change h ∙ ap (λ (x : Option BareDoc). Ok (record { text = report.text.bytes; doc = x })) (written_doc report.is_written new)
+returns_merged (Err (Refused refusal)) r old new h = ap merged_change h.0
+returns_merged (Err (FileFault name)) r old new h = tt
+returns_merged (Err InputFault) r old new h = tt
+returns_merged (Err NoMemory) r old new h = tt
 
 needed_bin : (needed : Bool) (id : NodeId) → is_some (if needed then Some id else None) ≡ needed
 needed_bin true id = refl
@@ -71,10 +86,11 @@ makes_drawn : (command : Command) (doc : BareDoc) → draws_id command ≡ false
 makes_drawn (Ls access file group recursive flat) doc e = refl
 makes_drawn (Add access file entry asked) doc e = e
 makes_drawn (Edit access file entry asked) doc e = refl
-makes_drawn (Mv access file node group) doc e = refl
-makes_drawn (Rm access file entry) doc e = cc
-makes_drawn (Mkdir access file group) doc e = e
-makes_drawn (Rmdir access file group) doc e = cc
+makes_drawn (Move access file node group) doc e = refl
+makes_drawn (Remove access file entry) doc e = cc
+makes_drawn (MakeGroup access file group) doc e = e
+makes_drawn (RemoveGroup access file group) doc e = cc
+makes_drawn (Merge access file names from same dry) doc e = refl
 
 pub none_made : (makes : Bool) (command : Command) (doc : BareDoc) → makes ≡ makes_node command doc → draws_id command ≡ false → makes ≡ false
 none_made makes command doc e h = e ∙ makes_drawn command doc h

@@ -1,19 +1,21 @@
 //! Carrying a command out on its document.
-ghost use Rattle.std.specs.Prelude.{◌≡◌, ◌≤◌, ℕ, List, Ok, IfErr, IfOk, false};
+ghost use Rattle.std.specs.Prelude.{◌≡◌, ◌≤◌, ℕ, List, Ok, IfErr, IfOk, false, map};
 ghost use Rattle.outside_core.specs.Streams.{LosesPrefix};
 ghost use Rattle.vault_model.specs.SeenDoc.{doc_seen};
 ghost use Rattle.tree_changes.specs.NewNodes.{lent_value};
 ghost use Rattle.cli_answers.specs.Phases.{IsPlainStop, IsStreamStop, Returns, ReturnsAskedStream, TellsStream};
 ghost use Rattle.cli_lines.specs.Lines.{IsTextLine};
 ghost use Rattle.cli_listing.specs.Listing.{tree_listed};
-ghost use Rattle.cli_commands.specs.Commands.{change_of, change_with, draws_id, listing_of, writes};
+ghost use Rattle.cli_commands.specs.Commands as spec;
+ghost use Rattle.cli_commands.specs.Commands.{change_of, change_with, draws_id, listing_of};
 ghost use Rattle.cli_commands.specs.SeenChange.{change_seen};
 
 use crate::ids::{bin_id, draw_if, makes_node};
-use crate::output::{Change, Output, reported};
+use crate::output::{Change, Output, merge_change, reported};
 use cli_answers::{Reason, Stop, refused};
 use cli_changes::{Given, add_entry, edit_entry};
 use cli_listing::{Manner, add_group, group_listed};
+use cli_merging::{MergeGiven, merge_into};
 use cli_tree_changes::{make_group_of, move_node, remove_entry_of, remove_group_of};
 use cli_words::Command;
 use outside_core::{Bytes, Dice, NoMemory, Text};
@@ -21,18 +23,19 @@ use std::alloc::Global;
 use uuid::Uuid;
 use vault_model::Doc;
 
-/// Reports whether a command writes its database.
-pub fn is_writing(command: &Command) -> bool
-    ensures { result ≡ writes command.now }
+/// Reports whether a command may write its database.
+pub fn may_write(command: &Command) -> bool
+    ensures { result ≡ spec.may_write command.now }
 {
     match command {
         Command::Ls { .. } => false,
         Command::Add { .. } => true,
         Command::Edit { .. } => true,
-        Command::Mv { .. } => true,
-        Command::Rm { .. } => true,
-        Command::Mkdir { .. } => true,
-        Command::Rmdir { .. } => true,
+        Command::Move { .. } => true,
+        Command::Remove { .. } => true,
+        Command::MakeGroup { .. } => true,
+        Command::RemoveGroup { .. } => true,
+        Command::Merge { dry, .. } => !*dry,
     }
 }
 
@@ -63,20 +66,31 @@ fn list(
     }
 }
 
-// Carries a command out on its document, with the line that it asked for. A node that it makes has
-// this id.
+/// What a command works with, beside its document.
+#[derive(Clone, Copy)]
+pub struct CommandInput<'a> {
+    /// The line that it asked for.
+    pub line: Option<&'a [u8]>,
+    /// The documents of its sources.
+    pub sources: &'a [Doc],
+    /// The moment, in seconds since the year 1.
+    pub now: u64,
+}
+
+// Carries a command out on its document, with what it works with. A node that it makes has this id.
 fn change_document<'a>(
     alloc: Global,
     command: &'a Command,
-    line: Option<&'a [u8]>,
+    input: CommandInput<'a>,
     id: Uuid,
     doc: &mut Doc,
-    now: u64,
 ) -> Result<Change, Stop>
-    requires { IsTextLine (lent_value line) }
+    requires { IsTextLine (lent_value input.line) }
     ensures told { Returns (λ change. change_seen change (doc_seen doc.new)) result
-        (change_with now command.now (lent_value line.entry) id (doc_seen doc.old)) }
-    ensures written { IfOk result (λ change. change.is_written ≡ writes command.now) }
+        (change_with input.entry.now command.now (lent_value input.entry.line)
+        (map doc_seen input.entry.sources.now) id (doc_seen doc.old)) }
+    ensures unwritten { spec.may_write command.now ≡ false
+        → IfOk result (λ change. change.is_written ≡ false) }
     ensures unchanged { IfErr result (λ _. doc_seen doc.new ≡ doc_seen doc.old) }
     ensures cause { IfErr result IsPlainStop }
 {
@@ -103,8 +117,8 @@ fn change_document<'a>(
             let given = Given {
                 file: file.as_str(),
                 quiet: access.quiet,
-                password: line,
-                now,
+                password: input.line,
+                now: input.now,
             };
             reported(add_entry(alloc, doc, entry.as_str(), id, asked, given))
         }
@@ -117,12 +131,12 @@ fn change_document<'a>(
             let given = Given {
                 file: file.as_str(),
                 quiet: access.quiet,
-                password: line,
-                now,
+                password: input.line,
+                now: input.now,
             };
             reported(edit_entry(alloc, doc, entry.as_str(), asked, given))
         }
-        Command::Mv {
+        Command::Move {
             access,
             file,
             node,
@@ -132,11 +146,11 @@ fn change_document<'a>(
                 file: file.as_str(),
                 quiet: access.quiet,
                 password: None,
-                now,
+                now: input.now,
             };
             reported(move_node(alloc, doc, node.as_str(), group.as_str(), given))
         }
-        Command::Rm {
+        Command::Remove {
             access,
             file,
             entry,
@@ -145,12 +159,12 @@ fn change_document<'a>(
                 file: file.as_str(),
                 quiet: access.quiet,
                 password: None,
-                now,
+                now: input.now,
             };
             let bin = bin_id(id, doc);
             reported(remove_entry_of(alloc, doc, entry.as_str(), bin, given))
         }
-        Command::Mkdir {
+        Command::MakeGroup {
             access,
             file,
             group,
@@ -159,11 +173,11 @@ fn change_document<'a>(
                 file: file.as_str(),
                 quiet: access.quiet,
                 password: None,
-                now,
+                now: input.now,
             };
             reported(make_group_of(alloc, doc, group.as_str(), id, given))
         }
-        Command::Rmdir {
+        Command::RemoveGroup {
             access,
             file,
             group,
@@ -172,33 +186,50 @@ fn change_document<'a>(
                 file: file.as_str(),
                 quiet: access.quiet,
                 password: None,
-                now,
+                now: input.now,
             };
             let bin = bin_id(id, doc);
             reported(remove_group_of(alloc, doc, group.as_str(), bin, given))
         }
+        Command::Merge {
+            access,
+            file,
+            sources,
+            dry,
+            ..
+        } => {
+            let given = MergeGiven {
+                file: file.as_str(),
+                sources: sources.as_slice(),
+                quiet: access.quiet,
+                dry: *dry,
+            };
+            merge_change(merge_into(alloc, doc, input.sources, given))
+        }
     }
 }
 
-/// Carries a command out on its document, with the line that it asked for. The document is changed
-/// in place; a refusal changes nothing.
+/// Carries a command out on its document, with what it works with. The document is changed in place;
+/// a refusal changes nothing.
 pub fn perform<'a, D: Dice>(
     alloc: Global,
     dice: &mut D,
     command: &'a Command,
-    line: Option<&'a [u8]>,
+    input: CommandInput<'a>,
     doc: &mut Doc,
-    now: u64,
 ) -> Result<Change, Stop>
-    requires { IsTextLine (lent_value line) }
+    requires { IsTextLine (lent_value input.line) }
     ensures told { (d : List ℕ) → TellsStream (draws_id command.now) (D.stream dice.old) d
         → ReturnsAskedStream (λ change. change_seen change (doc_seen doc.new)) result
         (D.stream dice.old) (D.stream dice.new)
-        (change_of now command.now (lent_value line.entry) (doc_seen doc.old) d) }
+        (change_of input.entry.now command.now (lent_value input.entry.line)
+        (map doc_seen input.entry.sources.now) (doc_seen doc.old) d) }
     ensures some_dice { IfOk result (λ change. (d : List ℕ)
-        × ((change_of now command.now (lent_value line.entry) (doc_seen doc.old) d).answer
+        × ((change_of input.entry.now command.now (lent_value input.entry.line)
+        (map doc_seen input.entry.sources.now) (doc_seen doc.old) d).answer
         ≡ Ok (change_seen change (doc_seen doc.new)))) }
-    ensures written { IfOk result (λ change. change.is_written ≡ writes command.now) }
+    ensures unwritten { spec.may_write command.now ≡ false
+        → IfOk result (λ change. change.is_written ≡ false) }
     ensures unchanged { IfErr result (λ _. doc_seen doc.new ≡ doc_seen doc.old) }
     ensures undrawn { draws_id command.now ≡ false → D.stream dice.new ≡ D.stream dice.old }
     ensures stream { LosesPrefix (D.stream dice.old) (D.stream dice.new) }
@@ -206,7 +237,7 @@ pub fn perform<'a, D: Dice>(
     ensures faults { D.faults dice.old ≤ D.faults dice.new }
 {
     match draw_if(dice, makes_node(command, doc)) {
-        Ok(id) => change_document(alloc, command, line, id, doc, now),
+        Ok(id) => change_document(alloc, command, input, id, doc),
         Err(_) => Err(Stop::InputFault),
     }
 }

@@ -1,3 +1,4 @@
 pub mod HeldFiles
+pub mod Openable
 pub mod SomeOpened
 pub mod Stops

@@ -6,7 +6,7 @@ use Rattle.std.proofs.lemmas.Bool.Decides.{Decides-eqb}
 use Rattle.std.proofs.lemmas.Slice.Eq.{bytes_eq-Decides}
 use Rattle.cli_words.specs.declared.options.CommandName.{CommandName}
 use Rattle.cli_words.specs.declared.options.CommandOption.{CommandOption}
-use Rattle.cli_words.specs.declared.options.CommandOption.TheVariants.{Recursive, Flat, Quiet, Plain, NoPassword, KeyFile, Title, User, Url, Notes, EntryPassword}
+use Rattle.cli_words.specs.declared.options.CommandOption.TheVariants.{Recursive, Flat, Quiet, Plain, NoPassword, KeyFile, Title, User, Url, Notes, EntryPassword, SameCredentials, DryRun, KeyFileFrom, NoPasswordFrom}
 use Rattle.cli_words.specs.Laws.{IsFlagWord, are_flag_letters, is_flag, is_flag_letter, lack_end}
 use Rattle.cli_words.specs.Options.{has_value, if_taken, letter_option, name_option, option_of_name}
 use Rattle.cli_words.specs.Prefixes.{strip_prefix}
@@ -24,8 +24,8 @@ pub read_option : (command : CommandName) (said : Said) (word : List ℕ) → is
     → with_word command said word ≡ with_option command said (strip_prefix (codes "--") word) (strip_prefix (codes "-") word)
 read_option command said word o e d =
     ap (λ (due : Option CommandOption). with_next command said word due) d
-    ∙ ap (λ (b : Bool). cond (b && not said.ended) (with_option command said (strip_prefix (codes "--") word) (strip_prefix (codes "-") word)) (with_position said word said.first)) o
-    ∙ ap (λ (b : Bool). cond (not b) (with_option command said (strip_prefix (codes "--") word) (strip_prefix (codes "-") word)) (with_position said word said.first)) e
+    ∙ ap (λ (b : Bool). cond (b && not said.ended) (with_option command said (strip_prefix (codes "--") word) (strip_prefix (codes "-") word)) (with_position said word)) o
+    ∙ ap (λ (b : Bool). cond (not b) (with_option command said (strip_prefix (codes "--") word) (strip_prefix (codes "-") word)) (with_position said word)) e
 
 -- One flag is the list of it.
 one_flag : (flag : CommandOption) (said : Said) → with_given said flag [] ≡ with_flags (flag ∷ []) said
@@ -61,8 +61,12 @@ names_whole name =
     (by_name name (codes "username") User _ (λ c s. refl)
     (by_name name (codes "url") Url _ (λ c s. refl)
     (by_name name (codes "notes") Notes _ (λ c s. refl)
-    (by_name name (codes "password-prompt") EntryPassword None (λ c s. refl)
-    (λ h. absurd (let no : false ≡ true → ⊥ = λ p. cc p in no h))))))))))))
+    (by_name name (codes "password-prompt") EntryPassword _ (λ c s. refl)
+    (by_name name (codes "same-credentials") SameCredentials _ (λ c s. refl)
+    (by_name name (codes "dry-run") DryRun _ (λ c s. refl)
+    (by_name name (codes "key-file-from") KeyFileFrom _ (λ c s. refl)
+    (by_name name (codes "no-password-from") NoPasswordFrom None (λ c s. refl)
+    (λ h. absurd (let no : false ≡ true → ⊥ = λ p. cc p in no h))))))))))))))))
 
 -- A flag that a command takes is an option.
 taken_some : (command : CommandName) (option : Option CommandOption) → is_flag (option_and_then (if_taken command) option) ≡ true

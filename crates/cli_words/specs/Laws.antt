@@ -38,4 +38,4 @@ lack_end words = list_all (λ word. not (bytes_eq word (codes "--"))) words
 abbrev pub with_positions : List (List ℕ) → Said → Option Said
 with_positions [] said = Some said
 with_positions (word ∷ words) said =
-    option_and_then (with_positions words) (with_position said word said.first)
+    option_and_then (with_positions words) (with_position said word)

@@ -5,7 +5,7 @@ use Rattle.keepass_call.specs.Held.{IsAuthentic, IsComplete}
 use Rattle.keepass_call.specs.Outcome.{Counts, IsAsSaid, IsCut, IsRefused, IsSafe, NoFaults, PrintsOfSomeFile, Seen, WhereTold, outcome}
 use Rattle.cli_words.specs.Words.{command_of}
 use Rattle.cli_writing.specs.Writing.{IsSame}
-use Rattle.keepass_call.specs.Tasks.{draws_by, writes_by}
+use Rattle.keepass_call.specs.Tasks.{draws_by, may_write_by}
 
 -- A call with these words at a moment, its status, what is seen before and after it, and the counts
 -- before and after.
@@ -13,9 +13,9 @@ pub record IsCall (words : List (List ℕ)) (time result : ℕ) (before now : Se
     (counts counts' : Counts) : Type 0 where
   -- Reported or not: statuses have their causes, and a refusal changes no file.
   pub safe : IsSafe result before now counts counts'
-  -- Reported or not: words that are no command that writes change no file, and words that are no
+  -- Reported or not: words that are no command that may write change no file, and words that are no
   -- command that draws draw nothing.
-  pub reads_only : writes_by (command_of words) ≡ false → IsSame before.store now.store
+  pub reads_only : may_write_by (command_of words) ≡ false → IsSame before.store now.store
   pub draws_nothing : draws_by (command_of words) ≡ false → now.stream ≡ before.stream
   -- Where the status is 0, or nothing failed and memory did not run out, all is as the outcome of
   -- the words says.

@@ -38,7 +38,7 @@ returns-clause-some_dice g c =
     )
 
 pub returns-clause-unwritten : goal.returns-clause-unwritten
-returns-clause-unwritten g c = λ e. c.in_ok-write_if.ensures.unwritten (c.in_ok-change.ensures.written ∙ e)
+returns-clause-unwritten g c = λ e. c.in_ok-write_if.ensures.unwritten (c.in_ok-change.ensures.unwritten e)
 
 pub returns-clause-undrawn : goal.returns-clause-undrawn
 returns-clause-undrawn g c = λ e.
@@ -72,7 +72,7 @@ returns-in_err-write_if-clause-told g c = λ d t.
     (c.in_err-write_if.ensures.told _ _ (tells_after _ _ _ _ d _ c.requires.sealed t made.1)))
 
 pub returns-in_err-write_if-clause-unwritten : goal.returns-in_err-write_if-clause-unwritten
-returns-in_err-write_if-clause-unwritten g c = λ e. c.in_err-write_if.ensures.unwritten (c.in_ok-change.ensures.written ∙ e)
+returns-in_err-write_if-clause-unwritten g c = λ e. c.in_err-write_if.ensures.unwritten (c.in_ok-change.ensures.unwritten e)
 
 pub returns-in_err-write_if-clause-undrawn : goal.returns-in_err-write_if-clause-undrawn
 returns-in_err-write_if-clause-undrawn g c = λ e.
