@@ -1,10 +1,10 @@
 -- What opens databases: a line that was asked for, or a key file.
-use Rattle.std.proofs.Common.{◌≡◌, ℕ, List, [], ◌∷◌, refl, inl, inr, sym, ap, subst, Bool, true, false, map, Option, Some, None}
+use Rattle.std.proofs.Common.{◌≡◌, ℕ, List, [], ◌∷◌, refl, inl, inr, sym, subst, Bool, true, false, map, Option}
 use Rattle.std.specs.Prelude.{◌⊎◌, ◌&&◌, ◌||◌, not, IsSome, is_some}
 use Rattle.cli_words.specs.declared.command.Access.{Access}
-use Rattle.cli_words.specs.Needs.{HasKey, HasKeys, Needs, asks_password, asks_passwords_from}
+use Rattle.cli_words.specs.Needs.{HasKey, HasKeys, Needs, asks_password}
 use Rattle.cli_lines.specs.Lines.{CanOpen, HasLines, Lines}
-use Rattle.cli_databases.specs.Databases.{CanOpenAll, password_from}
+use Rattle.cli_databases.specs.Databases.{CanOpenAll}
 
 can_open_by : (plain no_password : Bool) (key password : Option (List ℕ)) → (plain ≡ false → no_password ≡ true → IsSome key)
     → is_some password ≡ not (plain || no_password) → plain ≡ false → IsSome password ⊎ IsSome key

@@ -1,5 +1,6 @@
--- The databases of a call: what the file that its command names holds, and what it is sealed with.
-use Rattle.std.specs.Prelude.{◌≡◌, ℕ, Bool, true, false, List, [], ◌∷◌, ◌++◌, length, nat_le, cond, Option, None, Some, Result, Ok, Err}
+-- The databases of a call: what the files that its command names hold, and what the first of them
+-- is sealed with.
+use Rattle.std.specs.Prelude.{ℕ, Bool, true, false, List, [], ◌∷◌, ◌++◌, length, nat_le, cond, Option, None, Some, Result, Ok, Err}
 use Rattle.std.specs.FinMap as map
 use Rattle.outside_core.specs.Files.{FileMap}
 use Rattle.secret_core.specs.declared.files.ReadFail.{ReadFail}
@@ -199,7 +200,7 @@ document_in access name password files =
     held_in access.plain access.key_file name password files >>= λ opened. Ok opened.doc
 
 -- The documents that sources hold, one after another, after others: each is opened in this way,
--- with the password of the target or its own line.
+-- with the password of the target or its own line. There are as many lines as sources.
 unfoldable pub docs_from : Access → Bool → Option (List ℕ) → List (List ℕ)
     → List (Option (List ℕ)) → List BareDoc → FileMap → Result (List BareDoc) Refusal
 docs_from from same target [] lines docs files = Ok docs

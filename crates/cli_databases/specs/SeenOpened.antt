@@ -1,5 +1,5 @@
 -- What is seen of databases that were opened: their documents without memory.
-use Rattle.std.specs.Prelude.{List, map}
+use Rattle.std.specs.Prelude.{map}
 use Rattle.vault_model.specs.SeenDoc.{doc_seen}
 use Rattle.cli_databases.specs.declared.databases.Databases as memory
 use Rattle.cli_databases.specs.declared.databases.Opened as declared

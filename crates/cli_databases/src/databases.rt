@@ -395,12 +395,12 @@ fn bytes_in(line: &Option<Secret>) -> Option<&[u8]>
 fn password_from<'a>(
     same: bool,
     target: Option<&'a [u8]>,
-    own: Option<&'a [u8]>,
+    own: &'a Option<Secret>,
 ) -> Option<&'a [u8]>
     ensures { option_map (λ p. p.now) result ≡ spec.password_from same
-        (option_map (λ p. p.now) target.entry) (option_map (λ p. p.now) own.entry) }
+        (option_map (λ p. p.now) target.entry) (line_seen own.now) }
 {
-    if same { target } else { own }
+    if same { target } else { bytes_in(own) }
 }
 
 // The document of a source.
@@ -408,7 +408,7 @@ fn open_source<F: FileStore>(
     alloc: Global,
     files: &mut F,
     from: &Access,
-    name: &str,
+    name: &Text,
     password: Option<&[u8]>,
 ) -> Result<Doc, Stop>
     requires { CanOpen from.now (option_map (λ p. p.now) password) }
@@ -426,7 +426,7 @@ fn open_source<F: FileStore>(
     ensures draft_name { F.draft_name files.new ≡ F.draft_name files.old }
     ensures draft_bytes { F.draft_bytes files.new ≡ F.draft_bytes files.old }
 {
-    match open_held(alloc, files, from, name, password) {
+    match open_held(alloc, files, from, name.as_str(), password) {
         Ok(opened) => Ok(document(opened)),
         Err(stop) => Err(stop),
     }
@@ -466,8 +466,8 @@ fn open_sources<F: FileStore>(
     let [own, lines @ ..] = lines else {
         return Ok(());
     };
-    let password = password_from(needs.same, target, bytes_in(own));
-    let doc = open_source(alloc, files, needs.from, name.as_str(), password)?;
+    let password = password_from(needs.same, target, own);
+    let doc = open_source(alloc, files, needs.from, name, password)?;
     let Ok(()) = docs.push(doc) else {
         return Err(Stop::NoMemory);
     };
