@@ -80,7 +80,7 @@ pub enum Reason {
     TooLarge,
     /// Too many elements of the document are open at once.
     Depth,
-    /// The document has a group below the last level.
+    /// The document has a group below the last level, or, in a merge, an entry.
     TooDeep,
     /// The document has too many groups, entries and history items.
     TooMany,

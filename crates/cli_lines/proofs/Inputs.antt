@@ -1,5 +1,5 @@
 -- What is left of the input, where it reports that or where no line is due.
-use Rattle.std.proofs.Common.{◌≡◌, ℕ, List, [], refl, sym, ◌∙◌, ap, subst, Bool, true, false, ◌||◌, Option, Some, None, option_map, Result, Ok, Err}
+use Rattle.std.proofs.Common.{◌≡◌, ℕ, List, [], refl, sym, ◌∙◌, ap, subst, Bool, true, false, ◌||◌, Option, Some, None, option_map, Result, Ok}
 use Rattle.cli_answers.specs.declared.answers.Refusal.{Refusal}
 use Rattle.cli_answers.specs.declared.answers.Stop.{Stop}
 use Rattle.cli_answers.specs.declared.answers.Stop.TheVariants.{Refused, FileFault, InputFault, NoMemory}

@@ -182,8 +182,8 @@ fn read_if<S: Source>(
     }
 }
 
-// The number of the line after one of this number, which may be due. There are never so many lines
-// that memory could not hold them.
+// The number of the line after one of this number, which may be due. Memory never holds so many
+// lines that the numbers end.
 fn number_after(due: bool, number: u64) -> Result<u64, NoMemory>
     ensures { IfOk result (λ next. next ≡ spec.number_after due number) }
 {

@@ -87,7 +87,7 @@ move_key : (said : Said) (first second third : Option (List ℕ)) → AreKeys sa
 move_key said (Some file) (Some node) (Some group) h = alone said h file false
 move_key said (Some file) (Some node) None h = tt
 move_key said (Some file) None group h = tt
-move_key said None node group h = tt
+move_key said None path group h = tt
 
 remove_key : (said : Said) (first second : Option (List ℕ)) → AreKeys said → IfKey (remove_at said first second)
 remove_key said (Some file) (Some entry) h = alone said h file false

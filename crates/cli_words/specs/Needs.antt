@@ -32,7 +32,7 @@ abbrev pub needs_of : Command → Needs
 needs_of (Ls access file group recursive flat) = without_sources access file false
 needs_of (Add access file entry asked) = without_sources access file asked.password
 needs_of (Edit access file entry asked) = without_sources access file asked.password
-needs_of (Move access file moved group) = without_sources access file false
+needs_of (Move access file node group) = without_sources access file false
 needs_of (Remove access file entry) = without_sources access file false
 needs_of (MakeGroup access file group) = without_sources access file false
 needs_of (RemoveGroup access file group) = without_sources access file false

@@ -259,10 +259,10 @@ edit_at said None entry = wrong_words
 
 -- `mv DATABASE NODE GROUP`
 abbrev pub move_at : Said → (first second third : Option (List ℕ)) → Result Command Refusal
-move_at said (Some file) (Some moved) (Some group) = Ok (Move (access_of said) file moved group)
-move_at said (Some file) (Some moved) None = wrong_words
+move_at said (Some file) (Some node) (Some group) = Ok (Move (access_of said) file node group)
+move_at said (Some file) (Some node) None = wrong_words
 move_at said (Some file) None group = wrong_words
-move_at said None moved group = wrong_words
+move_at said None path group = wrong_words
 
 -- `rm DATABASE ENTRY`
 abbrev pub remove_at : Said → Option (List ℕ) → Option (List ℕ) → Result Command Refusal

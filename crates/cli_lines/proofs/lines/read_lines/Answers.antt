@@ -1,4 +1,4 @@
-use Rattle.std.proofs.Common.{[], ap, sym, subst, List, ℕ, ◌||◌}
+use Rattle.std.proofs.Common.{[], ap, sym, subst, ◌||◌}
 use Rattle.std.proofs.lemmas.Result.{err_from_is_err_and}
 use Rattle.cli_answers.specs.Phases.{StreamAnswer, IsLeft}
 use Rattle.cli_words.specs.Needs.{asks_password, asks_passwords_from}
