@@ -1,6 +1,6 @@
 -- What is promised of a call, by how it ended.
-use Rattle.std.proofs.Common.{◌≡◌, ◌≢◌, ℕ, List, [], length, refl, sym, ◌∙◌, ap, subst, inl, inr, Bool, false, Option, Some, None, arith, append-nil}
-use Rattle.std.specs.Prelude.{codes, ◌⊎◌, ◌++◌, Result, Ok, Err, option_map}
+use Rattle.std.proofs.Common.{◌≡◌, ◌≢◌, ℕ, List, [], length, refl, sym, ◌∙◌, ap, subst, inl, inr, false, Option, Some, None, arith, append-nil}
+use Rattle.std.specs.Prelude.{◌⊎◌, ◌++◌, Result, Ok, Err, option_map}
 use Rattle.std.proofs.Math.Seq.{take-length}
 use Rattle.outside_core.specs.Counts.{Increased}
 use Rattle.outside_core.specs.Streams.{GainsPrefix, LosesPrefix}
@@ -15,10 +15,9 @@ use Rattle.cli_words.specs.Needs.{files_named}
 use Rattle.cli_writing.specs.Writing.{IsSame, KeepsDraft, KeepsFiles}
 use Rattle.cli_commands.specs.declared.output.Output.{Output}
 use Rattle.keepass_call.specs.Call.{IsCall}
-use Rattle.keepass_call.specs.Endings.{Ending, Ends, EndsRefused, EndsSo, Stores}
+use Rattle.keepass_call.specs.Endings.{Ending, Ends, EndsSo}
 use Rattle.keepass_call.specs.Held.{IsAuthentic, IsComplete}
-use Rattle.keepass_call.specs.Outcome.{Counts, Gains, IsAsSaid, IsCut, IsOfSomeFile, IsOfTask, IsRefused, IsSafe, NoFaults, Outcome, PrintsOfSomeFile, Seen, Tells, TellsFault, WhereTold, World, answer_of, ended, outcome}
-use Rattle.cli_commands.specs.SeenChange.{output_text}
+use Rattle.keepass_call.specs.Outcome.{Counts, Gains, IsAsSaid, IsCut, IsOfSomeFile, IsOfTask, IsRefused, IsSafe, NoFaults, Outcome, Seen, Tells, WhereTold, World, answer_of, ended, outcome}
 use Rattle.cli_words.specs.Words.{command_of}
 use Rattle.keepass_call.specs.Tasks.{draws_by, left_of, may_write_by}
 use Rattle.keepass_call.specs.Telling.{IsPrinted, IsTold}

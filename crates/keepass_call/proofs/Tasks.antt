@@ -1,6 +1,6 @@
 -- What a call asks for, phase after phase.
-use Rattle.std.proofs.Common.{◌≡◌, ℕ, List, refl, inl, inr, sym, ◌∙◌, ap, subst, Bool, true, false, Option, Some, None, option_map, Result, Ok, Err}
-use Rattle.std.specs.Prelude.{◌⊎◌, ◌||◌, not, Contains, IfErr, IsSome, is_some}
+use Rattle.std.proofs.Common.{◌≡◌, ℕ, List, sym, ◌∙◌, ap, subst, Option, Result, Ok, Err}
+use Rattle.std.specs.Prelude.{not, Contains, is_some}
 use Rattle.outside_core.specs.Counts.{Increased}
 use Rattle.outside_core.specs.Files.{FileMap}
 use Rattle.outside_core.specs.Results.{◌>>=◌}
@@ -17,7 +17,7 @@ use Rattle.cli_databases.specs.SomeFiles.{SomeDatabases}
 use Rattle.cli_databases.proofs.SomeOpened.{sealed_unless_plain}
 use Rattle.keepass_call.specs.declared.task.Task as memory
 use Rattle.cli_words.specs.Words.{command_of}
-use Rattle.keepass_call.specs.Tasks.{HasSomeFile, Task, asked_by, left_behind, task_of, task_with}
+use Rattle.keepass_call.specs.Tasks.{HasSomeFile, asked_by, left_behind, task_of, task_with}
 
 -- ---- what words ask for
 

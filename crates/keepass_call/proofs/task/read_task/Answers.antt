@@ -23,7 +23,7 @@ pub returns-clause-told : goal.returns-clause-told
 returns-clause-told g c = λ m i isF isS.
     let command = c.in_ok-command.command in
     let needs = needs_seen c.needs_of-needs.result in
-    task_by_needs (map string_bytes c.args.words.now) i m command needs (lines_seen c.in-Ok.lines) (databases_seen c.in-Ok-open.field-0)
+    task_by_needs (map string_bytes c.args.words.now) i m command needs (lines_seen c.in-Ok.lines) (databases_seen c.in-Ok-open.databases)
     c.in_ok-command.ensures.told c.needs_of-needs.ensures
     (c.in-Ok.ensures.told i (asked_needs _ command needs _ i c.in_ok-command.ensures.told c.needs_of-needs.ensures isS)).0
     (c.in-Ok-open.ensures.told m isF)
@@ -31,7 +31,7 @@ returns-clause-told g c = λ m i isF isS.
 pub returns-clause-some_file : goal.returns-clause-some_file
 returns-clause-some_file g c =
     has_file_by_needs (map string_bytes c.args.words.now) c.in_ok-command.command (needs_seen c.needs_of-needs.result) (lines_seen c.in-Ok.lines)
-    (databases_seen c.in-Ok-open.field-0) c.in_ok-command.ensures.told c.needs_of-needs.ensures c.in-Ok.ensures.given
+    (databases_seen c.in-Ok-open.databases) c.in_ok-command.ensures.told c.needs_of-needs.ensures c.in-Ok.ensures.given
     c.in-Ok-open.ensures.some_file
 
 pub returns-in-Err-clause-told : goal.returns-in-Err-clause-told
@@ -63,7 +63,7 @@ returns-clause-left g c = λ i isS.
 
 pub returns-clause-sealed : goal.returns-clause-sealed
 returns-clause-sealed g c =
-    sealed_by_needs c.in_ok-command.command (needs_seen c.needs_of-needs.result) (lines_seen c.in-Ok.lines) (databases_seen c.in-Ok-open.field-0) c.needs_of-needs.ensures
+    sealed_by_needs c.in_ok-command.command (needs_seen c.needs_of-needs.result) (lines_seen c.in-Ok.lines) (databases_seen c.in-Ok-open.databases) c.needs_of-needs.ensures
     c.in-Ok-open.ensures.some_file
 
 pub returns-in-Err-open-clause-left : goal.returns-in-Err-open-clause-left
