@@ -159,7 +159,9 @@ fn tell<E: Sink>(alloc: Global, err: &mut E, stop: Stop) -> u8
 /// refusal changes no file, and what was printed where an object fails is a prefix of the outcome's
 /// text.
 /// Words that are no command that may write change no file and draw nothing. Words that can be
-/// carried out give status 0 where nothing fails.
+/// carried out give status 0 where nothing fails. Copies of one database that are parts of an
+/// agreed set are merged into the join of all of them, and what the target has already changes
+/// nothing.
 pub fn keepass<F: FileStore, S: Source, O: Sink, E: Sink, D: Dice>(
     alloc: Global,
     words: &[String],
