@@ -5,6 +5,7 @@ ghost use Rattle.vault_model.specs.SeenDoc.{doc_seen};
 ghost use Rattle.tree_changes.specs.NewNodes.{lent_value};
 ghost use Rattle.cli_answers.specs.Phases.{IsPlainStop, IsStreamStop, Returns, ReturnsAskedStream, TellsStream};
 ghost use Rattle.cli_lines.specs.Lines.{IsTextLine};
+ghost use Rattle.cli_words.specs.Needs.{needs_of};
 ghost use Rattle.cli_listing.specs.Listing.{tree_listed};
 ghost use Rattle.cli_commands.specs.Commands as spec;
 ghost use Rattle.cli_commands.specs.Commands.{change_of, change_with, draws_id, listing_of};
@@ -77,6 +78,45 @@ pub struct CommandInput<'a> {
     pub now: u64,
 }
 
+// What a command is given beside its document and what it names there.
+fn given_of<'a>(command: &'a Command, input: CommandInput<'a>) -> Given<'a>
+    ensures file { result.file.now ≡ (needs_of command.now).file }
+    ensures quiet { result.quiet ≡ (needs_of command.now).access.quiet }
+    ensures password { result.password ≡ input.entry.line }
+    ensures now { result.now ≡ input.entry.now }
+{
+    let needs = cli_words::needs_of(command);
+    Given {
+        file: needs.file.as_str(),
+        quiet: needs.access.quiet,
+        password: input.line,
+        now: input.now,
+    }
+}
+
+// How a listing is laid out.
+fn manner_of(recursive: bool, flat: bool) -> Manner
+    ensures recursive { result.recursive ≡ recursive }
+    ensures flat { result.flat ≡ flat }
+{
+    Manner { recursive, flat }
+}
+
+// What a merge is given beside its documents.
+fn merge_given<'a>(given: Given<'a>, sources: &'a [Text], dry: bool) -> MergeGiven<'a>
+    ensures file { result.file ≡ given.entry.file }
+    ensures sources { result.sources ≡ sources.entry }
+    ensures quiet { result.quiet ≡ given.entry.quiet }
+    ensures dry { result.dry ≡ dry }
+{
+    MergeGiven {
+        file: given.file,
+        sources,
+        quiet: given.quiet,
+        dry,
+    }
+}
+
 // Carries a command out on its document, with what it works with. A node that it makes has this id.
 fn change_document<'a>(
     alloc: Global,
@@ -94,123 +134,43 @@ fn change_document<'a>(
     ensures unchanged { IfErr result (λ _. doc_seen doc.new ≡ doc_seen doc.old) }
     ensures cause { IfErr result IsPlainStop }
 {
+    let given = given_of(command, input);
     match command {
         Command::Ls {
-            access: _,
-            file,
             group,
             recursive,
             flat,
-        } => {
-            let manner = Manner {
-                recursive: *recursive,
-                flat: *flat,
-            };
-            list(alloc, doc, group, manner, file.as_str())
-        }
-        Command::Add {
-            access,
-            file,
-            entry,
-            asked,
-        } => {
-            let given = Given {
-                file: file.as_str(),
-                quiet: access.quiet,
-                password: input.line,
-                now: input.now,
-            };
+            ..
+        } => list(alloc, doc, group, manner_of(*recursive, *flat), given.file),
+        Command::Add { entry, asked, .. } => {
             reported(add_entry(alloc, doc, entry.as_str(), id, asked, given))
         }
-        Command::Edit {
-            access,
-            file,
-            entry,
-            asked,
-        } => {
-            let given = Given {
-                file: file.as_str(),
-                quiet: access.quiet,
-                password: input.line,
-                now: input.now,
-            };
+        Command::Edit { entry, asked, .. } => {
             reported(edit_entry(alloc, doc, entry.as_str(), asked, given))
         }
-        Command::Move {
-            access,
-            file,
-            node,
-            group,
-        } => {
-            let given = Given {
-                file: file.as_str(),
-                quiet: access.quiet,
-                password: None,
-                now: input.now,
-            };
+        Command::Move { node, group, .. } => {
             reported(move_node(alloc, doc, node.as_str(), group.as_str(), given))
         }
-        Command::Remove {
-            access,
-            file,
-            entry,
-        } => {
-            let given = Given {
-                file: file.as_str(),
-                quiet: access.quiet,
-                password: None,
-                now: input.now,
-            };
+        Command::Remove { entry, .. } => {
             let bin = bin_id(id, doc);
             reported(remove_entry_of(alloc, doc, entry.as_str(), bin, given))
         }
-        Command::MakeGroup {
-            access,
-            file,
-            group,
-        } => {
-            let given = Given {
-                file: file.as_str(),
-                quiet: access.quiet,
-                password: None,
-                now: input.now,
-            };
+        Command::MakeGroup { group, .. } => {
             reported(make_group_of(alloc, doc, group.as_str(), id, given))
         }
-        Command::RemoveGroup {
-            access,
-            file,
-            group,
-        } => {
-            let given = Given {
-                file: file.as_str(),
-                quiet: access.quiet,
-                password: None,
-                now: input.now,
-            };
+        Command::RemoveGroup { group, .. } => {
             let bin = bin_id(id, doc);
             reported(remove_group_of(alloc, doc, group.as_str(), bin, given))
         }
-        Command::Merge {
-            access,
-            file,
-            sources,
-            dry,
-            ..
-        } => {
-            let given = MergeGiven {
-                file: file.as_str(),
-                sources: sources.as_slice(),
-                quiet: access.quiet,
-                dry: *dry,
-            };
+        Command::Merge { sources, dry, .. } => {
+            let given = merge_given(given, sources.as_slice(), *dry);
             merge_change(merge_into(alloc, doc, input.sources, given))
         }
     }
 }
 
-/// Carries a command out on its document, with what it works with. The document is changed in place;
-/// a refusal changes nothing.
+/// Carries a command out on its document, with what it works with. The document is changed in
+/// place; a refusal changes nothing.
 pub fn perform<'a, D: Dice>(
     alloc: Global,
     dice: &mut D,

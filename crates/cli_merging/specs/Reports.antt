@@ -1,6 +1,5 @@
 -- What a merge prints.
 use Rattle.std.specs.Prelude.{ℕ, Bool, true, false, if◌then◌else◌, List, [], ◌∷◌, ◌++◌, codes, Option, None, Some}
-use Rattle.std.specs.List.{flat_map}
 use Rattle.std.specs.Option.{option_or, unwrap_or}
 use Rattle.uuid.specs.Text.{hyphenated_text, lower}
 use Rattle.vault_model.specs.Db.{NodeId}
@@ -48,18 +47,19 @@ abbrev pub node_line : List ℕ → Kind → List ℕ → NodeId → List ℕ
 node_line done kind name id =
     done ++ kind_text kind ++ name ++ codes " [" ++ hyphenated_text lower id ++ codes "]\n"
 
--- The line of a change from one document to another. A node that is gone has the name that it had.
-abbrev pub change_line : (old new : BareDoc) → Change → List ℕ
-change_line old new (Created kind id) = node_line (codes "created ") kind (name_in new id) id
-change_line old new (Updated kind id) = node_line (codes "updated ") kind (name_in new id) id
-change_line old new (Moved kind id) = node_line (codes "moved ") kind (name_in new id) id
-change_line old new (Deleted kind id) = node_line (codes "deleted ") kind (name_in old id) id
+-- The line of a change, by the names that nodes had and those that they have. A node that is gone
+-- has the name that it had.
+abbrev pub change_line : (old new : NodeId → List ℕ) → Change → List ℕ
+change_line old new (Created kind id) = node_line (codes "created ") kind (new id) id
+change_line old new (Updated kind id) = node_line (codes "updated ") kind (new id) id
+change_line old new (Moved kind id) = node_line (codes "moved ") kind (new id) id
+change_line old new (Deleted kind id) = node_line (codes "deleted ") kind (old id) id
 change_line old new Metadata = codes "metadata\n"
 change_line old new Deletions = codes "deletions\n"
 change_line old new Order = codes "order\n"
 
 -- The lines of changes.
-abbrev pub change_lines : (old new : BareDoc) → List Change → List ℕ
+abbrev pub change_lines : (old new : NodeId → List ℕ) → List Change → List ℕ
 change_lines old new [] = []
 change_lines old new (change ∷ changes) =
     change_line old new change ++ change_lines old new changes
@@ -74,13 +74,13 @@ abbrev pub source_lines : List ℕ → List (List ℕ) → List ℕ
 source_lines target [] = []
 source_lines target (source ∷ sources) = source_line target source ++ source_lines target sources
 
--- What a merge prints that is not quiet: one line where nothing was changed, or else a line for each
--- change and then one for each source.
+-- What a merge prints that is not quiet: one line where nothing was changed, or else a line for
+-- each change and then one for each source.
 abbrev pub told_report : Bool → List ℕ → List (List ℕ) → (old new : BareDoc) → List Change → List ℕ
 told_report true target sources old new changes =
     codes "Database was not modified by merge operation.\n"
 told_report false target sources old new changes =
-    change_lines old new changes ++ source_lines target sources
+    change_lines (name_in old) (name_in new) changes ++ source_lines target sources
 
 -- What a merge prints: nothing where it is quiet.
 abbrev pub merge_report : (quiet same : Bool) → List ℕ → List (List ℕ) → (old new : BareDoc)
@@ -88,3 +88,15 @@ abbrev pub merge_report : (quiet same : Bool) → List ℕ → List (List ℕ) �
 merge_report true same target sources old new changes = []
 merge_report false same target sources old new changes =
     told_report same target sources old new changes
+
+-- ---- how the code relates to it
+
+-- Whether a change is the deletion of a node, whose line has the name that it had.
+abbrev pub is_deletion : Change → Bool
+is_deletion (Created kind id) = false
+is_deletion (Updated kind id) = false
+is_deletion (Moved kind id) = false
+is_deletion (Deleted kind id) = true
+is_deletion Metadata = false
+is_deletion Deletions = false
+is_deletion Order = false

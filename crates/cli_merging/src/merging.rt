@@ -1,5 +1,5 @@
 //! What `merge` makes of its target.
-ghost use Rattle.std.specs.Prelude.{◌≡◌, ◌≢◌, IfErr, IfOk, map, true, false};
+ghost use Rattle.std.specs.Prelude.{◌≡◌, ◌≢◌, IfErr, IfOk, OnErr, map, true, false};
 ghost use Rattle.vault_model.specs.SeenDoc.{doc_seen};
 ghost use Rattle.cli_answers.specs.Messages.{Refuses, refusal_of};
 ghost use Rattle.cli_answers.specs.Phases.{IsPlainStop};
@@ -73,6 +73,7 @@ fn finished(
         given.entry.sources.now (doc_seen doc.old) merged.changed (doc_seen merged.doc)
         merged.changes) }
     ensures dry { IfOk result (λ report. given.entry.dry ≡ true → report.is_written ≡ false) }
+    ensures kept { OnErr result (doc_seen doc.new ≡ doc_seen doc.old) }
 {
     let files = MergeFiles {
         target: given.file,
@@ -93,7 +94,6 @@ fn finished(
 
 /// Merges sources into a document, which is changed in place where it is to be written; a refusal
 /// changes nothing.
-#[tactic(auto, unfolding(crate::specs::Merging::after_merge))]
 pub fn merge_into(
     alloc: Global,
     doc: &mut Doc,

@@ -1,11 +1,11 @@
 //! Texts that grow in memory that is wiped.
-ghost use Rattle.std.specs.Prelude.{◌≡◌, ◌≤◌, ◌++◌, length, IfOk, OnOk};
+ghost use Rattle.std.specs.Prelude.{◌≡◌, ◌+◌, ◌≤◌, ◌++◌, length, IfOk, OnOk};
 
 use outside_core::NoMemory;
 use secret_core::Secret;
 use std::alloc::Global;
 
-// How much room a text gets that is full, for more bytes: twice as much as it has, or what it needs.
+// How much room a full text gets for more bytes: twice as much as it has, or what it needs.
 fn room_for(len: usize, more: usize) -> Result<usize, NoMemory>
     ensures { IfOk result (λ room. len + more ≤ room) }
 {

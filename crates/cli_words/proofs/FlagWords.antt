@@ -1,5 +1,5 @@
 -- Words that say flags and nothing else.
-use Rattle.std.proofs.Common.{◌≡◌, ◌≢◌, ◌⊎◌, inl, inr, ℕ, Bool, true, false, not, ◌&&◌, ◌==◌, cond, List, [], ◌∷◌, ◌++◌, is_some, codes, bytes_eq, Option, Some, None, refl, sym, ap, subst, ◌∙◌}
+use Rattle.std.proofs.Common.{◌≡◌, inl, inr, ℕ, Bool, true, false, not, ◌&&◌, ◌==◌, cond, List, [], ◌∷◌, ◌++◌, is_some, codes, bytes_eq, Option, Some, None, refl, sym, ap, subst, ◌∙◌}
 use Rattle.std.specs.List.{list_all}
 use Rattle.std.specs.Option.{option_and_then}
 use Rattle.std.proofs.lemmas.Bool.Decides.{Decides-eqb}
@@ -12,7 +12,7 @@ use Rattle.cli_words.specs.Options.{has_value, if_taken, letter_option, name_opt
 use Rattle.cli_words.specs.Prefixes.{strip_prefix}
 use Rattle.cli_words.specs.Words.{Said, by_letter, is_option, nothing_said, with_due, with_flag, with_given, with_joined, with_letters, with_long, with_name, with_next, with_option, with_position, with_word, with_words}
 use Rattle.cli_words.proofs.Flags.{flags_appended, flags_exchanged, same_step, with_flags}
-use Rattle.cli_words.proofs.Saying.{IfSaid, IsOpen, IsState, flags_keep, parts, same_from, unmet, words_appended, words_open}
+use Rattle.cli_words.proofs.Saying.{IsOpen, IsState, flags_keep, parts, same_from, unmet, words_appended, words_open}
 
 -- A word is an option, and says these flags where it is read as one.
 pub record Says (command : CommandName) (flags : List CommandOption) (word : List ℕ) : Type 0 where

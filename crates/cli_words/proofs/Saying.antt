@@ -1,5 +1,5 @@
 -- What words leave as it was.
-use Rattle.std.proofs.Common.{◌≡◌, ◌≢◌, ℕ, Bool, true, false, not, ◌&&◌, ◌==◌, cond, List, [], ◌∷◌, ◌++◌, is_some, codes, bytes_eq, Option, Some, None, refl, sym, ap, ◌∙◌}
+use Rattle.std.proofs.Common.{◌≡◌, ◌≢◌, ℕ, Bool, true, false, not, ◌&&◌, ◌==◌, cond, List, [], ◌∷◌, ◌++◌, codes, bytes_eq, Option, Some, None, refl, sym, ◌∙◌}
 use Rattle.std.specs.Prelude.{nat_lt}
 use Rattle.std.specs.Option.{option_and_then}
 use Rattle.std.proofs.lemmas.Bool.Decides.{Decides-eqb}
@@ -9,7 +9,7 @@ use Rattle.cli_words.specs.declared.options.CommandOption.{CommandOption}
 use Rattle.cli_words.specs.Laws.{lack_end}
 use Rattle.cli_words.specs.Options.{has_value, letter_option, name_option}
 use Rattle.cli_words.specs.Prefixes.{after_sign, before_sign, strip_prefix}
-use Rattle.cli_words.specs.Words.{Said, by_letter, is_option, unless_given, with_due, with_flag, with_given, with_joined, with_letters, with_long, with_name, with_next, with_option, with_position, with_short, with_word, with_words, without_sign}
+use Rattle.cli_words.specs.Words.{Said, by_letter, is_option, unless_given, with_due, with_flag, with_given, with_joined, with_letters, with_long, with_next, with_option, with_position, with_short, with_word, with_words, without_sign}
 use Rattle.cli_words.proofs.Flags.{joined, same_step, with_flags}
 
 -- What is said, if anything is, has a property.

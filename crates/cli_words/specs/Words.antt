@@ -1,6 +1,5 @@
 -- The words of a call: what they say, and which command they are.
 use Rattle.std.specs.Prelude.{ℕ, Bool, true, false, not, ◌&&◌, ◌||◌, ◌==◌, ◌+◌, nat_lt, if◌then◌else◌, is_some, drop, take, List, [], ◌∷◌, codes, replicate, Option, None, Some, Result, Ok, Err, option_and_then, slice_index_or, slice_set}
-use Rattle.std.specs.Str.{bytes_eq}
 use Rattle.cli_words.specs.Prefixes.{after_sign, before_sign, strip_prefix}
 use Rattle.cli_answers.specs.declared.answers.Reason.TheVariants.{WrongWords}
 use Rattle.cli_answers.specs.declared.answers.Refusal.{Refusal}

@@ -1,5 +1,5 @@
 -- What a call answers, from its task.
-use Rattle.std.proofs.Common.{◌≡◌, ◌≤◌, ℕ, List, [], ◌∷◌, ◌++◌, refl, inl, inr, sym, ◌∙◌, ap, subst, arith, Bool, false, Option, Some, None, Result, Ok, Err}
+use Rattle.std.proofs.Common.{◌≡◌, ◌≤◌, ℕ, List, [], ◌∷◌, refl, inl, inr, sym, ◌∙◌, ap, subst, arith, Bool, false, Option, Result, Ok, Err}
 use Rattle.std.specs.Prelude.{Contains, IfErr, IfOk, OnErr}
 use Rattle.std.proofs.lemmas.List.Elements.{Contains-append_left, Contains-append_right}
 use Rattle.outside_core.specs.Counts.{Increased}
@@ -18,7 +18,6 @@ use Rattle.cli_commands.specs.Commands.{may_write}
 use Rattle.keepass_call.specs.Endings.{Ending, Ends, EndsRefused, IsOfDice, IsOfSomeDice, carried_out}
 use Rattle.keepass_call.specs.Outcome.{IsOfSomeFile, IsOfTask, World, answer_of}
 use Rattle.cli_commands.specs.SeenChange.{output_text}
-use Rattle.cli_words.specs.Words.{command_of}
 use Rattle.keepass_call.specs.Tasks.{HasSomeFile, Task, draws, draws_by, task_of, may_write_by}
 
 same_store : (before mid : Store) → IsSame before mid → mid ≡ before

@@ -1,8 +1,7 @@
 -- How a task is carried out.
-use Rattle.std.proofs.Common.{◌≡◌, ◌≤◌, ◌+◌, ℕ, List, drop, refl, inl, inr, sym, ◌∙◌, ap, subst, Bool, true, false, Option, Some, None, option_map, Result, Ok, Err, arith}
-use Rattle.std.specs.Prelude.{IfErr, IfOk, IfSome, OnErr, OnOk, ◌&&◌, if◌then◌else◌, is_some, not}
+use Rattle.std.proofs.Common.{◌≡◌, ◌≤◌, ◌+◌, ℕ, List, drop, refl, inl, sym, ◌∙◌, ap, subst, Bool, true, false, Option, Some, None, option_map, Result, Ok, Err}
+use Rattle.std.specs.Prelude.{IfErr, IfOk, IfSome, OnErr, OnOk, is_some, not}
 use Rattle.std.proofs.lemmas.List.{drop-drop}
-use Rattle.outside_core.specs.Counts.{Increased}
 use Rattle.outside_core.specs.Streams.{LosesPrefix}
 use Rattle.vault_model.specs.Tree.{BareDoc, Tree}
 use Rattle.kdbx_frame.specs.Settings.{IsInOrder}
@@ -11,20 +10,17 @@ use Rattle.cli_answers.specs.declared.answers.Stop.{Stop}
 use Rattle.cli_answers.specs.declared.answers.Stop.TheVariants.{Refused, FileFault, InputFault, NoMemory}
 use Rattle.cli_answers.specs.Phases.{IsCommandStop, IsLeft, IsStreamStop, RefusesAskedStream, StreamAnswer, TellsStream, then_left, with_left}
 use Rattle.kdbx_open.specs.declared.sealings.Sealing.{Sealing}
-use Rattle.cli_databases.specs.Databases.{Opened}
 use Rattle.cli_databases.proofs.Stops.{rose_before}
-use Rattle.cli_lines.proofs.Inputs.{left_alone, left_so, told_by}
+use Rattle.cli_lines.proofs.Inputs.{left_alone, left_so}
 use Rattle.cli_lines.specs.Lines.{Lines}
 use Rattle.cli_sealing.specs.Sealing.{Seals}
 use Rattle.cli_words.specs.declared.command.Command.{Command}
 use Rattle.cli_words.specs.declared.command.Command.TheVariants.{Ls, Add, Edit, Move, Remove, MakeGroup, RemoveGroup, Merge}
 use Rattle.cli_words.specs.Needs.{needs_of}
-use Rattle.cli_merging.specs.Merging.{AfterMerge, after_merge, after_merged, changes_between, merged_or_refusal}
-use Rattle.document_equality.specs.Equality.{same_doc}
-use Rattle.document_merge.specs.Merging.{MergeResult, merge_result}
-use Rattle.outside_core.specs.Results.{◌>>=◌}
+use Rattle.cli_merging.proofs.DryRuns.{dry_none}
+use Rattle.cli_merging.specs.Merging.{AfterMerge, after_merge}
 use Rattle.cli_writing.specs.Held.{IsWritten}
-use Rattle.cli_writing.specs.Writing.{IsSame, IsWriteStop, KeepsDraft, KeepsFiles, NewFile, Store, Writes, plain_file}
+use Rattle.cli_writing.specs.Writing.{IsWriteStop, KeepsDraft, KeepsFiles, NewFile, Store, Writes}
 use Rattle.cli_commands.specs.declared.output.Output.{Output}
 use Rattle.cli_listing.specs.Listing.{tree_listed}
 use Rattle.cli_commands.specs.Commands.{Change, change_of, draws_id, listing_of, may_write, merged_change}
@@ -245,21 +241,6 @@ merged_so name (Ok after) none one other dice =
     ap (λ (x : Option BareDoc). ended_with name one after.text x dice) none ∙ sym (ap (λ (x : Option BareDoc). ended_with name other after.text x dice) none)
 merged_so name (Err refusal) none one other dice = refl
 
--- A dry run makes no document.
-none_if : (changed : Bool) (new : BareDoc) → (if changed && not true then Some new else None) ≡ None
-none_if true new = refl
-none_if false new = refl
-
-dry_by : (file : List ℕ) (quiet : Bool) (names : List (List ℕ)) (t : BareDoc) (ss : List BareDoc) (r : MergeResult)
-    → IfOk (merged_or_refusal file r >>= λ new. Ok (after_merged file quiet true names t (not (same_doc t new)) new (changes_between t ss new))) (λ after. after.doc ≡ None)
-dry_by file quiet names t ss (Ok new) = none_if (not (same_doc t new)) new
-dry_by file quiet names t ss (Err why) = tt
-
-dry_none : (file : List ℕ) (quiet : Bool) (names : List (List ℕ)) (t : BareDoc) (ss : List BareDoc)
-    → IfOk (after_merge file quiet true names t ss) (λ after. after.doc ≡ None)
-unfolding after_merge
-dry_none file quiet names t ss = dry_by file quiet names t ss (merge_result t ss)
-
 pub carried_kept : (time : ℕ) (command : Command) (lines : Lines) (sources : List BareDoc) (doc : BareDoc) (sealing : Option Sealing) (dice : List ℕ)
     → carried_out time (task_with command lines (record { target = record { doc = doc; sealing = kept_sealing (may_write command) sealing }; sources = sources })) dice
     ≡ carried_out time (task_with command lines (record { target = record { doc = doc; sealing = sealing }; sources = sources })) dice
@@ -359,14 +340,14 @@ pub unsealed_kept : (command : Command) (sealing kept : Option Sealing) → kept
     → is_some sealing ≡ not (needs_of command).access.plain → draws command ≡ false → is_some kept ≡ false
 unsealed_kept command sealing kept k h e = ap (λ (s : Option Sealing). is_some s) k ∙ undrawn_unsealed command sealing h e
 
-in_order_if : (is_written : Bool) (sealing : Option Sealing) → IfSome sealing (λ s. IsInOrder s.settings) → IfSome (kept_sealing is_written sealing) (λ s. IsInOrder s.settings)
+in_order_if : (writes : Bool) (sealing : Option Sealing) → IfSome sealing (λ s. IsInOrder s.settings) → IfSome (kept_sealing writes sealing) (λ s. IsInOrder s.settings)
 in_order_if true sealing h = h
 in_order_if false sealing h = tt
 
-pub in_order_kept : (is_written : Bool) (sealing kept : Option Sealing) → kept ≡ kept_sealing is_written sealing
+pub in_order_kept : (writes : Bool) (sealing kept : Option Sealing) → kept ≡ kept_sealing writes sealing
     → IfSome sealing (λ s. IsInOrder s.settings) → IfSome kept (λ s. IsInOrder s.settings)
-in_order_kept is_written sealing kept k h =
-    subst (λ (x : Option Sealing). IfSome x (λ s. IsInOrder s.settings)) (sym k) (in_order_if is_written sealing h)
+in_order_kept writes sealing kept k h =
+    subst (λ (x : Option Sealing). IfSome x (λ s. IsInOrder s.settings)) (sym k) (in_order_if writes sealing h)
 
 -- ---- causes
 

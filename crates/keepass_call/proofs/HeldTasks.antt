@@ -1,13 +1,13 @@
 -- What a call gives on files that hold what it uses, both ways.
-use Rattle.std.proofs.Common.{◌≡◌, ℕ, List, refl, sym, ◌∙◌, ap, subst, Result, Ok, Err}
-use Rattle.outside_core.specs.Results.{◌>>=◌}
+use Rattle.std.proofs.Common.{◌≡◌, ℕ, List, ◌∙◌, ap, subst, Result, Ok}
 use Rattle.cli_answers.specs.declared.answers.Refusal.{Refusal}
-use Rattle.cli_answers.specs.Phases.{StreamAnswer, then_left, with_left}
+use Rattle.cli_answers.specs.Phases.{StreamAnswer}
 use Rattle.cli_databases.proofs.HeldFiles.{databases_given, databases_held, in_turn}
 use Rattle.cli_databases.specs.Databases.{databases_of}
+use Rattle.cli_lines.proofs.Having.{lines_have}
 use Rattle.cli_lines.specs.Lines.{lines_of}
 use Rattle.cli_words.specs.Needs.{needs_of}
-use Rattle.keepass_call.specs.Endings.{Ending, carried_out}
+use Rattle.keepass_call.specs.Endings.{Ending}
 use Rattle.keepass_call.specs.Held.{IsCarried, IsTask}
 use Rattle.keepass_call.specs.Outcome.{World, answer_of}
 use Rattle.cli_words.specs.Words.{command_of}
@@ -30,7 +30,7 @@ is_task words world task h =
     (record {
       is_command = c.1.0;
       are_lines = l.1.0;
-      holds = databases_held (needs_of c.0) l.0 world.files d.0 d.1.0;
+      holds = databases_held (needs_of c.0) l.0 world.files d.0 (lines_have (needs_of c.0) world.input l.0 l.1.0) d.1.0;
     })
 
 -- And what files hold is asked for.

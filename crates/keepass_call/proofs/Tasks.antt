@@ -1,9 +1,10 @@
 -- What a call asks for, phase after phase.
-use Rattle.std.proofs.Common.{◌≡◌, ℕ, List, refl, inl, inr, sym, ◌∙◌, ap, subst, Bool, true, false, Option, Some, None, option_map, Result, Ok, Err}
-use Rattle.std.specs.Prelude.{◌⊎◌, ◌||◌, not, Contains, IfErr, IsSome, is_some}
+use Rattle.std.proofs.Common.{◌≡◌, ℕ, List, sym, ◌∙◌, ap, subst, Option, Result, Ok, Err}
+use Rattle.std.specs.Prelude.{not, Contains, is_some}
 use Rattle.outside_core.specs.Counts.{Increased}
 use Rattle.outside_core.specs.Files.{FileMap}
 use Rattle.outside_core.specs.Results.{◌>>=◌}
+use Rattle.cli_answers.specs.declared.answers.Reason.TheVariants.{NoSuchFile, WrongWords}
 use Rattle.cli_answers.specs.declared.answers.Refusal.{Refusal}
 use Rattle.cli_answers.specs.declared.answers.Stop.{Stop}
 use Rattle.cli_answers.specs.declared.answers.Stop.TheVariants.{Refused, FileFault, InputFault, NoMemory}
@@ -17,7 +18,7 @@ use Rattle.cli_databases.specs.SomeFiles.{SomeDatabases}
 use Rattle.cli_databases.proofs.SomeOpened.{sealed_unless_plain}
 use Rattle.keepass_call.specs.declared.task.Task as memory
 use Rattle.cli_words.specs.Words.{command_of}
-use Rattle.keepass_call.specs.Tasks.{HasSomeFile, Task, asked_by, left_behind, task_of, task_with}
+use Rattle.keepass_call.specs.Tasks.{HasSomeFile, asked_by, left_behind, task_of, task_with}
 
 -- ---- what words ask for
 
@@ -53,6 +54,15 @@ pub sealed_by_needs : (command : Command) (needs : Needs) (lines : Lines) (datab
     → SomeDatabases needs lines databases → is_some databases.target.sealing ≡ not (needs_of command).access.plain
 sealed_by_needs command needs lines databases same h =
     sealed_unless_plain needs.access.plain needs.access.key_file lines.password databases.target h.target ∙ ap (λ (n : Needs). not n.access.plain) same
+
+-- The words were refused.
+pub words_refused : (stop : Stop) (words : List (List ℕ)) (input : List ℕ) (files : FileMap) → Stops stop (command_of words) → Stops stop (task_of words input files)
+unfolding task_of
+words_refused (Refused refusal) words input files h =
+    ap (λ r. r >>= λ command. (lines_of (needs_of command) input).answer >>= λ lines. databases_of (needs_of command) lines files >>= λ databases. Ok (task_with command lines databases)) h
+words_refused (FileFault name) words input files h = tt
+words_refused InputFault words input files h = tt
+words_refused NoMemory words input files h = tt
 
 -- The lines were refused.
 pub lines_refused : (stop : Stop) (words : List (List ℕ)) (input : List ℕ) (files : FileMap) (command : Command) (needs : Needs) (before now : Option (List ℕ))
@@ -138,6 +148,19 @@ stops_left InputFault before now left h = tt
 stops_left NoMemory before now left h = tt
 
 -- ---- causes
+
+-- A stop at the words, or at the input, as a stop of the call.
+pub words_early : (stop : Stop) (names : List (List ℕ)) (f f' a a' i i' : ℕ) → IsWordsStop stop → IsEarlyStop names f f' a a' i i' stop
+words_early (Refused refusal) names f f' a a' i i' h = λ e. let no : WrongWords ≡ NoSuchFile = sym h ∙ e in cc
+words_early (FileFault name) names f f' a a' i i' h = absurd h
+words_early InputFault names f f' a a' i i' h = absurd h
+words_early NoMemory names f f' a a' i i' h = tt
+
+pub input_early : (stop : Stop) (names : List (List ℕ)) (f f' a a' i i' : ℕ) → IsStreamStop i i' stop → IsEarlyStop names f f' a a' i i' stop
+input_early (Refused refusal) names f f' a a' i i' h = λ e. absurd (h e)
+input_early (FileFault name) names f f' a a' i i' h = absurd h
+input_early InputFault names f f' a a' i i' h = h
+input_early NoMemory names f f' a a' i i' h = tt
 
 -- A stop at a file of the command that the words are, as a stop of the call.
 at_words : (command : Command) (words : Result Command Refusal) (f f' a a' i i' : ℕ) (stop : Stop) → words ≡ Ok command

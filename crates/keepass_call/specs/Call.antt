@@ -2,6 +2,7 @@
 use Rattle.std.specs.Prelude.{◌≡◌, ◌≢◌, ◌⊎◌, ℕ, List, false}
 use Rattle.cli_words.specs.Needs.{files_named}
 use Rattle.keepass_call.specs.Held.{IsAuthentic, IsComplete}
+use Rattle.keepass_call.specs.Merges.{MergesAgreed, MergesNothing}
 use Rattle.keepass_call.specs.Outcome.{Counts, IsAsSaid, IsCut, IsRefused, IsSafe, NoFaults, PrintsOfSomeFile, Seen, WhereTold, outcome}
 use Rattle.cli_words.specs.Words.{command_of}
 use Rattle.cli_writing.specs.Writing.{IsSame}
@@ -29,14 +30,19 @@ pub record IsCall (words : List (List ℕ)) (time result : ℕ) (before now : Se
   -- Where memory ran out or output failed, so much is as the outcome says.
   pub cut : WhereTold words before (λ world. (result ≡ 9) ⊎ (result ≡ 10)
       → IsCut (outcome words time world) before now)
-  -- What is printed at status 0 is made of a document that the file holds under the line and the
-  -- key file that were given, and a file that was written holds the document that was made of it,
-  -- under the same key.
+  -- What is printed at status 0 is made of documents that the files hold under the lines and the
+  -- key files that were given, and a file that was written holds the document that was made of them,
+  -- under the same key as before.
   pub authentic : WhereTold words before (λ world. result ≡ 0
       → IsAuthentic words time world before now)
+  -- A merge of copies that are parts of an agreed set is never refused because ids clash or moves
+  -- make a cycle, and at status 0 the target holds the join of all of them.
+  pub agreed_merge : WhereTold words before (λ world. MergesAgreed words world result now)
+  -- Where the target has all of them already, such a merge changes nothing.
+  pub merge_again : WhereTold words before (λ world. MergesNothing words world result before now)
   -- What can be carried out is.
   pub complete : WhereTold words before (λ world. IsComplete words time world result counts
       counts')
-  -- Reported or not: what is printed at status 0 is made of a document that some file holds, and a
-  -- file that was written holds the document that was made of it.
+  -- Reported or not: what is printed at status 0 is made of documents that some files hold, and a
+  -- file that was written holds the document that was made of them.
   pub some_file : result ≡ 0 → PrintsOfSomeFile words time before now

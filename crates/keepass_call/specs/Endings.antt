@@ -58,7 +58,7 @@ carried_out time task dice =
     then_left (change_of_task time task dice) (λ change left.
     ended_with (needs_of task.command).file task.opened.sealing change.text change.doc left)
 
--- What a database is sealed with, if it is written again.
+-- What a database is sealed with, if it may be written again.
 abbrev pub kept_sealing : Bool → Option Sealing → Option Sealing
 kept_sealing true sealing = sealing
 kept_sealing false sealing = None

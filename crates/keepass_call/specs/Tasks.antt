@@ -14,8 +14,8 @@ use Rattle.cli_databases.specs.Databases.{Databases, Opened, databases_of}
 use Rattle.cli_databases.specs.SomeFiles.{SomeDatabases}
 use Rattle.cli_commands.specs.Commands.{may_write}
 
--- What a call is to do: its command, the lines that this asked for, the database that was opened for
--- it, and the documents of its sources.
+-- What a call is to do: its command, the lines that this asked for, the database that was opened
+-- for it, and the documents of its sources.
 pub record Task : Type 0 where
   pub command : Command
   pub lines : Lines

@@ -34,12 +34,12 @@ fn file_of(command: &Command) -> &str
     cli_words::needs_of(command).file.as_str()
 }
 
-// What a database is sealed with is kept if it is written again. Otherwise its composite key is
+// What a database is sealed with is kept if it may be written again. Otherwise its composite key is
 // cleared and released.
-fn keep_if(is_written: bool, sealing: &mut Option<Sealing>)
-    ensures { sealing.new ≡ kept_sealing is_written sealing.old }
+fn keep_if(may_write: bool, sealing: &mut Option<Sealing>)
+    ensures { sealing.new ≡ kept_sealing may_write sealing.old }
 {
-    if !is_written {
+    if !may_write {
         release_key(sealing.take());
     }
 }
@@ -199,7 +199,7 @@ fn carry_out_on<F: FileStore, D: Dice>(
 /// written. What is printed is composed before the file is written, and printed after it.
 ///
 /// Whatever the answer, the composite key of the database was cleared and released: at once, where
-/// the command writes no file.
+/// the command may write none.
 pub fn carry_out<F: FileStore, D: Dice>(
     alloc: Global,
     files: &mut F,

@@ -43,7 +43,6 @@ pub fn bytes_in(line: &Option<Secret>) -> Option<&[u8]>
 }
 
 /// What the words ask for: their command, its lines, and its databases.
-#[tactic(auto, unfolding(crate::specs::Tasks::task_of))]
 pub fn read_task<F: FileStore, S: Source>(
     alloc: Global,
     words: &[String],

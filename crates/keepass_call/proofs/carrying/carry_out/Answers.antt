@@ -1,6 +1,5 @@
-use Rattle.std.proofs.Common.{◌≡◌, Bool, Option, ◌∙◌, ap, map}
+use Rattle.std.proofs.Common.{Bool, ◌∙◌, ap, map}
 use Rattle.vault_model.specs.SeenDoc.{doc_seen}
-use Rattle.kdbx_open.specs.declared.sealings.Sealing.{Sealing}
 use Rattle.cli_lines.specs.SeenLines.{lines_seen}
 use Rattle.keepass_call.specs.Endings.{kept_sealing}
 use Rattle.keepass_call.proofs.Carried.{all_kept, ends_kept, in_order_kept, some_kept, unsealed_kept}
