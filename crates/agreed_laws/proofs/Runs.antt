@@ -11,7 +11,7 @@ use Rattle.merge_core.proofs.Regroup.{joins_agreed, some_end}
 use Rattle.merge_core.proofs.ScheduleLaws.{learned_join, learned_same}
 use Rattle.merge_laws.specs.Refusals.{members}
 use Rattle.agreed_laws.specs.Merges.{AreDocs}
-use Rattle.agreed_laws.specs.Runs.{AreWritings, IsRun, IsWriting, Writing, after_writing, after_writings, docs_of, grown, joined, step_of}
+use Rattle.agreed_laws.specs.Runs.{AreWritings, IsRun, IsWriting, Writing, after_writing, after_writings, docs_of, growth, joining, step_of}
 use Rattle.agreed_laws.proofs.Merged.{merged_so, settled_as}
 use Rattle.agreed_laws.proofs.Parts.{members_are}
 
@@ -30,8 +30,8 @@ keeps_more w i r more j =
     there (λ x. IsWithin (w j).learned x.learned) w i r j (λ e. subst (λ k. IsWithin (w k).learned r.learned) e more) (λ m h. h)
 
 keeps : (w : World) (x : Writing) (j : ℕ) → IsWithin (w j).learned (after_writing w x j).learned
-keeps w (grown i d) j = keeps_more w i _ (λ m h. in_front (w i).learned (db_in d ∷ []) m h) j
-keeps w (joined i js d) j = keeps_more w i _ (λ m h. in_front (w i).learned (learned_by w js) m h) j
+keeps w (growth i d) j = keeps_more w i _ (λ m h. in_front (w i).learned (db_in d ∷ []) m h) j
+keeps w (joining i js d) j = keeps_more w i _ (λ m h. in_front (w i).learned (learned_by w js) m h) j
 
 keeps_all : (w : World) (xs : List Writing) (j : ℕ) → IsWithin (w j).learned (after_writings w xs j).learned
 keeps_all w [] j m h = h
@@ -85,13 +85,13 @@ module _ (S : List Db) (a : Agreed S) where
     docs_agree js = subst Agreed (sym (learned_joins js)) (joins_agreed S (map (λ j. (w j).learned) js) a (learned_parts js))
 
     made : (x : Writing) → IsWriting w x → IsMade w x
-    made (grown i d) h = record {
+    made (growth i d) h = record {
       step = h.1;
       same = refl;
       fit = λ j. there IsFit w i (record { doc = d; learned = (w i).learned ++ db_in d ∷ [] }) j
           (λ e. record { is_doc = h.0; some = some_end (w i).learned (db_in d ∷ []) (good i).some }) (good j);
     }
-    made (joined i js d) h =
+    made (joining i js d) h =
         let t = (w i).doc in
         let ss = docs_of w js in
         let m = merged_so t ss (are_docs i js) d h in

@@ -10,8 +10,8 @@ use Rattle.document_merge.specs.Merging.{merge_result}
 -- What a call writes: a document that a replica's grew to, or what a merge of other replicas into
 -- one resulted in.
 pub data Writing : Type 0 where
-  grown : ℕ → BareDoc → Writing
-  joined : ℕ → List ℕ → BareDoc → Writing
+  growth : ℕ → BareDoc → Writing
+  joining : ℕ → List ℕ → BareDoc → Writing
 
 -- the documents of some replicas
 abbrev pub docs_of : World → List ℕ → List BareDoc
@@ -19,16 +19,16 @@ docs_of w js = map (λ j. (w j).doc) js
 
 -- what may be written: what a document grows to, or the result of a merge
 abbrev pub IsWriting : World → Writing → Type 0
-IsWriting w (grown i d) = IsDoc d × IsStep LEVELS w (change i d)
-IsWriting w (joined i js d) = merge_result (w i).doc (docs_of w js) ≡ Ok d
+IsWriting w (growth i d) = IsDoc d × IsStep LEVELS w (change i d)
+IsWriting w (joining i js d) = merge_result (w i).doc (docs_of w js) ≡ Ok d
 
 -- the replicas after it, one of which has this document now, and has learned what it was made of
 abbrev pub after_writing : World → Writing → World
-after_writing w (grown i d) = put w i (record {
+after_writing w (growth i d) = put w i (record {
   doc = d;
   learned = (w i).learned ++ db_in d ∷ [];
 })
-after_writing w (joined i js d) = put w i (record {
+after_writing w (joining i js d) = put w i (record {
   doc = d;
   learned = (w i).learned ++ learned_by w js;
 })
@@ -45,8 +45,8 @@ AreWritings w (x ∷ xs) = IsWriting w x × AreWritings (after_writing w x) xs
 
 -- it is this step of a schedule
 abbrev pub step_of : Writing → Step
-step_of (grown i d) = change i d
-step_of (joined i js d) = merged i js
+step_of (growth i d) = change i d
+step_of (joining i js d) = merged i js
 
 -- A run: replicas that begin with documents of their own, what is written to them, and a set in
 -- which everything is that is learned anywhere.

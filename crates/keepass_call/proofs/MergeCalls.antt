@@ -50,7 +50,7 @@ use Rattle.cli_merging.specs.Reports.{merge_report}
 use Rattle.cli_commands.specs.Commands.{Change, merged_change}
 use Rattle.keepass_call.specs.Endings.{Ending, HoldsNew, ReadsBack, carried_out, change_of_task, ended_with, ending_with, new_file}
 use Rattle.keepass_call.specs.Held.{IsAuthentic, IsTask}
-use Rattle.keepass_call.specs.Merges.{HoldsDatabase, HoldsUnder, IsUntouched, MergesAgreed, MergesNothing, MergesParts, TargetHolds, merges, unmodified}
+use Rattle.keepass_call.specs.Merges.{HoldsDatabase, HoldsUnder, IsUntouched, MergesAgreed, MergesNothing, MergesParts, TargetHolds, merges, unmodified_text}
 use Rattle.keepass_call.specs.Outcome.{Counts, Gains, IsAsSaid, IsRefused, Seen, Tells, World, answer_of, ended, outcome}
 use Rattle.keepass_call.specs.Tasks.{Task, draws_by}
 use Rattle.keepass_call.proofs.Answered.{answer_is}
@@ -240,7 +240,7 @@ ended_dice : (left : List ℕ) (r : Result Ending Refusal) (dice : List ℕ) →
 ended_dice left (Ok ending) dice = refl
 ended_dice left (Err refusal) dice = refl
 
-report_same : (quiet same : Bool) (file : List ℕ) (names : List (List ℕ)) (old new : BareDoc) (changes : _) → same ≡ true → merge_report quiet (not (not same)) file names old new changes ≡ unmodified quiet
+report_same : (quiet same : Bool) (file : List ℕ) (names : List (List ℕ)) (old new : BareDoc) (changes : _) → same ≡ true → merge_report quiet (not (not same)) file names old new changes ≡ unmodified_text quiet
 report_same true same file names old new changes e = refl
 report_same false same file names old new changes e = ap (λ b. merge_report false (not (not b)) file names old new changes) e
 

@@ -38,7 +38,8 @@ pub record IsCall (words : List (List ℕ)) (time result : ℕ) (before now : Se
   -- A merge of copies that are parts of an agreed set is never refused because ids clash or moves
   -- make a cycle, and at status 0 the target holds the join of all of them.
   pub agreed_merge : WhereTold words before (λ world. MergesAgreed words world result now)
-  -- Where the target has all of them already, such a merge changes nothing.
+  -- Where the target is settled and has all of them already, such a merge changes nothing at
+  -- status 0.
   pub merge_again : WhereTold words before (λ world. MergesNothing words world result before now)
   -- What can be carried out is.
   pub complete : WhereTold words before (λ world. IsComplete words time world result counts

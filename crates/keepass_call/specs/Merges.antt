@@ -77,7 +77,7 @@ pub record MergesParts (task : Task) (parts : List (List Db)) (world : World) (r
   pub not_refused : result ≢ 6
   pub merged : result ≡ 0 → HoldsDatabase task (join (end_to_end parts)) world now
 
--- So does each call whose words merge parts of an agreed set.
+-- So it is with each call whose words merge parts of an agreed set.
 abbrev pub MergesAgreed : List (List ℕ) → World → ℕ → Seen → Type 0
 MergesAgreed words world result now =
     (parts : List (List Db)) (merge : IsAgreedMerge words world parts)
@@ -94,17 +94,17 @@ pub record IsMergeAgain (words : List (List ℕ)) (world : World) : Type 0 where
   pub settled : IsSettled LEVELS merge.task.opened.doc
 
 -- What such a merge prints; nothing where it is quiet.
-abbrev pub unmodified : Bool → List ℕ
-unmodified true = []
-unmodified false = codes "Database was not modified by merge operation.\n"
+abbrev pub unmodified_text : Bool → List ℕ
+unmodified_text true = []
+unmodified_text false = codes "Database was not modified by merge operation.\n"
 
 -- It prints this, and no file, no draft and nothing of the dice is touched.
 pub record IsUntouched (task : Task) (before now : Seen) : Type 0 where
-  pub text : Gains before.written now.written (unmodified (needs_of task.command).access.quiet)
+  pub text : Gains before.written now.written (unmodified_text (needs_of task.command).access.quiet)
   pub store : IsSame before.store now.store
   pub dice : now.stream ≡ before.stream
 
--- So does each call whose words are such a merge, at status 0.
+-- That is what each call does at status 0 whose words are such a merge.
 abbrev pub MergesNothing : List (List ℕ) → World → ℕ → Seen → Seen → Type 0
 MergesNothing words world result before now =
     (again : IsMergeAgain words world) → result ≡ 0 → IsUntouched again.merge.task before now
