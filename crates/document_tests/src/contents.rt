@@ -424,7 +424,8 @@ fn has_defaults(meta: &Meta) -> bool {
 }
 
 /// Whether a new database has a root alone, whether it has the defaults, and how many tombs.
-fn new_database(alloc: Global, id: Uuid, now: Stamp) -> Result<(bool, bool, usize), NoMemory> {
+fn new_database(alloc: Global, now: Stamp) -> Result<(bool, bool, usize), NoMemory> {
+    let id = Uuid::from_bytes([1; 16]);
     let doc = empty_doc(alloc, id, now)?;
     Ok((
         is_new_root(&doc.root, id, now),
@@ -435,7 +436,7 @@ fn new_database(alloc: Global, id: Uuid, now: Stamp) -> Result<(bool, bool, usiz
 
 #[test]
 fn a_new_database_has_a_root_alone(rt: HostRuntime) -> Result<(), Fail> {
-    let found = new_database(rt.alloc(), Uuid::from_bytes([1; 16]), stamp(9))?;
+    let found = new_database(rt.alloc(), stamp(9))?;
     assert_eq!(rt; found, (true, true, 0));
     Ok(())
 }
