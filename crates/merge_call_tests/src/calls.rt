@@ -1,4 +1,5 @@
 //! Merges over files in memory, and what is compared of them.
+use hex::FromHex;
 use keepass_call::keepass;
 use outside_core::Dice;
 use outside_objects::{CountingDice, MemoryFiles, SureSink, SureSource};
@@ -24,11 +25,18 @@ struct Done {
     left: Option<u8>,
 }
 
+/// Puts a file into a store. A test needs nothing of what that promises, and is proved sooner
+/// without it.
+pub(crate) fn put(store: &mut MemoryFiles, name: &str, bytes: &[u8]) -> Result<(), Fail> {
+    store.put(name, bytes)?;
+    Ok(())
+}
+
 /// A store with these files.
 pub(crate) fn store_of(alloc: Global, files: Files<'_>) -> Result<MemoryFiles, Fail> {
     let mut store = MemoryFiles::new(alloc);
     for (name, bytes) in files {
-        store.put(name, bytes)?;
+        put(&mut store, name, bytes)?;
     }
     Ok(store)
 }
@@ -49,10 +57,8 @@ fn source_of(alloc: Global, text: &str) -> Result<SureSource, Fail> {
 
 fn next_byte(dice: &mut CountingDice) -> Option<u8> {
     let mut next = [0; 1];
-    match dice.fill(&mut next) {
-        Ok(()) => Some(next[0]),
-        Err(_fail) => None,
-    }
+    dice.fill(&mut next).ok()?;
+    Some(next[0])
 }
 
 fn make(alloc: Global, words: &str, input: &str, store: &mut MemoryFiles) -> Result<Done, Fail> {
@@ -87,18 +93,11 @@ fn says(done: &Done, status: u8, text: &str) -> bool {
 }
 
 fn hash_of(store: &MemoryFiles, name: &str) -> Option<[u8; 32]> {
-    match store.bytes(name) {
-        Some(bytes) => Some(Sha256::digest(bytes)),
-        None => None,
-    }
+    Some(Sha256::digest(store.bytes(name)?))
 }
 
 fn hash_in(digits: &str) -> Option<[u8; 32]> {
-    let mut hash = [0; 32];
-    match hex::decode_to_slice(digits, &mut hash) {
-        Ok(()) => Some(hash),
-        Err(_fail) => None,
-    }
+    FromHex::from_hex(digits).ok()
 }
 
 /// Makes a call, and compares its answer, its target, and how many bytes it drew; it draws some

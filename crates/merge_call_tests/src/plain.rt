@@ -2,6 +2,7 @@
 //! was written from the rules alone.
 use crate::calls::{Call, Files, comes_to, others_stay, store_of};
 use crate::documents::*;
+use outside_objects::MemoryFiles;
 use std::alloc::AllocGlobal;
 use std::process::Abort;
 use std::test::Fail;
@@ -11,17 +12,25 @@ type Case<'a> = (Files<'a>, &'a [Call<'a>]);
 
 const UNCHANGED: &str = "Database was not modified by merge operation.\n";
 
-fn holds(rt: &(impl Abort + AllocGlobal), case: &Case<'_>) -> Result<(), Fail> {
+fn come(
+    rt: &(impl Abort + AllocGlobal),
+    store: &mut MemoryFiles,
+    case: &Case<'_>,
+) -> Result<(), Fail> {
     let (files, calls) = *case;
     let [(target, _bytes), ..] = files else {
         panic!(rt; "no target");
     };
-    let mut store = store_of(rt.alloc(), files)?;
     for call in calls {
-        comes_to(rt, &mut store, target, "", 0, call)?;
+        comes_to(rt, store, target, "", 0, call)?;
     }
-    others_stay(rt, &store, files);
+    others_stay(rt, store, files);
     Ok(())
+}
+
+fn holds(rt: &(impl Abort + AllocGlobal), case: &Case<'_>) -> Result<(), Fail> {
+    let mut store = store_of(rt.alloc(), case.0)?;
+    come(rt, &mut store, case)
 }
 
 fn hold(rt: &(impl Abort + AllocGlobal), cases: &[Case<'_>]) -> Result<(), Fail> {
@@ -407,15 +416,17 @@ const READ_ALONE: &[Case<'static>] = &[
     ),
 ];
 
+fn holds_by_four_calls(rt: &(impl Abort + AllocGlobal), case: &Case<'_>) -> Result<(), Fail> {
+    let mut store = store_of(rt.alloc(), case.0)?;
+    store.fail_at(4)?;
+    come(rt, &mut store, case)
+}
+
 /// The fifth call on the store fails: no draft is begun but by a merge that writes.
 #[test]
 fn a_merge_made_again_begins_no_draft(rt: HostRuntime) -> Result<(), Fail> {
-    for (files, calls) in READ_ALONE {
-        let mut store = store_of(rt.alloc(), files)?;
-        store.fail_at(4)?;
-        for call in *calls {
-            comes_to(&rt, &mut store, "A", "", 0, call)?;
-        }
+    for case in READ_ALONE {
+        holds_by_four_calls(&rt, case)?;
     }
     Ok(())
 }

@@ -2,15 +2,19 @@
 //! files were composed in Python, from hashlib, hmac and the ciphers of pycryptodome, and so were
 //! the bytes of the file that is written; `keepassxc-cli` (2.7.4) lists all of them. They hold an
 //! entry Bank with a hidden password under ChaCha20 and one round of AES.
-use crate::calls::{Call, Files, comes_to, store_of};
+use crate::calls::{Call, comes_to, put, store_of};
+use hex::FromHex;
 use outside_objects::MemoryFiles;
 use std::alloc::{AllocGlobal, Global};
 use std::process::Abort;
 use std::test::Fail;
 
+/// How many bytes each file has.
+const LENGTH: usize = 1072;
+
 /// Under the password `one`: the entry of 10 was edited at 20.
-const ONE: &str =
-    "03d9a29a67fb4bb5000004000210000000d6038a2b8b6f4cb5a524339a31dbb59a030400000000000000042000\
+const ONE: &[u8] =
+    b"03d9a29a67fb4bb5000004000210000000d6038a2b8b6f4cb5a524339a31dbb59a030400000000000000042000\
     00000303030303030303030303030303030303030303030303030303030303030303070c000000040404040404\
     0404040404040b5d00000000014205000000245555494410000000c9d9f39a628a4460bf740d08c18a4fea0501\
     000000520800000001000000000000004201000000532000000002020202020202020202020202020202020202\
@@ -36,8 +40,8 @@ const ONE: &str =
     8f5561fa91fb0c1127ad21c6e57c755df1661be78b257cb1ff2b890ea0a469bd0200000000";
 
 /// Under the password `two`: the same entry was edited at 30.
-const TWO: &str =
-    "03d9a29a67fb4bb5000004000210000000d6038a2b8b6f4cb5a524339a31dbb59a030400000000000000042000\
+const TWO: &[u8] =
+    b"03d9a29a67fb4bb5000004000210000000d6038a2b8b6f4cb5a524339a31dbb59a030400000000000000042000\
     00000707070707070707070707070707070707070707070707070707070707070707070c000000080808080808\
     0808080808080b5d00000000014205000000245555494410000000c9d9f39a628a4460bf740d08c18a4fea0501\
     000000520800000001000000000000004201000000532000000006060606060606060606060606060606060606\
@@ -63,8 +67,8 @@ const TWO: &str =
     6e2e72e2108fe890f405dcae6c72f914d50e9a0bd5e9de9d313873d2dd947b056e00000000";
 
 /// The same document under a key file of 64 digits 0 alone.
-const KEY_FILE_ALONE: &str =
-    "03d9a29a67fb4bb5000004000210000000d6038a2b8b6f4cb5a524339a31dbb59a030400000000000000042000\
+const KEY_FILE_ALONE: &[u8] =
+    b"03d9a29a67fb4bb5000004000210000000d6038a2b8b6f4cb5a524339a31dbb59a030400000000000000042000\
     00000b0b0b0b0b0b0b0b0b0b0b0b0b0b0b0b0b0b0b0b0b0b0b0b0b0b0b0b0b0b0b0b070c0000000c0c0c0c0c0c\
     0c0c0c0c0c0c0b5d00000000014205000000245555494410000000c9d9f39a628a4460bf740d08c18a4fea0501\
     00000052080000000100000000000000420100000053200000000a0a0a0a0a0a0a0a0a0a0a0a0a0a0a0a0a0a0a\
@@ -98,18 +102,20 @@ const DRAWN: u8 = 140;
 /// The input of a call, and the call.
 type Row<'a> = (&'a str, Call<'a>);
 
-fn put(store: &mut MemoryFiles, alloc: Global, name: &str, digits: &str) -> Result<(), Fail> {
-    let bytes = hex::decode(alloc, digits)?;
-    store.put(name, bytes.as_slice())?;
-    Ok(())
+fn bytes_of(digits: &[u8]) -> Option<[u8; LENGTH]> {
+    FromHex::from_hex(digits).ok()
+}
+
+fn put_sealed(store: &mut MemoryFiles, name: &str, digits: &[u8]) -> Result<(), Fail> {
+    let bytes = bytes_of(digits).ok_or("not hexadecimal")?;
+    put(store, name, &bytes)
 }
 
 /// The files: V and W under a password each, X under the key file K.
 fn sealed(alloc: Global) -> Result<MemoryFiles, Fail> {
-    let key_file: Files<'_> = &[("K", DIGITS)];
-    let mut store = store_of(alloc, key_file)?;
+    let mut store = store_of(alloc, &[("K", DIGITS)])?;
     for (name, digits) in [("V", ONE), ("W", TWO), ("X", KEY_FILE_ALONE)] {
-        put(&mut store, alloc, name, digits)?;
+        put_sealed(&mut store, name, digits)?;
     }
     Ok(store)
 }
