@@ -1,7 +1,12 @@
 //! Merges of plain documents. Answers and hashes are those of a model of the merge in Python, which
 //! was written from the rules alone.
 use crate::calls::{Call, Files, comes_to, others_stay, store_of};
-use crate::documents::*;
+use crate::documents::{
+    BOTH_EDITS, CHANGED_AT_7, CHANGED_AT_8, DELETED_AT_3, DELETED_AT_7, EDITED_AT_20, EDITED_AT_30,
+    FROM_NO_GROUP, FROM_THE_ROOT, GROUP_DELETED, GROUP_FILLED, GROUP_THAT_IS_BANK, IN_G_AT_5,
+    IN_H_AT_6, OF_1_AND_2, OF_1_AND_5, OTHERWISE_AT_20, ROOT_THAT_IS_WORK, UNMOVED, X_IN_THE_ROOT,
+    X_IN_Y, Y_IN_X,
+};
 use outside_objects::MemoryFiles;
 use std::alloc::AllocGlobal;
 use std::process::Abort;
