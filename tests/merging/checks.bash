@@ -154,6 +154,11 @@ merges_of_other_programs() {
     esac
     compared "$name: two copies merged" "$with_pykeepass" "$merging/others" "$program" "$1/$name.kdbx" "$password" "$key_file" "${asked[@]}"
   done < <(tr '\t' '\037' <"$1/databases")
+  if [ -n "$keepassxc" ]; then
+    for name in keepassxc-export keepassxc-4.1-export; do
+      compared "$name: two copies merged" "$with_pykeepass" "$merging/others" "$program" "$1/$name.xml" - - keepassxc
+    done
+  fi
   rm -f FILE SOURCE
 }
 
