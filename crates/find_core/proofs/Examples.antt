@@ -1,6 +1,6 @@
 -- Searches of a small document: the entries Bank and Mail in the root, and below it the group Work, which is not
 -- searched, with an entry Bank.
-use Rattle.std.proofs.Common.{◌≡◌, ℕ, Bool, true, false, List, [], ◌∷◌, ◌++◌, None, Some, refl}
+use Rattle.std.proofs.Common.{◌≡◌, ℕ, Bool, true, false, List, [], ◌∷◌, None, refl}
 use Rattle.std.specs.Prelude.{codes, replicate}
 use Rattle.std.specs.Str.{chars, is_utf8}
 use Rattle.caseless.proofs.Computing.{caseless}
@@ -10,7 +10,7 @@ use Rattle.vault_model.specs.declared.contents.Tri.TheVariants.{Inherit, No, Yes
 use Rattle.vault_model.specs.Db.{NodeId}
 use Rattle.vault_model.specs.Empty.{empty_bare, new_group}
 use Rattle.vault_model.specs.Shape.{EntryRecord, GroupRecord}
-use Rattle.vault_model.specs.Tree.{BareDoc, Tree, beside, node, none}
+use Rattle.vault_model.specs.Tree.{BareDoc, beside, node, none}
 use Rattle.find_terms.specs.declared.terms.SearchField.{SearchField}
 use Rattle.find_terms.specs.declared.terms.SearchField.TheVariants.{Any, Title, Attr, Group}
 use Rattle.find_terms.specs.declared.terms.Term.{Term}

@@ -1,5 +1,5 @@
 -- Terms that are folded once find what the terms do.
-use Rattle.std.proofs.Common.{◌≡◌, ℕ, Bool, true, false, cond, ◌&&◌, List, [], ◌∷◌, ◌++◌, map, refl, sym, ap, ap₂, ◌∙◌}
+use Rattle.std.proofs.Common.{◌≡◌, ℕ, Bool, true, false, cond, ◌&&◌, List, [], ◌∷◌, ◌++◌, map, refl, ap, ap₂}
 use Rattle.std.specs.List.{filter}
 use Rattle.find_core.specs.Search.{all_match, found_among, found_in, is_matched, is_searched, passing}
 use Rattle.find_core.specs.inside.Found.{all_match_folded, folded_term}

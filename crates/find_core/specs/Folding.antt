@@ -1,7 +1,6 @@
 -- How a value is compared with the text of a term.
-use Rattle.std.specs.Prelude.{ℕ, Bool, ◌||◌, if◌then◌else◌, List, [], ◌∷◌, bytes_eq, chars, encode_utf8_all}
+use Rattle.std.specs.Prelude.{ℕ, Bool, ◌||◌, ◌==◌, if◌then◌else◌, List, [], ◌∷◌, bytes_eq, chars, encode_utf8_all}
 use Rattle.std.specs.List.{starts_with}
-use Rattle.std.specs.Prelude.{◌==◌, length}
 use Rattle.std.specs.Str.{is_utf8}
 use Rattle.caseless.specs.Caseless.{default_case_fold}
 

@@ -1,5 +1,5 @@
 -- Which entries terms match.
-use Rattle.std.specs.Prelude.{ℕ, Bool, true, false, not, ◌&&◌, if◌then◌else◌, List, [], ◌∷◌, ◌++◌, codes, map}
+use Rattle.std.specs.Prelude.{ℕ, Bool, true, false, not, if◌then◌else◌, List, [], ◌∷◌, ◌++◌, codes, map}
 use Rattle.std.specs.List.{filter, list_all, list_any}
 use Rattle.find_core.specs.Folding.{case_folded, fits}
 use Rattle.find_references.specs.Fields.{fields_of, is_other}

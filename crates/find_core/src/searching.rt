@@ -108,7 +108,8 @@ fn add_found(
 /// not to be searched are passed over.
 #[tactic(auto, unfolding(crate::specs::Search::entries_found))]
 pub fn search(alloc: Global, doc: &Doc, terms: &Terms) -> Result<Ids, FindFail>
-    ensures { Returns meaning_of (λ ids. ids) result (Ok (entries_found terms.now (doc_seen doc.now))) }
+    ensures { Returns meaning_of (λ ids. ids) result
+        (Ok (entries_found terms.now (doc_seen doc.now))) }
 {
     let terms = folded_terms(alloc, terms.as_slice())?;
     let mut folded = Secret::with_room(alloc, 0)?;

@@ -1,5 +1,5 @@
 -- The parts of a term: what is behind each is an end of the text.
-use Rattle.std.proofs.Common.{◌≡◌, ◌≤◌, ◌<◌, ℕ, zero, suc, ◌+◌, ◌-◌, Bool, true, false, true≢false, cond, ◌==◌, List, [], ◌∷◌, ◌++◌, length, take, drop, Option, Some, None, Result, Ok, Err, refl, sym, ap, ◌∙◌, arith, append_assoc, length-append}
+use Rattle.std.proofs.Common.{◌≡◌, ◌≤◌, ◌<◌, ℕ, suc, ◌+◌, ◌-◌, Bool, true, false, true≢false, cond, ◌==◌, List, [], ◌∷◌, ◌++◌, length, take, Option, Some, None, Result, Ok, Err, refl, sym, ap, ◌∙◌, arith, append_assoc, length-append}
 use Rattle.std.proofs.lemmas.Bool.{ne_eqb}
 use Rattle.std.proofs.lemmas.Bool.Decides.{nat_tests}
 use Rattle.std.proofs.lemmas.List.{length-take, take-append-drop}
@@ -8,7 +8,7 @@ use Rattle.find_terms.specs.declared.fail.FindFail.{FindFail}
 use Rattle.find_terms.specs.declared.fail.FindFail.TheVariants.{EmptyTerm}
 use Rattle.find_terms.specs.declared.terms.Term.{Term}
 use Rattle.find_terms.specs.declared.terms.SearchField.{SearchField}
-use Rattle.find_terms.specs.Terms.{Cut, PlacedTerm, TermBefore, cut_at, field_before, field_named, field_or_any, has_byte, is_colon, is_not_sign, is_quote, is_space, is_whole_sign, one_at_least, signs_before, term_before, term_of, terms_from, text_before, with_texts}
+use Rattle.find_terms.specs.Terms.{cut_at, field_before, field_named, field_or_any, has_byte, is_colon, is_not_sign, is_quote, is_space, is_whole_sign, one_at_least, signs_before, term_before, terms_from, text_before, with_texts}
 
 -- ---- signs
 

@@ -1,5 +1,5 @@
 -- Terms whose texts are folded once, before entries are looked at.
-use Rattle.std.specs.Prelude.{ℕ, Bool, not, if◌then◌else◌, List, map}
+use Rattle.std.specs.Prelude.{ℕ, Bool, not, if◌then◌else◌, List}
 use Rattle.std.specs.List.{list_all, list_any}
 use Rattle.find_core.specs.Folding.{case_folded, fits}
 use Rattle.find_core.specs.Search.{values_of}
