@@ -1,5 +1,5 @@
 -- References in a small document: the entry Bank, whose title is a reference to itself, and the entry Mail.
-use Rattle.std.proofs.Common.{◌≡◌, ℕ, Bool, true, false, List, [], ◌∷◌, ◌++◌, None, Some, Ok, Err, refl}
+use Rattle.std.proofs.Common.{◌≡◌, ℕ, true, false, List, [], ◌∷◌, None, Ok, Err, refl}
 use Rattle.std.specs.Prelude.{codes, replicate}
 use Rattle.uuid.specs.Text.{by_index}
 use Rattle.vault_model.specs.Bare.{BareField}
@@ -9,7 +9,7 @@ use Rattle.vault_model.specs.Shape.{EntryRecord}
 use Rattle.vault_model.specs.Tree.{BareDoc, node, none}
 use Rattle.find_terms.specs.declared.fail.FindFail.TheVariants.{TooMuch}
 use Rattle.find_references.specs.References.{reference_at}
-use Rattle.find_references.specs.Resolved.{after_step, copied, replaced, resolved}
+use Rattle.find_references.specs.Resolved.{after_step, replaced, resolved}
 
 abbrev id : ℕ → NodeId
 id n = replicate 16 n

@@ -1,16 +1,16 @@
 -- Steps one after another.
-use Rattle.std.proofs.Common.{◌≡◌, ◌<◌, ◌-◌, ℕ, zero, suc, List, [], ◌∷◌, ◌++◌, flat_map, length, Option, Some, None, Result, Ok, Err, refl, sym, ap, ◌∙◌, arith}
+use Rattle.std.proofs.Common.{◌≡◌, ◌<◌, ◌-◌, ℕ, zero, suc, List, [], ◌∷◌, ◌++◌, flat_map, length, Some, None, Result, Ok, Err, refl, ap, ◌∙◌, arith}
 use Rattle.std.specs.List.{find}
 use Rattle.outside_core.specs.Results.{◌>>=◌}
 use Rattle.find_terms.specs.declared.fail.FindFail.{FindFail}
 use Rattle.find_references.specs.Fields.{has_at, part_value}
-use Rattle.find_references.specs.References.{Piece, Reference, byte, pieces, reference, reference_at}
+use Rattle.find_references.specs.References.{Reference, pieces, reference_at}
 use Rattle.find_references.specs.Resolved.{Made, Step, after_step, after_steps, copied, piece_steps, reference_steps, replaced, steps}
 use Rattle.find_references.proofs.Pieces.{byte_first, reference_first}
 use Rattle.vault_model.specs.Db.{NodeId}
 use Rattle.vault_model.specs.Shape.{EntryRecord}
 
-abbrev Row : Type 0
+abbrev pub Row : Type 0
 Row = NodeId × EntryRecord
 
 -- what binds twice binds once
@@ -26,11 +26,12 @@ nothing_behind (Err e) = refl
 
 pub after_both : (front behind : List Step) (made : Made) → after_steps (front ++ behind) made ≡ (after_steps front made >>= after_steps behind)
 after_both [] behind made = refl
-after_both (step ∷ front) behind made = first (after_step made step)
+after_both (step ∷ front) behind made = first (after_step made step) (λ now. after_both front behind now)
   where
-    first : (r : Result Made FindFail) → (r >>= after_steps (front ++ behind)) ≡ ((r >>= after_steps front) >>= after_steps behind)
-    first (Ok now) = after_both front behind now
-    first (Err e) = refl
+    first : (r : Result Made FindFail) → ((now : Made) → after_steps (front ++ behind) now ≡ (after_steps front now >>= after_steps behind))
+        → (r >>= after_steps (front ++ behind)) ≡ ((r >>= after_steps front) >>= after_steps behind)
+    first (Ok now) later = later now
+    first (Err e) later = refl
 
 -- ---- the pieces of a text, with the levels that are left below
 

@@ -1,5 +1,5 @@
 -- References as they stand in texts.
-use Rattle.std.specs.Prelude.{ℕ, zero, suc, ◌+◌, ◌-◌, Bool, ◌&&◌, ◌||◌, ◌==◌, if◌then◌else◌, List, [], ◌∷◌, length, take, drop, slice_index, codes, Option, None, Some}
+use Rattle.std.specs.Prelude.{ℕ, zero, suc, ◌+◌, ◌-◌, Bool, false, ◌||◌, ◌==◌, nat_lt, if◌then◌else◌, List, [], ◌∷◌, length, take, drop, slice_index, codes, Option, None, Some}
 use Rattle.std.specs.List.{position}
 use Rattle.std.specs.Option.{option_and_then, option_map}
 use Rattle.std.specs.Str.{str_eq_ignore_ascii_case}
@@ -37,8 +37,10 @@ place_of letter =
 -- are. Its length is nine.
 abbrev pub is_opened : List ℕ → Bool
 is_opened text =
-    str_eq_ignore_ascii_case (take 5 text) (codes "{REF:")
-    && slice_index text 6 == 64 && slice_index text 8 == 58
+    if nat_lt (length text) 9 then false
+    else (if str_eq_ignore_ascii_case (take 5 text) (codes "{REF:")
+    then (if slice_index text 6 == 64 then slice_index text 8 == 58 else false)
+    else false)
 
 -- A closing brace.
 abbrev pub is_close : ℕ → Bool
@@ -57,7 +59,8 @@ closed_reference text wanted place n = if n == 0 then None else Some (record {
 unfoldable pub reference_at : List ℕ → Option Reference
 reference_at text =
     if is_opened text then option_and_then (λ wanted. option_and_then
-    (λ place. option_and_then (closed_reference text wanted place) (position is_close (drop 9 text)))
+    (λ place. option_and_then (closed_reference text wanted place)
+    (position is_close (drop 9 text)))
     (place_of (slice_index text 7))) (part_of (slice_index text 5))
     else None
 

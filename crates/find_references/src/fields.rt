@@ -51,13 +51,20 @@ pub(crate) fn part_value<'a>(part: Part, entry: &'a Entry, digits: &'a [u8]) -> 
     }
 }
 
+/// Reports whether a text is a word, in any case of its letters.
+pub(crate) fn is_word(text: &[u8], word: &[u8]) -> bool
+    ensures { result ≡ str_eq_ignore_ascii_case text.now word.now }
+{
+    text.eq_ignore_ascii_case(word)
+}
+
 // Reports whether a text is an id in 32 digits, with letters in any case.
 fn is_id(id: Uuid, text: &[u8]) -> bool
     ensures { result ≡ str_eq_ignore_ascii_case (simple_text upper id) text.now }
 {
     let mut buffer = [0; 32];
     let digits = id.simple().encode_upper(&mut buffer);
-    digits.as_bytes().eq_ignore_ascii_case(text)
+    is_word(digits.as_bytes(), text)
 }
 
 // Reports whether a part of an entry is a text.

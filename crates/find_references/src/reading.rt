@@ -5,6 +5,7 @@ ghost use Rattle.std.specs.List.{position};
 ghost use Rattle.find_references.specs.References as spec;
 ghost use Rattle.find_references.specs.inside.Seen.{reference_seen};
 
+use crate::fields::is_word;
 use crate::parts::{Part, Place};
 
 /// A reference in a text.
@@ -49,10 +50,16 @@ fn is_opened(text: &[u8]) -> bool
     ensures is { result ≡ spec.is_opened text.now }
     ensures len { result ≡ true → 9 ≤ length text.now }
 {
-    text.len() >= 9
-        && text[..5].eq_ignore_ascii_case(b"{REF:")
-        && text[6] == b'@'
-        && text[8] == b':'
+    if text.len() < 9 {
+        return false;
+    }
+    if !is_word(&text[..5], b"{REF:") {
+        return false;
+    }
+    if text[6] != b'@' {
+        return false;
+    }
+    text[8] == b':'
 }
 
 // The place of the first closing brace.

@@ -1,5 +1,5 @@
 -- The entry that has a text at a place, from group to group.
-use Rattle.std.specs.Prelude.{ℕ, List, Option, None, Some}
+use Rattle.std.specs.Prelude.{ℕ, List, Option, None}
 use Rattle.std.specs.List.{find}
 use Rattle.find_references.specs.declared.parts.Place.{Place}
 use Rattle.find_references.specs.Fields.{has_at}
