@@ -1,5 +1,5 @@
 -- How a text is added piece by piece: what each way out of a step says of the whole.
-use Rattle.std.proofs.Common.{◌≡◌, ◌≤◌, ◌<◌, ◌-◌, ℕ, List, ◌++◌, length, take, drop, Some, None, Result, Ok, sym, ap, ◌∙◌, subst, arith, length-drop, take_all}
+use Rattle.std.proofs.Common.{◌≡◌, ◌≤◌, ◌<◌, ◌-◌, ℕ, List, length, take, drop, Some, None, Result, Ok, sym, ap, ◌∙◌, subst, arith, length-drop, take_all}
 use Rattle.std.specs.List.{find}
 use Rattle.outside_core.specs.Results.{◌>>=◌, Fails}
 use Rattle.outside_core.proofs.Results.{fails_at_first, fails_same}

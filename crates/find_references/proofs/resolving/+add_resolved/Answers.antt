@@ -1,8 +1,6 @@
 -- A step of the loop is a byte, a reference that stands, or one that is replaced.
-use Rattle.std.proofs.Common.{◌≡◌, ◌<◌, ◌≤◌, ◌-◌, length, take, drop, Some, None, Ok, sym, ap, ◌∙◌, arith, length-drop}
-use Rattle.std.specs.List.{find}
+use Rattle.std.proofs.Common.{◌<◌, ◌-◌, length, take, drop, sym, ap, ◌∙◌, arith, length-drop}
 use Rattle.std.proofs.lemmas.Result.{err_from_is_err_and}
-use Rattle.find_references.specs.Fields.{has_at}
 use Rattle.find_references.specs.inside.Seen.{made_seen, reference_seen}
 use Rattle.find_references.proofs.Adding.{count_refused, of_whole, replaced_left, rest_of, standing_left, standing_refused, value_refused}
 use Rattle.find_references.proofs.Pieces.{stands_first}
