@@ -1,5 +1,5 @@
 -- Whether a text contains another, from place to place.
-use Rattle.std.proofs.Common.{◌≡◌, ◌<◌, ℕ, suc, ◌+◌, Bool, true, false, ◌||◌, ◌==◌, List, [], ◌∷◌, length, drop, get_or, refl, sym, ap, ◌∙◌, add-one}
+use Rattle.std.proofs.Common.{◌≡◌, ◌<◌, ◌≤◌, ℕ, suc, ◌+◌, ◌-◌, true, false, ◌||◌, List, [], ◌∷◌, length, take, drop, get_or, sym, ap, ◌∙◌, add-one, arith, length-drop, take_all}
 use Rattle.std.proofs.Math.Seq.{drop-cons}
 use Rattle.find_core.specs.Folding.{begins_with, contains}
 
@@ -20,7 +20,8 @@ contained_later text part i below h =
     ∙ not_here b rest part (ap (λ l. begins_with l part) (sym front) ∙ h)
     ∙ ap (λ k. contains (drop k text) part) (sym (add-one i))
 
--- no text is contained in the empty one but that itself
-pub contained_in_none : (part : List ℕ) → contains [] part ≡ (length part == 0)
-contained_in_none [] = refl
-contained_in_none (b ∷ bs) = refl
+-- what is left of a text from a place on
+pub rest_from : (n : ℕ) (text : List ℕ) → take (length text - n) (drop n text) ≡ drop n text
+rest_from n text =
+    let long : length (drop n text) ≤ length text - n = omega (arith, length-drop n text) in
+    take_all (length text - n) (drop n text) long

@@ -3,6 +3,7 @@
 use Rattle.std.proofs.Common.{◌≡◌, ℕ, Bool, true, false, List, [], ◌∷◌, None, refl}
 use Rattle.std.specs.Prelude.{codes, replicate}
 use Rattle.std.specs.Str.{chars, is_utf8}
+use lib.Utf8.{encode}
 use Rattle.caseless.proofs.Computing.{caseless}
 use Rattle.vault_model.specs.Bare.{BareField}
 use Rattle.vault_model.specs.declared.contents.Tri.{Tri}
@@ -74,26 +75,26 @@ term not whole field text = record { not = not; whole = whole; field = field; te
 
 -- Letters in any case, and one letter that folds to two.
 sharp_s : case_folded (0xC3 ∷ 0x9F ∷ 0x53 ∷ []) ≡ codes "sss"
-unfolding case_folded caseless chars is_utf8
+unfolding case_folded caseless chars is_utf8 encode
 sharp_s = refl
 
 bank : entries_found (term false false Title (codes "ba") ∷ []) doc ≡ id 2 ∷ id 7 ∷ []
-unfolding entries_found case_folded caseless chars is_utf8
+unfolding entries_found case_folded caseless chars is_utf8 encode
 bank = refl
 
 -- All terms must match, and "not" turns one around.
 not_bank : entries_found (term true true Title (codes "bank") ∷ term false false Any (codes "HOME") ∷ []) doc ≡ id 3 ∷ []
-unfolding entries_found case_folded caseless chars is_utf8
+unfolding entries_found case_folded caseless chars is_utf8 encode
 not_bank = refl
 
 by_other_field : entries_found (term false true Attr (codes "77") ∷ []) doc ≡ id 3 ∷ []
-unfolding entries_found case_folded caseless chars is_utf8
+unfolding entries_found case_folded caseless chars is_utf8 encode
 by_other_field = refl
 
 by_group : entries_found (term false false Group (codes "shar") ∷ []) doc ≡ id 7 ∷ []
-unfolding entries_found case_folded caseless chars is_utf8
+unfolding entries_found case_folded caseless chars is_utf8 encode
 by_group = refl
 
 nothing : entries_found (term false false Any (codes "zz") ∷ []) doc ≡ []
-unfolding entries_found case_folded caseless chars is_utf8
+unfolding entries_found case_folded caseless chars is_utf8 encode
 nothing = refl
