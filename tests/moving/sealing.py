@@ -34,13 +34,13 @@ def header_of(cipher, minor):
     return opening.SIGNATURE + struct.pack("<I", opening.VERSION_4_0 + minor) + b"".join(field(*one) for one in fields)
 
 
-def sealed(write, cipher="aes", minor=0):
-    """A file of a document under PASSWORD; `write` gives its text under a stream, and its binaries."""
+def sealed(write, cipher="aes", minor=0, composite_key=None):
+    """A file of a document under a composite key, or under PASSWORD; `write` gives its text under a stream, and its binaries."""
     head, key = header_of(cipher, minor), os.urandom(64)
     text, pool = write(opening.stream_of(3, key).encrypt)
     inner = field(1, struct.pack("<I", 3)) + field(2, key) + b"".join(field(3, bytes([hidden]) + content) for content, hidden in pool) + field(0) + text
     read = opening.Header(head + opening.sha256(head) + bytes(32)).settle()
-    keys = opening.Keys(read, composite(PASSWORD))
+    keys = opening.Keys(read, composite_key or composite(PASSWORD))
     size = 16 - len(inner) % 16
     secret = opening.cipher_of(read, keys.cipher).encrypt(inner if cipher == "chacha20" else inner + bytes([size]) * size)
     pieces = [secret[at : at + 4096] for at in range(0, len(secret), 4096)] + [b""]

@@ -1,10 +1,10 @@
 -- What each answer says: the program's status, and the line on standard error.
-use Rattle.std.specs.Prelude.{◌≡◌, ℕ, List, ◌++◌, codes}
+use Rattle.std.specs.Prelude.{◌≡◌, ℕ, List, [], ◌∷◌, ◌++◌, codes}
 use Rattle.std.specs.Fmt.{decimal}
 use Rattle.hex.specs.Hex.{encode_lower}
 use Rattle.uuid.specs.Text.{hyphenated_text, lower}
 use Rattle.cli_answers.specs.declared.answers.Reason.{Reason}
-use Rattle.cli_answers.specs.declared.answers.Reason.TheVariants.{WrongWords, NoSuchPath, NameTaken, AlreadyThere, RootFixed, IntoItself, IdTaken, DamagedOrWrongKey, DamagedBlock, WrongKeyOrDamaged, KeyFileHash, NotKdbx, EndsEarly, BadHeaderField, BadDictionary, Form, MissingElement, BadValue, NilId, DuplicateId, BinaryRef, BadKeyFile, LineForm, Version, UnknownId, StreamUnknown, Compressed, Variant, NoSuchFile, TooLarge, Depth, TooDeep, TooMany, KdfLimit, StampLimit, LineLimit, OutOfMemory, InputEnded}
+use Rattle.cli_answers.specs.declared.answers.Reason.TheVariants.{WrongWords, NoSuchPath, NameTaken, AlreadyThere, RootFixed, IntoItself, IdTaken, DamagedOrWrongKey, DamagedBlock, WrongKeyOrDamaged, KeyFileHash, NotKdbx, EndsEarly, BadHeaderField, BadDictionary, Form, MissingElement, BadValue, NilId, DuplicateId, BinaryRef, BadKeyFile, LineForm, Version, UnknownId, StreamUnknown, Compressed, Variant, Clash, MoveCycle, NoSuchFile, TooLarge, Depth, TooDeep, TooMany, KdfLimit, StampLimit, LineLimit, OutOfMemory, InputEnded}
 use Rattle.cli_answers.specs.declared.answers.Refusal.{Refusal}
 use Rattle.cli_answers.specs.declared.answers.Stop.{Stop}
 use Rattle.cli_answers.specs.declared.answers.Stop.TheVariants.{Refused, FileFault, InputFault, NoMemory}
@@ -39,6 +39,8 @@ status_of (UnknownId id) = 5
 status_of (StreamUnknown number) = 5
 status_of Compressed = 5
 status_of (Variant number) = 5
+status_of (Clash id) = 6
+status_of (MoveCycle ids) = 6
 status_of NoSuchFile = 7
 status_of TooLarge = 8
 status_of Depth = 8
@@ -49,6 +51,11 @@ status_of StampLimit = 8
 status_of LineLimit = 8
 status_of OutOfMemory = 9
 status_of (InputEnded number) = 12
+
+-- Ids in lower case with hyphens, each after a space.
+abbrev pub spaced_ids : List (List ℕ) → List ℕ
+spaced_ids [] = []
+spaced_ids (id ∷ ids) = codes " " ++ hyphenated_text lower id ++ spaced_ids ids
 
 -- What an answer says of its subject: numbers in decimal, ids in lower case with hyphens, bytes in
 -- lower-case hexadecimal.
@@ -83,6 +90,8 @@ reason_text (UnknownId id) = codes "unknown " ++ hyphenated_text lower id
 reason_text (StreamUnknown number) = codes "stream " ++ decimal number
 reason_text Compressed = codes "compressed"
 reason_text (Variant number) = codes "variant " ++ decimal number
+reason_text (Clash id) = codes "clash at " ++ hyphenated_text lower id
+reason_text (MoveCycle ids) = codes "move cycle" ++ spaced_ids ids
 reason_text NoSuchFile = codes "no such file"
 reason_text TooLarge = codes "limit passed"
 reason_text Depth = codes "limit passed"

@@ -2,15 +2,15 @@
 ghost use Rattle.std.specs.Prelude.{◌≡◌, ◌++◌, IfOk, codes, string_bytes};
 ghost use Rattle.std.specs.Fmt.{decimal};
 ghost use Rattle.hex.specs.Hex.{encode_lower};
-ghost use Rattle.cli_answers.specs.Messages.{status_of, reason_text, error_line, refusal_of, Refuses};
+ghost use Rattle.cli_answers.specs.Messages.{status_of, reason_text, error_line, refusal_of, spaced_ids, Refuses};
 
-use outside_core::{Bytes, NoMemory, Text};
+use outside_core::{Bytes, List, NoMemory, Text};
 use std::alloc::{AllocError, Global};
 use uuid::Uuid;
 
 /// Why a call of the program is refused. A place is in bytes from the start of the file, or of its
 /// deciphered text.
-#[derive(Clone, Copy, Debug, PartialEq, Eq)]
+#[derive(Debug, Drop, PartialEq, Eq)]
 pub enum Reason {
     /// The words are no command.
     WrongWords,
@@ -69,13 +69,18 @@ pub enum Reason {
     Compressed,
     /// The key derivation is of this variant, which is not read.
     Variant(u64),
+    /// A node of this id is in the way of a merge: a root has the id elsewhere, or a node of another
+    /// kind.
+    Clash(Uuid),
+    /// Latest moves make a cycle of the nodes of these ids.
+    MoveCycle(List<Uuid>),
     /// There is no file of the name.
     NoSuchFile,
     /// The file, or the header in it, is longer than one that is read may be.
     TooLarge,
     /// Too many elements of the document are open at once.
     Depth,
-    /// The document has a group below the last level.
+    /// The document has a group below the last level, or, in a merge, an entry.
     TooDeep,
     /// The document has too many groups, entries and history items.
     TooMany,
@@ -127,7 +132,7 @@ impl From<NoMemory> for Stop {
 pub fn status(reason: &Reason) -> u8
     ensures { result ≡ status_of reason.now }
 {
-    match *reason {
+    match reason {
         Reason::WrongWords => 1,
         Reason::NoSuchPath => 2,
         Reason::NameTaken => 2,
@@ -156,6 +161,8 @@ pub fn status(reason: &Reason) -> u8
         Reason::StreamUnknown(_) => 5,
         Reason::Compressed => 5,
         Reason::Variant(_) => 5,
+        Reason::Clash(_) => 6,
+        Reason::MoveCycle(_) => 6,
         Reason::NoSuchFile => 7,
         Reason::TooLarge => 8,
         Reason::Depth => 8,
@@ -196,12 +203,23 @@ fn line_is(alloc: Global, number: u64, wrong: &str) -> Result<String, AllocError
     Ok(text)
 }
 
+// The nodes of a cycle, each id after a space.
+fn cycle_text(alloc: Global, ids: &[Uuid]) -> Result<String, AllocError>
+    ensures { IfOk result (λ text. string_bytes text ≡ codes "move cycle" ++ spaced_ids ids.now) }
+{
+    let mut text = String::from_str(alloc, "move cycle")?;
+    for id in ids {
+        text.push_str(format!(in alloc; " {id}")?.as_str())?;
+    }
+    Ok(text)
+}
+
 /// The text of an answer: numbers in decimal, ids in lower case with hyphens, bytes in lower-case
 /// hexadecimal.
 pub fn text_of_reason(alloc: Global, reason: &Reason) -> Result<String, AllocError>
     ensures { IfOk result (λ text. string_bytes text ≡ reason_text reason.now) }
 {
-    match *reason {
+    match reason {
         Reason::WrongWords => String::from_str(alloc, "wrong words"),
         Reason::NoSuchPath => String::from_str(alloc, "not found"),
         Reason::NameTaken => String::from_str(alloc, "already there"),
@@ -210,11 +228,11 @@ pub fn text_of_reason(alloc: Global, reason: &Reason) -> Result<String, AllocErr
         Reason::IntoItself(id) => format!(in alloc; "{id} into itself"),
         Reason::IdTaken(id) => format!(in alloc; "id taken {id}"),
         Reason::DamagedOrWrongKey { kept, found } => {
-            compared(alloc, "damaged or wrong key: kept ", kept, found)
+            compared(alloc, "damaged or wrong key: kept ", *kept, *found)
         }
         Reason::DamagedBlock(number) => format!(in alloc; "damaged block {number}"),
         Reason::WrongKeyOrDamaged => String::from_str(alloc, "wrong key or damaged"),
-        Reason::KeyFileHash { kept, found } => { compared(alloc, "key file: kept ", kept, found) }
+        Reason::KeyFileHash { kept, found } => { compared(alloc, "key file: kept ", *kept, *found) }
         Reason::NotKdbx => String::from_str(alloc, "not a KDBX file"),
         Reason::EndsEarly(at) => format!(in alloc; "ends early at {at}"),
         Reason::BadHeaderField(id) => format!(in alloc; "bad header field {id}"),
@@ -226,12 +244,14 @@ pub fn text_of_reason(alloc: Global, reason: &Reason) -> Result<String, AllocErr
         Reason::DuplicateId(id) => format!(in alloc; "duplicate id {id}"),
         Reason::BinaryRef(number) => format!(in alloc; "no binary {number}"),
         Reason::BadKeyFile(at) => format!(in alloc; "bad key file at {at}"),
-        Reason::LineForm(number) => line_is(alloc, number, " is not UTF-8"),
+        Reason::LineForm(number) => line_is(alloc, *number, " is not UTF-8"),
         Reason::Version(number) => format!(in alloc; "version {number}"),
         Reason::UnknownId(id) => format!(in alloc; "unknown {id}"),
         Reason::StreamUnknown(number) => format!(in alloc; "stream {number}"),
         Reason::Compressed => String::from_str(alloc, "compressed"),
         Reason::Variant(number) => format!(in alloc; "variant {number}"),
+        Reason::Clash(id) => format!(in alloc; "clash at {id}"),
+        Reason::MoveCycle(ids) => cycle_text(alloc, ids.as_slice()),
         Reason::NoSuchFile => String::from_str(alloc, "no such file"),
         Reason::TooLarge => String::from_str(alloc, "limit passed"),
         Reason::Depth => String::from_str(alloc, "limit passed"),
@@ -241,7 +261,7 @@ pub fn text_of_reason(alloc: Global, reason: &Reason) -> Result<String, AllocErr
         Reason::StampLimit => String::from_str(alloc, "limit passed"),
         Reason::LineLimit => String::from_str(alloc, "limit passed"),
         Reason::OutOfMemory => String::from_str(alloc, "out of memory"),
-        Reason::InputEnded(number) => line_is(alloc, number, " missing"),
+        Reason::InputEnded(number) => line_is(alloc, *number, " missing"),
     }
 }
 

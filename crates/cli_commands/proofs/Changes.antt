@@ -4,7 +4,6 @@ use Rattle.std.specs.Prelude.{IfErr, IfOk, IfSome, is_some, if◌then◌else◌}
 use Rattle.std.specs.Borrow.{Bor}
 use Rattle.std.specs.Str.{is_utf8}
 use Rattle.outside_core.specs.Streams.{LosesPrefix}
-use Rattle.secret_core.specs.Secret.{SecretBuffer}
 use Rattle.vault_model.specs.Db.{NodeId}
 use Rattle.vault_model.specs.Tree.{BareDoc}
 use Rattle.tree_changes.specs.After.{needs_bin}
@@ -13,44 +12,21 @@ use Rattle.cli_answers.specs.declared.answers.Refusal.{Refusal}
 use Rattle.cli_answers.specs.declared.answers.Stop.{Stop}
 use Rattle.cli_answers.specs.declared.answers.Stop.TheVariants.{Refused, FileFault, InputFault, NoMemory}
 use Rattle.cli_answers.specs.Phases.{IsLeft, IsPlainStop, IsStreamStop, Returns, ReturnsAskedStream, StreamAnswer, TellsStream, after_left, then_left, with_left}
-use Rattle.cli_changes.specs.Entries.{AfterCommand, CommandChanges}
 use Rattle.cli_changes.specs.Ids.{new_id}
 use Rattle.cli_drawing.proofs.Drawn.{next_alone}
 use Rattle.cli_lines.specs.Lines.{IsTextLine}
 use Rattle.cli_words.specs.declared.command.Command.{Command}
-use Rattle.cli_words.specs.declared.command.Command.TheVariants.{Ls, Add, Edit, Mv, Rm, Mkdir, Rmdir}
+use Rattle.cli_words.specs.declared.command.Command.TheVariants.{Ls, Add, Edit, Move, Remove, MakeGroup, RemoveGroup, Merge}
 use Rattle.cli_commands.specs.declared.output.Change as declared
-use Rattle.cli_commands.specs.Commands.{Change, bin_id, change_of, change_with, drawn_id, draws_id, makes_node, new_document, writes}
-use Rattle.cli_commands.specs.SeenChange.{change_seen, change_reported}
+use Rattle.cli_commands.specs.Commands.{Change, bin_id, drawn_id, draws_id, makes_node}
+use Rattle.cli_commands.specs.SeenChange.{change_seen}
 
 -- A line that is lent.
 pub lent_text : (lent : Option (Bor (List ℕ))) → IsTextLine (lent_value lent) → IfSome lent (λ line. is_utf8 line.now ≡ true)
 lent_text None h = tt
 lent_text (Some line) h = h
 
--- ---- a command that reports
-
-pub returns_reported : (report : Result SecretBuffer Stop) (r : Result AfterCommand Refusal) (old new : BareDoc) → CommandChanges report r old new
-    → Returns (λ change. change_seen change new) (change_reported report) (new_document r)
-returns_reported (Ok text) r old new h = ap new_document h
-returns_reported (Err (Refused refusal)) r old new h = ap new_document h.0
-returns_reported (Err (FileFault name)) r old new h = tt
-returns_reported (Err InputFault) r old new h = tt
-returns_reported (Err NoMemory) r old new h = tt
-
-pub written_reported : (report : Result SecretBuffer Stop) → IfOk (change_reported report) (λ change. change.is_written ≡ true)
-written_reported (Ok text) = refl
-written_reported (Err stop) = tt
-
-pub cause_reported : (report : Result SecretBuffer Stop) → IfErr report IsPlainStop → IfErr (change_reported report) IsPlainStop
-cause_reported (Ok text) h = tt
-cause_reported (Err stop) h = h
-
--- A refusal changes nothing.
-pub unchanged_reported : (report : Result SecretBuffer Stop) (r : Result AfterCommand Refusal) (old new : BareDoc) → CommandChanges report r old new
-    → IfErr (change_reported report) (λ _. new ≡ old)
-unchanged_reported (Ok text) r old new h = tt
-unchanged_reported (Err stop) r old new h = h.1
+-- ---- a bin
 
 needed_bin : (needed : Bool) (id : NodeId) → is_some (if needed then Some id else None) ≡ needed
 needed_bin true id = refl
@@ -71,10 +47,11 @@ makes_drawn : (command : Command) (doc : BareDoc) → draws_id command ≡ false
 makes_drawn (Ls access file group recursive flat) doc e = refl
 makes_drawn (Add access file entry asked) doc e = e
 makes_drawn (Edit access file entry asked) doc e = refl
-makes_drawn (Mv access file node group) doc e = refl
-makes_drawn (Rm access file entry) doc e = cc
-makes_drawn (Mkdir access file group) doc e = e
-makes_drawn (Rmdir access file group) doc e = cc
+makes_drawn (Move access file node group) doc e = refl
+makes_drawn (Remove access file entry) doc e = cc
+makes_drawn (MakeGroup access file group) doc e = e
+makes_drawn (RemoveGroup access file group) doc e = cc
+makes_drawn (Merge access file names from same dry) doc e = refl
 
 pub none_made : (makes : Bool) (command : Command) (doc : BareDoc) → makes ≡ makes_node command doc → draws_id command ≡ false → makes ≡ false
 none_made makes command doc e h = e ∙ makes_drawn command doc h

@@ -1,5 +1,5 @@
 -- What each command makes of its database.
-use Rattle.std.specs.Prelude.{ℕ, Bool, true, false, if◌then◌else◌, List, [], Option, None, Some, Result, Ok, Err}
+use Rattle.std.specs.Prelude.{ℕ, Bool, true, false, not, if◌then◌else◌, List, [], Option, None, Some, Result, Ok, Err}
 use Rattle.vault_model.specs.Db.{NodeId, nil_id}
 use Rattle.vault_model.specs.Tree.{BareDoc, Tree}
 use Rattle.tree_changes.specs.After.{needs_bin}
@@ -8,11 +8,12 @@ use Rattle.cli_answers.specs.declared.answers.Refusal.{Refusal}
 use Rattle.cli_answers.specs.Messages.{refusal_of}
 use Rattle.cli_answers.specs.Phases.{StreamAnswer, then_left, with_left}
 use Rattle.cli_words.specs.declared.command.Command.{Command}
-use Rattle.cli_words.specs.declared.command.Command.TheVariants.{Ls, Add, Edit, Mv, Rm, Mkdir, Rmdir}
+use Rattle.cli_words.specs.declared.command.Command.TheVariants.{Ls, Add, Edit, Move, Remove, MakeGroup, RemoveGroup, Merge}
 use Rattle.cli_listing.specs.Listing.{group_lines, tree_listed}
 use Rattle.cli_changes.specs.Entries.{AfterCommand, after_add_command, after_edit_command, values_of}
 use Rattle.cli_changes.specs.Ids.{new_id}
 use Rattle.cli_tree_changes.specs.Nodes.{after_mkdir, after_mv, after_rm, after_rmdir}
+use Rattle.cli_merging.specs.Merging.{AfterMerge, after_merge}
 use Rattle.cli_drawing.specs.Drawing.{draw_of}
 
 -- What a command makes of its database: what it prints, and the document that is written, if one
@@ -21,35 +22,39 @@ pub record Change : Type 0 where
   pub text : List ℕ
   pub doc : Option BareDoc
 
--- A command writes its database.
-abbrev pub writes : Command → Bool
-writes (Ls access file group recursive flat) = false
-writes (Add access file entry asked) = true
-writes (Edit access file entry asked) = true
-writes (Mv access file node group) = true
-writes (Rm access file entry) = true
-writes (Mkdir access file group) = true
-writes (Rmdir access file group) = true
+-- A command may write its database. A merge does where its document is another after it, and the
+-- others wherever they are carried out.
+abbrev pub may_write : Command → Bool
+may_write (Ls access file group recursive flat) = false
+may_write (Add access file entry asked) = true
+may_write (Edit access file entry asked) = true
+may_write (Move access file node group) = true
+may_write (Remove access file entry) = true
+may_write (MakeGroup access file group) = true
+may_write (RemoveGroup access file group) = true
+may_write (Merge access file names from same dry) = not dry
 
 -- A command may make a node, whose id is drawn: an entry, a group, or the bin of a removal.
 abbrev pub draws_id : Command → Bool
 draws_id (Ls access file group recursive flat) = false
 draws_id (Add access file entry asked) = true
 draws_id (Edit access file entry asked) = false
-draws_id (Mv access file node group) = false
-draws_id (Rm access file entry) = true
-draws_id (Mkdir access file group) = true
-draws_id (Rmdir access file group) = true
+draws_id (Move access file node group) = false
+draws_id (Remove access file entry) = true
+draws_id (MakeGroup access file group) = true
+draws_id (RemoveGroup access file group) = true
+draws_id (Merge access file names from same dry) = false
 
 -- A command makes a node in this document; a removal does where it needs a bin.
 abbrev pub makes_node : Command → BareDoc → Bool
 makes_node (Ls access file group recursive flat) doc = false
 makes_node (Add access file entry asked) doc = true
 makes_node (Edit access file entry asked) doc = false
-makes_node (Mv access file node group) doc = false
-makes_node (Rm access file entry) doc = needs_bin doc
-makes_node (Mkdir access file group) doc = true
-makes_node (Rmdir access file group) doc = needs_bin doc
+makes_node (Move access file node group) doc = false
+makes_node (Remove access file entry) doc = needs_bin doc
+makes_node (MakeGroup access file group) doc = true
+makes_node (RemoveGroup access file group) doc = needs_bin doc
+makes_node (Merge access file names from same dry) doc = false
 
 -- The lines of the group that is listed, or that the path names none of the file's groups.
 abbrev pub listing_of : List ℕ → (recursive flat : Bool) → Option Tree → Result Change Refusal
@@ -62,27 +67,35 @@ abbrev pub new_document : Result AfterCommand Refusal → Result Change Refusal
 new_document (Ok after) = Ok (record { text = after.text; doc = Some after.doc })
 new_document (Err refusal) = Err refusal
 
+-- What a merge makes.
+abbrev pub merged_change : Result AfterMerge Refusal → Result Change Refusal
+merged_change (Ok after) = Ok (record { text = after.text; doc = after.doc })
+merged_change (Err refusal) = Err refusal
+
 -- The id of the bin that a removal makes, where it needs one.
 abbrev pub bin_id : NodeId → BareDoc → Option NodeId
 bin_id id doc = if needs_bin doc then Some id else None
 
--- What each command makes of its document at a moment, with the line that it asked for; a node that
--- it makes has this id.
-abbrev pub change_with : ℕ → Command → Option (List ℕ) → NodeId → BareDoc → Result Change Refusal
-change_with time (Ls access file group recursive flat) line id doc =
+-- What each command makes of its document at a moment, with the line that it asked for and the
+-- documents of its sources; a node that it makes has this id.
+abbrev pub change_with : ℕ → Command → Option (List ℕ) → List BareDoc → NodeId → BareDoc
+    → Result Change Refusal
+change_with time (Ls access file group recursive flat) line sources id doc =
     listing_of file recursive flat (tree_listed group doc)
-change_with time (Add access file entry asked) line id doc = new_document
+change_with time (Add access file entry asked) line sources id doc = new_document
     (after_add_command file access.quiet entry id (values_of asked line) time doc)
-change_with time (Edit access file entry asked) line id doc = new_document
+change_with time (Edit access file entry asked) line sources id doc = new_document
     (after_edit_command file access.quiet entry (values_of asked line) time doc)
-change_with time (Mv access file node group) line id doc = new_document
+change_with time (Move access file node group) line sources id doc = new_document
     (after_mv file access.quiet node group time doc)
-change_with time (Rm access file entry) line id doc = new_document
+change_with time (Remove access file entry) line sources id doc = new_document
     (after_rm file access.quiet entry (bin_id id doc) time doc)
-change_with time (Mkdir access file group) line id doc = new_document
+change_with time (MakeGroup access file group) line sources id doc = new_document
     (after_mkdir file access.quiet group id time doc)
-change_with time (Rmdir access file group) line id doc = new_document
+change_with time (RemoveGroup access file group) line sources id doc = new_document
     (after_rmdir file access.quiet group (bin_id id doc) time doc)
+change_with time (Merge access file names from same dry) line sources id doc = merged_change
+    (after_merge file access.quiet dry names doc sources)
 
 -- The id of a node that is made: 16 bytes are drawn, which make it. Where none is made, nothing is
 -- drawn.
@@ -91,9 +104,10 @@ drawn_id true dice =
     then_left (draw_of 16 dice) (λ drawn left. with_left (Ok (new_id drawn)) left)
 drawn_id false dice = with_left (Ok nil_id) dice
 
--- What each command makes of its document at a moment, with the line that it asked for, over the
--- dice.
-abbrev pub change_of : ℕ → Command → Option (List ℕ) → BareDoc → List ℕ → StreamAnswer Change
-change_of time command line doc dice =
+-- What each command makes of its document at a moment, with the line that it asked for and the
+-- documents of its sources, over the dice.
+abbrev pub change_of : ℕ → Command → Option (List ℕ) → List BareDoc → BareDoc → List ℕ
+    → StreamAnswer Change
+change_of time command line sources doc dice =
     then_left (drawn_id (makes_node command doc) dice) (λ id left.
-    with_left (change_with time command line id doc) left)
+    with_left (change_with time command line sources id doc) left)

@@ -6,6 +6,7 @@ use Rattle.cli_answers.specs.declared.answers.Stop.{Stop}
 use Rattle.cli_commands.specs.declared.output.Change as declared
 use Rattle.cli_commands.specs.declared.output.Output.{Output}
 use Rattle.cli_commands.specs.declared.output.Output.TheVariants.{Listing, Report}
+use Rattle.cli_merging.specs.declared.merging.MergeReport.{MergeReport}
 use Rattle.cli_commands.specs.Commands.{Change}
 
 -- The text that a command prints.
@@ -22,6 +23,12 @@ doc_if false doc = None
 abbrev pub change_seen : declared.Change → BareDoc → Change
 change_seen change doc =
     record { text = output_text change.output; doc = doc_if change.is_written doc }
+
+-- The change of a merge that reports this.
+abbrev pub merge_change : Result MergeReport Stop → Result declared.Change Stop
+merge_change (Ok report) =
+    Ok (record { output = Report report.text; is_written = report.is_written })
+merge_change (Err stop) = Err stop
 
 -- The change of a command that reports this, and whose document is to be written.
 abbrev pub change_reported : Result SecretBuffer Stop → Result declared.Change Stop

@@ -22,10 +22,11 @@ pub(crate) fn makes_node(command: &Command, doc: &Doc) -> bool
         Command::Ls { .. } => false,
         Command::Add { .. } => true,
         Command::Edit { .. } => false,
-        Command::Mv { .. } => false,
-        Command::Rm { .. } => needs_bin(doc),
-        Command::Mkdir { .. } => true,
-        Command::Rmdir { .. } => needs_bin(doc),
+        Command::Move { .. } => false,
+        Command::Remove { .. } => needs_bin(doc),
+        Command::MakeGroup { .. } => true,
+        Command::RemoveGroup { .. } => needs_bin(doc),
+        Command::Merge { .. } => false,
     }
 }
 

@@ -3,6 +3,7 @@ ghost use Rattle.std.specs.Prelude.{◌≡◌};
 ghost use Rattle.cli_commands.specs.SeenChange as spec;
 
 use cli_answers::Stop;
+use cli_merging::MergeReport;
 use outside_core::Bytes;
 use secret_core::Secret;
 
@@ -42,6 +43,19 @@ pub(crate) fn reported(report: Result<Secret, Stop>) -> Result<Change, Stop>
         Ok(text) => Ok(Change {
             output: Output::Report(text),
             is_written: true,
+        }),
+        Err(stop) => Err(stop),
+    }
+}
+
+/// The change of a merge that reports this.
+pub(crate) fn merge_change(report: Result<MergeReport, Stop>) -> Result<Change, Stop>
+    ensures { result ≡ spec.merge_change report }
+{
+    match report {
+        Ok(MergeReport { text, is_written }) => Ok(Change {
+            output: Output::Report(text),
+            is_written,
         }),
         Err(stop) => Err(stop),
     }

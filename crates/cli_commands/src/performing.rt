@@ -1,19 +1,22 @@
 //! Carrying a command out on its document.
-ghost use Rattle.std.specs.Prelude.{◌≡◌, ◌≤◌, ℕ, List, Ok, IfErr, IfOk, false};
+ghost use Rattle.std.specs.Prelude.{◌≡◌, ◌≤◌, ℕ, List, Ok, IfErr, IfOk, false, map};
 ghost use Rattle.outside_core.specs.Streams.{LosesPrefix};
 ghost use Rattle.vault_model.specs.SeenDoc.{doc_seen};
 ghost use Rattle.tree_changes.specs.NewNodes.{lent_value};
 ghost use Rattle.cli_answers.specs.Phases.{IsPlainStop, IsStreamStop, Returns, ReturnsAskedStream, TellsStream};
 ghost use Rattle.cli_lines.specs.Lines.{IsTextLine};
+ghost use Rattle.cli_words.specs.Needs.{needs_of};
 ghost use Rattle.cli_listing.specs.Listing.{tree_listed};
-ghost use Rattle.cli_commands.specs.Commands.{change_of, change_with, draws_id, listing_of, writes};
+ghost use Rattle.cli_commands.specs.Commands as spec;
+ghost use Rattle.cli_commands.specs.Commands.{change_of, change_with, draws_id, listing_of};
 ghost use Rattle.cli_commands.specs.SeenChange.{change_seen};
 
 use crate::ids::{bin_id, draw_if, makes_node};
-use crate::output::{Change, Output, reported};
+use crate::output::{Change, Output, merge_change, reported};
 use cli_answers::{Reason, Stop, refused};
 use cli_changes::{Given, add_entry, edit_entry};
 use cli_listing::{Manner, add_group, group_listed};
+use cli_merging::{MergeGiven, merge_into};
 use cli_tree_changes::{make_group_of, move_node, remove_entry_of, remove_group_of};
 use cli_words::Command;
 use outside_core::{Bytes, Dice, NoMemory, Text};
@@ -21,18 +24,19 @@ use std::alloc::Global;
 use uuid::Uuid;
 use vault_model::Doc;
 
-/// Reports whether a command writes its database.
-pub fn is_writing(command: &Command) -> bool
-    ensures { result ≡ writes command.now }
+/// Reports whether a command may write its database.
+pub fn may_write(command: &Command) -> bool
+    ensures { result ≡ spec.may_write command.now }
 {
     match command {
         Command::Ls { .. } => false,
         Command::Add { .. } => true,
         Command::Edit { .. } => true,
-        Command::Mv { .. } => true,
-        Command::Rm { .. } => true,
-        Command::Mkdir { .. } => true,
-        Command::Rmdir { .. } => true,
+        Command::Move { .. } => true,
+        Command::Remove { .. } => true,
+        Command::MakeGroup { .. } => true,
+        Command::RemoveGroup { .. } => true,
+        Command::Merge { dry, .. } => !*dry,
     }
 }
 
@@ -63,142 +67,129 @@ fn list(
     }
 }
 
-// Carries a command out on its document, with the line that it asked for. A node that it makes has
-// this id.
+/// What a command works with, beside its document.
+#[derive(Clone, Copy)]
+pub struct CommandInput<'a> {
+    /// The line that it asked for.
+    pub line: Option<&'a [u8]>,
+    /// The documents of its sources.
+    pub sources: &'a [Doc],
+    /// The moment, in seconds since the year 1.
+    pub now: u64,
+}
+
+// What a command is given beside its document and what it names there.
+fn given_of<'a>(command: &'a Command, input: CommandInput<'a>) -> Given<'a>
+    ensures file { result.file.now ≡ (needs_of command.now).file }
+    ensures quiet { result.quiet ≡ (needs_of command.now).access.quiet }
+    ensures password { result.password ≡ input.entry.line }
+    ensures now { result.now ≡ input.entry.now }
+{
+    let needs = cli_words::needs_of(command);
+    Given {
+        file: needs.file.as_str(),
+        quiet: needs.access.quiet,
+        password: input.line,
+        now: input.now,
+    }
+}
+
+// How a listing is laid out.
+fn manner_of(recursive: bool, flat: bool) -> Manner
+    ensures recursive { result.recursive ≡ recursive }
+    ensures flat { result.flat ≡ flat }
+{
+    Manner { recursive, flat }
+}
+
+// What a merge is given beside its documents.
+fn merge_given<'a>(given: Given<'a>, sources: &'a [Text], dry: bool) -> MergeGiven<'a>
+    ensures file { result.file ≡ given.entry.file }
+    ensures sources { result.sources ≡ sources.entry }
+    ensures quiet { result.quiet ≡ given.entry.quiet }
+    ensures dry { result.dry ≡ dry }
+{
+    MergeGiven {
+        file: given.file,
+        sources,
+        quiet: given.quiet,
+        dry,
+    }
+}
+
+// Carries a command out on its document, with what it works with. A node that it makes has this id.
 fn change_document<'a>(
     alloc: Global,
     command: &'a Command,
-    line: Option<&'a [u8]>,
+    input: CommandInput<'a>,
     id: Uuid,
     doc: &mut Doc,
-    now: u64,
 ) -> Result<Change, Stop>
-    requires { IsTextLine (lent_value line) }
+    requires { IsTextLine (lent_value input.line) }
     ensures told { Returns (λ change. change_seen change (doc_seen doc.new)) result
-        (change_with now command.now (lent_value line.entry) id (doc_seen doc.old)) }
-    ensures written { IfOk result (λ change. change.is_written ≡ writes command.now) }
+        (change_with input.entry.now command.now (lent_value input.entry.line)
+        (map doc_seen input.entry.sources.now) id (doc_seen doc.old)) }
+    ensures unwritten { spec.may_write command.now ≡ false
+        → IfOk result (λ change. change.is_written ≡ false) }
     ensures unchanged { IfErr result (λ _. doc_seen doc.new ≡ doc_seen doc.old) }
     ensures cause { IfErr result IsPlainStop }
 {
+    let given = given_of(command, input);
     match command {
         Command::Ls {
-            access: _,
-            file,
             group,
             recursive,
             flat,
-        } => {
-            let manner = Manner {
-                recursive: *recursive,
-                flat: *flat,
-            };
-            list(alloc, doc, group, manner, file.as_str())
-        }
-        Command::Add {
-            access,
-            file,
-            entry,
-            asked,
-        } => {
-            let given = Given {
-                file: file.as_str(),
-                quiet: access.quiet,
-                password: line,
-                now,
-            };
+            ..
+        } => list(alloc, doc, group, manner_of(*recursive, *flat), given.file),
+        Command::Add { entry, asked, .. } => {
             reported(add_entry(alloc, doc, entry.as_str(), id, asked, given))
         }
-        Command::Edit {
-            access,
-            file,
-            entry,
-            asked,
-        } => {
-            let given = Given {
-                file: file.as_str(),
-                quiet: access.quiet,
-                password: line,
-                now,
-            };
+        Command::Edit { entry, asked, .. } => {
             reported(edit_entry(alloc, doc, entry.as_str(), asked, given))
         }
-        Command::Mv {
-            access,
-            file,
-            node,
-            group,
-        } => {
-            let given = Given {
-                file: file.as_str(),
-                quiet: access.quiet,
-                password: None,
-                now,
-            };
+        Command::Move { node, group, .. } => {
             reported(move_node(alloc, doc, node.as_str(), group.as_str(), given))
         }
-        Command::Rm {
-            access,
-            file,
-            entry,
-        } => {
-            let given = Given {
-                file: file.as_str(),
-                quiet: access.quiet,
-                password: None,
-                now,
-            };
+        Command::Remove { entry, .. } => {
             let bin = bin_id(id, doc);
             reported(remove_entry_of(alloc, doc, entry.as_str(), bin, given))
         }
-        Command::Mkdir {
-            access,
-            file,
-            group,
-        } => {
-            let given = Given {
-                file: file.as_str(),
-                quiet: access.quiet,
-                password: None,
-                now,
-            };
+        Command::MakeGroup { group, .. } => {
             reported(make_group_of(alloc, doc, group.as_str(), id, given))
         }
-        Command::Rmdir {
-            access,
-            file,
-            group,
-        } => {
-            let given = Given {
-                file: file.as_str(),
-                quiet: access.quiet,
-                password: None,
-                now,
-            };
+        Command::RemoveGroup { group, .. } => {
             let bin = bin_id(id, doc);
             reported(remove_group_of(alloc, doc, group.as_str(), bin, given))
+        }
+        Command::Merge { sources, dry, .. } => {
+            let given = merge_given(given, sources.as_slice(), *dry);
+            merge_change(merge_into(alloc, doc, input.sources, given))
         }
     }
 }
 
-/// Carries a command out on its document, with the line that it asked for. The document is changed
-/// in place; a refusal changes nothing.
+/// Carries a command out on its document, with what it works with. The document is changed in
+/// place; a refusal changes nothing.
 pub fn perform<'a, D: Dice>(
     alloc: Global,
     dice: &mut D,
     command: &'a Command,
-    line: Option<&'a [u8]>,
+    input: CommandInput<'a>,
     doc: &mut Doc,
-    now: u64,
 ) -> Result<Change, Stop>
-    requires { IsTextLine (lent_value line) }
+    requires { IsTextLine (lent_value input.line) }
     ensures told { (d : List ℕ) → TellsStream (draws_id command.now) (D.stream dice.old) d
         → ReturnsAskedStream (λ change. change_seen change (doc_seen doc.new)) result
         (D.stream dice.old) (D.stream dice.new)
-        (change_of now command.now (lent_value line.entry) (doc_seen doc.old) d) }
+        (change_of input.entry.now command.now (lent_value input.entry.line)
+        (map doc_seen input.entry.sources.now) (doc_seen doc.old) d) }
     ensures some_dice { IfOk result (λ change. (d : List ℕ)
-        × ((change_of now command.now (lent_value line.entry) (doc_seen doc.old) d).answer
+        × ((change_of input.entry.now command.now (lent_value input.entry.line)
+        (map doc_seen input.entry.sources.now) (doc_seen doc.old) d).answer
         ≡ Ok (change_seen change (doc_seen doc.new)))) }
-    ensures written { IfOk result (λ change. change.is_written ≡ writes command.now) }
+    ensures unwritten { spec.may_write command.now ≡ false
+        → IfOk result (λ change. change.is_written ≡ false) }
     ensures unchanged { IfErr result (λ _. doc_seen doc.new ≡ doc_seen doc.old) }
     ensures undrawn { draws_id command.now ≡ false → D.stream dice.new ≡ D.stream dice.old }
     ensures stream { LosesPrefix (D.stream dice.old) (D.stream dice.new) }
@@ -206,7 +197,7 @@ pub fn perform<'a, D: Dice>(
     ensures faults { D.faults dice.old ≤ D.faults dice.new }
 {
     match draw_if(dice, makes_node(command, doc)) {
-        Ok(id) => change_document(alloc, command, line, id, doc, now),
+        Ok(id) => change_document(alloc, command, input, id, doc),
         Err(_) => Err(Stop::InputFault),
     }
 }

@@ -1,7 +1,9 @@
 -- What a database is and what its files hold, both ways.
-use Rattle.std.proofs.Common.{◌≡◌, ◌≤◌, ℕ, List, length, refl, sym, ◌∙◌, ap, subst, Bool, true, false, cond, nat_lt, nat_le, Option, Some, None, IfSome, Result, Ok, Err}
+use Rattle.std.proofs.Common.{◌≡◌, ◌≤◌, ℕ, List, [], ◌∷◌, ◌++◌, length, map, refl, sym, ◌∙◌, ap, subst, Bool, true, false, cond, nat_lt, nat_le, Option, Some, None, IfSome, Result, Ok, Err}
+use Rattle.std.specs.Prelude.{is_some}
 use Rattle.std.proofs.lemmas.Bool.{le-leb, leb-true, ltb-false}
-use Rattle.std.specs.FinMap as map
+use Rattle.std.proofs.lemmas.List.{append-nil, append_assoc}
+use Rattle.std.specs.FinMap as finmap
 use Rattle.outside_core.specs.Files.{FileMap}
 use Rattle.key_core.specs.KeyFile.{key_file_key}
 use Rattle.key_core.specs.Keys.{composite_key}
@@ -19,11 +21,14 @@ use Rattle.kdbx_open.proofs.SealedFiles.{both, is_sealed}
 use Rattle.secret_core.specs.declared.files.ReadFail.TheVariants.{TooLarge as FileTooLarge}
 use Rattle.cli_answers.specs.declared.answers.Reason.TheVariants.{TooLarge}
 use Rattle.cli_answers.specs.declared.answers.Refusal.{Refusal}
-use Rattle.cli_databases.specs.Databases.{Opened, document_or_refusal, database_of, held_in, held_under, key_in, key_of, key_or_refusal, of_file, opened_plain, opened_under, plain_document, plain_of, sealed_in, vault_or_refusal}
-use Rattle.cli_databases.specs.Held.{GivesKey, Holds, HoldsBy, IsPlain, IsSealed, IsThere}
+use Rattle.cli_databases.specs.Databases.{Databases, Opened, document_in, document_or_refusal, database_of, databases_of, docs_from, held_in, held_under, key_in, key_of, key_or_refusal, of_file, opened_plain, opened_under, password_from, plain_document, plain_of, sealed_in, sources_of, vault_or_refusal}
+use Rattle.cli_databases.specs.Held.{GivesKey, HoldAll, HoldDatabases, Holds, HoldsBy, HoldsSource, IsPlain, IsSealed, IsThere}
 use Rattle.cli_answers.specs.Messages.{refusal_of}
 use Rattle.outside_core.specs.Results.{◌>>=◌}
-use Rattle.cli_words.specs.Needs.{Needs}
+use Rattle.cli_words.specs.declared.command.Access.{Access}
+use Rattle.cli_words.specs.Needs.{Needs, asks_passwords_from}
+use Rattle.cli_lines.specs.Lines.{HasLines, Lines}
+use Rattle.vault_model.specs.Tree.{BareDoc}
 
 -- ---- a file that was used
 
@@ -38,14 +43,14 @@ is_within true made x refusal h = (refl, h)
 is_within false made x refusal h = cc
 
 used : {A : Type 0} (name : List ℕ) (files : FileMap) (made : List ℕ → Result A Refusal) (x : A) (file : Option (List ℕ))
-    → map.get files name ≡ file → of_file name made file ≡ Ok x → Used name files made x
+    → finmap.get files name ≡ file → of_file name made file ≡ Ok x → Used name files made x
 used name files made x None is h = cc
 used name files made x (Some bytes) is h =
     let w = is_within (nat_le (length bytes) file_limit) (made bytes) x (refusal_of TooLarge name) h in
     record { bytes = bytes; there = record { found = is; within = leb-true (length bytes) file_limit w.0 }; gives = w.1 }
 
 given : {A : Type 0} (name : List ℕ) (files : FileMap) (made : List ℕ → Result A Refusal) (x : A) (bytes : List ℕ)
-    → IsThere files name bytes → made bytes ≡ Ok x → of_file name made (map.get files name) ≡ Ok x
+    → IsThere files name bytes → made bytes ≡ Ok x → of_file name made (finmap.get files name) ≡ Ok x
 given name files made x bytes there gives =
     ap (of_file name made) there.found
     ∙ ap (λ b. cond b (made bytes) (Err (refusal_of TooLarge name))) (le-leb (length bytes) file_limit there.within)
@@ -57,13 +62,13 @@ built_by : (name : List ℕ) (r : Result DocumentAndHash DocFail) (o : Opened) �
 built_by name (Ok read) o h = (read, (refl, cc))
 built_by name (Err fail) o h = cc
 
-plain_held : (file : List ℕ) (files : FileMap) (o : Opened) → plain_of file (map.get files file) ≡ Ok o → IsPlain file files o
+plain_held : (file : List ℕ) (files : FileMap) (o : Opened) → plain_of file (finmap.get files file) ≡ Ok o → IsPlain file files o
 plain_held file files o h =
-    let u = used file files (λ bytes. document_or_refusal file (plain_document bytes)) o (map.get files file) refl h in
+    let u = used file files (λ bytes. document_or_refusal file (plain_document bytes)) o (finmap.get files file) refl h in
     let b = built_by file (plain_document u.bytes) o u.gives in
     record { bytes = u.bytes; there = u.there; read = b.0; says = b.1.0; is = b.1.1 }
 
-plain_given : (file : List ℕ) (files : FileMap) (o : Opened) → IsPlain file files o → plain_of file (map.get files file) ≡ Ok o
+plain_given : (file : List ℕ) (files : FileMap) (o : Opened) → IsPlain file files o → plain_of file (finmap.get files file) ≡ Ok o
 plain_given file files o h =
     given file files (λ bytes. document_or_refusal file (plain_document bytes)) o h.bytes h.there (ap (document_or_refusal file) h.says ∙ ap Ok h.is)
 
@@ -81,8 +86,8 @@ some_key (Err refusal) key h = cc
 key_held : (key_file : Option (List ℕ)) (files : FileMap) (key : Option (List ℕ)) → key_of key_file files ≡ Ok key → GivesKey key_file files key
 key_held None files key h = cc
 key_held (Some name) files key h =
-    let s = some_key (key_in name (map.get files name)) key h in
-    let u = used name files (λ bytes. key_or_refusal name (key_file_key bytes)) s.0 (map.get files name) refl s.1.0 in
+    let s = some_key (key_in name (finmap.get files name)) key h in
+    let u = used name files (λ bytes. key_or_refusal name (key_file_key bytes)) s.0 (finmap.get files name) refl s.1.0 in
     (s.0, (record { bytes = u.bytes; there = u.there; gives = keyed_by name (key_file_key u.bytes) s.0 u.gives }, s.1.1))
 
 key_given : (key_file : Option (List ℕ)) (files : FileMap) (key : Option (List ℕ)) → GivesKey key_file files key → key_of key_file files ≡ Ok key
@@ -129,16 +134,16 @@ in_turn (Ok x) next y h = (x, (refl, h))
 in_turn (Err refusal) next y h = cc
 
 under_by : (file : List ℕ) (files : FileMap) (composite : List ℕ) (o : Opened) → held_under file files composite ≡ Ok o
-    → (vault : FileContents) × ((opening_of (map.get files file) composite ≡ Ok vault) × (opened_under composite vault ≡ o))
+    → (vault : FileContents) × ((opening_of (finmap.get files file) composite ≡ Ok vault) × (opened_under composite vault ≡ o))
 unfolding held_under
-under_by file files composite o h = opened_by file composite (opening_of (map.get files file) composite) o h
+under_by file files composite o h = opened_by file composite (opening_of (finmap.get files file) composite) o h
 
 sealed_held : (key_file : Option (List ℕ)) (file : List ℕ) (password : Option (List ℕ)) (files : FileMap) (o : Opened)
     → held_in false key_file file password files ≡ Ok o → IsSealed key_file file password files o
 sealed_held key_file file password files o h =
     let k = in_turn (key_of key_file files) (sealed_in file files password) o h in
     let v = under_by file files (composite_key password k.0) o k.1.1 in
-    let b = opening_held (map.get files file) (composite_key password k.0) v.0 v.1.0 in
+    let b = opening_held (finmap.get files file) (composite_key password k.0) v.0 v.1.0 in
     record {
       key = k.0;
       gives_key = key_held key_file files k.0 k.1.0;
@@ -149,7 +154,7 @@ sealed_held key_file file password files o h =
       is = v.1.1;
     }
 
-under_again : (file : List ℕ) (files : FileMap) (composite : List ℕ) (vault : FileContents) → opening_of (map.get files file) composite ≡ Ok vault
+under_again : (file : List ℕ) (files : FileMap) (composite : List ℕ) (vault : FileContents) → opening_of (finmap.get files file) composite ≡ Ok vault
     → held_under file files composite ≡ Ok (opened_under composite vault)
 unfolding held_under
 under_again file files composite vault h = ap (vault_or_refusal file composite) h
@@ -159,7 +164,7 @@ sealed_given : (key_file : Option (List ℕ)) (file : List ℕ) (password : Opti
 sealed_given key_file file password files o s =
     ap (λ r. r >>= sealed_in file files password) (key_given key_file files s.key s.gives_key)
     ∙ under_again file files (composite_key password s.key) s.vault
-    (opening_given (map.get files file) (composite_key password s.key) s.vault s.bytes s.there.found s.there.within s.sealed)
+    (opening_given (finmap.get files file) (composite_key password s.key) s.vault s.bytes s.there.found s.there.within s.sealed)
     ∙ ap Ok s.is
 
 -- ---- databases
@@ -181,3 +186,72 @@ database_held needs password files o h = held needs.access.plain needs.access.ke
 pub database_given : (needs : Needs) (password : Option (List ℕ)) (files : FileMap) (o : Opened)
     → Holds needs password files o → database_of needs password files ≡ Ok o
 database_given needs password files o h = holding needs.access.plain needs.access.key_file needs.file password files o h
+
+-- ---- sources
+
+source_held : (from : Access) (same : Bool) (target line : Option (List ℕ)) (name : List ℕ) (files : FileMap) (doc : BareDoc)
+    → document_in from name (password_from same target line) files ≡ Ok doc → HoldsSource from same target line name files doc
+source_held from same target line name files doc h =
+    let t = in_turn (held_in from.plain from.key_file name (password_from same target line) files) (λ opened. Ok opened.doc) doc h in
+    let is : t.0.doc ≡ doc = cc t.1.1 in
+    record { opened = t.0; holds = held from.plain from.key_file name (password_from same target line) files t.0 t.1.0; is = is }
+
+source_given : (from : Access) (same : Bool) (target line : Option (List ℕ)) (name : List ℕ) (files : FileMap) (doc : BareDoc)
+    → HoldsSource from same target line name files doc → document_in from name (password_from same target line) files ≡ Ok doc
+source_given from same target line name files doc h =
+    ap (λ r. r >>= λ opened. Ok opened.doc) (holding from.plain from.key_file name (password_from same target line) files h.opened h.holds)
+    ∙ ap Ok h.is
+
+-- The documents after those that were opened before are what the files of sources hold.
+sources_held : (from : Access) (same : Bool) (target : Option (List ℕ)) (names : List (List ℕ)) (lines : List (Option (List ℕ)))
+    (docs all : List BareDoc) (files : FileMap) (due : Bool) → map is_some lines ≡ map (λ name. due) names
+    → docs_from from same target names lines docs files ≡ Ok all
+    → (more : List BareDoc) × ((all ≡ docs ++ more) × HoldAll from same target names lines files more)
+unfolding docs_from
+sources_held from same target [] lines docs all files due l h = let is : docs ≡ all = cc h in ([], (sym is ∙ sym (append-nil docs), tt))
+sources_held from same target (name ∷ names) [] docs all files due l h = cc
+sources_held from same target (name ∷ names) (line ∷ lines) docs all files due l h =
+    let rest : map is_some lines ≡ map (λ n. due) names = cc l in
+    let t = in_turn (document_in from name (password_from same target line) files) (λ doc. docs_from from same target names lines (docs ++ doc ∷ []) files) all h in
+    let r = sources_held from same target names lines (docs ++ t.0 ∷ []) all files due rest t.1.1 in
+    (t.0 ∷ r.0, (r.1.0 ∙ append_assoc docs (t.0 ∷ []) r.0, (source_held from same target line name files t.0 t.1.0, r.1.1)))
+
+sources_given : (from : Access) (same : Bool) (target : Option (List ℕ)) (names : List (List ℕ)) (lines : List (Option (List ℕ)))
+    (docs more : List BareDoc) (files : FileMap) → HoldAll from same target names lines files more
+    → docs_from from same target names lines docs files ≡ Ok (docs ++ more)
+unfolding docs_from
+sources_given from same target [] lines docs [] files h = ap Ok (sym (append-nil docs))
+sources_given from same target [] lines docs (doc ∷ more) files h = absurd h
+sources_given from same target (name ∷ names) [] docs more files h = absurd h
+sources_given from same target (name ∷ names) (line ∷ lines) docs [] files h = absurd h
+sources_given from same target (name ∷ names) (line ∷ lines) docs (doc ∷ more) files h =
+    ap (λ r. r >>= λ d. docs_from from same target names lines (docs ++ d ∷ []) files) (source_given from same target line name files doc h.0)
+    ∙ sources_given from same target names lines (docs ++ doc ∷ []) more files h.1
+    ∙ ap Ok (append_assoc docs (doc ∷ []) more)
+
+all_held : (needs : Needs) (lines : Lines) (files : FileMap) (docs : List BareDoc) → HasLines needs lines → sources_of needs lines files ≡ Ok docs
+    → HoldAll needs.from needs.same lines.password needs.sources lines.sources files docs
+all_held needs lines files docs has h =
+    let s = sources_held needs.from needs.same lines.password needs.sources lines.sources [] docs files (asks_passwords_from needs) has.have_passwords h in
+    subst (λ (x : List BareDoc). HoldAll needs.from needs.same lines.password needs.sources lines.sources files x) (sym s.1.0) s.1.1
+
+-- ---- the databases of a call
+
+pub databases_held : (needs : Needs) (lines : Lines) (files : FileMap) (databases : Databases) → HasLines needs lines
+    → databases_of needs lines files ≡ Ok databases → HoldDatabases needs lines files databases
+unfolding databases_of
+databases_held needs lines files databases has h =
+    let t = in_turn (database_of needs lines.password files) (λ target. sources_of needs lines files >>= λ sources. Ok (record { target = target; sources = sources })) databases h in
+    let s = in_turn (sources_of needs lines files) (λ sources. Ok (record { target = t.0; sources = sources })) databases t.1.1 in
+    let is : ◌≡◌ {A = Databases} (record { target = t.0; sources = s.0 }) databases = cc s.1.1 in
+    subst (λ (x : Databases). HoldDatabases needs lines files x) is
+    (record { target = database_held needs lines.password files t.0 t.1.0; sources = all_held needs lines files s.0 has s.1.0 })
+
+pub databases_given : (needs : Needs) (lines : Lines) (files : FileMap) (databases : Databases) → HoldDatabases needs lines files databases
+    → databases_of needs lines files ≡ Ok databases
+unfolding databases_of
+databases_given needs lines files databases h =
+    ap (λ r. r >>= λ target. sources_of needs lines files >>= λ sources. Ok (record { target = target; sources = sources }))
+    (database_given needs lines.password files databases.target h.target)
+    ∙ ap (λ r. r >>= λ sources. Ok (record { target = databases.target; sources = sources }))
+    (sources_given needs.from needs.same lines.password needs.sources lines.sources [] databases.sources files h.sources)

@@ -1,5 +1,6 @@
--- The databases of a call: what the file that its command names holds, and what it is sealed with.
-use Rattle.std.specs.Prelude.{◌≡◌, ℕ, Bool, true, false, List, [], length, nat_le, cond, Option, None, Some, Result, Ok, Err}
+-- The databases of a call: what the files that its command names hold, and what the first of them
+-- is sealed with.
+use Rattle.std.specs.Prelude.{ℕ, Bool, true, false, List, [], ◌∷◌, ◌++◌, length, nat_le, cond, Option, None, Some, Result, Ok, Err}
 use Rattle.std.specs.FinMap as map
 use Rattle.outside_core.specs.Files.{FileMap}
 use Rattle.secret_core.specs.declared.files.ReadFail.{ReadFail}
@@ -29,7 +30,9 @@ use Rattle.cli_answers.specs.declared.answers.Reason.TheVariants as answer
 use Rattle.cli_answers.specs.declared.answers.Reason.TheVariants.{NoSuchFile, TooLarge, OutOfMemory}
 use Rattle.cli_answers.specs.declared.answers.Refusal.{Refusal}
 use Rattle.cli_answers.specs.declared.answers.Stop.{Stop}
+use Rattle.cli_words.specs.declared.command.Access.{Access}
 use Rattle.cli_words.specs.Needs.{Needs}
+use Rattle.cli_lines.specs.Lines.{CanOpen, Lines}
 use Rattle.cli_answers.specs.Messages.{refusal_of, Refuses}
 use Rattle.outside_core.specs.Results.{◌>>=◌}
 use Rattle.cli_answers.specs.Phases.{IsFault, IsMemoryStop}
@@ -177,6 +180,55 @@ held_in false key_file file password files = key_of key_file files >>= sealed_in
 abbrev pub database_of : Needs → Option (List ℕ) → FileMap → Result Opened Refusal
 database_of needs password files =
     held_in needs.access.plain needs.access.key_file needs.file password files
+
+-- ---- sources
+
+-- The databases of a call: the one that its command shows or changes, and the documents of its
+-- sources.
+pub record Databases : Type 0 where
+  pub target : Opened
+  pub sources : List BareDoc
+
+-- The password of a source: that of the target, or the source's own line.
+abbrev pub password_from : Bool → (target own : Option (List ℕ)) → Option (List ℕ)
+password_from true target own = target
+password_from false target own = own
+
+-- The document that a file holds.
+abbrev pub document_in : Access → List ℕ → Option (List ℕ) → FileMap → Result BareDoc Refusal
+document_in access name password files =
+    held_in access.plain access.key_file name password files >>= λ opened. Ok opened.doc
+
+-- The documents that sources hold, one after another, after others: each is opened in this way,
+-- with the password of the target or its own line. There are as many lines as sources.
+unfoldable pub docs_from : Access → Bool → Option (List ℕ) → List (List ℕ)
+    → List (Option (List ℕ)) → List BareDoc → FileMap → Result (List BareDoc) Refusal
+docs_from from same target [] lines docs files = Ok docs
+docs_from from same target (name ∷ names) [] docs files = Ok docs
+docs_from from same target (name ∷ names) (line ∷ lines) docs files =
+    document_in from name (password_from same target line) files >>= λ doc.
+    docs_from from same target names lines (docs ++ doc ∷ []) files
+
+-- The documents of a command's sources.
+abbrev pub sources_of : Needs → Lines → FileMap → Result (List BareDoc) Refusal
+sources_of needs lines files =
+    docs_from needs.from needs.same lines.password needs.sources lines.sources [] files
+
+-- The databases that a command asks for, by the lines that it asked for: its own, and then its
+-- sources.
+unfoldable pub databases_of : Needs → Lines → FileMap → Result Databases Refusal
+databases_of needs lines files =
+    database_of needs lines.password files >>= λ target.
+    sources_of needs lines files >>= λ sources.
+    Ok (record { target = target; sources = sources })
+
+-- Each source has a line, and can be opened with the target's password or its own line.
+abbrev pub CanOpenAll : Access → Bool → Option (List ℕ) → List (List ℕ) → List (Option (List ℕ))
+    → Type 0
+CanOpenAll from same target [] lines = Unit {0}
+CanOpenAll from same target (name ∷ names) [] = ⊥
+CanOpenAll from same target (name ∷ names) (line ∷ lines) =
+    CanOpen from (password_from same target line) × CanOpenAll from same target names lines
 
 -- ---- stops
 

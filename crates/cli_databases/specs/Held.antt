@@ -1,15 +1,18 @@
 -- What files hold of which a database is made, speaking of all their bytes.
-use Rattle.std.specs.Prelude.{◌≡◌, ◌≤◌, ℕ, Bool, true, false, List, length, Option, None, Some, Ok}
+use Rattle.std.specs.Prelude.{◌≡◌, ◌≤◌, ℕ, Bool, true, false, List, [], ◌∷◌, length, Option, None, Some, Ok}
 use Rattle.std.specs.FinMap as map
 use Rattle.outside_core.specs.Files.{FileMap}
 use Rattle.key_core.specs.KeyFile.{key_file_key}
 use Rattle.key_core.specs.Keys.{composite_key}
+use Rattle.vault_model.specs.Tree.{BareDoc}
 use Rattle.doc_forms.specs.Documents.{DocumentAndHash}
 use Rattle.kdbx_open.specs.Causes.{file_limit}
 use Rattle.kdbx_open.specs.Opening.{FileContents}
 use Rattle.kdbx_open.specs.Sealed.{Sealed}
+use Rattle.cli_words.specs.declared.command.Access.{Access}
 use Rattle.cli_words.specs.Needs.{Needs}
-use Rattle.cli_databases.specs.Databases.{Opened, opened_plain, opened_under, plain_document}
+use Rattle.cli_lines.specs.Lines.{Lines}
+use Rattle.cli_databases.specs.Databases.{Databases, Opened, opened_plain, opened_under, password_from, plain_document}
 
 -- The file of this name is there and within the limit, and these are its bytes.
 pub record IsThere (files : FileMap) (name bytes : List ℕ) : Type 0 where
@@ -56,3 +59,28 @@ HoldsBy false key_file file password files opened = IsSealed key_file file passw
 abbrev pub Holds : Needs → Option (List ℕ) → FileMap → Opened → Type 0
 Holds needs password files opened =
     HoldsBy needs.access.plain needs.access.key_file needs.file password files opened
+
+-- The file of a source holds its document, under the target's password or its own line.
+pub record HoldsSource (from : Access) (same : Bool) (target line : Option (List ℕ))
+    (name : List ℕ) (files : FileMap) (doc : BareDoc) : Type 0 where
+  pub opened : Opened
+  pub holds : HoldsBy from.plain from.key_file name (password_from same target line) files opened
+  pub is : opened.doc ≡ doc
+
+-- The files of sources hold these documents, each its own.
+abbrev pub HoldAll : Access → Bool → Option (List ℕ) → List (List ℕ) → List (Option (List ℕ))
+    → FileMap → List BareDoc → Type 0
+HoldAll from same target [] lines files [] = Unit {0}
+HoldAll from same target [] lines files (doc ∷ docs) = ⊥
+HoldAll from same target (name ∷ names) [] files docs = ⊥
+HoldAll from same target (name ∷ names) (line ∷ lines) files [] = ⊥
+HoldAll from same target (name ∷ names) (line ∷ lines) files (doc ∷ docs) =
+    HoldsSource from same target line name files doc
+    × HoldAll from same target names lines files docs
+
+-- The files that a command asks for hold the databases.
+pub record HoldDatabases (needs : Needs) (lines : Lines) (files : FileMap)
+    (databases : Databases) : Type 0 where
+  pub target : Holds needs lines.password files databases.target
+  pub sources : HoldAll needs.from needs.same lines.password needs.sources lines.sources files
+      databases.sources

@@ -1,8 +1,18 @@
--- What is seen of a database that was opened: its document without memory.
+-- What is seen of databases that were opened: their documents without memory.
+use Rattle.std.specs.Prelude.{map}
 use Rattle.vault_model.specs.SeenDoc.{doc_seen}
+use Rattle.cli_databases.specs.declared.databases.Databases as memory
 use Rattle.cli_databases.specs.declared.databases.Opened as declared
-use Rattle.cli_databases.specs.Databases.{Opened}
+use Rattle.cli_databases.specs.Databases.{Databases, Opened}
 
 -- A database by its document's nodes, and what its file is sealed with.
 abbrev pub opened_seen : declared.Opened → Opened
 opened_seen opened = record { doc = doc_seen opened.doc; sealing = opened.sealing }
+
+-- The databases of a call by the nodes of their documents, and what the file of the first is sealed
+-- with.
+abbrev pub databases_seen : memory.Databases → Databases
+databases_seen databases = record {
+  target = opened_seen databases.target;
+  sources = map doc_seen databases.sources;
+}

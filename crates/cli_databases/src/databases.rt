@@ -1,26 +1,29 @@
 //! The databases of a call.
-ghost use Rattle.std.specs.Prelude.{◌≡◌, ◌≢◌, ◌≤◌, ◌⊎◌, [], ◌∷◌, ◌++◌, IfErr, IfOk, IfSome, IsSome, Some, false, option_map};
-ghost use Rattle.std.specs.FinMap as map;
+ghost use Rattle.std.specs.Prelude.{◌≡◌, ◌≢◌, ◌≤◌, ◌⊎◌, [], ◌∷◌, ◌++◌, IfErr, IfOk, IfSome, IsSome, OnOk, Some, false, map, option_map};
+ghost use Rattle.std.specs.FinMap as finmap;
 ghost use Rattle.outside_core.specs.Files.{FileMap};
 ghost use Rattle.key_core.specs.KeyFile.{key_file_key};
 ghost use Rattle.doc_forms.specs.Refusals as reader;
 ghost use Rattle.doc_forms.specs.SeenDocuments.{read_seen};
 ghost use Rattle.kdbx_frame.specs.Settings.{IsInOrder};
 ghost use Rattle.cli_databases.specs.Databases as spec;
-ghost use Rattle.cli_databases.specs.Databases.{IsUnopened, IsUnread, document_or_refusal, database_of, held_in, held_under, key_in, key_or_refusal, plain_document, plain_of, sealed_in};
-ghost use Rattle.cli_databases.specs.SeenOpened.{opened_seen};
-ghost use Rattle.cli_databases.specs.SomeFiles.{IsSealedUnder, IsSomeKey, SomeDatabase, SomeHolds, SomeKey, SomePlain};
+ghost use Rattle.cli_databases.specs.Databases.{CanOpenAll, IsUnopened, IsUnread, databases_of, docs_from, document_in, document_or_refusal, held_in, held_under, key_in, key_or_refusal, plain_document, plain_of, sealed_in, sources_of};
+ghost use Rattle.cli_databases.specs.SeenOpened.{databases_seen, opened_seen};
+ghost use Rattle.cli_databases.specs.SomeFiles.{GainsSources, IsSealedUnder, IsSomeKey, SomeDatabases, SomeHolds, SomeKey, SomePlain, SomeSources};
 ghost use Rattle.key_core.specs.Keys.{composite_key};
-ghost use Rattle.cli_lines.specs.Lines.{CanOpen};
+ghost use Rattle.cli_lines.specs.Lines.{CanOpen, HasLines};
+ghost use Rattle.cli_lines.specs.SeenLines.{line_seen, lines_seen};
+ghost use Rattle.vault_model.specs.SeenDoc.{doc_seen};
 ghost use Rattle.cli_answers.specs.Phases.{Returns, IsFileStop, IsPlainStop};
-ghost use Rattle.cli_words.specs.Needs.{files_of, key_files};
+ghost use Rattle.cli_words.specs.Needs.{HasKeys, database_files, files_of, key_files, source_files};
 ghost use Rattle.cli_words.specs.SeenNeeds.{needs_seen};
 
 use cli_answers::{Reason, Stop, refused};
+use cli_lines::Lines;
 use cli_words::{Access, Needs};
 use doc_read::{DocFail, ReadDoc, read_parts, resolve};
 use kdbx_frame::FrameFail;
-use kdbx_open::{FILE_LIMIT, OpenFail, Sealing, open_file};
+use kdbx_open::{FILE_LIMIT, OpenFail, Sealing, open_file, release_key};
 use key_core::{KeyFileFail, composite, read_key_file};
 use mac_core::BlockFail;
 use outside_core::{FileStore, List, NoMemory, Text};
@@ -35,6 +38,14 @@ pub struct Opened {
     pub doc: Doc,
     /// What its file is sealed with, unless it is a plain document.
     pub sealing: Option<Sealing>,
+}
+
+/// The databases of a call.
+pub struct Databases {
+    /// The one that its command shows or changes.
+    pub target: Opened,
+    /// The documents of its sources.
+    pub sources: List<Doc>,
 }
 
 // What is refused when a file is not read.
@@ -172,13 +183,14 @@ fn build(alloc: Global, name: &str, bytes: Secret) -> Result<Opened, Stop>
 // The plain document in a file.
 fn open_plain<F: FileStore>(alloc: Global, files: &mut F, name: &str) -> Result<Opened, Stop>
     ensures told { (m : FileMap) → F.files files.old ≡ Some m
-        → Returns opened_seen result (plain_of name.now (map.get m name.now)) }
+        → Returns opened_seen result (plain_of name.now (finmap.get m name.now)) }
     ensures some_file { IfOk result (λ opened. SomePlain (opened_seen opened)) }
     ensures in_order { IfOk result (λ opened. IfSome opened.sealing (λ sealing.
         IsInOrder sealing.settings)) }
     ensures cause { IfErr result (IsFileStop (name.now ∷ []) (F.faults files.old)
         (F.faults files.new) (F.absences files.old) (F.absences files.new)) }
     ensures faults { F.faults files.old ≤ F.faults files.new }
+    ensures absences { F.absences files.old ≤ F.absences files.new }
     ensures files { F.files files.new ≡ F.files files.old }
     ensures draft_name { F.draft_name files.new ≡ F.draft_name files.old }
     ensures draft_bytes { F.draft_bytes files.new ≡ F.draft_bytes files.old }
@@ -206,7 +218,7 @@ fn key_by(alloc: Global, name: &str, bytes: &Secret) -> Result<Key, Stop>
 // The key of a key file.
 fn open_key_file<F: FileStore>(alloc: Global, files: &mut F, name: &str) -> Result<Key, Stop>
     ensures told { (m : FileMap) → F.files files.old ≡ Some m
-        → Returns (λ key. key) result (key_in name.now (map.get m name.now)) }
+        → Returns (λ key. key) result (key_in name.now (finmap.get m name.now)) }
     ensures some_file { IfOk result IsSomeKey }
     ensures cause { IfErr result (IsFileStop (name.now ∷ []) (F.faults files.old)
         (F.faults files.new) (F.absences files.old) (F.absences files.new)) }
@@ -268,6 +280,7 @@ fn open_under<F: FileStore>(
     ensures cause { IfErr result (IsFileStop (name.now ∷ []) (F.faults files.old)
         (F.faults files.new) (F.absences files.old) (F.absences files.new)) }
     ensures faults { F.faults files.old ≤ F.faults files.new }
+    ensures absences { F.absences files.old ≤ F.absences files.new }
     ensures files { F.files files.new ≡ F.files files.old }
     ensures draft_name { F.draft_name files.new ≡ F.draft_name files.old }
     ensures draft_bytes { F.draft_bytes files.new ≡ F.draft_bytes files.old }
@@ -310,6 +323,7 @@ fn open_sealed<F: FileStore>(
     ensures cause { IfErr result (IsFileStop (name.now ∷ []) (F.faults files.old)
         (F.faults files.new) (F.absences files.old) (F.absences files.new)) }
     ensures faults { F.faults files.old ≤ F.faults files.new }
+    ensures absences { F.absences files.old ≤ F.absences files.new }
     ensures files { F.files files.new ≡ F.files files.old }
     ensures draft_name { F.draft_name files.new ≡ F.draft_name files.old }
     ensures draft_bytes { F.draft_bytes files.new ≡ F.draft_bytes files.old }
@@ -346,6 +360,7 @@ fn open_held<F: FileStore>(
     ensures cause { IfErr result (IsFileStop (key_files access.now.key_file ++ file.now ∷ [])
         (F.faults files.old) (F.faults files.new) (F.absences files.old) (F.absences files.new)) }
     ensures faults { F.faults files.old ≤ F.faults files.new }
+    ensures absences { F.absences files.old ≤ F.absences files.new }
     ensures files { F.files files.new ≡ F.files files.old }
     ensures draft_name { F.draft_name files.new ≡ F.draft_name files.old }
     ensures draft_bytes { F.draft_bytes files.new ≡ F.draft_bytes files.old }
@@ -357,22 +372,168 @@ fn open_held<F: FileStore>(
     open_sealed(alloc, files, file, password, key)
 }
 
-/// Opens the database that a command asks for, with the password that is given for it. The
-/// composite key of a sealed one goes on with it, and must be cleared and released; after a refusal
-/// it was.
+// The document of a database. The composite key of a sealed one is cleared and released.
+fn document(opened: Opened) -> Doc
+    ensures { result ≡ opened.doc }
+{
+    let Opened { doc, sealing } = opened;
+    release_key(sealing);
+    doc
+}
+
+// The bytes of a line, where there is one.
+fn bytes_in(line: &Option<Secret>) -> Option<&[u8]>
+    ensures { option_map (λ bytes. bytes.now) result ≡ line_seen line.now }
+{
+    match line {
+        Some(line) => Some(line.lend(0, line.len())),
+        None => None,
+    }
+}
+
+// The password of a source: that of the target, or the source's own line.
+fn password_from<'a>(
+    same: bool,
+    target: Option<&'a [u8]>,
+    own: &'a Option<Secret>,
+) -> Option<&'a [u8]>
+    ensures { option_map (λ p. p.now) result ≡ spec.password_from same
+        (option_map (λ p. p.now) target.entry) (line_seen own.now) }
+{
+    if same { target } else { bytes_in(own) }
+}
+
+// The document of a source.
+fn open_source<F: FileStore>(
+    alloc: Global,
+    files: &mut F,
+    from: &Access,
+    name: &Text,
+    password: Option<&[u8]>,
+) -> Result<Doc, Stop>
+    requires { CanOpen from.now (option_map (λ p. p.now) password) }
+    ensures told { (m : FileMap) → F.files files.old ≡ Some m
+        → Returns doc_seen result (document_in from.now name.now
+        (option_map (λ p. p.now) password.entry) m) }
+    ensures some_file { IfOk result (λ doc. (opened : spec.Opened)
+        × (SomeHolds from.now.plain from.now.key_file (option_map (λ p. p.now) password.entry)
+        opened × (opened.doc ≡ doc_seen doc))) }
+    ensures cause { IfErr result (IsFileStop (database_files from.now name.now)
+        (F.faults files.old) (F.faults files.new) (F.absences files.old) (F.absences files.new)) }
+    ensures faults { F.faults files.old ≤ F.faults files.new }
+    ensures absences { F.absences files.old ≤ F.absences files.new }
+    ensures files { F.files files.new ≡ F.files files.old }
+    ensures draft_name { F.draft_name files.new ≡ F.draft_name files.old }
+    ensures draft_bytes { F.draft_bytes files.new ≡ F.draft_bytes files.old }
+{
+    match open_held(alloc, files, from, name.as_str(), password) {
+        Ok(opened) => Ok(document(opened)),
+        Err(stop) => Err(stop),
+    }
+}
+
+// Opens the sources that are left, one after another, with their lines.
+#[tactic(auto, unfolding(crate::specs::Databases::docs_from))]
+fn open_sources<F: FileStore>(
+    alloc: Global,
+    files: &mut F,
+    needs: Needs<'_>,
+    target: Option<&[u8]>,
+    lines: &[Option<Secret>],
+    docs: &mut List<Doc>,
+) -> Result<(), Stop>
+    requires { CanOpenAll needs.from.now needs.same (option_map (λ p. p.now) target)
+        needs.sources.now (map line_seen lines.now) }
+    ensures told { (m : FileMap) → F.files files.old ≡ Some m
+        → Returns (λ _. map doc_seen docs.new) result
+        (docs_from needs.entry.from.now needs.entry.same (option_map (λ p. p.now) target.entry)
+        needs.entry.sources.now (map line_seen lines.now) (map doc_seen docs.old) m) }
+    ensures some_file { OnOk result (GainsSources needs.entry.from.now needs.entry.same
+        (option_map (λ p. p.now) target.entry) needs.entry.sources.now (map line_seen lines.now)
+        (map doc_seen docs.old) (map doc_seen docs.new)) }
+    ensures cause { IfErr result (IsFileStop
+        (source_files needs.entry.from.now needs.entry.sources.now)
+        (F.faults files.old) (F.faults files.new) (F.absences files.old) (F.absences files.new)) }
+    ensures faults { F.faults files.old ≤ F.faults files.new }
+    ensures absences { F.absences files.old ≤ F.absences files.new }
+    ensures files { F.files files.new ≡ F.files files.old }
+    ensures draft_name { F.draft_name files.new ≡ F.draft_name files.old }
+    ensures draft_bytes { F.draft_bytes files.new ≡ F.draft_bytes files.old }
+{
+    let [name, names @ ..] = needs.sources else {
+        return Ok(());
+    };
+    let [own, lines @ ..] = lines else {
+        return Ok(());
+    };
+    let password = password_from(needs.same, target, own);
+    let doc = open_source(alloc, files, needs.from, name, password)?;
+    let Ok(()) = docs.push(doc) else {
+        return Err(Stop::NoMemory);
+    };
+    let rest = Needs {
+        sources: names,
+        ..needs
+    };
+    open_sources(alloc, files, rest, target, lines, docs)
+}
+
+// The documents of a command's sources.
+fn open_all<F: FileStore>(
+    alloc: Global,
+    files: &mut F,
+    needs: Needs<'_>,
+    lines: &Lines,
+) -> Result<List<Doc>, Stop>
+    requires { CanOpenAll needs.from.now needs.same (line_seen lines.now.password)
+        needs.sources.now (map line_seen lines.now.sources) }
+    ensures told { (m : FileMap) → F.files files.old ≡ Some m
+        → Returns (λ docs. map doc_seen docs) result
+        (sources_of (needs_seen needs.entry) (lines_seen lines.now) m) }
+    ensures some_file { IfOk result (λ docs. SomeSources needs.entry.from.now needs.entry.same
+        (line_seen lines.now.password) needs.entry.sources.now (map line_seen lines.now.sources)
+        (map doc_seen docs)) }
+    ensures cause { IfErr result (IsFileStop
+        (source_files needs.entry.from.now needs.entry.sources.now)
+        (F.faults files.old) (F.faults files.new) (F.absences files.old) (F.absences files.new)) }
+    ensures faults { F.faults files.old ≤ F.faults files.new }
+    ensures files { F.files files.new ≡ F.files files.old }
+    ensures draft_name { F.draft_name files.new ≡ F.draft_name files.old }
+    ensures draft_bytes { F.draft_bytes files.new ≡ F.draft_bytes files.old }
+{
+    let mut docs = List::new(alloc);
+    let target = bytes_in(&lines.password);
+    match open_sources(
+        alloc,
+        files,
+        needs,
+        target,
+        lines.sources.as_slice(),
+        &mut docs,
+    ) {
+        Ok(()) => Ok(docs),
+        Err(stop) => Err(stop),
+    }
+}
+
+/// Opens the databases that a command asks for, with the lines that it asked for: its own, and then
+/// its sources, one after another. The composite key of a sealed one of its own goes on with it,
+/// and must be cleared and released; after a refusal it was, and so are those of the sources.
+#[tactic(auto, unfolding(crate::specs::Databases::databases_of))]
 pub fn open<F: FileStore>(
     alloc: Global,
     files: &mut F,
     needs: Needs<'_>,
-    password: Option<&[u8]>,
-) -> Result<Opened, Stop>
-    requires { CanOpen needs.access.now (option_map (λ p. p.now) password) }
+    lines: &Lines,
+) -> Result<Databases, Stop>
+    requires keys { HasKeys (needs_seen needs) }
+    requires lines { HasLines (needs_seen needs) (lines_seen lines.now) }
     ensures told { (m : FileMap) → F.files files.old ≡ Some m
-        → Returns opened_seen result (database_of (needs_seen needs.entry)
-        (option_map (λ p. p.now) password.entry) m) }
-    ensures some_file { IfOk result (λ opened. SomeDatabase (needs_seen needs.entry)
-        (option_map (λ p. p.now) password.entry) (opened_seen opened)) }
-    ensures in_order { IfOk result (λ opened. IfSome opened.sealing (λ sealing.
+        → Returns databases_seen result
+        (databases_of (needs_seen needs.entry) (lines_seen lines.now) m) }
+    ensures some_file { IfOk result (λ databases. SomeDatabases (needs_seen needs.entry)
+        (lines_seen lines.now) (databases_seen databases)) }
+    ensures in_order { IfOk result (λ databases. IfSome databases.target.sealing (λ sealing.
         IsInOrder sealing.settings)) }
     ensures cause { IfErr result (IsFileStop (files_of (needs_seen needs.entry))
         (F.faults files.old) (F.faults files.new) (F.absences files.old) (F.absences files.new)) }
@@ -381,5 +542,13 @@ pub fn open<F: FileStore>(
     ensures draft_name { F.draft_name files.new ≡ F.draft_name files.old }
     ensures draft_bytes { F.draft_bytes files.new ≡ F.draft_bytes files.old }
 {
-    open_held(alloc, files, needs.access, needs.file.as_str(), password)
+    let password = bytes_in(&lines.password);
+    let target = open_held(alloc, files, needs.access, needs.file.as_str(), password)?;
+    match open_all(alloc, files, needs, lines) {
+        Ok(sources) => Ok(Databases { target, sources }),
+        Err(stop) => {
+            drop(document(target));
+            Err(stop)
+        }
+    }
 }

@@ -3,4 +3,4 @@
 
 mod databases;
 
-pub use databases::{Opened, open};
+pub use databases::{Databases, Opened, open};

@@ -1,12 +1,12 @@
 -- What is left of the input, where it reports that or where no line is due.
-use Rattle.std.proofs.Common.{◌≡◌, ℕ, List, refl, sym, ◌∙◌, ap, subst, Bool, true, false, ◌||◌, Option, Some, None, option_map, Result, Ok, Err}
+use Rattle.std.proofs.Common.{◌≡◌, ℕ, List, [], refl, sym, ◌∙◌, ap, subst, Bool, true, false, ◌||◌, Option, Some, None, option_map, Result, Ok}
 use Rattle.cli_answers.specs.declared.answers.Refusal.{Refusal}
 use Rattle.cli_answers.specs.declared.answers.Stop.{Stop}
 use Rattle.cli_answers.specs.declared.answers.Stop.TheVariants.{Refused, FileFault, InputFault, NoMemory}
 use Rattle.outside_core.specs.Results.{◌>>=◌}
 use Rattle.cli_answers.specs.Phases.{StreamAnswer, IsLeft, RefusesAskedStream, RefusesStream, TellsStream, then_left, with_left}
-use Rattle.cli_words.specs.Needs.{Needs, asks_password}
-use Rattle.cli_lines.specs.Lines.{Lines, line_if, line_of, lines_of, number_after}
+use Rattle.cli_words.specs.Needs.{Needs, asks_password, asks_passwords_from}
+use Rattle.cli_lines.specs.Lines.{Lines, line_if, line_of, lines_from, lines_of, number_from, number_of_more}
 
 -- An input that is not read.
 pub left_alone : (asked : Bool) (before : Option (List ℕ)) (input : List ℕ) → TellsStream asked before input → IsLeft before before input
@@ -71,27 +71,38 @@ later_stops (FileFault name) before mid now left taken is h = tt
 later_stops InputFault before mid now left taken is h = tt
 later_stops NoMemory before mid now left taken is h = tt
 
--- Both lines were read, each where it is due.
-pub lines_read : (needs : Needs) (input : List ℕ) (password more : Option (List ℕ)) → (line_if (asks_password needs.access) 1 input).answer ≡ Ok password
-    → (line_if needs.has_line (number_after (asks_password needs.access)) (line_if (asks_password needs.access) 1 input).left).answer ≡ Ok more
-    → lines_of needs input ≡ with_left (Ok (record { password = password; more = more }))
-    (line_if needs.has_line (number_after (asks_password needs.access)) (line_if (asks_password needs.access) 1 input).left).left
-lines_read needs input password more p q =
-    first_gave (line_if (asks_password needs.access) 1 input) password (λ password left.
-    then_left (line_if needs.has_line (number_after (asks_password needs.access)) left) (λ more end. with_left (Ok (record { password = password; more = more })) end)) p
-    ∙ first_gave (line_if needs.has_line (number_after (asks_password needs.access)) (line_if (asks_password needs.access) 1 input).left) more
-    (λ more end. with_left (Ok (record { password = password; more = more })) end) q
+-- A phase after one that gave this was refused.
+pub second_stops : {A B : Type 0} (stop : Stop) (before mid now : Option (List ℕ)) (taken : StreamAnswer A) (a : A) (next : A → List ℕ → StreamAnswer B)
+    → taken.answer ≡ Ok a → IsLeft before mid taken.left → RefusesAskedStream stop mid now (next a taken.left)
+    → RefusesAskedStream stop before now (then_left taken next)
+second_stops stop before mid now taken a next p is h =
+    subst (λ (t : StreamAnswer _). RefusesAskedStream stop before now t) (sym (first_gave taken a next p))
+    (later_stops stop before mid now taken.left (next a taken.left) is h)
 
--- The line after the password is refused.
-pub more_stops : (stop : Stop) (needs : Needs) (input : List ℕ) (password : Option (List ℕ)) (before mid now : Option (List ℕ))
-    → (line_if (asks_password needs.access) 1 input).answer ≡ Ok password → IsLeft before mid (line_if (asks_password needs.access) 1 input).left
-    → RefusesAskedStream stop mid now (line_if needs.has_line (number_after (asks_password needs.access)) (line_if (asks_password needs.access) 1 input).left)
-    → RefusesAskedStream stop before now (lines_of needs input)
-more_stops stop needs input password before mid now p is h =
+-- The last line, after the passwords.
+abbrev pub after_passwords : Needs → Option (List ℕ) → List (Option (List ℕ)) → List ℕ → StreamAnswer Lines
+after_passwords needs password sources later =
+    then_left (line_if needs.has_line (number_of_more needs) later)
+    (λ more end. with_left (Ok (record { password = password; sources = sources; more = more })) end)
+
+-- The passwords of the sources, and then the last line.
+abbrev pub after_password : Needs → Option (List ℕ) → List ℕ → StreamAnswer Lines
+after_password needs password rest =
+    then_left (lines_from (asks_passwords_from needs) needs.sources (number_from needs) [] rest) (after_passwords needs password)
+
+-- All lines were read, each where it is due.
+pub lines_read : (needs : Needs) (input : List ℕ) (password more : Option (List ℕ)) (sources : List (Option (List ℕ)))
+    → (line_if (asks_password needs.access) 1 input).answer ≡ Ok password
+    → (lines_from (asks_passwords_from needs) needs.sources (number_from needs) [] (line_if (asks_password needs.access) 1 input).left).answer ≡ Ok sources
+    → (line_if needs.has_line (number_of_more needs) (lines_from (asks_passwords_from needs) needs.sources (number_from needs) []
+    (line_if (asks_password needs.access) 1 input).left).left).answer ≡ Ok more
+    → lines_of needs input ≡ with_left (Ok (record { password = password; sources = sources; more = more }))
+    (line_if needs.has_line (number_of_more needs) (lines_from (asks_passwords_from needs) needs.sources (number_from needs) []
+    (line_if (asks_password needs.access) 1 input).left).left).left
+lines_read needs input password more sources p q r =
     let rest = (line_if (asks_password needs.access) 1 input).left in
-    let taken = line_if needs.has_line (number_after (asks_password needs.access)) rest in
-    subst (λ (t : StreamAnswer Lines). RefusesAskedStream stop before now t)
-    (sym (first_gave (line_if (asks_password needs.access) 1 input) password (λ password left.
-    then_left (line_if needs.has_line (number_after (asks_password needs.access)) left) (λ more end. with_left (Ok (record { password = password; more = more })) end)) p))
-    (first_stops stop before now taken (λ more end. with_left (Ok (record { password = password; more = more })) end)
-    (later_stops stop before mid now rest taken is h))
+    let taken = lines_from (asks_passwords_from needs) needs.sources (number_from needs) [] rest in
+    first_gave (line_if (asks_password needs.access) 1 input) password (after_password needs) p
+    ∙ first_gave taken sources (after_passwords needs password) q
+    ∙ first_gave (line_if needs.has_line (number_of_more needs) taken.left) more
+    (λ more end. with_left (Ok (record { password = password; sources = sources; more = more })) end) r

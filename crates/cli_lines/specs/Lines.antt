@@ -1,10 +1,10 @@
 -- The lines that a call takes from its input.
-use Rattle.std.specs.Prelude.{◌≡◌, ◌⊎◌, ℕ, ◌+◌, Bool, true, false, ◌&&◌, ◌==◌, if◌then◌else◌, nat_lt, drop, is_some, IsSome, List, [], ◌∷◌, codes, Option, None, Some, Result, Ok, Err}
+use Rattle.std.specs.Prelude.{◌≡◌, ◌⊎◌, ◌++◌, map, ℕ, ◌+◌, Bool, true, false, ◌&&◌, ◌==◌, if◌then◌else◌, nat_lt, drop, is_some, IsSome, List, [], ◌∷◌, codes, Option, None, Some, Result, Ok, Err}
 use Rattle.std.specs.Str.{is_utf8}
 use Rattle.cli_answers.specs.declared.answers.Reason.TheVariants.{LineLimit, LineForm, InputEnded}
 use Rattle.cli_answers.specs.declared.answers.Refusal.{Refusal}
 use Rattle.cli_words.specs.declared.command.Access.{Access}
-use Rattle.cli_words.specs.Needs.{Needs, asks_password}
+use Rattle.cli_words.specs.Needs.{Needs, asks_password, asks_passwords_from}
 use Rattle.cli_answers.specs.Messages.{refusal_of}
 use Rattle.outside_core.specs.Results.{◌>>=◌}
 use Rattle.cli_answers.specs.Phases.{StreamAnswer, then_left, with_left}
@@ -65,28 +65,57 @@ abbrev pub line_if : Bool → ℕ → List ℕ → StreamAnswer (Option (List �
 line_if true number input = some_line (line_of number input)
 line_if false number input = with_left (Ok None) input
 
--- The lines of a call, each where it is due: the password of the database, and the line that the
--- command asks for after it.
+-- The number of the line after one of this number, which may be due.
+abbrev pub number_after : Bool → ℕ → ℕ
+number_after due number = if due then number + 1 else number
+
+-- The number of the line after those of sources, of which the first has this number.
+abbrev pub number_after_all : Bool → List (List ℕ) → ℕ → ℕ
+number_after_all due [] number = number
+number_after_all due (name ∷ names) number =
+    number_after_all due names (number_after due number)
+
+-- The lines of sources, one after another, each where it is due, after those that were read. The
+-- first is of this number.
+abbrev pub lines_from : Bool → List (List ℕ) → ℕ → List (Option (List ℕ)) → List ℕ
+    → StreamAnswer (List (Option (List ℕ)))
+lines_from due [] number read input = with_left (Ok read) input
+lines_from due (name ∷ names) number read input =
+    then_left (line_if due number input) (λ line left.
+    lines_from due names (number_after due number) (read ++ line ∷ []) left)
+
+-- The lines of a call, each where it is due: the password of the database, those of its sources one
+-- after another, and the line that the command asks for after them.
 pub record Lines : Type 0 where
   pub password : Option (List ℕ)
+  pub sources : List (Option (List ℕ))
   pub more : Option (List ℕ)
 
--- The number of the line after the password, if there is one.
-abbrev pub number_after : Bool → ℕ
-number_after asks = if asks then 2 else 1
+-- The number of the line after the password of the database, if there is one.
+abbrev pub number_from : Needs → ℕ
+number_from needs = number_after (asks_password needs.access) 1
+
+-- The number of the line after all passwords.
+abbrev pub number_of_more : Needs → ℕ
+number_of_more needs =
+    number_after_all (asks_passwords_from needs) needs.sources (number_from needs)
 
 -- The lines that a command asks for, one after another.
 abbrev pub lines_of : Needs → List ℕ → StreamAnswer Lines
 lines_of needs input =
     then_left (line_if (asks_password needs.access) 1 input) (λ password rest.
-    then_left (line_if needs.has_line (number_after (asks_password needs.access)) rest)
-    (λ more end. with_left (Ok (record { password = password; more = more })) end))
+    then_left (lines_from (asks_passwords_from needs) needs.sources (number_from needs) [] rest)
+    (λ sources later.
+    then_left (line_if needs.has_line (number_of_more needs) later) (λ more end.
+    with_left (Ok (record { password = password; sources = sources; more = more })) end)))
 
 -- ---- lines that are there
 
 -- Each line is there exactly where it is due.
 pub record HasLines (needs : Needs) (lines : Lines) : Type 0 where
   pub has_password : is_some lines.password ≡ asks_password needs.access
+  pub have_passwords : map is_some lines.sources
+      ≡ map (λ name. asks_passwords_from needs) needs.sources
   pub has_more : is_some lines.more ≡ needs.has_line
 
 -- A line is in UTF-8, if there is one.

@@ -1,5 +1,5 @@
 -- What is seen of lines in memory.
-use Rattle.std.specs.Prelude.{ℕ, List, Option, option_map}
+use Rattle.std.specs.Prelude.{ℕ, List, Option, map, option_map}
 use Rattle.secret_core.specs.Secret.{SecretBuffer}
 use Rattle.cli_lines.specs.declared.lines.Lines as declared
 use Rattle.cli_lines.specs.Lines.{Lines}
@@ -10,4 +10,8 @@ line_seen = option_map (λ line. line.bytes)
 
 -- The bytes of all lines.
 abbrev pub lines_seen : declared.Lines → Lines
-lines_seen lines = record { password = line_seen lines.password; more = line_seen lines.more }
+lines_seen lines = record {
+  password = line_seen lines.password;
+  sources = map line_seen lines.sources;
+  more = line_seen lines.more;
+}

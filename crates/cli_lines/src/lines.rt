@@ -1,18 +1,18 @@
 //! The lines that a call takes from its input.
-ghost use Rattle.std.specs.Prelude.{◌≡◌, ◌≢◌, ◌≤◌, ◌<◌, ◌+◌, [], ◌∷◌, ℕ, List, length, IfErr, IfOk, IfSome, is_some, Some, true};
+ghost use Rattle.std.specs.Prelude.{◌≡◌, ◌≢◌, ◌≤◌, ◌<◌, ◌+◌, [], ◌∷◌, ◌++◌, ℕ, List, length, map, IfErr, IfOk, IfSome, OnOk, is_some, Some, true};
 ghost use Rattle.std.specs.Str.{is_utf8};
 ghost use Rattle.outside_core.specs.Counts.{HasCause};
 ghost use Rattle.cli_lines.specs.Cutting.{ComesNext, Cuts, Ends, IsPushed, Puts, cut, weight};
 ghost use Rattle.cli_lines.specs.Lines as spec;
-ghost use Rattle.cli_lines.specs.Lines.{HasLines, IsTextLine, line_from, line_if, line_of, lines_of};
+ghost use Rattle.cli_lines.specs.Lines.{HasLines, IsTextLine, line_from, line_if, line_of, lines_from, lines_of};
 ghost use Rattle.cli_lines.specs.SeenLines.{line_seen, lines_seen};
-ghost use Rattle.cli_words.specs.Needs.{asks_line};
+ghost use Rattle.cli_words.specs.Needs.{asks_line, asks_passwords_from};
 ghost use Rattle.cli_words.specs.SeenNeeds.{needs_seen};
 ghost use Rattle.cli_answers.specs.Phases.{IsStreamStop, ReturnsAskedStream, ReturnsStream, TellsStream};
 
 use cli_answers::{Reason, Stop, refused};
 use cli_words::{Needs, asks_password};
-use outside_core::{NoMemory, Source, SourceFail};
+use outside_core::{List, NoMemory, Source, SourceFail, Text};
 use secret_core::Secret;
 use std::alloc::Global;
 use std::str;
@@ -182,11 +182,50 @@ fn read_if<S: Source>(
     }
 }
 
-// The number of the line after the password, if there is one.
-fn number_after(asks: bool) -> u64
-    ensures { result ≡ spec.number_after asks }
+// The number of the line after one of this number, which may be due. Memory never holds so many
+// lines that the numbers end.
+fn number_after(due: bool, number: u64) -> Result<u64, NoMemory>
+    ensures { IfOk result (λ next. next ≡ spec.number_after due number) }
 {
-    if asks { 2 } else { 1 }
+    if !due {
+        return Ok(number);
+    }
+    match number.checked_add(1) {
+        Some(next) => Ok(next),
+        None => Err(NoMemory),
+    }
+}
+
+// Reads the lines of sources, one after another, each where it is due, and gives the number of the
+// line after them.
+fn read_sources<S: Source>(
+    alloc: Global,
+    input: &mut S,
+    due: bool,
+    names: &[Text],
+    number: u64,
+    lines: &mut List<Option<Secret>>,
+) -> Result<u64, Stop>
+    ensures next { IfOk result (λ next. next ≡ spec.number_after_all due names.now number) }
+    ensures told { (i : List ℕ) → TellsStream due (S.left input.old) i
+        → ReturnsAskedStream (λ next. map line_seen lines.new) result (S.left input.old)
+        (S.left input.new) (lines_from due names.now number (map line_seen lines.old) i) }
+    ensures given { OnOk result (map is_some (map line_seen lines.new)
+        ≡ map is_some (map line_seen lines.old) ++ map (λ name. due) names.now) }
+    ensures cause { IfErr result (IsStreamStop (S.faults input.old) (S.faults input.new)) }
+    ensures faults { S.faults input.old ≤ S.faults input.new }
+{
+    let [_, names @ ..] = names else {
+        return Ok(number);
+    };
+    let line = read_if(alloc, input, due, number)?;
+    let Ok(next) = number_after(due, number) else {
+        return Err(Stop::NoMemory);
+    };
+    let Ok(()) = lines.push(line) else {
+        return Err(Stop::NoMemory);
+    };
+    read_sources(alloc, input, due, names, next, lines)
 }
 
 /// The lines of a call, each where it is due.
@@ -194,8 +233,45 @@ fn number_after(asks: bool) -> u64
 pub struct Lines {
     /// The password of the database.
     pub password: Option<Secret>,
-    /// The line that a command asks for after it.
+    /// The passwords of its sources, one after another, each where the source has its own.
+    pub sources: List<Option<Secret>>,
+    /// The line that a command asks for after them.
     pub more: Option<Secret>,
+}
+
+// The passwords of the sources of a database, and the number of the line after them. The first of
+// these lines has this number.
+fn read_passwords<S: Source>(
+    alloc: Global,
+    input: &mut S,
+    needs: Needs<'_>,
+    number: u64,
+    lines: &mut List<Option<Secret>>,
+) -> Result<u64, Stop>
+    ensures next { IfOk result (λ next. next
+        ≡ spec.number_after_all (asks_passwords_from (needs_seen needs.entry))
+        (needs_seen needs.entry).sources number) }
+    ensures told { (i : List ℕ)
+        → TellsStream (asks_passwords_from (needs_seen needs.entry)) (S.left input.old) i
+        → ReturnsAskedStream (λ next. map line_seen lines.new) result (S.left input.old)
+        (S.left input.new) (lines_from (asks_passwords_from (needs_seen needs.entry))
+        (needs_seen needs.entry).sources number (map line_seen lines.old) i) }
+    ensures given { OnOk result (map is_some (map line_seen lines.new)
+        ≡ map is_some (map line_seen lines.old)
+        ++ map (λ name. asks_passwords_from (needs_seen needs.entry))
+        (needs_seen needs.entry).sources) }
+    ensures cause { IfErr result (IsStreamStop (S.faults input.old) (S.faults input.new)) }
+    ensures faults { S.faults input.old ≤ S.faults input.new }
+{
+    let due = cli_words::asks_passwords_from(needs);
+    read_sources(alloc, input, due, needs.sources, number, lines)
+}
+
+// The number of the line after the password of the database, if there is one.
+fn number_from(asks: bool) -> u64
+    ensures { result ≡ spec.number_after asks 1 }
+{
+    if asks { 2 } else { 1 }
 }
 
 /// The lines that a command asks for, one after another.
@@ -210,6 +286,12 @@ pub fn read_lines<S: Source>(alloc: Global, input: &mut S, needs: Needs<'_>) -> 
 {
     let asks = asks_password(needs.access);
     let password = read_if(alloc, input, asks, 1)?;
-    let more = read_if(alloc, input, needs.has_line, number_after(asks))?;
-    Ok(Lines { password, more })
+    let mut sources = List::new(alloc);
+    let next = read_passwords(alloc, input, needs, number_from(asks), &mut sources)?;
+    let more = read_if(alloc, input, needs.has_line, next)?;
+    Ok(Lines {
+        password,
+        sources,
+        more,
+    })
 }

@@ -1,18 +1,18 @@
 -- Words that say flags and nothing else.
-use Rattle.std.proofs.Common.{◌≡◌, ◌≢◌, ◌⊎◌, inl, inr, ℕ, Bool, true, false, not, ◌&&◌, ◌==◌, cond, List, [], ◌∷◌, ◌++◌, is_some, codes, bytes_eq, Option, Some, None, refl, sym, ap, subst, ◌∙◌}
+use Rattle.std.proofs.Common.{◌≡◌, inl, inr, ℕ, Bool, true, false, not, ◌&&◌, ◌==◌, cond, List, [], ◌∷◌, ◌++◌, is_some, codes, bytes_eq, Option, Some, None, refl, sym, ap, subst, ◌∙◌}
 use Rattle.std.specs.List.{list_all}
 use Rattle.std.specs.Option.{option_and_then}
 use Rattle.std.proofs.lemmas.Bool.Decides.{Decides-eqb}
 use Rattle.std.proofs.lemmas.Slice.Eq.{bytes_eq-Decides}
 use Rattle.cli_words.specs.declared.options.CommandName.{CommandName}
 use Rattle.cli_words.specs.declared.options.CommandOption.{CommandOption}
-use Rattle.cli_words.specs.declared.options.CommandOption.TheVariants.{Recursive, Flat, Quiet, Plain, NoPassword, KeyFile, Title, User, Url, Notes, EntryPassword}
+use Rattle.cli_words.specs.declared.options.CommandOption.TheVariants.{Recursive, Flat, Quiet, Plain, NoPassword, KeyFile, Title, User, Url, Notes, EntryPassword, SameCredentials, DryRun, KeyFileFrom, NoPasswordFrom}
 use Rattle.cli_words.specs.Laws.{IsFlagWord, are_flag_letters, is_flag, is_flag_letter, lack_end}
 use Rattle.cli_words.specs.Options.{has_value, if_taken, letter_option, name_option, option_of_name}
 use Rattle.cli_words.specs.Prefixes.{strip_prefix}
 use Rattle.cli_words.specs.Words.{Said, by_letter, is_option, nothing_said, with_due, with_flag, with_given, with_joined, with_letters, with_long, with_name, with_next, with_option, with_position, with_word, with_words}
 use Rattle.cli_words.proofs.Flags.{flags_appended, flags_exchanged, same_step, with_flags}
-use Rattle.cli_words.proofs.Saying.{IfSaid, IsOpen, IsState, flags_keep, parts, same_from, unmet, words_appended, words_open}
+use Rattle.cli_words.proofs.Saying.{IsOpen, IsState, flags_keep, parts, same_from, unmet, words_appended, words_open}
 
 -- A word is an option, and says these flags where it is read as one.
 pub record Says (command : CommandName) (flags : List CommandOption) (word : List ℕ) : Type 0 where
@@ -24,8 +24,8 @@ pub read_option : (command : CommandName) (said : Said) (word : List ℕ) → is
     → with_word command said word ≡ with_option command said (strip_prefix (codes "--") word) (strip_prefix (codes "-") word)
 read_option command said word o e d =
     ap (λ (due : Option CommandOption). with_next command said word due) d
-    ∙ ap (λ (b : Bool). cond (b && not said.ended) (with_option command said (strip_prefix (codes "--") word) (strip_prefix (codes "-") word)) (with_position said word said.first)) o
-    ∙ ap (λ (b : Bool). cond (not b) (with_option command said (strip_prefix (codes "--") word) (strip_prefix (codes "-") word)) (with_position said word said.first)) e
+    ∙ ap (λ (b : Bool). cond (b && not said.ended) (with_option command said (strip_prefix (codes "--") word) (strip_prefix (codes "-") word)) (with_position said word)) o
+    ∙ ap (λ (b : Bool). cond (not b) (with_option command said (strip_prefix (codes "--") word) (strip_prefix (codes "-") word)) (with_position said word)) e
 
 -- One flag is the list of it.
 one_flag : (flag : CommandOption) (said : Said) → with_given said flag [] ≡ with_flags (flag ∷ []) said
@@ -61,8 +61,12 @@ names_whole name =
     (by_name name (codes "username") User _ (λ c s. refl)
     (by_name name (codes "url") Url _ (λ c s. refl)
     (by_name name (codes "notes") Notes _ (λ c s. refl)
-    (by_name name (codes "password-prompt") EntryPassword None (λ c s. refl)
-    (λ h. absurd (let no : false ≡ true → ⊥ = λ p. cc p in no h))))))))))))
+    (by_name name (codes "password-prompt") EntryPassword _ (λ c s. refl)
+    (by_name name (codes "same-credentials") SameCredentials _ (λ c s. refl)
+    (by_name name (codes "dry-run") DryRun _ (λ c s. refl)
+    (by_name name (codes "key-file-from") KeyFileFrom _ (λ c s. refl)
+    (by_name name (codes "no-password-from") NoPasswordFrom None (λ c s. refl)
+    (λ h. absurd (let no : false ≡ true → ⊥ = λ p. cc p in no h))))))))))))))))
 
 -- A flag that a command takes is an option.
 taken_some : (command : CommandName) (option : Option CommandOption) → is_flag (option_and_then (if_taken command) option) ≡ true

@@ -1,6 +1,7 @@
 pub mod Flags
 pub mod FlagWords
 pub mod Keys
+pub mod LongNames
 pub mod Positions
 pub mod PrefixCases
 pub mod Saying

@@ -1,5 +1,6 @@
 -- What words leave as it was.
-use Rattle.std.proofs.Common.{◌≡◌, ◌≢◌, ℕ, Bool, true, false, not, ◌&&◌, ◌==◌, cond, List, [], ◌∷◌, ◌++◌, is_some, codes, bytes_eq, Option, Some, None, refl, sym, ap, ◌∙◌}
+use Rattle.std.proofs.Common.{◌≡◌, ◌≢◌, ℕ, Bool, true, false, not, ◌&&◌, ◌==◌, cond, List, [], ◌∷◌, ◌++◌, codes, bytes_eq, Option, Some, None, refl, sym, ◌∙◌}
+use Rattle.std.specs.Prelude.{nat_lt}
 use Rattle.std.specs.Option.{option_and_then}
 use Rattle.std.proofs.lemmas.Bool.Decides.{Decides-eqb}
 use Rattle.std.proofs.lemmas.Slice.Eq.{bytes_eq-Decides}
@@ -8,7 +9,7 @@ use Rattle.cli_words.specs.declared.options.CommandOption.{CommandOption}
 use Rattle.cli_words.specs.Laws.{lack_end}
 use Rattle.cli_words.specs.Options.{has_value, letter_option, name_option}
 use Rattle.cli_words.specs.Prefixes.{after_sign, before_sign, strip_prefix}
-use Rattle.cli_words.specs.Words.{Said, by_letter, is_option, unless_given, with_due, with_flag, with_given, with_joined, with_later, with_letters, with_long, with_name, with_next, with_option, with_position, with_short, with_word, with_words, without_sign}
+use Rattle.cli_words.specs.Words.{Said, by_letter, is_option, unless_given, with_due, with_flag, with_given, with_joined, with_letters, with_long, with_next, with_option, with_position, with_short, with_word, with_words, without_sign}
 use Rattle.cli_words.proofs.Flags.{joined, same_step, with_flags}
 
 -- What is said, if anything is, has a property.
@@ -23,7 +24,7 @@ same_from P F G h None p = refl
 same_from P F G h (Some s) p = h s p
 
 -- Either of two, by a test.
-by_test : (P : Said → Type 0) (b : Bool) (x y : Option Said) → IfSaid P x → IfSaid P y → IfSaid P (cond b x y)
+pub by_test : (P : Said → Type 0) (b : Bool) (x y : Option Said) → IfSaid P x → IfSaid P y → IfSaid P (cond b x y)
 by_test P true x y p q = p
 by_test P false x y p q = q
 
@@ -100,13 +101,8 @@ option_opens command said (Some (b ∷ bs)) letters h p =
 option_opens command said None (Some letters) h p = short_opens command said letters p
 option_opens command said None None h p = refl
 
-later_opens : (said : Said) (word : List ℕ) (second : Option (List ℕ)) → IsOpen said → IfSaid IsOpen (with_later said word second)
-later_opens said word None p = p
-later_opens said word (Some second) p = by_unless IsOpen _ _ p
-
-position_opens : (said : Said) (word : List ℕ) (first : Option (List ℕ)) → IsOpen said → IfSaid IsOpen (with_position said word first)
-position_opens said word None p = p
-position_opens said word (Some first) p = later_opens said word said.second p
+position_opens : (said : Said) (word : List ℕ) → IsOpen said → IfSaid IsOpen (with_position said word)
+position_opens said word p = by_test IsOpen (nat_lt said.count 17) _ None p refl
 
 -- Only the word `--` is `--` with nothing after it.
 only_end : (word : List ℕ) → bytes_eq word (codes "--") ≡ false → strip_prefix (codes "--") word ≢ Some []
@@ -143,9 +139,9 @@ next_opens command word said (Some option) h p =
     by_test IsOpen (is_option word) None (with_given (record said { due = None }) option word) refl
     (given_opens (record said { due = None }) option word p)
 next_opens command word said None h p =
-    by_test IsOpen (is_option word && not said.ended) _ (with_position said word said.first)
+    by_test IsOpen (is_option word && not said.ended) _ (with_position said word)
     (option_opens command said (strip_prefix (codes "--") word) (strip_prefix (codes "-") word) (only_end word h) p)
-    (position_opens said word said.first p)
+    (position_opens said word p)
 
 -- The two parts of a test that is met.
 pub parts : (a b : Bool) → (a && b) ≡ true → (a ≡ true) × (b ≡ true)

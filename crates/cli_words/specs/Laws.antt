@@ -1,5 +1,5 @@
 -- The words that the laws of a call speak of.
-use Rattle.std.specs.Prelude.{ℕ, Bool, true, false, not, ◌&&◌, ◌≡◌, ◌⊎◌, is_some, List, [], ◌∷◌, ◌++◌, codes, Option, None, Some, option_and_then}
+use Rattle.std.specs.Prelude.{ℕ, Bool, true, false, not, ◌&&◌, ◌≡◌, ◌⊎◌, List, [], ◌∷◌, ◌++◌, codes, Option, None, Some, option_and_then}
 use Rattle.std.specs.List.{list_all}
 use Rattle.std.specs.Str.{bytes_eq}
 use Rattle.cli_words.specs.declared.options.CommandName.{CommandName}
@@ -38,4 +38,4 @@ lack_end words = list_all (λ word. not (bytes_eq word (codes "--"))) words
 abbrev pub with_positions : List (List ℕ) → Said → Option Said
 with_positions [] said = Some said
 with_positions (word ∷ words) said =
-    option_and_then (with_positions words) (with_position said word said.first)
+    option_and_then (with_positions words) (with_position said word)

@@ -1,30 +1,49 @@
 -- What a command asks for.
-use Rattle.std.specs.Prelude.{◌≡◌, ℕ, Bool, false, true, IsSome, ◌||◌, not, List, [], ◌∷◌, ◌++◌, Option, None, Some, Result, Ok, Err}
+use Rattle.std.specs.Prelude.{◌≡◌, ℕ, Bool, false, true, IsSome, ◌&&◌, ◌||◌, not, List, [], ◌∷◌, ◌++◌, Option, None, Some, Result, Ok, Err}
 use Rattle.cli_answers.specs.declared.answers.Refusal.{Refusal}
 use Rattle.cli_words.specs.declared.command.Access.{Access}
 use Rattle.cli_words.specs.declared.command.Command.{Command}
-use Rattle.cli_words.specs.declared.command.Command.TheVariants.{Ls, Add, Edit, Mv, Rm, Mkdir, Rmdir}
+use Rattle.cli_words.specs.declared.command.Command.TheVariants.{Ls, Add, Edit, Move, Remove, MakeGroup, RemoveGroup, Merge}
 
--- What a command asks for: the file of a database and how it is opened, and whether a line of the
--- input is due after those that open it.
+-- What a command asks for: the file of its database and how it is opened; the files of its sources,
+-- how each is opened, and whether each has the password of the database; and whether a line of the
+-- input is due after those that open databases.
 pub record Needs : Type 0 where
   pub access : Access
   pub file : List ℕ
+  pub from : Access
+  pub same : Bool
+  pub sources : List (List ℕ)
   pub has_line : Bool
+
+-- What a command asks for that has no sources.
+abbrev pub without_sources : Access → List ℕ → Bool → Needs
+without_sources access file has_line = record {
+  access = access;
+  file = file;
+  from = access;
+  same = false;
+  sources = [];
+  has_line = has_line;
+}
 
 -- What each command asks for.
 abbrev pub needs_of : Command → Needs
-needs_of (Ls access file group recursive flat) =
-    record { access = access; file = file; has_line = false }
-needs_of (Add access file entry asked) =
-    record { access = access; file = file; has_line = asked.password }
-needs_of (Edit access file entry asked) =
-    record { access = access; file = file; has_line = asked.password }
-needs_of (Mv access file moved group) =
-    record { access = access; file = file; has_line = false }
-needs_of (Rm access file entry) = record { access = access; file = file; has_line = false }
-needs_of (Mkdir access file group) = record { access = access; file = file; has_line = false }
-needs_of (Rmdir access file group) = record { access = access; file = file; has_line = false }
+needs_of (Ls access file group recursive flat) = without_sources access file false
+needs_of (Add access file entry asked) = without_sources access file asked.password
+needs_of (Edit access file entry asked) = without_sources access file asked.password
+needs_of (Move access file node group) = without_sources access file false
+needs_of (Remove access file entry) = without_sources access file false
+needs_of (MakeGroup access file group) = without_sources access file false
+needs_of (RemoveGroup access file group) = without_sources access file false
+needs_of (Merge access file sources from same dry) = record {
+  access = access;
+  file = file;
+  from = from;
+  same = same;
+  sources = sources;
+  has_line = false;
+}
 
 -- A database asks for a line: its password, unless it is a plain document or has none.
 abbrev pub asks_password : Access → Bool
@@ -34,18 +53,40 @@ asks_password access = not (access.plain || access.no_password)
 abbrev pub HasKey : Access → Type 0
 HasKey access = access.plain ≡ false → access.no_password ≡ true → IsSome access.key_file
 
--- At least one line is asked for.
+-- Each source asks for a line: a password of its own, unless it has the password of the database, or
+-- none.
+abbrev pub asks_passwords_from : Needs → Bool
+asks_passwords_from needs = not needs.same && asks_password needs.from
+
+-- The database and each source have a password or a key file, or are plain documents; and a source
+-- that has the password of the database is opened as that is.
+pub record HasKeys (needs : Needs) : Type 0 where
+  pub target : HasKey needs.access
+  pub sources : HasKey needs.from
+  pub same : needs.same ≡ true → needs.from ≡ needs.access
+
+-- A line is asked for: by the database, by each of its sources, or after them.
 abbrev pub asks_line : Needs → Bool
-asks_line needs = asks_password needs.access || needs.has_line
+asks_line needs =
+    asks_password needs.access || (asks_passwords_from needs || needs.has_line)
 
 -- The key file, where one is named.
 abbrev pub key_files : Option (List ℕ) → List (List ℕ)
 key_files None = []
 key_files (Some name) = name ∷ []
 
--- The files that a command asks for: the key file, and then the database.
+-- The files of one database: the key file, and then its own.
+abbrev pub database_files : Access → List ℕ → List (List ℕ)
+database_files access name = key_files access.key_file ++ name ∷ []
+
+-- The files of sources, each opened in this way.
+abbrev pub source_files : Access → List (List ℕ) → List (List ℕ)
+source_files from [] = []
+source_files from (name ∷ names) = database_files from name ++ source_files from names
+
+-- The files that a command asks for: those of its database, and then those of its sources.
 abbrev pub files_of : Needs → List (List ℕ)
-files_of needs = key_files needs.access.key_file ++ needs.file ∷ []
+files_of needs = database_files needs.access needs.file ++ source_files needs.from needs.sources
 
 -- The files that the words name.
 abbrev pub files_named : Result Command Refusal → List (List ℕ)

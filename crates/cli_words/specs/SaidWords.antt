@@ -14,7 +14,6 @@ said_seen said = record {
   given = map text_seen said.given;
   due = said.due;
   ended = said.ended;
-  first = text_seen said.first;
-  second = text_seen said.second;
-  third = text_seen said.third;
+  positions = map text_seen said.positions;
+  count = said.count;
 }

@@ -7,5 +7,8 @@ abbrev pub needs_seen : declared.Needs → Needs
 needs_seen needs = record {
   access = needs.access.now;
   file = needs.file.now;
+  from = needs.from.now;
+  same = needs.same;
+  sources = needs.sources.now;
   has_line = needs.has_line;
 }

@@ -1,6 +1,5 @@
 -- The words of a call: what they say, and which command they are.
-use Rattle.std.specs.Prelude.{ℕ, Bool, true, false, not, ◌&&◌, ◌||◌, ◌==◌, if◌then◌else◌, is_some, List, [], ◌∷◌, codes, replicate, Option, None, Some, Result, Ok, Err, option_and_then, slice_index_or, slice_set}
-use Rattle.std.specs.Str.{bytes_eq}
+use Rattle.std.specs.Prelude.{ℕ, Bool, true, false, not, ◌&&◌, ◌||◌, ◌==◌, ◌+◌, nat_lt, if◌then◌else◌, is_some, drop, take, List, [], ◌∷◌, codes, replicate, Option, None, Some, Result, Ok, Err, option_and_then, slice_index_or, slice_set}
 use Rattle.cli_words.specs.Prefixes.{after_sign, before_sign, strip_prefix}
 use Rattle.cli_answers.specs.declared.answers.Reason.TheVariants.{WrongWords}
 use Rattle.cli_answers.specs.declared.answers.Refusal.{Refusal}
@@ -8,7 +7,7 @@ use Rattle.cli_answers.specs.Messages.{refusal_of}
 use Rattle.cli_words.specs.declared.command.Access.{Access}
 use Rattle.cli_words.specs.declared.command.Asked.{Asked}
 use Rattle.cli_words.specs.declared.command.Command.{Command}
-use Rattle.cli_words.specs.declared.command.Command.TheVariants.{Ls, Add, Edit, Mv, Rm, Mkdir, Rmdir}
+use Rattle.cli_words.specs.declared.command.Command.TheVariants.{Ls, Add, Edit, Move, Remove, MakeGroup, RemoveGroup, Merge}
 use Rattle.cli_words.specs.declared.options.CommandName.{CommandName}
 use Rattle.cli_words.specs.declared.options.CommandName.TheVariants as name
 use Rattle.cli_words.specs.declared.options.CommandOption.{CommandOption}
@@ -25,24 +24,23 @@ is_option (b ∷ c ∷ bs) = b == 45
 
 -- What the words after a command's name say: the text of each option that was given, a flag's being
 -- empty; the option whose value is due in the next word; whether `--` was there, after which no
--- word is an option; and the three positions.
+-- word is an option; and the text of each position by its place, and how many there are. No command
+-- has more than 17.
 pub record Said : Type 0 where
   pub given : List (Option (List ℕ))
   pub due : Option CommandOption
   pub ended : Bool
-  pub first : Option (List ℕ)
-  pub second : Option (List ℕ)
-  pub third : Option (List ℕ)
+  pub positions : List (Option (List ℕ))
+  pub count : ℕ
 
 -- What no words say.
 abbrev pub nothing_said : Said
 nothing_said = record {
-  given = replicate 11 None;
+  given = replicate 15 None;
   due = None;
   ended = false;
-  first = None;
-  second = None;
-  third = None;
+  positions = replicate 17 None;
+  count = 0;
 }
 
 -- The text of an option, where it was given.
@@ -130,16 +128,13 @@ with_option command said (Some name) letters = with_name command said name
 with_option command said None (Some letters) = with_short command said letters
 with_option command said None None = None
 
--- The second position, or the third.
-abbrev pub with_later : Said → List ℕ → Option (List ℕ) → Option Said
-with_later said word None = Some (record said { second = Some word })
-with_later said word (Some second) =
-    unless_given (is_some said.third) (record said { third = Some word })
-
--- The first position, or a later one.
-abbrev pub with_position : Said → List ℕ → Option (List ℕ) → Option Said
-with_position said word None = Some (record said { first = Some word })
-with_position said word (Some first) = with_later said word said.second
+-- A position more, after those that are there, of which there are at most 17.
+abbrev pub with_position : Said → List ℕ → Option Said
+with_position said word = if nat_lt said.count 17 then Some
+    (record said {
+      positions = slice_set said.positions said.count (Some word);
+      count = said.count + 1;
+    }) else None
 
 -- A word where this option's value is due: the value, which is no option; or else an option or a
 -- position.
@@ -149,7 +144,7 @@ with_next command said word (Some option) =
 with_next command said word None =
     if is_option word && not said.ended
     then with_option command said (strip_prefix (codes "--") word) (strip_prefix (codes "-") word)
-    else with_position said word said.first
+    else with_position said word
 
 -- A word more.
 abbrev pub with_word : CommandName → Said → List ℕ → Option Said
@@ -167,6 +162,20 @@ with_words command (word ∷ words) said =
 abbrev pub wrong_words : Result Command Refusal
 wrong_words = Err (refusal_of WrongWords (codes "words"))
 
+-- The text of the position at a place, where there is one.
+abbrev pub position_at : ℕ → Said → Option (List ℕ)
+position_at place said = slice_index_or said.positions place None
+
+-- The texts that are there.
+abbrev pub texts_there : List (Option (List ℕ)) → List (List ℕ)
+texts_there [] = []
+texts_there (None ∷ texts) = texts_there texts
+texts_there (Some text ∷ texts) = text ∷ texts_there texts
+
+-- The texts of all positions after the first.
+abbrev pub positions_after_first : Said → List (List ℕ)
+positions_after_first said = texts_there (take 16 (drop 1 said.positions))
+
 -- How a database is opened.
 abbrev pub access_of : Said → Access
 access_of said = record {
@@ -176,14 +185,37 @@ access_of said = record {
   no_password = is_given option.NoPassword said;
 }
 
--- Nothing is due, and what opens the database fits it: nothing at a plain document, else a password
--- or a key file.
+-- How each source of a merge is opened: as its target where that is asked for, or by options of its
+-- own.
+abbrev pub access_from : Said → Access
+access_from said = if is_given option.SameCredentials said then access_of said
+    else record {
+      plain = is_given option.Plain said;
+      quiet = is_given option.Quiet said;
+      key_file = text_of option.KeyFileFrom said;
+      no_password = is_given option.NoPasswordFrom said;
+    }
+
+-- What opens a database fits it: nothing at a plain document, else a password or a key file.
+abbrev pub is_fit : (plain no_password has_key : Bool) → Bool
+is_fit plain no_password has_key =
+    if plain then not (no_password || has_key) else (not no_password || has_key)
+
+-- What opens the sources of a merge fits them. Where they are opened as the target is, that is no
+-- plain document, and nothing is given for the sources alone.
+abbrev pub is_fit_from : Said → Bool
+is_fit_from said = if is_given option.SameCredentials said
+    then not (is_given option.Plain said || is_given option.NoPasswordFrom said
+    || is_given option.KeyFileFrom said)
+    else is_fit (is_given option.Plain said) (is_given option.NoPasswordFrom said)
+    (is_given option.KeyFileFrom said)
+
+-- Nothing is due, and what opens each database fits it.
 abbrev pub is_whole : Said → Bool
 is_whole said =
     not (is_due said)
-    && (if is_given option.Plain said
-    then not (is_given option.NoPassword said || is_given option.KeyFile said)
-    else (not (is_given option.NoPassword said) || is_given option.KeyFile said))
+    && (is_fit (is_given option.Plain said) (is_given option.NoPassword said)
+    (is_given option.KeyFile said) && is_fit_from said)
 
 -- The values that an entry is to have.
 abbrev pub asked_of : Said → Asked
@@ -226,52 +258,72 @@ edit_at said None entry = wrong_words
 
 -- `mv DATABASE NODE GROUP`
 abbrev pub move_at : Said → (first second third : Option (List ℕ)) → Result Command Refusal
-move_at said (Some file) (Some moved) (Some group) = Ok (Mv (access_of said) file moved group)
-move_at said (Some file) (Some moved) None = wrong_words
+move_at said (Some file) (Some node) (Some group) = Ok (Move (access_of said) file node group)
+move_at said (Some file) (Some node) None = wrong_words
 move_at said (Some file) None group = wrong_words
-move_at said None moved group = wrong_words
+move_at said None path group = wrong_words
 
 -- `rm DATABASE ENTRY`
 abbrev pub remove_at : Said → Option (List ℕ) → Option (List ℕ) → Result Command Refusal
-remove_at said (Some file) (Some entry) = Ok (Rm (access_of said) file entry)
+remove_at said (Some file) (Some entry) = Ok (Remove (access_of said) file entry)
 remove_at said (Some file) None = wrong_words
 remove_at said None entry = wrong_words
 
 -- `mkdir DATABASE GROUP`
 abbrev pub make_group_at : Said → Option (List ℕ) → Option (List ℕ) → Result Command Refusal
-make_group_at said (Some file) (Some group) = Ok (Mkdir (access_of said) file group)
+make_group_at said (Some file) (Some group) = Ok (MakeGroup (access_of said) file group)
 make_group_at said (Some file) None = wrong_words
 make_group_at said None group = wrong_words
 
 -- `rmdir DATABASE GROUP`
 abbrev pub remove_group_at : Said → Option (List ℕ) → Option (List ℕ) → Result Command Refusal
-remove_group_at said (Some file) (Some group) = Ok (Rmdir (access_of said) file group)
+remove_group_at said (Some file) (Some group) = Ok (RemoveGroup (access_of said) file group)
 remove_group_at said (Some file) None = wrong_words
 remove_group_at said None group = wrong_words
+
+-- `merge TARGET SOURCE...`
+abbrev pub merge_at : Said → (first second : Option (List ℕ)) → Result Command Refusal
+merge_at said (Some file) (Some source) =
+    Ok (Merge (access_of said) file (positions_after_first said) (access_from said)
+    (is_given option.SameCredentials said) (is_given option.DryRun said))
+merge_at said (Some file) None = wrong_words
+merge_at said None source = wrong_words
 
 -- A command of two positions, which must have no third.
 abbrev pub without_third : Option (List ℕ) → Result Command Refusal → Result Command Refusal
 without_third None command = command
 without_third (Some word) command = wrong_words
 
+-- A command of three positions, which must have no fourth.
+abbrev pub without_fourth : Option (List ℕ) → Result Command Refusal → Result Command Refusal
+without_fourth None command = command
+without_fourth (Some word) command = wrong_words
+
 -- The command of this name with these positions.
-abbrev pub command_at : CommandName → Said → (first second third : Option (List ℕ))
+abbrev pub command_at : CommandName → Said → (first second third fourth : Option (List ℕ))
     → Result Command Refusal
-command_at name.Ls said first second third = without_third third (list_at said first second)
-command_at name.Add said first second third = without_third third (add_at said first second)
-command_at name.Edit said first second third = without_third third (edit_at said first second)
-command_at name.Mv said first second third = move_at said first second third
-command_at name.Rm said first second third = without_third third (remove_at said first second)
-command_at name.Mkdir said first second third =
+command_at name.Ls said first second third fourth =
+    without_third third (list_at said first second)
+command_at name.Add said first second third fourth =
+    without_third third (add_at said first second)
+command_at name.Edit said first second third fourth =
+    without_third third (edit_at said first second)
+command_at name.Move said first second third fourth =
+    without_fourth fourth (move_at said first second third)
+command_at name.Remove said first second third fourth =
+    without_third third (remove_at said first second)
+command_at name.MakeGroup said first second third fourth =
     without_third third (make_group_at said first second)
-command_at name.Rmdir said first second third =
+command_at name.RemoveGroup said first second third fourth =
     without_third third (remove_group_at said first second)
+command_at name.Merge said first second third fourth = merge_at said first second
 
 -- The command of this name whose other words say this.
 abbrev pub command_saying : CommandName → Option Said → Result Command Refusal
 command_saying command None = wrong_words
 command_saying command (Some said) =
-    if is_whole said then command_at command said said.first said.second said.third
+    if is_whole said then command_at command said (position_at 0 said) (position_at 1 said)
+    (position_at 2 said) (position_at 3 said)
     else wrong_words
 
 -- The command of this name with these words after it.

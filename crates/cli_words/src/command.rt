@@ -1,6 +1,6 @@
 //! What the program can be asked to do.
 
-use outside_core::Text;
+use outside_core::{List, Text};
 
 /// How a database is opened.
 #[derive(Drop)]
@@ -69,7 +69,7 @@ pub enum Command {
         asked: Asked,
     },
     /// Moves an entry or a group into another group.
-    Mv {
+    Move {
         /// How the database is opened.
         access: Access,
         /// The file of the database.
@@ -80,7 +80,7 @@ pub enum Command {
         group: Text,
     },
     /// Puts an entry into the bin, or deletes it.
-    Rm {
+    Remove {
         /// How the database is opened.
         access: Access,
         /// The file of the database.
@@ -89,7 +89,7 @@ pub enum Command {
         entry: Text,
     },
     /// Adds a group to a database.
-    Mkdir {
+    MakeGroup {
         /// How the database is opened.
         access: Access,
         /// The file of the database.
@@ -98,12 +98,27 @@ pub enum Command {
         group: Text,
     },
     /// Puts a group into the bin, or deletes it with all that is in it.
-    Rmdir {
+    RemoveGroup {
         /// How the database is opened.
         access: Access,
         /// The file of the database.
         file: Text,
         /// The path of the group.
         group: Text,
+    },
+    /// Merges databases into a database.
+    Merge {
+        /// How the target is opened.
+        access: Access,
+        /// The file of the target.
+        file: Text,
+        /// The files of the sources, of which there are 1 to 16.
+        sources: List<Text>,
+        /// How each source is opened.
+        from: Access,
+        /// Whether each source has the password of the target.
+        same: bool,
+        /// Whether no file is written.
+        dry: bool,
     },
 }

@@ -10,4 +10,4 @@ mod words;
 
 pub use command::{Access, Asked, Command};
 pub use commands::read_words;
-pub use needs::{Needs, asks_password, needs_of};
+pub use needs::{Needs, asks_password, asks_passwords_from, needs_of};

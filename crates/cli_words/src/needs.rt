@@ -6,16 +6,36 @@ ghost use Rattle.cli_words.specs.SeenNeeds.{needs_seen};
 use crate::command::{Access, Command};
 use outside_core::Text;
 
-/// What a command asks for: the file of a database and how it is opened, and whether a line of the
-/// input is due after those that open it.
+/// What a command asks for: the file of its database and how it is opened, the files of its sources
+/// and how each is opened, and whether a line of the input is due after those that open them.
 #[derive(Clone, Copy)]
 pub struct Needs<'a> {
     /// How the database is opened.
     pub access: &'a Access,
     /// The file of the database.
     pub file: &'a Text,
-    /// Whether a line is due after those that open it.
+    /// How each source is opened.
+    pub from: &'a Access,
+    /// Whether each source has the password of the database.
+    pub same: bool,
+    /// The files of the sources.
+    pub sources: &'a [Text],
+    /// Whether a line is due after those that open databases.
     pub has_line: bool,
+}
+
+// What a command asks for that has no sources.
+fn without_sources<'a>(access: &'a Access, file: &'a Text, has_line: bool) -> Needs<'a>
+    ensures { needs_seen result ≡ spec.without_sources access.now file.now has_line }
+{
+    Needs {
+        access,
+        file,
+        from: access,
+        same: false,
+        sources: &[],
+        has_line,
+    }
 }
 
 /// What a command asks for.
@@ -23,49 +43,36 @@ pub fn needs_of(command: &Command) -> Needs<'_>
     ensures { needs_seen result ≡ spec.needs_of command.now }
 {
     match command {
-        Command::Ls { access, file, .. } => Needs {
-            access,
-            file,
-            has_line: false,
-        },
+        Command::Ls { access, file, .. } => without_sources(access, file, false),
         Command::Add {
             access,
             file,
             asked,
             ..
-        } => Needs {
-            access,
-            file,
-            has_line: asked.password,
-        },
+        } => without_sources(access, file, asked.password),
         Command::Edit {
             access,
             file,
             asked,
             ..
+        } => without_sources(access, file, asked.password),
+        Command::Move { access, file, .. } => without_sources(access, file, false),
+        Command::Remove { access, file, .. } => without_sources(access, file, false),
+        Command::MakeGroup { access, file, .. } => without_sources(access, file, false),
+        Command::RemoveGroup { access, file, .. } => without_sources(access, file, false),
+        Command::Merge {
+            access,
+            file,
+            sources,
+            from,
+            same,
+            ..
         } => Needs {
             access,
             file,
-            has_line: asked.password,
-        },
-        Command::Mv { access, file, .. } => Needs {
-            access,
-            file,
-            has_line: false,
-        },
-        Command::Rm { access, file, .. } => Needs {
-            access,
-            file,
-            has_line: false,
-        },
-        Command::Mkdir { access, file, .. } => Needs {
-            access,
-            file,
-            has_line: false,
-        },
-        Command::Rmdir { access, file, .. } => Needs {
-            access,
-            file,
+            from,
+            same: *same,
+            sources: sources.as_slice(),
             has_line: false,
         },
     }
@@ -77,4 +84,12 @@ pub fn asks_password(access: &Access) -> bool
     ensures { result ≡ spec.asks_password access.now }
 {
     !(access.plain || access.no_password)
+}
+
+/// Reports whether each source asks for a line: a password of its own, unless it has the password
+/// of the database, or none.
+pub fn asks_passwords_from(needs: Needs<'_>) -> bool
+    ensures { result ≡ spec.asks_passwords_from (needs_seen needs.entry) }
+{
+    !needs.same && asks_password(needs.from)
 }

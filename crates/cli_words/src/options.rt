@@ -12,13 +12,15 @@ pub enum CommandName {
     /// `edit`
     Edit,
     /// `mv`
-    Mv,
+    Move,
     /// `rm`
-    Rm,
+    Remove,
     /// `mkdir`
-    Mkdir,
+    MakeGroup,
     /// `rmdir`
-    Rmdir,
+    RemoveGroup,
+    /// `merge`
+    Merge,
 }
 
 /// An option of a command.
@@ -46,10 +48,18 @@ pub enum CommandOption {
     Notes,
     /// `--password-prompt`, `-p`
     EntryPassword,
+    /// `--same-credentials`, `-s`
+    SameCredentials,
+    /// `--dry-run`, `-d`
+    DryRun,
+    /// `--key-file-from FILE`
+    KeyFileFrom,
+    /// `--no-password-from`
+    NoPasswordFrom,
 }
 
 /// How many options there are.
-pub(crate) const OPTIONS: usize = 11;
+pub(crate) const OPTIONS: usize = 15;
 
 /// The command of a name.
 pub(crate) fn command_named(name: &str) -> Option<CommandName>
@@ -59,10 +69,11 @@ pub(crate) fn command_named(name: &str) -> Option<CommandName>
         "ls" => Some(CommandName::Ls),
         "add" => Some(CommandName::Add),
         "edit" => Some(CommandName::Edit),
-        "mv" => Some(CommandName::Mv),
-        "rm" => Some(CommandName::Rm),
-        "mkdir" => Some(CommandName::Mkdir),
-        "rmdir" => Some(CommandName::Rmdir),
+        "mv" => Some(CommandName::Move),
+        "rm" => Some(CommandName::Remove),
+        "mkdir" => Some(CommandName::MakeGroup),
+        "rmdir" => Some(CommandName::RemoveGroup),
+        "merge" => Some(CommandName::Merge),
         _ => None,
     }
 }
@@ -70,7 +81,7 @@ pub(crate) fn command_named(name: &str) -> Option<CommandName>
 /// The place of an option among all of them.
 pub(crate) fn place_of(option: CommandOption) -> usize
     ensures is { result ≡ spec.place_of option }
-    ensures most { result < 11 }
+    ensures most { result < 15 }
 {
     match option {
         CommandOption::Recursive => 0,
@@ -84,6 +95,10 @@ pub(crate) fn place_of(option: CommandOption) -> usize
         CommandOption::Url => 8,
         CommandOption::Notes => 9,
         CommandOption::EntryPassword => 10,
+        CommandOption::SameCredentials => 11,
+        CommandOption::DryRun => 12,
+        CommandOption::KeyFileFrom => 13,
+        CommandOption::NoPasswordFrom => 14,
     }
 }
 
@@ -97,6 +112,7 @@ pub(crate) fn has_value(option: CommandOption) -> bool
         CommandOption::User => true,
         CommandOption::Url => true,
         CommandOption::Notes => true,
+        CommandOption::KeyFileFrom => true,
         _ => false,
     }
 }
@@ -113,6 +129,10 @@ pub(crate) fn is_taken_by(command: CommandName, option: CommandOption) -> bool
         CommandOption::Url => gives_values(command),
         CommandOption::Notes => gives_values(command),
         CommandOption::EntryPassword => gives_values(command),
+        CommandOption::SameCredentials => is_merge(command),
+        CommandOption::DryRun => is_merge(command),
+        CommandOption::KeyFileFrom => is_merge(command),
+        CommandOption::NoPasswordFrom => is_merge(command),
         _ => true,
     }
 }
@@ -133,6 +153,16 @@ fn is_edit(command: CommandName) -> bool
 {
     match command {
         CommandName::Edit => true,
+        _ => false,
+    }
+}
+
+// Reports whether a command is `merge`.
+fn is_merge(command: CommandName) -> bool
+    ensures { result ≡ spec.is_merge command }
+{
+    match command {
+        CommandName::Merge => true,
         _ => false,
     }
 }
@@ -161,6 +191,8 @@ fn option_of_letter(letter: u8) -> Option<CommandOption>
         b't' => Some(CommandOption::Title),
         b'u' => Some(CommandOption::User),
         b'p' => Some(CommandOption::EntryPassword),
+        b's' => Some(CommandOption::SameCredentials),
+        b'd' => Some(CommandOption::DryRun),
         _ => None,
     }
 }
@@ -181,6 +213,10 @@ fn option_of_name(name: &str) -> Option<CommandOption>
         "url" => Some(CommandOption::Url),
         "notes" => Some(CommandOption::Notes),
         "password-prompt" => Some(CommandOption::EntryPassword),
+        "same-credentials" => Some(CommandOption::SameCredentials),
+        "dry-run" => Some(CommandOption::DryRun),
+        "key-file-from" => Some(CommandOption::KeyFileFrom),
+        "no-password-from" => Some(CommandOption::NoPasswordFrom),
         _ => None,
     }
 }

@@ -1,15 +1,20 @@
 //! What the words of a call say.
-ghost use Rattle.std.specs.Prelude.{◌≡◌, ◌<◌, IfSome, codes, map, string_bytes};
+ghost use Rattle.std.specs.Prelude.{◌≡◌, ◌<◌, IfOk, IfSome, codes, map, string_bytes};
 ghost use Rattle.cli_words.specs.Prefixes as prefixes;
 ghost use Rattle.cli_words.specs.Prefixes.{after_sign, before_sign};
 ghost use Rattle.cli_words.specs.SaidWords.{said_seen, text_seen};
 ghost use Rattle.cli_words.specs.Words as spec;
 ghost use Rattle.cli_words.specs.Words.{nothing_said, with_words};
-ghost use Rattle.std.specs.Prelude.{option_map, slice_index_or};
+ghost use Rattle.std.specs.Prelude.{Some, option_map, slice_index_or, slice_set};
 
 use crate::options::{
     CommandName, CommandOption, OPTIONS, has_value, letter_option, name_option, place_of,
 };
+use outside_core::{List, NoMemory, Text};
+use std::alloc::Global;
+
+/// The most positions of a command: the target of a merge, and 16 sources.
+const POSITIONS: usize = 17;
 
 /// What the words after a command's name say.
 #[derive(Clone, Copy)]
@@ -20,9 +25,10 @@ pub(crate) struct SaidWords<'a> {
     due: Option<CommandOption>,
     // Whether `--` was there, after which no word is an option.
     ended: bool,
-    pub(crate) first: Option<&'a str>,
-    pub(crate) second: Option<&'a str>,
-    pub(crate) third: Option<&'a str>,
+    // The text of each position, by its place.
+    positions: [Option<&'a str>; POSITIONS],
+    // How many positions there are.
+    count: usize,
 }
 
 // Reports whether a word is an option: two or more bytes, of which the first is `-`.
@@ -70,6 +76,39 @@ pub(crate) fn is_due(said: &SaidWords<'_>) -> bool
     ensures { result ≡ spec.is_due (said_seen said.now) }
 {
     said.due.is_some()
+}
+
+/// The text of the position at a place, where there is one.
+pub(crate) fn position_at<'a>(said: &SaidWords<'a>, place: usize) -> Option<&'a str>
+    requires { place < 17 }
+    ensures { text_seen result ≡ spec.position_at place (said_seen said.now) }
+{
+    said.positions[place]
+}
+
+// Copies of the texts that are there.
+fn texts_there(alloc: Global, texts: &[Option<&str>]) -> Result<List<Text>, NoMemory>
+    ensures { IfOk result (λ copies. copies ≡ spec.texts_there (map text_seen texts.now)) }
+{
+    let mut copies = List::new(alloc);
+    for text in texts {
+        if let Some(text) = text {
+            let Ok(()) = copies.push(Text::of(alloc, text)?) else {
+                return Err(NoMemory);
+            };
+        }
+    }
+    Ok(copies)
+}
+
+/// The texts of all positions after the first.
+pub(crate) fn positions_after_first(
+    alloc: Global,
+    said: &SaidWords<'_>,
+) -> Result<List<Text>, NoMemory>
+    ensures { IfOk result (λ texts. texts ≡ spec.positions_after_first (said_seen said.now)) }
+{
+    texts_there(alloc, &said.positions[1..])
 }
 
 // The texts of options with one more, or another.
@@ -235,35 +274,33 @@ fn with_option<'a>(
     }
 }
 
-// The second position, or the third after it.
-fn with_later<'a>(said: SaidWords<'a>, word: &'a str) -> Option<SaidWords<'a>>
-    ensures { option_map said_seen result ≡ spec.with_later (said_seen said.entry) word.now
-        (said_seen said.entry).second }
+// The texts of positions with another at a place.
+fn with_text_at<'a>(
+    positions: [Option<&'a str>; POSITIONS],
+    place: usize,
+    text: &'a str,
+) -> [Option<&'a str>; POSITIONS]
+    requires { place < 17 }
+    ensures { map text_seen result
+        ≡ slice_set (map text_seen positions.entry) place (Some text.now) }
 {
-    match (said.second, said.third) {
-        (None, _) => Some(SaidWords {
-            second: Some(word),
-            ..said
-        }),
-        (Some(_), None) => Some(SaidWords {
-            third: Some(word),
-            ..said
-        }),
-        (Some(_), Some(_)) => None,
-    }
+    let mut positions = positions;
+    positions[place] = Some(text);
+    positions
 }
 
-// The first position, or a later one.
+// A position more, or none where there are too many.
 fn with_position<'a>(said: SaidWords<'a>, word: &'a str) -> Option<SaidWords<'a>>
-    ensures { option_map said_seen result ≡ spec.with_position (said_seen said.entry) word.now
-        (said_seen said.entry).first }
+    ensures { option_map said_seen result ≡ spec.with_position (said_seen said.entry) word.now }
 {
-    match said.first {
-        None => Some(SaidWords {
-            first: Some(word),
+    if said.count < POSITIONS {
+        Some(SaidWords {
+            positions: with_text_at(said.positions, said.count, word),
+            count: said.count + 1,
             ..said
-        }),
-        Some(_) => with_later(said, word),
+        })
+    } else {
+        None
     }
 }
 
@@ -289,9 +326,8 @@ pub(crate) fn said_by<'a>(command: CommandName, words: &'a [String]) -> Option<S
         given: [None; OPTIONS],
         due: None,
         ended: false,
-        first: None,
-        second: None,
-        third: None,
+        positions: [None; POSITIONS],
+        count: 0,
     };
     for word in words {
         said = with_word(command, said, word.as_str())?;

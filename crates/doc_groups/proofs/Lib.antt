@@ -1,3 +1,2 @@
 mod GroupWalks
 mod Places
-mod TextPieces

@@ -1,13 +1,12 @@
 -- Groups, whose start tags were given.
 use Rattle.std.specs.Prelude.{ℕ, Bool, if◌then◌else◌, Option, [], ◌∷◌, ◌++◌, Result, Ok, Err}
-use Rattle.markup_grammar.specs.Elements.{Content, element}
+use Rattle.markup_grammar.specs.Elements.{element}
 use Rattle.vault_model.specs.Db.{NodeId}
 use Rattle.doc_forms.specs.declared.cursor.Cursor.{Cursor}
 use Rattle.doc_forms.specs.declared.fails.DocFail.{DocFail}
 use Rattle.doc_forms.specs.declared.fails.DocFail.TheVariants.{BadValue}
 use Rattle.doc_forms.specs.ElementTexts.{Setting}
-use Rattle.doc_forms.specs.Children.{Child, all_children, by_name, count_node}
-use Rattle.doc_forms.specs.Documents.{FileParts, document_rows}
+use Rattle.doc_forms.specs.Children.{Child, count_node}
 use Rattle.doc_forms.specs.Entries.{entry, node_id}
 use Rattle.doc_forms.specs.Groups.{ReadTree, GroupParts, group, node, record_of}
 use Rattle.doc_walk.specs.declared.walk.Tag.{Tag}
@@ -34,9 +33,3 @@ whole_group fits offset parts cursor = id_at_end fits offset parts.id cursor >>=
 -- an entry of a group, after those that are known
 abbrev pub entry_child : Setting → Child GroupParts
 entry_child s = entry s (λ p e. record p { entries = p.entries ++ e ∷ [] })
-
--- what is known at the end of a text, of which this much is known before this content
-abbrev pub parts_left : Setting → Content → Option FileParts → Cursor
-    → Result (Option FileParts) DocFail
-parts_left s content parts cursor =
-    all_children (by_name s (document_rows s)) content parts cursor >>= λ x. Ok x.0

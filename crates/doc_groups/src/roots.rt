@@ -65,7 +65,7 @@ fn builder_of(draft: RootDraft) -> RootBuilder
 }
 
 /// The `Root` whose start tag was given.
-pub(crate) fn root(walk: &mut Walk<'_>, tag: &Tag<'_>) -> Result<RootBuilder, DocFail>
+pub fn root(walk: &mut Walk<'_>, tag: &Tag<'_>) -> Result<RootBuilder, DocFail>
     ensures { Steps root_parts walk.old walk.new result
         (contents_step (λ s. by_name s (spec.root_rows s)) spec.no_root tag.now) }
 {

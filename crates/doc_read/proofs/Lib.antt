@@ -1,0 +1,2 @@
+mod OnlyRoot
+mod TextPieces

@@ -1,6 +1,8 @@
 //! Reading the document of a vault: from markup to the tree of groups and entries.
 #![tactic(auto)]
 
+mod document;
+mod outermost;
 mod reading;
 
 pub use doc_forms::{DocFail, DocParts, ReadDoc, RequiredElement};

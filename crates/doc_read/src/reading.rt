@@ -7,8 +7,8 @@ ghost use Rattle.doc_forms.specs.Refusals.{Returns};
 ghost use Rattle.doc_forms.specs.SeenDocuments.{parts_seen, pool_item, read_seen};
 ghost use Rattle.doc_forms.specs.SeenTexts.{setting_of};
 
+use crate::document::read_document;
 use doc_forms::{DocFail, DocParts, ReadDoc};
-use doc_groups::read_document;
 use doc_resolving::resolve;
 use outside_core::List;
 use std::alloc::Global;

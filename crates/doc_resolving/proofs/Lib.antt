@@ -1,7 +1,7 @@
 mod Burials
-mod ResolvedTrees
-mod RisingTombs
-mod ResolvedDocuments
+pub mod ResolvedTrees
+pub mod RisingTombs
+pub mod ResolvedDocuments
 mod SoundTrees
 pub mod IdSets
 pub mod NodeIds

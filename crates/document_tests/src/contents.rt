@@ -11,16 +11,9 @@ use std::test::Fail;
 use uuid::Uuid;
 use vault_making::{copy_version, empty_doc};
 use vault_model::{
-    Association, Attachment, AutoType, Content, Entry, Field, Group, GroupContent, Item, Meta,
-    Stamp, Stats, Tri, Version, compare_content, compare_group, entry_stamp,
+    Association, Attachment, AutoType, Content, Entry, Field, Group, GroupContent, GroupState,
+    Item, Meta, Stamp, Stats, Tri, Version, compare_content, compare_group, entry_stamp,
 };
-
-fn made<T>(answer: Result<T, NoMemory>) -> Result<T, &'static str> {
-    match answer {
-        Ok(value) => Ok(value),
-        Err(_) => Err("memory ran out"),
-    }
-}
 
 fn stamp(seconds: u8) -> Stamp {
     Stamp::of(seconds as u64).unwrap()
@@ -36,10 +29,10 @@ fn secret(alloc: Global, bytes: &[u8]) -> Result<Secret, NoMemory> {
     Ok(secret)
 }
 
-fn list_of<T: Drop>(alloc: Global, item: T) -> Result<List<T>, NoMemory> {
-    let mut list = List::new(alloc);
+/// Adds an item to a list.
+fn add<T: Drop>(list: &mut List<T>, item: T) -> Result<(), NoMemory> {
     match list.push(item) {
-        Ok(()) => Ok(list),
+        Ok(()) => Ok(()),
         Err(_item) => Err(NoMemory),
     }
 }
@@ -65,85 +58,186 @@ fn attachment(
     })
 }
 
-fn item(alloc: Global, key: &str, value: &str, changed: u8) -> Result<Item, NoMemory> {
-    Ok(Item {
-        key: text(alloc, key)?,
-        value: text(alloc, value)?,
-        changed: stamp(changed),
-    })
-}
-
-fn auto_type(alloc: Global, sequence: &str) -> Result<AutoType, NoMemory> {
-    let pair = Association {
+fn association(alloc: Global) -> Result<Association, NoMemory> {
+    Ok(Association {
         window: text(alloc, "Editor")?,
         keys: text(alloc, "{PASSWORD}")?,
-    };
-    Ok(AutoType {
-        enabled: true,
-        obfuscation: 1,
-        sequence: text(alloc, sequence)?,
-        pairs: list_of(alloc, pair)?,
     })
 }
 
-/// A word, or the next longer one.
-fn word(longer: bool) -> &'static str {
-    if longer { "mm" } else { "m" }
+/// Puts a word into an empty text, or the next longer one.
+fn put_word(text: &mut Text, longer: bool) -> Result<(), NoMemory> {
+    let word = if longer { "mm" } else { "m" };
+    for letter in word.chars() {
+        if text.push(letter).is_err() {
+            return Err(NoMemory);
+        }
+    }
+    Ok(())
+}
+
+/// The icon of a node that has one, or none.
+fn icon_of(has: bool) -> Option<Uuid> {
+    if has { Some(Uuid::nil()) } else { None }
+}
+
+/// The seconds of a stamp, or the next.
+fn moment(later: bool) -> Stamp {
+    stamp(5 + later as u8)
+}
+
+/// An item for a list of its own, of which the word may be the longer one.
+fn add_item(alloc: Global, items: &mut List<Item>, longer: bool) -> Result<(), NoMemory> {
+    let mut item = Item {
+        key: text(alloc, "k")?,
+        value: Text::new(alloc),
+        changed: stamp(0),
+    };
+    match put_word(&mut item.value, longer) {
+        Ok(()) => add(items, item),
+        Err(fail) => Err(fail),
+    }
+}
+
+/// The parts of a version's content that take no memory.
+fn bare_content(alloc: Global, greater: u8) -> Content {
+    Content {
+        created: moment(greater == 0),
+        expiry: moment(greater == 1),
+        expires: greater == 2,
+        icon: 5 + (greater == 3) as u32,
+        custom_icon: icon_of(greater == 4),
+        fields: List::new(alloc),
+        attachments: List::new(alloc),
+        tags: Text::new(alloc),
+        fore: Text::new(alloc),
+        back: Text::new(alloc),
+        url_override: Text::new(alloc),
+        auto_type: AutoType {
+            enabled: true,
+            obfuscation: 1,
+            sequence: Text::new(alloc),
+            pairs: List::new(alloc),
+        },
+        items: List::new(alloc),
+        quality: greater == 13,
+    }
+}
+
+/// The lists of a version's content.
+fn put_lists(alloc: Global, content: &mut Content, greater: u8) -> Result<(), NoMemory> {
+    add(
+        &mut content.fields,
+        field(alloc, "Title", b"mail", greater == 5)?,
+    )?;
+    add(
+        &mut content.attachments,
+        attachment(alloc, "key", b"bytes", greater == 6)?,
+    )?;
+    add(&mut content.auto_type.pairs, association(alloc)?)?;
+    add_item(alloc, &mut content.items, greater == 12)
+}
+
+/// The texts of a version's content.
+fn put_texts(content: &mut Content, greater: u8) -> Result<(), NoMemory> {
+    put_word(&mut content.tags, greater == 7)?;
+    put_word(&mut content.fore, greater == 8)?;
+    put_word(&mut content.back, greater == 9)?;
+    put_word(&mut content.url_override, greater == 10)?;
+    put_word(&mut content.auto_type.sequence, greater == 11)
+}
+
+/// The parts of a version's content that take memory.
+fn put_parts(alloc: Global, content: &mut Content, greater: u8) -> Result<(), NoMemory> {
+    put_lists(alloc, content, greater)?;
+    put_texts(content, greater)
 }
 
 /// A version's content, in which the part of that number is greater than in the one with no such
 /// part.
 fn content(alloc: Global, greater: u8) -> Result<Content, NoMemory> {
-    Ok(Content {
-        created: stamp(5 + (greater == 0) as u8),
-        expiry: stamp(5 + (greater == 1) as u8),
+    let mut content = bare_content(alloc, greater);
+    match put_parts(alloc, &mut content, greater) {
+        Ok(()) => Ok(content),
+        Err(fail) => Err(fail),
+    }
+}
+
+/// The parts of a group's content that take no memory.
+fn bare_group_content(alloc: Global, greater: u8) -> GroupContent {
+    GroupContent {
+        created: moment(greater == 0),
+        expiry: moment(greater == 1),
         expires: greater == 2,
-        icon: 5 + (greater == 3) as u32,
-        custom_icon: if greater == 4 {
-            Some(Uuid::nil())
-        } else {
-            None
-        },
-        fields: list_of(alloc, field(alloc, "Title", b"mail", greater == 5)?)?,
-        attachments: list_of(alloc, attachment(alloc, "key", b"bytes", greater == 6)?)?,
-        tags: text(alloc, word(greater == 7))?,
-        fore: text(alloc, word(greater == 8))?,
-        back: text(alloc, word(greater == 9))?,
-        url_override: text(alloc, word(greater == 10))?,
-        auto_type: auto_type(alloc, word(greater == 11))?,
-        items: list_of(alloc, item(alloc, "k", word(greater == 12), 0)?)?,
-        quality: greater == 13,
-    })
+        name: Text::new(alloc),
+        notes: Text::new(alloc),
+        icon: 5 + (greater == 5) as u32,
+        custom_icon: icon_of(greater == 6),
+        sequence: Text::new(alloc),
+        auto_type: if greater == 8 { Tri::Yes } else { Tri::No },
+        searching: if greater == 9 { Tri::No } else { Tri::Inherit },
+        items: List::new(alloc),
+        tags: Text::new(alloc),
+    }
+}
+
+/// The parts of a group's content that take memory.
+fn put_group_parts(alloc: Global, content: &mut GroupContent, greater: u8) -> Result<(), NoMemory> {
+    put_word(&mut content.name, greater == 3)?;
+    put_word(&mut content.notes, greater == 4)?;
+    put_word(&mut content.sequence, greater == 7)?;
+    add_item(alloc, &mut content.items, greater == 10)?;
+    put_word(&mut content.tags, greater == 11)
 }
 
 /// A group's content, in the same way.
 fn group_content(alloc: Global, greater: u8) -> Result<GroupContent, NoMemory> {
-    Ok(GroupContent {
-        created: stamp(5 + (greater == 0) as u8),
-        expiry: stamp(5 + (greater == 1) as u8),
-        expires: greater == 2,
-        name: text(alloc, word(greater == 3))?,
-        notes: text(alloc, word(greater == 4))?,
-        icon: 5 + (greater == 5) as u32,
-        custom_icon: if greater == 6 {
-            Some(Uuid::nil())
-        } else {
-            None
-        },
-        sequence: text(alloc, word(greater == 7))?,
-        auto_type: if greater == 8 { Tri::Yes } else { Tri::No },
-        searching: if greater == 9 { Tri::No } else { Tri::Inherit },
-        items: list_of(alloc, item(alloc, "k", word(greater == 10), 0)?)?,
-        tags: text(alloc, word(greater == 11))?,
-    })
+    let mut content = bare_group_content(alloc, greater);
+    match put_group_parts(alloc, &mut content, greater) {
+        Ok(()) => Ok(content),
+        Err(fail) => Err(fail),
+    }
+}
+
+/// The order of two contents. A test needs nothing of what the call promises, and is proved sooner
+/// without it.
+fn compare(one: &Content, other: &Content) -> Ordering {
+    compare_content(one, other)
+}
+
+/// The order of a content and that of this number.
+fn order_to(alloc: Global, one: &Content, other: u8) -> Result<Ordering, NoMemory> {
+    match content(alloc, other) {
+        Ok(other) => Ok(compare(one, &other)),
+        Err(fail) => Err(fail),
+    }
 }
 
 fn order_of_contents(alloc: Global, one: u8, other: u8) -> Result<Ordering, NoMemory> {
-    Ok(compare_content(&content(alloc, one)?, &content(alloc, other)?))
+    match content(alloc, one) {
+        Ok(one) => order_to(alloc, &one, other),
+        Err(fail) => Err(fail),
+    }
+}
+
+/// The same for groups.
+fn compare_groups(one: &GroupContent, other: &GroupContent) -> Ordering {
+    compare_group(one, other)
+}
+
+/// The order of a group's content and that of this number.
+fn order_to_group(alloc: Global, one: &GroupContent, other: u8) -> Result<Ordering, NoMemory> {
+    match group_content(alloc, other) {
+        Ok(other) => Ok(compare_groups(one, &other)),
+        Err(fail) => Err(fail),
+    }
 }
 
 fn order_of_groups(alloc: Global, one: u8, other: u8) -> Result<Ordering, NoMemory> {
-    Ok(compare_group(&group_content(alloc, one)?, &group_content(alloc, other)?))
+    match group_content(alloc, one) {
+        Ok(one) => order_to_group(alloc, &one, other),
+        Err(fail) => Err(fail),
+    }
 }
 
 fn version(alloc: Global, modified: u8) -> Result<Version, NoMemory> {
@@ -162,11 +256,11 @@ fn version(alloc: Global, modified: u8) -> Result<Version, NoMemory> {
 #[test]
 fn the_parts_of_a_version_count_in_their_order(rt: HostRuntime) -> Result<(), Fail> {
     for part in 0u8..14 {
-        let order = made(order_of_contents(rt.alloc(), part, part + 1))?;
+        let order = order_of_contents(rt.alloc(), part, part + 1)?;
         assert!(rt; order == Ordering::Greater);
     }
-    assert!(rt; made(order_of_contents(rt.alloc(), 14, 14))? == Ordering::Equal);
-    assert!(rt; made(order_of_contents(rt.alloc(), 14, 0))? == Ordering::Less);
+    assert!(rt; order_of_contents(rt.alloc(), 14, 14)? == Ordering::Equal);
+    assert!(rt; order_of_contents(rt.alloc(), 14, 0)? == Ordering::Less);
     Ok(())
 }
 
@@ -174,11 +268,11 @@ fn the_parts_of_a_version_count_in_their_order(rt: HostRuntime) -> Result<(), Fa
 #[test]
 fn the_parts_of_a_group_count_in_their_order(rt: HostRuntime) -> Result<(), Fail> {
     for part in 0u8..12 {
-        let order = made(order_of_groups(rt.alloc(), part, part + 1))?;
+        let order = order_of_groups(rt.alloc(), part, part + 1)?;
         assert!(rt; order == Ordering::Greater);
     }
-    assert!(rt; made(order_of_groups(rt.alloc(), 12, 12))? == Ordering::Equal);
-    assert!(rt; made(order_of_groups(rt.alloc(), 12, 0))? == Ordering::Less);
+    assert!(rt; order_of_groups(rt.alloc(), 12, 12)? == Ordering::Equal);
+    assert!(rt; order_of_groups(rt.alloc(), 12, 0)? == Ordering::Less);
     Ok(())
 }
 
@@ -210,34 +304,50 @@ fn fields_and_attachments_count_by_name_then_bytes_then_hiding(
         (("a", b"aa", true), ("b", b"", false)),
     ];
     for (lesser, greater) in pairs {
-        assert!(rt; made(order_of_fields(rt.alloc(), lesser, greater))? == Ordering::Less);
-        assert!(rt; made(order_of_attachments(rt.alloc(), lesser, greater))? == Ordering::Less);
+        assert!(rt; order_of_fields(rt.alloc(), lesser, greater)? == Ordering::Less);
+        assert!(rt; order_of_attachments(rt.alloc(), lesser, greater)? == Ordering::Less);
     }
     Ok(())
 }
 
-fn newest_of(alloc: Global, current: u8, history: &[u8]) -> Result<Stamp, NoMemory> {
-    let mut entry = Entry {
+/// Adds a version for each stamp.
+fn add_versions(alloc: Global, history: &mut List<Version>, stamps: &[u8]) -> Result<(), NoMemory> {
+    for modified in stamps {
+        add(history, version(alloc, *modified)?)?;
+    }
+    Ok(())
+}
+
+/// An entry with one version.
+fn entry_of(alloc: Global, current: Version) -> Entry {
+    Entry {
         id: Uuid::nil(),
         placed: stamp(90),
         previous: Uuid::nil(),
-        current: version(alloc, current)?,
+        current,
         history: List::new(alloc),
-    };
-    for modified in history {
-        match entry.history.push(version(alloc, *modified)?) {
-            Ok(()) => {}
-            Err(_version) => return Err(NoMemory),
-        }
     }
-    Ok(entry_stamp(&entry))
+}
+
+/// The stamp of an entry. A test needs nothing of what the call promises, and is proved sooner
+/// without it.
+fn newest(entry: &Entry) -> Stamp {
+    entry_stamp(entry)
+}
+
+fn newest_of(alloc: Global, current: u8, history: &[u8]) -> Result<Stamp, NoMemory> {
+    let mut entry = entry_of(alloc, version(alloc, current)?);
+    match add_versions(alloc, &mut entry.history, history) {
+        Ok(()) => Ok(newest(&entry)),
+        Err(fail) => Err(fail),
+    }
 }
 
 #[test]
 fn an_entry_was_modified_when_its_newest_version_was(rt: HostRuntime) -> Result<(), Fail> {
-    assert!(rt; made(newest_of(rt.alloc(), 5, &[]))? == stamp(5));
-    assert!(rt; made(newest_of(rt.alloc(), 5, &[3]))? == stamp(5));
-    assert!(rt; made(newest_of(rt.alloc(), 5, &[3, 9, 7]))? == stamp(9));
+    assert!(rt; newest_of(rt.alloc(), 5, &[])? == stamp(5));
+    assert!(rt; newest_of(rt.alloc(), 5, &[3])? == stamp(5));
+    assert!(rt; newest_of(rt.alloc(), 5, &[3, 9, 7])? == stamp(9));
     Ok(())
 }
 
@@ -255,29 +365,48 @@ fn owners_of_first_attachment(version: &Version) -> usize {
     }
 }
 
+/// Whether a copy is equal to its version, its quality, and how many own the bytes of the version's
+/// first attachment.
+fn copied(alloc: Global) -> Result<(bool, bool, usize), NoMemory> {
+    let version = version(alloc, 5)?;
+    match copy_version(alloc, &version) {
+        Ok(copy) => Ok((
+            is_copy(&copy, &version),
+            copy.content.quality,
+            owners_of_first_attachment(&version),
+        )),
+        Err(fail) => Err(fail),
+    }
+}
+
 #[test]
 fn a_copy_is_equal_and_shares_the_bytes_of_attachments(rt: HostRuntime) -> Result<(), Fail> {
-    let version = made(version(rt.alloc(), 5))?;
-    let copy = made(copy_version(rt.alloc(), &version))?;
-    assert!(rt; is_copy(&copy, &version));
-    assert!(rt; !copy.content.quality);
-    assert_eq!(rt; owners_of_first_attachment(&version), 2);
+    let found = copied(rt.alloc())?;
+    assert_eq!(rt; found, (true, false, 2));
     Ok(())
 }
 
+fn is_placed(root: &Group, id: Uuid, now: Stamp) -> bool {
+    root.id == id && root.placed == now && root.previous == Uuid::nil()
+}
+
+fn is_empty(root: &Group) -> bool {
+    root.view.expanded && root.entries.len() == 0 && root.groups.len() == 0
+}
+
+fn is_named_root(content: &GroupContent) -> bool {
+    content.name.as_str() == "Root" && content.icon == 48 && content.tags.as_str() == ""
+}
+
+fn is_new_state(state: &GroupState, now: Stamp) -> bool {
+    state.modified == now
+        && state.content.expiry == now
+        && state.content.auto_type == Tri::Inherit
+        && is_named_root(&state.content)
+}
+
 fn is_new_root(root: &Group, id: Uuid, now: Stamp) -> bool {
-    root.id == id
-        && root.placed == now
-        && root.previous == Uuid::nil()
-        && root.state.modified == now
-        && root.state.content.expiry == now
-        && root.state.content.name.as_str() == "Root"
-        && root.state.content.icon == 48
-        && root.state.content.tags.as_str() == ""
-        && root.state.content.auto_type == Tri::Inherit
-        && root.view.expanded
-        && root.entries.len() == 0
-        && root.groups.len() == 0
+    is_placed(root, id, now) && is_new_state(&root.state, now) && is_empty(root)
 }
 
 // What KeePass writes for a new database, but for the times.
@@ -294,12 +423,20 @@ fn has_defaults(meta: &Meta) -> bool {
         && !settings.protect.title
 }
 
+/// Whether a new database has a root alone, whether it has the defaults, and how many tombs.
+fn new_database(alloc: Global, now: Stamp) -> Result<(bool, bool, usize), NoMemory> {
+    let id = Uuid::from_bytes([1; 16]);
+    let doc = empty_doc(alloc, id, now)?;
+    Ok((
+        is_new_root(&doc.root, id, now),
+        has_defaults(&doc.meta),
+        doc.tombs.len(),
+    ))
+}
+
 #[test]
 fn a_new_database_has_a_root_alone(rt: HostRuntime) -> Result<(), Fail> {
-    let id = Uuid::from_bytes([1; 16]);
-    let doc = made(empty_doc(rt.alloc(), id, stamp(9)))?;
-    assert!(rt; is_new_root(&doc.root, id, stamp(9)));
-    assert!(rt; has_defaults(&doc.meta));
-    assert_eq!(rt; doc.tombs.len(), 0);
+    let found = new_database(rt.alloc(), stamp(9))?;
+    assert_eq!(rt; found, (true, true, 0));
     Ok(())
 }

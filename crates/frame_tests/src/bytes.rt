@@ -34,13 +34,44 @@ i 050100000049080000000300000000000000
 v 0401000000560400000013000000
 0 00";
 
+// The value of a hexadecimal digit.
+fn digit_value(digit: u8) -> Option<u8> {
+    match digit {
+        b'0'..=b'9' => Some(digit - b'0'),
+        b'a'..=b'f' => Some(digit - b'a' + 10),
+        _ => None,
+    }
+}
+
+// The byte of two hexadecimal digits.
+fn byte_of(pair: &[u8]) -> Option<u8> {
+    match pair {
+        [high, low] => Some((digit_value(*high)? << 4) | digit_value(*low)?),
+        _ => None,
+    }
+}
+
 // The bytes of hexadecimal digits.
 fn put_digits(out: &mut Vec<u8>, digits: &[u8]) -> Result<(), Fail> {
     for pair in digits.chunks(2) {
-        let text = std::str::from_utf8(pair).map_err(|_| "not a text")?;
-        out.push(u8::from_str_radix(text, 16).map_err(|_| "not hexadecimal")?)?;
+        match byte_of(pair) {
+            Some(byte) => out.push(byte)?,
+            None => return Err("not hexadecimal".into()),
+        }
     }
     Ok(())
+}
+
+/// Whether these bytes are those of the hexadecimal digits.
+pub fn are_digits(bytes: &[u8], digits: &str) -> bool {
+    let mut rest = bytes;
+    for pair in digits.as_bytes().chunks(2) {
+        match rest {
+            [byte, after @ ..] if byte_of(pair) == Some(*byte) => rest = after,
+            _ => return false,
+        }
+    }
+    rest.is_empty()
 }
 
 // The digits of the piece of this name, or the word itself.
@@ -55,18 +86,60 @@ fn digits_of(word: &str) -> &str {
     word
 }
 
+// This many bytes 0.
+fn put_zeros(out: &mut Vec<u8>, count: &str) -> Result<(), Fail> {
+    let Ok(count) = count.parse::<u32>() else {
+        return Err("not a number".into());
+    };
+    for _ in 0..count {
+        out.push(0)?;
+    }
+    Ok(())
+}
+
+// The SHA-256 of the bytes so far.
+fn put_hash(out: &mut Vec<u8>) -> Result<(), Fail> {
+    let hash = Sha256::digest(out.as_slice());
+    out.extend_from_slice(&hash)?;
+    Ok(())
+}
+
 // One word of a row.
 fn put_word(out: &mut Vec<u8>, word: &str) -> Result<(), Fail> {
     if word == "#" {
-        let hash = Sha256::digest(out.as_slice());
-        out.extend_from_slice(&hash)?;
-    } else if let Some(count) = word.strip_prefix("*") {
-        let count = count.parse::<u32>().map_err(|_| "not a number")?;
-        for _ in 0..count {
-            out.push(0)?;
+        return put_hash(out);
+    }
+    match word.strip_prefix("*") {
+        Some(count) => put_zeros(out, count),
+        None => put_digits(out, digits_of(word).as_bytes()),
+    }
+}
+
+// The field of the dictionary.
+fn put_dictionary(out: &mut Vec<u8>, content: &[u8]) -> Result<(), Fail> {
+    let Ok(len) = u32::try_from(content.len()) else {
+        return Err("too long".into());
+    };
+    out.push(11)?;
+    out.extend_from_slice(&len.to_le_bytes())?;
+    out.extend_from_slice(content)?;
+    Ok(())
+}
+
+// A row's words. The content of a dictionary is gathered on its own.
+fn put_row(out: &mut Vec<u8>, dictionary: &mut Vec<u8>, row: &str) -> Result<(), Fail> {
+    let mut inside = false;
+    for word in row.split(" ") {
+        match word {
+            "[" => inside = true,
+            "]" => {
+                inside = false;
+                put_dictionary(out, dictionary.as_slice())?;
+                dictionary.clear();
+            }
+            _ if inside => put_word(dictionary, word)?,
+            _ => put_word(out, word)?,
         }
-    } else {
-        put_digits(out, digits_of(word).as_bytes())?;
     }
     Ok(())
 }
@@ -77,22 +150,8 @@ fn put_word(out: &mut Vec<u8>, word: &str) -> Result<(), Fail> {
 pub fn bytes_of(alloc: Global, row: &str) -> Result<Vec<u8>, Fail> {
     let mut out = Vec::new(alloc);
     let mut dictionary = Vec::new(alloc);
-    let mut inside = false;
-    for word in row.split(" ") {
-        if word == "[" {
-            inside = true;
-        } else if word == "]" {
-            inside = false;
-            out.push(11)?;
-            let len = u32::try_from(dictionary.len()).map_err(|_| "too long")?;
-            out.extend_from_slice(&len.to_le_bytes())?;
-            out.extend_from_slice(dictionary.as_slice())?;
-            dictionary.clear();
-        } else if inside {
-            put_word(&mut dictionary, word)?;
-        } else {
-            put_word(&mut out, word)?;
-        }
+    match put_row(&mut out, &mut dictionary, row) {
+        Ok(()) => Ok(out),
+        Err(fail) => Err(fail),
     }
-    Ok(out)
 }

@@ -1,9 +1,10 @@
 //! Headers that other programs wrote. What they hold was read by KeePassXC and by a reader in
 //! Python.
-use crate::bytes::bytes_of;
-use crate::headers::{answer, version_name};
-use kdbx_frame::{Cipher, read_header};
+use crate::bytes::are_digits;
+use crate::headers::{answer, header_of, version_name};
+use kdbx_frame::{Cipher, Header, Settings};
 use key_core::{ArgonKind, Kdf};
+use std::process::Abort;
 use std::test::Fail;
 
 // Written by keepassxc-cli 2.7.4 (Debian), `mkdir` in a database: KDBX 4.0 with AES and Argon2d. It
@@ -25,85 +26,94 @@ const PYKEEPASS: &str =
 const FILE_KDBX: &str =
     "03d9a29a67fb4bb5000004000210000000ad68f29f576f4bb9a36ad47af965346c03040000000000000004200000006f4d056cf7cd370c85d99088dac6389bb2baf3232dc7e3eb6d6b918da9a5687507100000008f089a0cbe8bc2d447cf8bbb4b0bf1fd0b8b000000000142050000002455554944100000009e298b1956db4773b23dfc3ec6f0a1e605010000004908000000030000000000000005010000004d080000000000800000000000040100000050040000000400000042010000005320000000c765e206b8dada5ccba1a2386af3e68c67f186e1046856a8d9f9a978bdd42bd90401000000560400000013000000000c1a000000000142080000006e69636b6e616d650600000066616d696c79000000000000571bae6829fb1ce4792506c50d721a19d02de166ff3f3a27d86698bd61a92611dd4095317e768eee8fc567609b7a80488f88a716e4a89a6d950da62c1d379d60";
 
-// The numbers of an Argon2 in the order type, passes, memory in bytes, lanes, and the salt; none of
-// AES.
-fn costs(kdf: &Kdf) -> Option<(ArgonKind, u64, u64, u32, &[u8])> {
+// Whether these are the type, passes, memory in bytes and lanes of an Argon2, and its salt in
+// hexadecimal.
+fn are_costs(kdf: &Kdf, numbers: (ArgonKind, u64, u64, u32), digits: &str) -> bool {
     match kdf {
-        Kdf::Aes { .. } => None,
+        Kdf::Aes { .. } => false,
         Kdf::Argon {
             kind,
             passes,
             bytes,
             lanes,
             salt,
-        } => Some((*kind, *passes, *bytes, *lanes, salt.as_slice())),
+        } => { (*kind, *passes, *bytes, *lanes) == numbers && are_digits(salt.as_slice(), digits) }
     }
+}
+
+// The length of a header, its version and its cipher.
+fn summary(header: &Header) -> (usize, &'static str, Cipher) {
+    let Settings {
+        version,
+        cipher,
+        ..
+    } = &header.settings;
+    (header.size, version_name(*version), *cipher)
 }
 
 #[test]
 fn headers_of_keepassxc_are_read(rt: HostRuntime) -> Result<(), Fail> {
-    let bytes = bytes_of(rt.alloc(), KEEPASSXC)?;
-    let found = answer(rt.alloc(), bytes.as_slice())?;
-    assert_eq!(rt; found.as_str(), "Compressed(1)");
-    let bytes = bytes_of(rt.alloc(), KEEPASSXC_41)?;
-    let found = answer(rt.alloc(), bytes.as_slice())?;
-    assert_eq!(rt; found.as_str(), "Compressed(1)");
+    for words in [KEEPASSXC, KEEPASSXC_41] {
+        let found = answer(rt.alloc(), words)?;
+        assert_eq!(rt; found.as_str(), "Compressed(1)");
+    }
     Ok(())
+}
+
+fn assert_pykeepass(rt: &impl Abort, header: &Header) {
+    assert_eq!(rt; summary(header), (249, "V40", Cipher::ChaCha));
+    assert!(rt;
+        are_costs(
+            &header.settings.kdf,
+            (ArgonKind::D, 14, 67_108_864, 2),
+            "7839e86543e0449b3d6cc46b95b4bbab7d519c7eb01d9cf59d64d82f6ab1a15f",
+        )
+    );
+    assert!(rt;
+        are_digits(
+            &header.seed,
+            "b52178a734d0b577423679d02ab37dd17cb6781861d216c7d32d52c354ab2123",
+        )
+    );
+    assert!(rt; are_digits(&header.iv, "a0a1a2a3a4a5a6a7a8a9aaab00000000"));
+    assert!(rt; header.settings.public.is_none());
 }
 
 #[test]
 fn a_header_of_pykeepass_is_read(rt: HostRuntime) -> Result<(), Fail> {
-    let alloc = rt.alloc();
-    let bytes = bytes_of(alloc, PYKEEPASS)?;
-    let header = read_header(alloc, bytes.as_slice(), bytes.len() as u64)?;
-    let seed = bytes_of(
-        alloc,
-        "b52178a734d0b577423679d02ab37dd17cb6781861d216c7d32d52c354ab2123",
-    )?;
-    let salt = bytes_of(
-        alloc,
-        "7839e86543e0449b3d6cc46b95b4bbab7d519c7eb01d9cf59d64d82f6ab1a15f",
-    )?;
-    let iv = bytes_of(alloc, "a0a1a2a3a4a5a6a7a8a9aaab *4")?;
-    assert_eq!(rt; header.size, 249);
-    assert_eq!(rt; version_name(header.settings.version), "V40");
-    assert_eq!(rt; header.settings.cipher, Cipher::ChaCha);
-    assert_eq!(rt;
-        costs(&header.settings.kdf),
-        Some((ArgonKind::D, 14, 67_108_864, 2, salt.as_slice()))
-    );
-    assert_eq!(rt; header.seed.as_slice(), seed.as_slice());
-    assert_eq!(rt; header.iv.as_slice(), iv.as_slice());
-    assert!(rt; header.settings.public.is_none());
+    let header = header_of(rt.alloc(), PYKEEPASS)?;
+    assert_pykeepass(&rt, &header);
     Ok(())
+}
+
+// Whether there is public data with these bytes.
+fn is_public(settings: &Settings, digits: &str) -> bool {
+    match &settings.public {
+        Some(bytes) => are_digits(bytes.as_slice(), digits),
+        None => false,
+    }
+}
+
+fn assert_file_kdbx(rt: &impl Abort, header: &Header) {
+    assert_eq!(rt; summary(header), (280, "V40", Cipher::Twofish));
+    assert!(rt;
+        are_costs(
+            &header.settings.kdf,
+            (ArgonKind::Id, 3, 8_388_608, 4),
+            "c765e206b8dada5ccba1a2386af3e68c67f186e1046856a8d9f9a978bdd42bd9",
+        )
+    );
+    assert!(rt;
+        is_public(
+            &header.settings,
+            "000142080000006e69636b6e616d650600000066616d696c7900",
+        )
+    );
 }
 
 #[test]
 fn a_header_of_file_kdbx_is_read(rt: HostRuntime) -> Result<(), Fail> {
-    let alloc = rt.alloc();
-    let bytes = bytes_of(alloc, FILE_KDBX)?;
-    let header = read_header(alloc, bytes.as_slice(), bytes.len() as u64)?;
-    let salt = bytes_of(
-        alloc,
-        "c765e206b8dada5ccba1a2386af3e68c67f186e1046856a8d9f9a978bdd42bd9",
-    )?;
-    let public = bytes_of(
-        alloc,
-        "000142080000006e69636b6e616d650600000066616d696c7900",
-    )?;
-    assert_eq!(rt; header.size, 280);
-    assert_eq!(rt; header.settings.cipher, Cipher::Twofish);
-    assert_eq!(rt;
-        costs(&header.settings.kdf),
-        Some((ArgonKind::Id, 3, 8_388_608, 4, salt.as_slice()))
-    );
-    assert_eq!(rt;
-        header
-            .settings
-            .public
-            .as_ref()
-            .map(|bytes| bytes.as_slice()),
-        Some(public.as_slice())
-    );
+    let header = header_of(rt.alloc(), FILE_KDBX)?;
+    assert_file_kdbx(&rt, &header);
     Ok(())
 }

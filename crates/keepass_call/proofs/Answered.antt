@@ -1,7 +1,7 @@
 -- What a call answers, from its task.
-use Rattle.std.proofs.Common.{◌≡◌, ◌≤◌, ℕ, List, [], ◌∷◌, ◌++◌, refl, inl, inr, sym, ◌∙◌, ap, subst, arith, Bool, false, Option, Some, None, Result, Ok, Err}
+use Rattle.std.proofs.Common.{◌≡◌, ◌≤◌, ℕ, List, [], ◌∷◌, refl, inl, inr, sym, ◌∙◌, ap, subst, arith, Bool, false, Option, Result, Ok, Err}
 use Rattle.std.specs.Prelude.{Contains, IfErr, IfOk, OnErr}
-use Rattle.std.proofs.lemmas.List.Elements.{Contains-append_right}
+use Rattle.std.proofs.lemmas.List.Elements.{Contains-append_left, Contains-append_right}
 use Rattle.outside_core.specs.Counts.{Increased}
 use Rattle.cli_answers.specs.declared.answers.Refusal.{Refusal}
 use Rattle.cli_answers.specs.declared.answers.Stop.{Stop}
@@ -9,17 +9,16 @@ use Rattle.cli_answers.specs.declared.answers.Stop.TheVariants.{Refused, FileFau
 use Rattle.cli_answers.specs.Phases.{IsCaused, IsCommandStop, IsEarlyStop, IsLeft, Leaves, Stops, StreamAnswer, TellsStream, then_left, with_left}
 use Rattle.cli_databases.proofs.Stops.{rose_before}
 use Rattle.cli_lines.proofs.Inputs.{left_alone}
-use Rattle.cli_words.specs.Needs.{files_named, key_files, needs_of}
+use Rattle.cli_words.specs.Needs.{Needs, database_files, files_named, files_of, key_files, needs_of, source_files}
 use Rattle.cli_words.specs.declared.command.Command.{Command}
 use Rattle.cli_writing.specs.Writing.{IsSame, KeepsDraft, KeepsFiles, Store}
 use Rattle.cli_commands.specs.declared.output.Output.{Output}
 use Rattle.keepass_call.specs.declared.task.Task as memory
-use Rattle.cli_commands.specs.Commands.{writes}
+use Rattle.cli_commands.specs.Commands.{may_write}
 use Rattle.keepass_call.specs.Endings.{Ending, Ends, EndsRefused, IsOfDice, IsOfSomeDice, carried_out}
 use Rattle.keepass_call.specs.Outcome.{IsOfSomeFile, IsOfTask, World, answer_of}
 use Rattle.cli_commands.specs.SeenChange.{output_text}
-use Rattle.cli_words.specs.Words.{command_of}
-use Rattle.keepass_call.specs.Tasks.{HasSomeFile, Task, draws, draws_by, task_of, writes_by}
+use Rattle.keepass_call.specs.Tasks.{HasSomeFile, Task, draws, draws_by, task_of, may_write_by}
 
 same_store : (before mid : Store) → IsSame before mid → mid ≡ before
 same_store before mid h =
@@ -73,9 +72,9 @@ pub draws_so : (words : Result Command Refusal) (command : Command) (dice : Opti
 draws_so words command dice d is t = subst (λ (w : Result Command Refusal). TellsStream (draws_by w) dice d) is t
 
 pub unwritten_after : (words : Result Command Refusal) (command : Command) (before mid now : Store) → words ≡ Ok command
-    → IsSame before mid → (writes command ≡ false → IsSame mid now) → writes_by words ≡ false → IsSame before now
+    → IsSame before mid → (may_write command ≡ false → IsSame mid now) → may_write_by words ≡ false → IsSame before now
 unwritten_after words command before mid now is s h e =
-    subst (λ (m : Store). IsSame m now) (same_store before mid s) (h (sym (ap writes_by is) ∙ e))
+    subst (λ (m : Store). IsSame m now) (same_store before mid s) (h (sym (ap may_write_by is) ∙ e))
 
 pub undrawn_after : (words : Result Command Refusal) (command : Command) (dice dice' : Option (List ℕ)) → words ≡ Ok command
     → (draws command ≡ false → dice' ≡ dice) → draws_by words ≡ false → dice' ≡ dice
@@ -121,6 +120,12 @@ early_caused (FileFault name) names f f' a a' i i' d h = h
 early_caused InputFault names f f' a a' i i' d h = inl h
 early_caused NoMemory names f f' a a' i i' d h = tt
 
+-- The file of the database is among those of a command.
+target_named : (needs : Needs) (name : List ℕ) → needs.file ≡ name → Contains (files_of needs) name
+target_named needs name is =
+    Contains-append_left (database_files needs.access needs.file) (source_files needs.from needs.sources) name
+    (Contains-append_right (key_files needs.access.key_file) (needs.file ∷ []) name (0, omega arith, is))
+
 -- A stop of the command that the words are, as a stop of the call.
 pub command_caused : (result : Result Output Stop) (command : Command) (words : Result Command Refusal) (f f' f'' a a' i i' d d' : ℕ) → words ≡ Ok command
     → f ≤ f' → IfErr result (IsCommandStop (needs_of command).file f' f'' d d') → IfErr result (IsCaused (files_named words) f f'' a a' i i' d d')
@@ -128,6 +133,6 @@ command_caused (Ok x) command words f f' f'' a a' i i' d d' is p h = tt
 command_caused (Err (Refused refusal)) command words f f' f'' a a' i i' d d' is p h = λ e. absurd (h e)
 command_caused (Err (FileFault name)) command words f f' f'' a a' i i' d d' is p h =
     subst (λ (w : Result Command Refusal). Increased f f'' × Contains (files_named w) name) (sym is)
-    (rose_before f f' f'' p h.1, Contains-append_right (key_files (needs_of command).access.key_file) ((needs_of command).file ∷ []) name (0, omega arith, sym h.0))
+    (rose_before f f' f'' p h.1, target_named (needs_of command) name (sym h.0))
 command_caused (Err InputFault) command words f f' f'' a a' i i' d d' is p h = inr h
 command_caused (Err NoMemory) command words f f' f'' a a' i i' d d' is p h = tt

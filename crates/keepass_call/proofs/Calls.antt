@@ -1,11 +1,11 @@
 -- What is promised of a call, by how it ended.
-use Rattle.std.proofs.Common.{◌≡◌, ◌≢◌, ℕ, List, [], length, refl, sym, ◌∙◌, ap, subst, inl, inr, Bool, false, Option, Some, None, arith, append-nil}
-use Rattle.std.specs.Prelude.{codes, ◌⊎◌, ◌++◌, Result, Ok, Err, option_map}
+use Rattle.std.proofs.Common.{◌≡◌, ◌≢◌, ℕ, List, [], length, refl, sym, ◌∙◌, ap, subst, inl, inr, false, Option, Some, None, arith, append-nil}
+use Rattle.std.specs.Prelude.{◌⊎◌, ◌++◌, Result, Ok, Err, option_map}
 use Rattle.std.proofs.Math.Seq.{take-length}
 use Rattle.outside_core.specs.Counts.{Increased}
 use Rattle.outside_core.specs.Streams.{GainsPrefix, LosesPrefix}
 use Rattle.cli_answers.specs.declared.answers.Reason.{Reason}
-use Rattle.cli_answers.specs.declared.answers.Reason.TheVariants.{WrongWords, NoSuchPath, NameTaken, AlreadyThere, RootFixed, IntoItself, IdTaken, DamagedOrWrongKey, DamagedBlock, WrongKeyOrDamaged, KeyFileHash, NotKdbx, EndsEarly, BadHeaderField, BadDictionary, Form, MissingElement, BadValue, NilId, DuplicateId, BinaryRef, BadKeyFile, LineForm, Version, UnknownId, StreamUnknown, Compressed, Variant, NoSuchFile, TooLarge, Depth, TooDeep, TooMany, KdfLimit, StampLimit, LineLimit, OutOfMemory, InputEnded}
+use Rattle.cli_answers.specs.declared.answers.Reason.TheVariants.{WrongWords, NoSuchPath, NameTaken, AlreadyThere, RootFixed, IntoItself, IdTaken, DamagedOrWrongKey, DamagedBlock, WrongKeyOrDamaged, KeyFileHash, NotKdbx, EndsEarly, BadHeaderField, BadDictionary, Form, MissingElement, BadValue, NilId, DuplicateId, BinaryRef, BadKeyFile, LineForm, Version, UnknownId, StreamUnknown, Compressed, Variant, Clash, MoveCycle, NoSuchFile, TooLarge, Depth, TooDeep, TooMany, KdfLimit, StampLimit, LineLimit, OutOfMemory, InputEnded}
 use Rattle.cli_answers.specs.declared.answers.Refusal.{Refusal}
 use Rattle.cli_answers.specs.declared.answers.Stop.{Stop}
 use Rattle.cli_answers.specs.declared.answers.Stop.TheVariants.{Refused, FileFault, InputFault, NoMemory}
@@ -15,15 +15,15 @@ use Rattle.cli_words.specs.Needs.{files_named}
 use Rattle.cli_writing.specs.Writing.{IsSame, KeepsDraft, KeepsFiles}
 use Rattle.cli_commands.specs.declared.output.Output.{Output}
 use Rattle.keepass_call.specs.Call.{IsCall}
-use Rattle.keepass_call.specs.Endings.{Ending, Ends, EndsRefused, EndsSo, Stores}
+use Rattle.keepass_call.specs.Endings.{Ending, Ends, EndsSo}
 use Rattle.keepass_call.specs.Held.{IsAuthentic, IsComplete}
-use Rattle.keepass_call.specs.Outcome.{Counts, Gains, IsAsSaid, IsCut, IsOfSomeFile, IsOfTask, IsRefused, IsSafe, NoFaults, Outcome, PrintsOfSomeFile, Seen, Tells, TellsFault, WhereTold, World, answer_of, ended, outcome}
-use Rattle.cli_commands.specs.SeenChange.{output_text}
+use Rattle.keepass_call.specs.Outcome.{Counts, Gains, IsAsSaid, IsCut, IsOfSomeFile, IsOfTask, IsRefused, IsSafe, NoFaults, Outcome, Seen, Tells, WhereTold, World, answer_of, ended, outcome}
 use Rattle.cli_words.specs.Words.{command_of}
-use Rattle.keepass_call.specs.Tasks.{draws_by, left_of, writes_by}
+use Rattle.keepass_call.specs.Tasks.{draws_by, left_of, may_write_by}
 use Rattle.keepass_call.specs.Telling.{IsPrinted, IsTold}
 use Rattle.keepass_call.proofs.Answered.{answer_is}
 use Rattle.keepass_call.proofs.HeldTasks.{is_given, is_task}
+use Rattle.keepass_call.proofs.MergeCalls.{merges_agreed, merges_nothing}
 
 -- ---- what is written
 
@@ -72,6 +72,8 @@ seven_missing (UnknownId id) h = absurd (omega arith)
 seven_missing (StreamUnknown number) h = absurd (omega arith)
 seven_missing Compressed h = absurd (omega arith)
 seven_missing (Variant number) h = absurd (omega arith)
+seven_missing (Clash id) h = absurd (omega arith)
+seven_missing (MoveCycle ids) h = absurd (omega arith)
 seven_missing NoSuchFile h = refl
 seven_missing TooLarge h = absurd (omega arith)
 seven_missing Depth h = absurd (omega arith)
@@ -118,6 +120,8 @@ own (UnknownId id) = record { zero = λ h. omega arith; ten = λ h. omega arith;
 own (StreamUnknown number) = record { zero = λ h. omega arith; ten = λ h. omega arith; eleven = λ h. omega arith }
 own Compressed = record { zero = λ h. omega arith; ten = λ h. omega arith; eleven = λ h. omega arith }
 own (Variant number) = record { zero = λ h. omega arith; ten = λ h. omega arith; eleven = λ h. omega arith }
+own (Clash id) = record { zero = λ h. omega arith; ten = λ h. omega arith; eleven = λ h. omega arith }
+own (MoveCycle ids) = record { zero = λ h. omega arith; ten = λ h. omega arith; eleven = λ h. omega arith }
 own NoSuchFile = record { zero = λ h. omega arith; ten = λ h. omega arith; eleven = λ h. omega arith }
 own TooLarge = record { zero = λ h. omega arith; ten = λ h. omega arith; eleven = λ h. omega arith }
 own Depth = record { zero = λ h. omega arith; ten = λ h. omega arith; eleven = λ h. omega arith }
@@ -140,7 +144,7 @@ pub record Printed (words : List (List ℕ)) (time : ℕ) (printed : List ℕ) (
   pub wrote : IsPrinted printed result before.written now.written counts.out counts'.out
   pub draft : KeepsDraft before.store now.store
   pub held : WhereTold words before (λ w. IsOfTask words time w printed before.store now.store)
-  pub unwritten : writes_by (command_of words) ≡ false → IsSame before.store now.store
+  pub unwritten : may_write_by (command_of words) ≡ false → IsSame before.store now.store
   pub undrawn : draws_by (command_of words) ≡ false → now.stream ≡ before.stream
   pub stream : LosesPrefix before.stream now.stream
   pub some_file : IsOfSomeFile words time printed before.store now.store
@@ -244,6 +248,8 @@ module _ (words : List (List ℕ)) (time : ℕ) (printed : List ℕ) (result : �
     refused = λ w t some nine ten. absurd (never some nine ten);
     cut = cut;
     authentic = authentic;
+    agreed_merge = λ w t. merges_agreed words time result before now counts counts' w t (λ some nine ten. absurd (never some nine ten)) (authentic w t) (λ zero. as_said w t (inl zero));
+    merge_again = λ w t. merges_nothing words time result before now counts counts' w t (λ some nine ten. absurd (never some nine ten)) (authentic w t) (λ zero. as_said w t (inl zero));
     complete = complete;
     some_file = λ zero. (printed, (p.some_file, gained zero));
   }
@@ -257,7 +263,7 @@ pub record Stopped (words : List (List ℕ)) (time : ℕ) (stop : Stop) (result 
   pub kept : KeepsFiles before.store now.store
   pub written : now.written ≡ before.written
   pub draft : KeepsDraft before.store now.store
-  pub unwritten : writes_by (command_of words) ≡ false → IsSame before.store now.store
+  pub unwritten : may_write_by (command_of words) ≡ false → IsSame before.store now.store
   pub undrawn : draws_by (command_of words) ≡ false → now.stream ≡ before.stream
   pub stream : LosesPrefix before.stream now.stream
   pub caused : IsCaused (files_named (command_of words)) counts.files counts'.files counts.absences counts'.absences counts.input counts'.input
@@ -389,6 +395,8 @@ module _ (words : List (List ℕ)) (time result : ℕ) (before now : Seen) (coun
     refused = stopped_refused stop s;
     cut = λ w t when. record { text = no_front before.written now.written (outcome words time w).text s.written; store = inl s.kept };
     authentic = λ w t zero. absurd (not_done stop s zero);
+    agreed_merge = λ w t. merges_agreed words time result before now counts counts' w t (stopped_refused stop s w t) (λ zero. absurd (not_done stop s zero)) (λ zero. absurd (not_done stop s zero));
+    merge_again = λ w t. merges_nothing words time result before now counts counts' w t (stopped_refused stop s w t) (λ zero. absurd (not_done stop s zero)) (λ zero. absurd (not_done stop s zero));
     complete = stopped_complete stop s;
     some_file = λ zero. absurd (not_done stop s zero);
   }

@@ -1,8 +1,7 @@
 -- How a task is carried out.
-use Rattle.std.proofs.Common.{◌≡◌, ◌≤◌, ◌+◌, ℕ, List, drop, refl, inl, inr, sym, ◌∙◌, ap, subst, Bool, true, false, Option, Some, None, option_map, Result, Ok, Err, arith}
+use Rattle.std.proofs.Common.{◌≡◌, ◌≤◌, ◌+◌, ℕ, List, drop, refl, inl, sym, ◌∙◌, ap, subst, Bool, true, false, Option, Some, None, option_map, Result, Ok, Err}
 use Rattle.std.specs.Prelude.{IfErr, IfOk, IfSome, OnErr, OnOk, is_some, not}
 use Rattle.std.proofs.lemmas.List.{drop-drop}
-use Rattle.outside_core.specs.Counts.{Increased}
 use Rattle.outside_core.specs.Streams.{LosesPrefix}
 use Rattle.vault_model.specs.Tree.{BareDoc, Tree}
 use Rattle.kdbx_frame.specs.Settings.{IsInOrder}
@@ -11,19 +10,20 @@ use Rattle.cli_answers.specs.declared.answers.Stop.{Stop}
 use Rattle.cli_answers.specs.declared.answers.Stop.TheVariants.{Refused, FileFault, InputFault, NoMemory}
 use Rattle.cli_answers.specs.Phases.{IsCommandStop, IsLeft, IsStreamStop, RefusesAskedStream, StreamAnswer, TellsStream, then_left, with_left}
 use Rattle.kdbx_open.specs.declared.sealings.Sealing.{Sealing}
-use Rattle.cli_databases.specs.Databases.{Opened}
 use Rattle.cli_databases.proofs.Stops.{rose_before}
-use Rattle.cli_lines.proofs.Inputs.{left_alone, left_so, told_by}
+use Rattle.cli_lines.proofs.Inputs.{left_alone, left_so}
 use Rattle.cli_lines.specs.Lines.{Lines}
 use Rattle.cli_sealing.specs.Sealing.{Seals}
 use Rattle.cli_words.specs.declared.command.Command.{Command}
-use Rattle.cli_words.specs.declared.command.Command.TheVariants.{Ls, Add, Edit, Mv, Rm, Mkdir, Rmdir}
+use Rattle.cli_words.specs.declared.command.Command.TheVariants.{Ls, Add, Edit, Move, Remove, MakeGroup, RemoveGroup, Merge}
 use Rattle.cli_words.specs.Needs.{needs_of}
+use Rattle.cli_merging.proofs.DryRuns.{dry_none}
+use Rattle.cli_merging.specs.Merging.{AfterMerge, after_merge}
 use Rattle.cli_writing.specs.Held.{IsWritten}
-use Rattle.cli_writing.specs.Writing.{IsSame, IsWriteStop, KeepsDraft, KeepsFiles, NewFile, Store, Writes, plain_file}
+use Rattle.cli_writing.specs.Writing.{IsWriteStop, KeepsDraft, KeepsFiles, NewFile, Store, Writes}
 use Rattle.cli_commands.specs.declared.output.Output.{Output}
 use Rattle.cli_listing.specs.Listing.{tree_listed}
-use Rattle.cli_commands.specs.Commands.{Change, change_of, draws_id, listing_of, writes}
+use Rattle.cli_commands.specs.Commands.{Change, change_of, draws_id, listing_of, may_write, merged_change}
 use Rattle.keepass_call.specs.Endings.{Ending, Ends, EndsRefused, EndsSo, EndsWith, HoldsNew, IsOfDice, IsOfSomeDice, ReadsBack, WritesNew, carried_out, ended_with, ending_with, ending_without, kept_sealing, new_file}
 use Rattle.cli_commands.specs.SeenChange.{doc_if, output_text}
 use Rattle.keepass_call.specs.Tasks.{Task, draws, task_with}
@@ -131,10 +131,11 @@ tells_id command (Some x) d t = t
 tells_id (Ls access file group recursive flat) None d t = refl
 tells_id (Add access file entry asked) None d t = t
 tells_id (Edit access file entry asked) None d t = refl
-tells_id (Mv access file node group) None d t = refl
-tells_id (Rm access file entry) None d t = t
-tells_id (Mkdir access file group) None d t = t
-tells_id (Rmdir access file group) None d t = t
+tells_id (Move access file node group) None d t = refl
+tells_id (Remove access file entry) None d t = t
+tells_id (MakeGroup access file group) None d t = t
+tells_id (RemoveGroup access file group) None d t = t
+tells_id (Merge access file names from same dry) None d t = refl
 
 -- What is left is reported, where a file is sealed.
 pub tells_after : (asked sealed : Bool) (old mid : Option (List ℕ)) (d l : List ℕ) → (asked ≡ false → sealed ≡ false) → TellsStream asked old d → IsLeft old mid l
@@ -146,47 +147,48 @@ pub no_id : (command : Command) → draws command ≡ false → draws_id command
 no_id (Ls access file group recursive flat) e = refl
 no_id (Add access file entry asked) e = e
 no_id (Edit access file entry asked) e = refl
-no_id (Mv access file node group) e = refl
-no_id (Rm access file entry) e = e
-no_id (Mkdir access file group) e = e
-no_id (Rmdir access file group) e = e
+no_id (Move access file node group) e = refl
+no_id (Remove access file entry) e = e
+no_id (MakeGroup access file group) e = e
+no_id (RemoveGroup access file group) e = e
+no_id (Merge access file names from same dry) e = refl
 
 -- ---- a task
 
 -- What a task is carried out to whose command makes this change.
 carried_by : (time : ℕ) (task : Task) (line : Option (List ℕ)) (dice : List ℕ) (change : Change) → line ≡ task.lines.more
-    → (change_of time task.command line task.opened.doc dice).answer ≡ Ok change
-    → carried_out time task dice ≡ ended_with (needs_of task.command).file task.opened.sealing change.text change.doc (change_of time task.command line task.opened.doc dice).left
+    → (change_of time task.command line task.sources task.opened.doc dice).answer ≡ Ok change
+    → carried_out time task dice ≡ ended_with (needs_of task.command).file task.opened.sealing change.text change.doc (change_of time task.command line task.sources task.opened.doc dice).left
 unfolding carried_out
 carried_by time task line dice change e h =
-    ap (λ (l : Option (List ℕ)). then_left (change_of time task.command l task.opened.doc dice) (λ change left. ended_with (needs_of task.command).file task.opened.sealing change.text change.doc left)) (sym e)
-    ∙ ap (λ (r : Result Change Refusal). then_left (with_left r (change_of time task.command line task.opened.doc dice).left)
+    ap (λ (l : Option (List ℕ)). then_left (change_of time task.command l task.sources task.opened.doc dice) (λ change left. ended_with (needs_of task.command).file task.opened.sealing change.text change.doc left)) (sym e)
+    ∙ ap (λ (r : Result Change Refusal). then_left (with_left r (change_of time task.command line task.sources task.opened.doc dice).left)
     (λ change left. ended_with (needs_of task.command).file task.opened.sealing change.text change.doc left)) h
 
 refused_by : (time : ℕ) (task : Task) (line : Option (List ℕ)) (dice : List ℕ) (refusal : Refusal) → line ≡ task.lines.more
-    → (change_of time task.command line task.opened.doc dice).answer ≡ Err refusal
-    → carried_out time task dice ≡ with_left (Err refusal) (change_of time task.command line task.opened.doc dice).left
+    → (change_of time task.command line task.sources task.opened.doc dice).answer ≡ Err refusal
+    → carried_out time task dice ≡ with_left (Err refusal) (change_of time task.command line task.sources task.opened.doc dice).left
 unfolding carried_out
 refused_by time task line dice refusal e h =
-    ap (λ (l : Option (List ℕ)). then_left (change_of time task.command l task.opened.doc dice) (λ change left. ended_with (needs_of task.command).file task.opened.sealing change.text change.doc left)) (sym e)
-    ∙ ap (λ (r : Result Change Refusal). then_left (with_left r (change_of time task.command line task.opened.doc dice).left)
+    ap (λ (l : Option (List ℕ)). then_left (change_of time task.command l task.sources task.opened.doc dice) (λ change left. ended_with (needs_of task.command).file task.opened.sealing change.text change.doc left)) (sym e)
+    ∙ ap (λ (r : Result Change Refusal). then_left (with_left r (change_of time task.command line task.sources task.opened.doc dice).left)
     (λ change left. ended_with (needs_of task.command).file task.opened.sealing change.text change.doc left)) h
 
 -- The change was made and the file written, if one is.
 pub ends_by : (time : ℕ) (task : Task) (line : Option (List ℕ)) (dice name : List ℕ) (change : Change) (before now : Store) (old mid new : Option (List ℕ))
     → line ≡ task.lines.more → name ≡ (needs_of task.command).file
-    → (change_of time task.command line task.opened.doc dice).answer ≡ Ok change → IsLeft old mid (change_of time task.command line task.opened.doc dice).left
-    → EndsWith change.text (Ok tt) (ended_with name task.opened.sealing change.text change.doc (change_of time task.command line task.opened.doc dice).left) before now mid new
+    → (change_of time task.command line task.sources task.opened.doc dice).answer ≡ Ok change → IsLeft old mid (change_of time task.command line task.sources task.opened.doc dice).left
+    → EndsWith change.text (Ok tt) (ended_with name task.opened.sealing change.text change.doc (change_of time task.command line task.sources task.opened.doc dice).left) before now mid new
     → EndsSo change.text (carried_out time task dice).answer before now × IsLeft old new (carried_out time task dice).left
 ends_by time task line dice name change before now old mid new e n h l w =
-    let made = (change_of time task.command line task.opened.doc dice).left in
+    let made = (change_of time task.command line task.sources task.opened.doc dice).left in
     let there = subst (λ (f : List ℕ). EndsWith change.text (Ok tt) (ended_with f task.opened.sealing change.text change.doc made) before now mid new) n w in
     subst (λ (t : StreamAnswer Ending). EndsSo change.text t.answer before now × IsLeft old new t.left) (sym (carried_by time task line dice change e h))
     (there.0, left_after old mid new made (ended_with (needs_of task.command).file task.opened.sealing change.text change.doc made).left l there.1)
 
 -- The change was refused.
 pub change_refused : (stop : Stop) (time : ℕ) (task : Task) (line : Option (List ℕ)) (dice : List ℕ) (before : Store) (stream stream' : Option (List ℕ))
-    → line ≡ task.lines.more → RefusesAskedStream stop stream stream' (change_of time task.command line task.opened.doc dice)
+    → line ≡ task.lines.more → RefusesAskedStream stop stream stream' (change_of time task.command line task.sources task.opened.doc dice)
     → Ends (Err stop) (carried_out time task dice) before before stream stream'
 change_refused (Refused refusal) time task line dice before stream stream' e h =
     subst (λ (t : StreamAnswer Ending). EndsRefused refusal t.answer before before × IsLeft stream stream' t.left) (sym (refused_by time task line dice refusal e h.0))
@@ -198,11 +200,11 @@ change_refused NoMemory time task line dice before stream stream' e h = tt
 -- The file was refused.
 pub file_refused : (stop : Stop) (time : ℕ) (task : Task) (line : Option (List ℕ)) (dice name : List ℕ) (change : Change) (before now : Store) (old mid new : Option (List ℕ))
     → line ≡ task.lines.more → name ≡ (needs_of task.command).file
-    → (change_of time task.command line task.opened.doc dice).answer ≡ Ok change → IsLeft old mid (change_of time task.command line task.opened.doc dice).left
-    → EndsWith change.text (Err stop) (ended_with name task.opened.sealing change.text change.doc (change_of time task.command line task.opened.doc dice).left) before now mid new
+    → (change_of time task.command line task.sources task.opened.doc dice).answer ≡ Ok change → IsLeft old mid (change_of time task.command line task.sources task.opened.doc dice).left
+    → EndsWith change.text (Err stop) (ended_with name task.opened.sealing change.text change.doc (change_of time task.command line task.sources task.opened.doc dice).left) before now mid new
     → Ends (Err stop) (carried_out time task dice) before now old new
 file_refused (Refused refusal) time task line dice name change before now old mid new e n h l w =
-    let made = (change_of time task.command line task.opened.doc dice).left in
+    let made = (change_of time task.command line task.sources task.opened.doc dice).left in
     let there = subst (λ (f : List ℕ). EndsWith change.text (Err (Refused refusal)) (ended_with f task.opened.sealing change.text change.doc made) before now mid new) n w in
     subst (λ (t : StreamAnswer Ending). EndsRefused refusal t.answer before now × IsLeft old new t.left) (sym (carried_by time task line dice change e h))
     (there.0, left_after old mid new made (ended_with (needs_of task.command).file task.opened.sealing change.text change.doc made).left l there.1)
@@ -213,11 +215,11 @@ file_refused NoMemory time task line dice name change before now old mid new e n
 -- What was printed and written is of the change.
 pub of_dice : (time : ℕ) (task : Task) (line : Option (List ℕ)) (dice name printed : List ℕ) (change : Change) (before now : Store)
     → line ≡ task.lines.more → name ≡ (needs_of task.command).file → printed ≡ change.text
-    → (change_of time task.command line task.opened.doc dice).answer ≡ Ok change → ReadsBack name task.opened.sealing change.doc before now
+    → (change_of time task.command line task.sources task.opened.doc dice).answer ≡ Ok change → ReadsBack name task.opened.sealing change.doc before now
     → IsOfDice time task dice printed before now
 of_dice time task line dice name printed change before now e n p h r = record {
   change = change;
-  makes = subst (λ (l : Option (List ℕ)). (change_of time task.command l task.opened.doc dice).answer ≡ Ok change) e h;
+  makes = subst (λ (l : Option (List ℕ)). (change_of time task.command l task.sources task.opened.doc dice).answer ≡ Ok change) e h;
   text = p;
   reads_back = subst (λ (f : List ℕ). ReadsBack f task.opened.sealing change.doc before now) n r;
 }
@@ -231,36 +233,51 @@ listed_so : (name file : List ℕ) (recursive flat : Bool) (tree : Option Tree) 
 listed_so name file recursive flat None one other dice = refl
 listed_so name file recursive flat (Some tree) one other dice = refl
 
-pub carried_kept : (time : ℕ) (command : Command) (lines : Lines) (doc : BareDoc) (sealing : Option Sealing) (dice : List ℕ)
-    → carried_out time (task_with command lines (record { doc = doc; sealing = kept_sealing (writes command) sealing })) dice
-    ≡ carried_out time (task_with command lines (record { doc = doc; sealing = sealing })) dice
-unfolding carried_out
-carried_kept time (Ls access file group recursive flat) lines doc sealing dice =
-    listed_so file file recursive flat (tree_listed group doc) None sealing dice
-carried_kept time (Add access file entry asked) lines doc sealing dice = refl
-carried_kept time (Edit access file entry asked) lines doc sealing dice = refl
-carried_kept time (Mv access file node group) lines doc sealing dice = refl
-carried_kept time (Rm access file entry) lines doc sealing dice = refl
-carried_kept time (Mkdir access file group) lines doc sealing dice = refl
-carried_kept time (Rmdir access file group) lines doc sealing dice = refl
+-- A merge that makes no document ends so whatever its database is sealed with.
+merged_so : (name : List ℕ) (made : Result AfterMerge Refusal) → IfOk made (λ after. after.doc ≡ None) → (one other : Option Sealing) (dice : List ℕ)
+    → then_left (with_left (merged_change made) dice) (λ change left. ended_with name one change.text change.doc left)
+    ≡ then_left (with_left (merged_change made) dice) (λ change left. ended_with name other change.text change.doc left)
+merged_so name (Ok after) none one other dice =
+    ap (λ (x : Option BareDoc). ended_with name one after.text x dice) none ∙ sym (ap (λ (x : Option BareDoc). ended_with name other after.text x dice) none)
+merged_so name (Err refusal) none one other dice = refl
 
-pub ends_kept : (time : ℕ) (command : Command) (lines : Lines) (doc : BareDoc) (sealing kept : Option Sealing) (d : List ℕ) (result : Result Output Stop) (before now : Store) (dice dice' : Option (List ℕ))
-    → kept ≡ kept_sealing (writes command) sealing
-    → Ends result (carried_out time (task_with command lines (record { doc = doc; sealing = kept })) d) before now dice dice'
-    → Ends result (carried_out time (task_with command lines (record { doc = doc; sealing = sealing })) d) before now dice dice'
-ends_kept time command lines doc sealing kept d result before now dice dice' k h =
-    subst (λ (a : StreamAnswer Ending). Ends result a before now dice dice') (carried_kept time command lines doc sealing d)
-    (subst (λ (s : Option Sealing). Ends result (carried_out time (task_with command lines (record { doc = doc; sealing = s })) d) before now dice dice') k h)
+pub carried_kept : (time : ℕ) (command : Command) (lines : Lines) (sources : List BareDoc) (doc : BareDoc) (sealing : Option Sealing) (dice : List ℕ)
+    → carried_out time (task_with command lines (record { target = record { doc = doc; sealing = kept_sealing (may_write command) sealing }; sources = sources })) dice
+    ≡ carried_out time (task_with command lines (record { target = record { doc = doc; sealing = sealing }; sources = sources })) dice
+unfolding carried_out
+carried_kept time (Ls access file group recursive flat) lines sources doc sealing dice =
+    listed_so file file recursive flat (tree_listed group doc) None sealing dice
+carried_kept time (Add access file entry asked) lines sources doc sealing dice = refl
+carried_kept time (Edit access file entry asked) lines sources doc sealing dice = refl
+carried_kept time (Move access file node group) lines sources doc sealing dice = refl
+carried_kept time (Remove access file entry) lines sources doc sealing dice = refl
+carried_kept time (MakeGroup access file group) lines sources doc sealing dice = refl
+carried_kept time (RemoveGroup access file group) lines sources doc sealing dice = refl
+carried_kept time (Merge access file names from same false) lines sources doc sealing dice = refl
+carried_kept time (Merge access file names from same true) lines sources doc sealing dice =
+    merged_so file (after_merge file access.quiet true names doc sources) (dry_none file access.quiet names doc sources) None sealing dice
+
+pub ends_kept : (time : ℕ) (command : Command) (lines : Lines) (sources : List BareDoc) (doc : BareDoc) (sealing kept : Option Sealing) (d : List ℕ) (result : Result Output Stop) (before now : Store) (dice dice' : Option (List ℕ))
+    → kept ≡ kept_sealing (may_write command) sealing
+    → Ends result (carried_out time (task_with command lines (record { target = record { doc = doc; sealing = kept }; sources = sources })) d) before now dice dice'
+    → Ends result (carried_out time (task_with command lines (record { target = record { doc = doc; sealing = sealing }; sources = sources })) d) before now dice dice'
+ends_kept time command lines sources doc sealing kept d result before now dice dice' k h =
+    subst (λ (a : StreamAnswer Ending). Ends result a before now dice dice') (carried_kept time command lines sources doc sealing d)
+    (subst (λ (s : Option Sealing). Ends result (carried_out time (task_with command lines (record { target = record { doc = doc; sealing = s }; sources = sources })) d) before now dice dice') k h)
 
 -- It makes no document.
 listed_none : (file : List ℕ) (recursive flat : Bool) (tree : Option Tree) (change : Change) → listing_of file recursive flat tree ≡ Ok change → change.doc ≡ None
 listed_none file recursive flat None change h = cc
 listed_none file recursive flat (Some tree) change h = cc
 
-of_dice_kept : (time : ℕ) (command : Command) (lines : Lines) (doc : BareDoc) (sealing : Option Sealing) (d printed : List ℕ) (before now : Store)
-    → IsOfDice time (task_with command lines (record { doc = doc; sealing = kept_sealing (writes command) sealing })) d printed before now
-    → IsOfDice time (task_with command lines (record { doc = doc; sealing = sealing })) d printed before now
-of_dice_kept time (Ls access file group recursive flat) lines doc sealing d printed before now h = record {
+merged_none : (made : Result AfterMerge Refusal) → IfOk made (λ after. after.doc ≡ None) → (change : Change) → merged_change made ≡ Ok change → change.doc ≡ None
+merged_none (Ok after) none change h = let is : after.doc ≡ change.doc = cc h in sym is ∙ none
+merged_none (Err refusal) none change h = cc
+
+of_dice_kept : (time : ℕ) (command : Command) (lines : Lines) (sources : List BareDoc) (doc : BareDoc) (sealing : Option Sealing) (d printed : List ℕ) (before now : Store)
+    → IsOfDice time (task_with command lines (record { target = record { doc = doc; sealing = kept_sealing (may_write command) sealing }; sources = sources })) d printed before now
+    → IsOfDice time (task_with command lines (record { target = record { doc = doc; sealing = sealing }; sources = sources })) d printed before now
+of_dice_kept time (Ls access file group recursive flat) lines sources doc sealing d printed before now h = record {
   change = h.change;
   makes = h.makes;
   text = h.text;
@@ -269,56 +286,68 @@ of_dice_kept time (Ls access file group recursive flat) lines doc sealing d prin
       subst (λ (x : Option BareDoc). ReadsBack file sealing x before now) (sym none)
       (subst (λ (x : Option BareDoc). ReadsBack file None x before now) none h.reads_back);
 }
-of_dice_kept time (Add access file entry asked) lines doc sealing d printed before now h = h
-of_dice_kept time (Edit access file entry asked) lines doc sealing d printed before now h = h
-of_dice_kept time (Mv access file node group) lines doc sealing d printed before now h = h
-of_dice_kept time (Rm access file entry) lines doc sealing d printed before now h = h
-of_dice_kept time (Mkdir access file group) lines doc sealing d printed before now h = h
-of_dice_kept time (Rmdir access file group) lines doc sealing d printed before now h = h
+of_dice_kept time (Add access file entry asked) lines sources doc sealing d printed before now h = h
+of_dice_kept time (Edit access file entry asked) lines sources doc sealing d printed before now h = h
+of_dice_kept time (Move access file node group) lines sources doc sealing d printed before now h = h
+of_dice_kept time (Remove access file entry) lines sources doc sealing d printed before now h = h
+of_dice_kept time (MakeGroup access file group) lines sources doc sealing d printed before now h = h
+of_dice_kept time (RemoveGroup access file group) lines sources doc sealing d printed before now h = h
+of_dice_kept time (Merge access file names from same false) lines sources doc sealing d printed before now h = h
+of_dice_kept time (Merge access file names from same true) lines sources doc sealing d printed before now h = record {
+  change = h.change;
+  makes = h.makes;
+  text = h.text;
+  reads_back =
+      let none = merged_none (after_merge file access.quiet true names doc sources) (dry_none file access.quiet names doc sources) h.change h.makes in
+      subst (λ (x : Option BareDoc). ReadsBack file sealing x before now) (sym none)
+      (subst (λ (x : Option BareDoc). ReadsBack file None x before now) none h.reads_back);
+}
 
-pub all_kept : (time : ℕ) (command : Command) (lines : Lines) (doc : BareDoc) (sealing kept : Option Sealing) (d : List ℕ) (result : Result Output Stop) (before now : Store)
-    → kept ≡ kept_sealing (writes command) sealing
-    → IfOk result (λ output. IsOfDice time (task_with command lines (record { doc = doc; sealing = kept })) d (output_text output) before now)
-    → IfOk result (λ output. IsOfDice time (task_with command lines (record { doc = doc; sealing = sealing })) d (output_text output) before now)
-all_kept time command lines doc sealing kept d (Ok output) before now k h =
-    of_dice_kept time command lines doc sealing d (output_text output) before now
-    (subst (λ (s : Option Sealing). IsOfDice time (task_with command lines (record { doc = doc; sealing = s })) d (output_text output) before now) k h)
-all_kept time command lines doc sealing kept d (Err stop) before now k h = tt
+pub all_kept : (time : ℕ) (command : Command) (lines : Lines) (sources : List BareDoc) (doc : BareDoc) (sealing kept : Option Sealing) (d : List ℕ) (result : Result Output Stop) (before now : Store)
+    → kept ≡ kept_sealing (may_write command) sealing
+    → IfOk result (λ output. IsOfDice time (task_with command lines (record { target = record { doc = doc; sealing = kept }; sources = sources })) d (output_text output) before now)
+    → IfOk result (λ output. IsOfDice time (task_with command lines (record { target = record { doc = doc; sealing = sealing }; sources = sources })) d (output_text output) before now)
+all_kept time command lines sources doc sealing kept d (Ok output) before now k h =
+    of_dice_kept time command lines sources doc sealing d (output_text output) before now
+    (subst (λ (s : Option Sealing). IsOfDice time (task_with command lines (record { target = record { doc = doc; sealing = s }; sources = sources })) d (output_text output) before now) k h)
+all_kept time command lines sources doc sealing kept d (Err stop) before now k h = tt
 
-pub some_kept : (time : ℕ) (command : Command) (lines : Lines) (doc : BareDoc) (sealing kept : Option Sealing) (result : Result Output Stop) (before now : Store)
-    → kept ≡ kept_sealing (writes command) sealing
-    → IfOk result (λ output. IsOfSomeDice time (task_with command lines (record { doc = doc; sealing = kept })) (output_text output) before now)
-    → IfOk result (λ output. IsOfSomeDice time (task_with command lines (record { doc = doc; sealing = sealing })) (output_text output) before now)
-some_kept time command lines doc sealing kept (Ok output) before now k h = (
+pub some_kept : (time : ℕ) (command : Command) (lines : Lines) (sources : List BareDoc) (doc : BareDoc) (sealing kept : Option Sealing) (result : Result Output Stop) (before now : Store)
+    → kept ≡ kept_sealing (may_write command) sealing
+    → IfOk result (λ output. IsOfSomeDice time (task_with command lines (record { target = record { doc = doc; sealing = kept }; sources = sources })) (output_text output) before now)
+    → IfOk result (λ output. IsOfSomeDice time (task_with command lines (record { target = record { doc = doc; sealing = sealing }; sources = sources })) (output_text output) before now)
+some_kept time command lines sources doc sealing kept (Ok output) before now k h = (
   h.0,
-  of_dice_kept time command lines doc sealing h.0 (output_text output) before now
-      (subst (λ (s : Option Sealing). IsOfDice time (task_with command lines (record { doc = doc; sealing = s })) h.0 (output_text output) before now) k h.1),
+  of_dice_kept time command lines sources doc sealing h.0 (output_text output) before now
+      (subst (λ (s : Option Sealing). IsOfDice time (task_with command lines (record { target = record { doc = doc; sealing = s }; sources = sources })) h.0 (output_text output) before now) k h.1),
 )
-some_kept time command lines doc sealing kept (Err stop) before now k h = tt
+some_kept time command lines sources doc sealing kept (Err stop) before now k h = tt
 
 -- A command that draws nothing seals nothing.
 undrawn_unsealed : (command : Command) (sealing : Option Sealing) → is_some sealing ≡ not (needs_of command).access.plain → draws command ≡ false
-    → is_some (kept_sealing (writes command) sealing) ≡ false
+    → is_some (kept_sealing (may_write command) sealing) ≡ false
 undrawn_unsealed (Ls access file group recursive flat) sealing h e = refl
 undrawn_unsealed (Add access file entry asked) sealing h e = cc
 undrawn_unsealed (Edit access file entry asked) sealing h e = h ∙ e
-undrawn_unsealed (Mv access file node group) sealing h e = h ∙ e
-undrawn_unsealed (Rm access file entry) sealing h e = cc
-undrawn_unsealed (Mkdir access file group) sealing h e = cc
-undrawn_unsealed (Rmdir access file group) sealing h e = cc
+undrawn_unsealed (Move access file node group) sealing h e = h ∙ e
+undrawn_unsealed (Remove access file entry) sealing h e = cc
+undrawn_unsealed (MakeGroup access file group) sealing h e = cc
+undrawn_unsealed (RemoveGroup access file group) sealing h e = cc
+undrawn_unsealed (Merge access file names from same true) sealing h e = refl
+undrawn_unsealed (Merge access file names from same false) sealing h e = h ∙ e
 
-pub unsealed_kept : (command : Command) (sealing kept : Option Sealing) → kept ≡ kept_sealing (writes command) sealing
+pub unsealed_kept : (command : Command) (sealing kept : Option Sealing) → kept ≡ kept_sealing (may_write command) sealing
     → is_some sealing ≡ not (needs_of command).access.plain → draws command ≡ false → is_some kept ≡ false
 unsealed_kept command sealing kept k h e = ap (λ (s : Option Sealing). is_some s) k ∙ undrawn_unsealed command sealing h e
 
-in_order_if : (is_written : Bool) (sealing : Option Sealing) → IfSome sealing (λ s. IsInOrder s.settings) → IfSome (kept_sealing is_written sealing) (λ s. IsInOrder s.settings)
+in_order_if : (writes : Bool) (sealing : Option Sealing) → IfSome sealing (λ s. IsInOrder s.settings) → IfSome (kept_sealing writes sealing) (λ s. IsInOrder s.settings)
 in_order_if true sealing h = h
 in_order_if false sealing h = tt
 
-pub in_order_kept : (is_written : Bool) (sealing kept : Option Sealing) → kept ≡ kept_sealing is_written sealing
+pub in_order_kept : (writes : Bool) (sealing kept : Option Sealing) → kept ≡ kept_sealing writes sealing
     → IfSome sealing (λ s. IsInOrder s.settings) → IfSome kept (λ s. IsInOrder s.settings)
-in_order_kept is_written sealing kept k h =
-    subst (λ (x : Option Sealing). IfSome x (λ s. IsInOrder s.settings)) (sym k) (in_order_if is_written sealing h)
+in_order_kept writes sealing kept k h =
+    subst (λ (x : Option Sealing). IfSome x (λ s. IsInOrder s.settings)) (sym k) (in_order_if writes sealing h)
 
 -- ---- causes
 

@@ -1,67 +1,76 @@
 -- What a call asks for, phase after phase.
-use Rattle.std.proofs.Common.{◌≡◌, ℕ, List, refl, inl, inr, sym, ◌∙◌, ap, subst, Bool, true, false, Option, Some, None, option_map, Result, Ok, Err}
-use Rattle.std.specs.Prelude.{◌⊎◌, ◌||◌, not, Contains, IfErr, IsSome, is_some}
+use Rattle.std.proofs.Common.{◌≡◌, ℕ, List, sym, ◌∙◌, ap, subst, Option, Result, Ok, Err}
+use Rattle.std.specs.Prelude.{not, Contains, is_some}
 use Rattle.outside_core.specs.Counts.{Increased}
 use Rattle.outside_core.specs.Files.{FileMap}
 use Rattle.outside_core.specs.Results.{◌>>=◌}
+use Rattle.cli_answers.specs.declared.answers.Reason.TheVariants.{NoSuchFile, WrongWords}
 use Rattle.cli_answers.specs.declared.answers.Refusal.{Refusal}
 use Rattle.cli_answers.specs.declared.answers.Stop.{Stop}
 use Rattle.cli_answers.specs.declared.answers.Stop.TheVariants.{Refused, FileFault, InputFault, NoMemory}
 use Rattle.cli_answers.specs.Phases.{IsEarlyStop, IsFileStop, IsLeft, IsStreamStop, IsWordsStop, Leaves, RefusesAskedStream, Stops, TellsStream}
-use Rattle.cli_lines.specs.Lines.{CanOpen, HasLines, Lines, lines_of}
+use Rattle.cli_lines.specs.Lines.{HasLines, Lines, lines_of}
 use Rattle.cli_lines.proofs.Inputs.{left_alone}
-use Rattle.cli_words.specs.Needs.{HasKey, Needs, asks_line, asks_password, files_named, files_of, needs_of}
-use Rattle.cli_words.specs.declared.command.Access.{Access}
+use Rattle.cli_words.specs.Needs.{HasKeys, Needs, asks_line, files_named, files_of, needs_of}
 use Rattle.cli_words.specs.declared.command.Command.{Command}
-use Rattle.cli_databases.specs.Databases.{Opened, database_of}
-use Rattle.cli_databases.specs.SomeFiles.{SomeDatabase}
+use Rattle.cli_databases.specs.Databases.{Databases, databases_of}
+use Rattle.cli_databases.specs.SomeFiles.{SomeDatabases}
 use Rattle.cli_databases.proofs.SomeOpened.{sealed_unless_plain}
 use Rattle.keepass_call.specs.declared.task.Task as memory
 use Rattle.cli_words.specs.Words.{command_of}
-use Rattle.keepass_call.specs.Tasks.{HasSomeFile, Task, asked_by, left_behind, task_of, task_with}
+use Rattle.keepass_call.specs.Tasks.{HasSomeFile, asked_by, left_behind, task_of, task_with}
 
 -- ---- what words ask for
 
 -- Where each phase gives something, that is the task.
-pub task_is : (words : List (List ℕ)) (input : List ℕ) (files : FileMap) (command : Command) (lines : Lines) (opened : Opened)
-    → command_of words ≡ Ok command → (lines_of (needs_of command) input).answer ≡ Ok lines → database_of (needs_of command) lines.password files ≡ Ok opened
-    → task_of words input files ≡ Ok (task_with command lines opened)
+pub task_is : (words : List (List ℕ)) (input : List ℕ) (files : FileMap) (command : Command) (lines : Lines) (databases : Databases)
+    → command_of words ≡ Ok command → (lines_of (needs_of command) input).answer ≡ Ok lines → databases_of (needs_of command) lines files ≡ Ok databases
+    → task_of words input files ≡ Ok (task_with command lines databases)
 unfolding task_of
-task_is words input files command lines opened c p d =
-    ap (λ r. r >>= λ command. (lines_of (needs_of command) input).answer >>= λ lines. database_of (needs_of command) lines.password files >>= λ opened. Ok (task_with command lines opened)) c
-    ∙ ap (λ r. r >>= λ lines. database_of (needs_of command) lines.password files >>= λ opened. Ok (task_with command lines opened)) p
-    ∙ ap (λ r. r >>= λ opened. Ok (task_with command lines opened)) d
+task_is words input files command lines databases c p d =
+    ap (λ r. r >>= λ command. (lines_of (needs_of command) input).answer >>= λ lines. databases_of (needs_of command) lines files >>= λ databases. Ok (task_with command lines databases)) c
+    ∙ ap (λ r. r >>= λ lines. databases_of (needs_of command) lines files >>= λ databases. Ok (task_with command lines databases)) p
+    ∙ ap (λ r. r >>= λ databases. Ok (task_with command lines databases)) d
 
 -- The same, where what the command asks for has another name.
-pub task_by_needs : (words : List (List ℕ)) (input : List ℕ) (files : FileMap) (command : Command) (needs : Needs) (lines : Lines) (opened : Opened)
-    → command_of words ≡ Ok command → needs ≡ needs_of command → (lines_of needs input).answer ≡ Ok lines → database_of needs lines.password files ≡ Ok opened
-    → task_of words input files ≡ Ok (task_with command lines opened)
-task_by_needs words input files command needs lines opened c same p d =
-    task_is words input files command lines opened c (subst (λ (n : Needs). (lines_of n input).answer ≡ Ok lines) same p)
-    (subst (λ (n : Needs). database_of n lines.password files ≡ Ok opened) same d)
+pub task_by_needs : (words : List (List ℕ)) (input : List ℕ) (files : FileMap) (command : Command) (needs : Needs) (lines : Lines) (databases : Databases)
+    → command_of words ≡ Ok command → needs ≡ needs_of command → (lines_of needs input).answer ≡ Ok lines → databases_of needs lines files ≡ Ok databases
+    → task_of words input files ≡ Ok (task_with command lines databases)
+task_by_needs words input files command needs lines databases c same p d =
+    task_is words input files command lines databases c (subst (λ (n : Needs). (lines_of n input).answer ≡ Ok lines) same p)
+    (subst (λ (n : Needs). databases_of n lines files ≡ Ok databases) same d)
 
-pub has_file_by_needs : (words : List (List ℕ)) (command : Command) (needs : Needs) (lines : Lines) (opened : Opened)
-    → command_of words ≡ Ok command → needs ≡ needs_of command → HasLines needs lines → SomeDatabase needs lines.password opened
-    → HasSomeFile words (task_with command lines opened)
-has_file_by_needs words command needs lines opened c same p d = record {
+pub has_file_by_needs : (words : List (List ℕ)) (command : Command) (needs : Needs) (lines : Lines) (databases : Databases)
+    → command_of words ≡ Ok command → needs ≡ needs_of command → HasLines needs lines → SomeDatabases needs lines databases
+    → HasSomeFile words (task_with command lines databases)
+has_file_by_needs words command needs lines databases c same p d = record {
   is_command = c;
   has_lines = subst (λ (n : Needs). HasLines n lines) same p;
-  holds = subst (λ (n : Needs). SomeDatabase n lines.password opened) same d;
+  holds = subst (λ (n : Needs). SomeDatabases n lines databases) same d;
 }
 
 -- The database is sealed unless it is a plain document.
-pub sealed_by_needs : (command : Command) (needs : Needs) (password : Option (List ℕ)) (opened : Opened) → needs ≡ needs_of command
-    → SomeDatabase needs password opened → is_some opened.sealing ≡ not (needs_of command).access.plain
-sealed_by_needs command needs password opened same h =
-    sealed_unless_plain needs.access.plain needs.access.key_file password opened h ∙ ap (λ (n : Needs). not n.access.plain) same
+pub sealed_by_needs : (command : Command) (needs : Needs) (lines : Lines) (databases : Databases) → needs ≡ needs_of command
+    → SomeDatabases needs lines databases → is_some databases.target.sealing ≡ not (needs_of command).access.plain
+sealed_by_needs command needs lines databases same h =
+    sealed_unless_plain needs.access.plain needs.access.key_file lines.password databases.target h.target ∙ ap (λ (n : Needs). not n.access.plain) same
+
+-- The words were refused.
+pub words_refused : (stop : Stop) (words : List (List ℕ)) (input : List ℕ) (files : FileMap) → Stops stop (command_of words) → Stops stop (task_of words input files)
+unfolding task_of
+words_refused (Refused refusal) words input files h =
+    ap (λ r. r >>= λ command. (lines_of (needs_of command) input).answer >>= λ lines. databases_of (needs_of command) lines files >>= λ databases. Ok (task_with command lines databases)) h
+words_refused (FileFault name) words input files h = tt
+words_refused InputFault words input files h = tt
+words_refused NoMemory words input files h = tt
 
 -- The lines were refused.
 pub lines_refused : (stop : Stop) (words : List (List ℕ)) (input : List ℕ) (files : FileMap) (command : Command) (needs : Needs) (before now : Option (List ℕ))
     → command_of words ≡ Ok command → needs ≡ needs_of command → RefusesAskedStream stop before now (lines_of needs input) → Stops stop (task_of words input files)
 unfolding task_of
 lines_refused (Refused refusal) words input files command needs before now c same h =
-    ap (λ r. r >>= λ command. (lines_of (needs_of command) input).answer >>= λ lines. database_of (needs_of command) lines.password files >>= λ opened. Ok (task_with command lines opened)) c
-    ∙ ap (λ r. r >>= λ lines. database_of (needs_of command) lines.password files >>= λ opened. Ok (task_with command lines opened))
+    ap (λ r. r >>= λ command. (lines_of (needs_of command) input).answer >>= λ lines. databases_of (needs_of command) lines files >>= λ databases. Ok (task_with command lines databases)) c
+    ∙ ap (λ r. r >>= λ lines. databases_of (needs_of command) lines files >>= λ databases. Ok (task_with command lines databases))
     (subst (λ (n : Needs). (lines_of n input).answer ≡ Err refusal) same h.0)
 lines_refused (FileFault name) words input files command needs before now c same h = tt
 lines_refused InputFault words input files command needs before now c same h = tt
@@ -70,33 +79,22 @@ lines_refused NoMemory words input files command needs before now c same h = tt
 -- The database was refused.
 pub database_refused : (stop : Stop) (words : List (List ℕ)) (input : List ℕ) (files : FileMap) (command : Command) (needs : Needs) (lines : Lines)
     → command_of words ≡ Ok command → needs ≡ needs_of command → (lines_of needs input).answer ≡ Ok lines
-    → Stops stop (database_of needs lines.password files) → Stops stop (task_of words input files)
+    → Stops stop (databases_of needs lines files) → Stops stop (task_of words input files)
 unfolding task_of
 database_refused (Refused refusal) words input files command needs lines c same p h =
-    ap (λ r. r >>= λ command. (lines_of (needs_of command) input).answer >>= λ lines. database_of (needs_of command) lines.password files >>= λ opened. Ok (task_with command lines opened)) c
-    ∙ ap (λ r. r >>= λ lines. database_of (needs_of command) lines.password files >>= λ opened. Ok (task_with command lines opened))
+    ap (λ r. r >>= λ command. (lines_of (needs_of command) input).answer >>= λ lines. databases_of (needs_of command) lines files >>= λ databases. Ok (task_with command lines databases)) c
+    ∙ ap (λ r. r >>= λ lines. databases_of (needs_of command) lines files >>= λ databases. Ok (task_with command lines databases))
     (subst (λ (n : Needs). (lines_of n input).answer ≡ Ok lines) same p)
-    ∙ ap (λ r. r >>= λ opened. Ok (task_with command lines opened)) (subst (λ (n : Needs). database_of n lines.password files ≡ Err refusal) same h)
+    ∙ ap (λ r. r >>= λ databases. Ok (task_with command lines databases)) (subst (λ (n : Needs). databases_of n lines files ≡ Err refusal) same h)
 database_refused (FileFault name) words input files command needs lines c same p h = tt
 database_refused InputFault words input files command needs lines c same p h = tt
 database_refused NoMemory words input files command needs lines c same p h = tt
 
--- ---- what opens a database
+-- ---- what opens databases
 
-can_open_by : (plain no_password : Bool) (key password : Option (List ℕ)) → (plain ≡ false → no_password ≡ true → IsSome key)
-    → is_some password ≡ not (plain || no_password) → plain ≡ false → IsSome password ⊎ IsSome key
-can_open_by true no_password key password h k e = cc
-can_open_by false true key password h k e = inr (h refl refl)
-can_open_by false false key password h k e = inl k
-
-can_open : (access : Access) (password : Option (List ℕ)) → HasKey access → is_some password ≡ asks_password access → CanOpen access password
-can_open access password h k = can_open_by access.plain access.no_password access.key_file password h k
-
--- The line that was asked for, or the key file, opens the database.
-pub can_open_needs : (command : Command) (needs : Needs) (lines : Lines) → needs ≡ needs_of command → HasKey (needs_of command).access
-    → HasLines needs lines → CanOpen needs.access lines.password
-can_open_needs command needs lines same h has =
-    can_open needs.access lines.password (subst (λ (n : Needs). HasKey n.access) (sym same) h) has.has_password
+-- What the words ask for has keys.
+pub keys_of_needs : (command : Command) (needs : Needs) → needs ≡ needs_of command → HasKeys (needs_of command) → HasKeys needs
+keys_of_needs command needs same h = subst HasKeys (sym same) h
 
 -- ---- what is left of the input
 
@@ -150,6 +148,19 @@ stops_left InputFault before now left h = tt
 stops_left NoMemory before now left h = tt
 
 -- ---- causes
+
+-- A stop at the words, or at the input, as a stop of the call.
+pub words_early : (stop : Stop) (names : List (List ℕ)) (f f' a a' i i' : ℕ) → IsWordsStop stop → IsEarlyStop names f f' a a' i i' stop
+words_early (Refused refusal) names f f' a a' i i' h = λ e. let no : WrongWords ≡ NoSuchFile = sym h ∙ e in cc
+words_early (FileFault name) names f f' a a' i i' h = absurd h
+words_early InputFault names f f' a a' i i' h = absurd h
+words_early NoMemory names f f' a a' i i' h = tt
+
+pub input_early : (stop : Stop) (names : List (List ℕ)) (f f' a a' i i' : ℕ) → IsStreamStop i i' stop → IsEarlyStop names f f' a a' i i' stop
+input_early (Refused refusal) names f f' a a' i i' h = λ e. absurd (h e)
+input_early (FileFault name) names f f' a a' i i' h = absurd h
+input_early InputFault names f f' a a' i i' h = h
+input_early NoMemory names f f' a a' i i' h = tt
 
 -- A stop at a file of the command that the words are, as a stop of the call.
 at_words : (command : Command) (words : Result Command Refusal) (f f' a a' i i' : ℕ) (stop : Stop) → words ≡ Ok command

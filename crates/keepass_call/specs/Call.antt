@@ -2,10 +2,11 @@
 use Rattle.std.specs.Prelude.{◌≡◌, ◌≢◌, ◌⊎◌, ℕ, List, false}
 use Rattle.cli_words.specs.Needs.{files_named}
 use Rattle.keepass_call.specs.Held.{IsAuthentic, IsComplete}
+use Rattle.keepass_call.specs.Merges.{MergesAgreed, MergesNothing}
 use Rattle.keepass_call.specs.Outcome.{Counts, IsAsSaid, IsCut, IsRefused, IsSafe, NoFaults, PrintsOfSomeFile, Seen, WhereTold, outcome}
 use Rattle.cli_words.specs.Words.{command_of}
 use Rattle.cli_writing.specs.Writing.{IsSame}
-use Rattle.keepass_call.specs.Tasks.{draws_by, writes_by}
+use Rattle.keepass_call.specs.Tasks.{draws_by, may_write_by}
 
 -- A call with these words at a moment, its status, what is seen before and after it, and the counts
 -- before and after.
@@ -13,9 +14,9 @@ pub record IsCall (words : List (List ℕ)) (time result : ℕ) (before now : Se
     (counts counts' : Counts) : Type 0 where
   -- Reported or not: statuses have their causes, and a refusal changes no file.
   pub safe : IsSafe result before now counts counts'
-  -- Reported or not: words that are no command that writes change no file, and words that are no
+  -- Reported or not: words that are no command that may write change no file, and words that are no
   -- command that draws draw nothing.
-  pub reads_only : writes_by (command_of words) ≡ false → IsSame before.store now.store
+  pub reads_only : may_write_by (command_of words) ≡ false → IsSame before.store now.store
   pub draws_nothing : draws_by (command_of words) ≡ false → now.stream ≡ before.stream
   -- Where the status is 0, or nothing failed and memory did not run out, all is as the outcome of
   -- the words says.
@@ -29,14 +30,20 @@ pub record IsCall (words : List (List ℕ)) (time result : ℕ) (before now : Se
   -- Where memory ran out or output failed, so much is as the outcome says.
   pub cut : WhereTold words before (λ world. (result ≡ 9) ⊎ (result ≡ 10)
       → IsCut (outcome words time world) before now)
-  -- What is printed at status 0 is made of a document that the file holds under the line and the
-  -- key file that were given, and a file that was written holds the document that was made of it,
-  -- under the same key.
+  -- What is printed at status 0 is made of documents that the files hold under the lines and the
+  -- key files that were given, and a file that was written holds the document that was made of them,
+  -- under the same key as before.
   pub authentic : WhereTold words before (λ world. result ≡ 0
       → IsAuthentic words time world before now)
+  -- A merge of copies that are parts of an agreed set is never refused because ids clash or moves
+  -- make a cycle, and at status 0 the target holds the join of all of them.
+  pub agreed_merge : WhereTold words before (λ world. MergesAgreed words world result now)
+  -- Where the target is settled and has all of them already, such a merge changes nothing at
+  -- status 0.
+  pub merge_again : WhereTold words before (λ world. MergesNothing words world result before now)
   -- What can be carried out is.
   pub complete : WhereTold words before (λ world. IsComplete words time world result counts
       counts')
-  -- Reported or not: what is printed at status 0 is made of a document that some file holds, and a
-  -- file that was written holds the document that was made of it.
+  -- Reported or not: what is printed at status 0 is made of documents that some files hold, and a
+  -- file that was written holds the document that was made of them.
   pub some_file : result ≡ 0 → PrintsOfSomeFile words time before now

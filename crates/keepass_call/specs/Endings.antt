@@ -45,14 +45,20 @@ ended_with name sealing text None dice = with_left (Ok (ending_without text)) di
 ended_with name sealing text (Some doc) dice = then_left (new_file name sealing doc dice)
     (λ file left. with_left (Ok (ending_with text file)) left)
 
+-- What the command of a task makes of its document, with the line and the sources of the task, over
+-- the dice.
+abbrev pub change_of_task : ℕ → Task → List ℕ → StreamAnswer Change
+change_of_task time task dice =
+    change_of time task.command task.lines.more task.sources task.opened.doc dice
+
 -- What a task is carried out to at a moment: what the command makes of its document, over the dice,
 -- and then the file. What is left of the dice is defined after a refusal too.
 unfoldable pub carried_out : ℕ → Task → List ℕ → StreamAnswer Ending
 carried_out time task dice =
-    then_left (change_of time task.command task.lines.more task.opened.doc dice) (λ change left.
+    then_left (change_of_task time task dice) (λ change left.
     ended_with (needs_of task.command).file task.opened.sealing change.text change.doc left)
 
--- What a database is sealed with, if it is written again.
+-- What a database is sealed with, if it may be written again.
 abbrev pub kept_sealing : Bool → Option Sealing → Option Sealing
 kept_sealing true sealing = sealing
 kept_sealing false sealing = None
@@ -131,8 +137,7 @@ Ends (Err NoMemory) defined before now dice dice' = Unit {0}
 pub record IsOfDice (time : ℕ) (task : Task) (dice printed : List ℕ) (before now : Store) : Type 0
   where
     pub change : Change
-    pub makes : (change_of time task.command task.lines.more task.opened.doc dice).answer
-        ≡ Ok change
+    pub makes : (change_of_task time task dice).answer ≡ Ok change
     pub text : printed ≡ change.text
     pub reads_back : ReadsBack (needs_of task.command).file task.opened.sealing change.doc before
         now

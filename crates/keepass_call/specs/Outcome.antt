@@ -177,8 +177,8 @@ pub record IsOfTask (words : List (List ℕ)) (time : ℕ) (world : World) (prin
   pub gives : task_of words world.input world.files ≡ Ok task
   pub of_dice : IsOfDice time task world.dice printed before now
 
--- This is what the words print on a document that some file holds, with some bytes drawn, and the
--- file that was written, if one is, holds the document that they make of it.
+-- This is what the words print on documents that some files hold, with some bytes drawn, and the
+-- file that was written, if one is, holds the document that they make of them.
 pub record IsOfSomeFile (words : List (List ℕ)) (time : ℕ) (printed : List ℕ) (before now : Store) :
     Type 0 where
   pub task : Task

@@ -1,37 +1,48 @@
--- What a call is to do: its command, the lines that this asked for, and the database that was
+-- What a call is to do: its command, the lines that this asked for, and the databases that were
 -- opened.
-use Rattle.std.specs.Prelude.{◌≡◌, ℕ, Bool, true, false, not, List, Result, Ok, Err}
+use Rattle.std.specs.Prelude.{◌≡◌, ◌&&◌, ℕ, Bool, true, false, not, List, Result, Ok, Err}
 use Rattle.outside_core.specs.Files.{FileMap}
 use Rattle.outside_core.specs.Results.{◌>>=◌}
+use Rattle.vault_model.specs.Tree.{BareDoc}
 use Rattle.cli_answers.specs.declared.answers.Refusal.{Refusal}
 use Rattle.cli_words.specs.declared.command.Command.{Command}
-use Rattle.cli_words.specs.declared.command.Command.TheVariants.{Ls, Add, Edit, Mv, Rm, Mkdir, Rmdir}
+use Rattle.cli_words.specs.declared.command.Command.TheVariants.{Ls, Add, Edit, Move, Remove, MakeGroup, RemoveGroup, Merge}
 use Rattle.cli_words.specs.Needs.{asks_line, needs_of}
 use Rattle.cli_words.specs.Words.{command_of}
 use Rattle.cli_lines.specs.Lines.{HasLines, Lines, lines_of}
-use Rattle.cli_databases.specs.Databases.{Opened, database_of}
-use Rattle.cli_databases.specs.SomeFiles.{SomeDatabase}
-use Rattle.cli_commands.specs.Commands.{writes}
+use Rattle.cli_databases.specs.Databases.{Databases, Opened, databases_of}
+use Rattle.cli_databases.specs.SomeFiles.{SomeDatabases}
+use Rattle.cli_commands.specs.Commands.{may_write}
 
--- What a call is to do: its command, the lines that this asked for, and the database that was
--- opened.
+-- What a call is to do: its command, the lines that this asked for, the database that was opened
+-- for it, and the documents of its sources.
 pub record Task : Type 0 where
   pub command : Command
   pub lines : Lines
   pub opened : Opened
+  pub sources : List BareDoc
 
--- A task of this command, these lines and this database.
-abbrev pub task_with : Command → Lines → Opened → Task
-task_with command lines opened = record { command = command; lines = lines; opened = opened }
+-- The databases of a task.
+abbrev pub databases_in : Task → Databases
+databases_in task = record { target = task.opened; sources = task.sources }
+
+-- A task of this command, these lines and these databases.
+abbrev pub task_with : Command → Lines → Databases → Task
+task_with command lines databases = record {
+  command = command;
+  lines = lines;
+  opened = databases.target;
+  sources = databases.sources;
+}
 
 -- What these words ask for over this input and these files: the command, the lines that are due,
--- and the database that the command names.
+-- and the databases that the command names.
 unfoldable pub task_of : List (List ℕ) → List ℕ → FileMap → Result Task Refusal
 task_of words input files = do
   command ← command_of words
   lines ← (lines_of (needs_of command) input).answer
-  opened ← database_of (needs_of command) lines.password files
-  Ok (task_with command lines opened)
+  databases ← databases_of (needs_of command) lines files
+  Ok (task_with command lines databases)
 
 -- Whether words ask for a line.
 abbrev pub asked_by : Result Command Refusal → Bool
@@ -43,20 +54,21 @@ abbrev pub draws : Command → Bool
 draws (Ls access file group recursive flat) = false
 draws (Add access file entry asked) = true
 draws (Edit access file entry asked) = not access.plain
-draws (Mv access file node group) = not access.plain
-draws (Rm access file entry) = true
-draws (Mkdir access file group) = true
-draws (Rmdir access file group) = true
+draws (Move access file node group) = not access.plain
+draws (Remove access file entry) = true
+draws (MakeGroup access file group) = true
+draws (RemoveGroup access file group) = true
+draws (Merge access file names from same dry) = not dry && not access.plain
 
 -- Whether words are a command that draws.
 abbrev pub draws_by : Result Command Refusal → Bool
 draws_by (Ok command) = draws command
 draws_by (Err refusal) = false
 
--- Whether words are a command that writes its database.
-abbrev pub writes_by : Result Command Refusal → Bool
-writes_by (Ok command) = writes command
-writes_by (Err refusal) = false
+-- Whether words are a command that may write its database.
+abbrev pub may_write_by : Result Command Refusal → Bool
+may_write_by (Ok command) = may_write command
+may_write_by (Err refusal) = false
 
 -- What is left of the input after the lines that a command asks for.
 abbrev pub left_behind : Result Command Refusal → List ℕ → List ℕ
@@ -67,9 +79,9 @@ left_behind (Err refusal) input = input
 abbrev pub left_of : List (List ℕ) → List ℕ → List ℕ
 left_of words input = left_behind (command_of words) input
 
--- The words ask for this task, whose database some file holds, under lines of which each is there
+-- The words ask for this task, whose databases some files hold, under lines of which each is there
 -- that is due.
 pub record HasSomeFile (words : List (List ℕ)) (task : Task) : Type 0 where
   pub is_command : command_of words ≡ Ok task.command
   pub has_lines : HasLines (needs_of task.command) task.lines
-  pub holds : SomeDatabase (needs_of task.command) task.lines.password task.opened
+  pub holds : SomeDatabases (needs_of task.command) task.lines (databases_in task)

@@ -9,7 +9,7 @@ ghost use Rattle.cli_lines.specs.SeenLines.{lines_seen};
 ghost use Rattle.cli_words.specs.Needs.{needs_of};
 ghost use Rattle.cli_writing.specs.Held.{IsWritten};
 ghost use Rattle.cli_writing.specs.Writing.{IsSame, KeepsDraft, KeepsFiles, store};
-ghost use Rattle.cli_commands.specs.Commands.{writes};
+ghost use Rattle.cli_commands.specs.Commands.{may_write};
 ghost use Rattle.keepass_call.specs.Endings.{Ends, EndsWith, HoldsNew, IsOfDice, IsOfSomeDice, ReadsBack, WritesNew, carried_out, ended_with, kept_sealing, new_file};
 ghost use Rattle.cli_commands.specs.SeenChange.{doc_if, output_text};
 ghost use Rattle.keepass_call.specs.SeenTask.{task_seen};
@@ -17,7 +17,7 @@ ghost use Rattle.keepass_call.specs.Tasks.{draws};
 
 use crate::task::{Task, bytes_in};
 use cli_answers::Stop;
-use cli_commands::{Output, is_writing, perform};
+use cli_commands::{CommandInput, Output, may_write, perform};
 use cli_databases::Opened;
 use cli_sealing::write_sealed;
 use cli_words::Command;
@@ -34,12 +34,12 @@ fn file_of(command: &Command) -> &str
     cli_words::needs_of(command).file.as_str()
 }
 
-// What a database is sealed with is kept if it is written again. Otherwise its composite key is
+// What a database is sealed with is kept if it may be written again. Otherwise its composite key is
 // cleared and released.
-fn keep_if(is_written: bool, sealing: &mut Option<Sealing>)
-    ensures { sealing.new ≡ kept_sealing is_written sealing.old }
+fn keep_if(may_write: bool, sealing: &mut Option<Sealing>)
+    ensures { sealing.new ≡ kept_sealing may_write sealing.old }
 {
-    if !is_written {
+    if !may_write {
         release_key(sealing.take());
     }
 }
@@ -50,10 +50,12 @@ fn let_go(task: Task) {
         command,
         lines,
         opened: Opened { doc, sealing },
+        sources,
     } = task;
     drop(command);
     drop(lines);
     drop(doc);
+    drop(sources);
     release_key(sealing);
 }
 
@@ -167,7 +169,7 @@ fn carry_out_on<F: FileStore, D: Dice>(
     ensures draft { KeepsDraft
         (store (F.files files.old) (F.draft_name files.old) (F.draft_bytes files.old))
         (store (F.files files.new) (F.draft_name files.new) (F.draft_bytes files.new)) }
-    ensures unwritten { writes task.old.command ≡ false → IsSame
+    ensures unwritten { may_write task.old.command ≡ false → IsSame
         (store (F.files files.old) (F.draft_name files.old) (F.draft_bytes files.old))
         (store (F.files files.new) (F.draft_name files.new) (F.draft_bytes files.new)) }
     ensures undrawn { draws task.old.command ≡ false
@@ -176,14 +178,12 @@ fn carry_out_on<F: FileStore, D: Dice>(
     ensures cause { IfErr result (IsCommandStop (needs_of task.old.command).file
         (F.faults files.old) (F.faults files.new) (D.faults dice.old) (D.faults dice.new)) }
 {
-    let change = perform(
-        alloc,
-        dice,
-        &task.command,
-        bytes_in(&task.lines.more),
-        &mut task.opened.doc,
+    let input = CommandInput {
+        line: bytes_in(&task.lines.more),
+        sources: task.sources.as_slice(),
         now,
-    )?;
+    };
+    let change = perform(alloc, dice, &task.command, input, &mut task.opened.doc)?;
     write_if(
         alloc,
         files,
@@ -199,7 +199,7 @@ fn carry_out_on<F: FileStore, D: Dice>(
 /// written. What is printed is composed before the file is written, and printed after it.
 ///
 /// Whatever the answer, the composite key of the database was cleared and released: at once, where
-/// the command writes no file.
+/// the command may write none.
 pub fn carry_out<F: FileStore, D: Dice>(
     alloc: Global,
     files: &mut F,
@@ -229,7 +229,7 @@ pub fn carry_out<F: FileStore, D: Dice>(
     ensures draft { KeepsDraft
         (store (F.files files.old) (F.draft_name files.old) (F.draft_bytes files.old))
         (store (F.files files.new) (F.draft_name files.new) (F.draft_bytes files.new)) }
-    ensures unwritten { writes task.command ≡ false → IsSame
+    ensures unwritten { may_write task.command ≡ false → IsSame
         (store (F.files files.old) (F.draft_name files.old) (F.draft_bytes files.old))
         (store (F.files files.new) (F.draft_name files.new) (F.draft_bytes files.new)) }
     ensures undrawn { draws task.command ≡ false → D.stream dice.new ≡ D.stream dice.old }
@@ -237,7 +237,7 @@ pub fn carry_out<F: FileStore, D: Dice>(
     ensures cause { IfErr result (IsCommandStop (needs_of task.command).file
         (F.faults files.old) (F.faults files.new) (D.faults dice.old) (D.faults dice.new)) }
 {
-    keep_if(is_writing(&task.command), &mut task.opened.sealing);
+    keep_if(may_write(&task.command), &mut task.opened.sealing);
     let answer = carry_out_on(alloc, files, dice, &mut task, now);
     let_go(task);
     answer

@@ -10,7 +10,7 @@ ghost use Rattle.keepass_call.specs.Endings.{Ends};
 ghost use Rattle.keepass_call.specs.Outcome.{IsOfSomeFile, IsOfTask, World, answer_of, counts, seen};
 ghost use Rattle.cli_commands.specs.SeenChange.{output_text};
 ghost use Rattle.cli_words.specs.Words.{command_of};
-ghost use Rattle.keepass_call.specs.Tasks.{asked_by, draws_by, left_of, writes_by};
+ghost use Rattle.keepass_call.specs.Tasks.{asked_by, draws_by, left_of, may_write_by};
 ghost use Rattle.keepass_call.specs.Telling.{IsPrinted, IsTold, IsUnwritten, TellsLine};
 
 use crate::carrying::carry_out;
@@ -73,7 +73,7 @@ fn answer<F: FileStore, S: Source, D: Dice>(
     ensures draft { KeepsDraft
         (store (F.files files.old) (F.draft_name files.old) (F.draft_bytes files.old))
         (store (F.files files.new) (F.draft_name files.new) (F.draft_bytes files.new)) }
-    ensures unwritten { writes_by (command_of (map string_bytes words.now)) ≡ false → IsSame
+    ensures unwritten { may_write_by (command_of (map string_bytes words.now)) ≡ false → IsSame
         (store (F.files files.old) (F.draft_name files.old) (F.draft_bytes files.old))
         (store (F.files files.new) (F.draft_name files.new) (F.draft_bytes files.new)) }
     ensures undrawn { draws_by (command_of (map string_bytes words.now)) ≡ false
@@ -154,11 +154,14 @@ fn tell<E: Sink>(alloc: Global, err: &mut E, stop: Stop) -> u8
 ///
 /// Where no object of the outside fails and memory does not run out, all that is seen of the call
 /// is as the outcome of its words, the moment, its input, its files and its dice says; these have
-/// one outcome. What is listed or written at status 0 is made of a document that the file holds: by
-/// itself, or sealed under the composite key of the line of input and the key file. A refusal
-/// changes no file, and what was printed where an object fails is a prefix of the outcome's text.
-/// Words that are no command that writes change no file and draw nothing. Words that can be carried
-/// out give status 0 where nothing fails.
+/// one outcome. What is printed or written at status 0 is made of documents that the files hold:
+/// each by itself, or sealed under the composite key of its line of input and its key file. A
+/// refusal changes no file, and what was printed where an object fails is a prefix of the outcome's
+/// text.
+/// Words that are no command that may write change no file and draw nothing. Words that can be
+/// carried out give status 0 where nothing fails. Copies of one database that are parts of an
+/// agreed set are merged into the join of all of them, and what the target has already changes
+/// nothing.
 pub fn keepass<F: FileStore, S: Source, O: Sink, E: Sink, D: Dice>(
     alloc: Global,
     words: &[String],

@@ -11,12 +11,13 @@ ghost use Rattle.cli_words.specs.Words.{command_of};
 ghost use Rattle.keepass_call.specs.Tasks.{HasSomeFile, asked_by, left_of, task_of};
 
 use cli_answers::Stop;
-use cli_databases::{Opened, open};
+use cli_databases::{Databases, Opened, open};
 use cli_lines::{Lines, read_lines};
 use cli_words::{Command, read_words};
-use outside_core::{FileStore, Source};
+use outside_core::{FileStore, List, Source};
 use secret_core::Secret;
 use std::alloc::Global;
+use vault_model::Doc;
 
 /// What a call is to do.
 pub struct Task {
@@ -26,6 +27,8 @@ pub struct Task {
     pub lines: Lines,
     /// The command's database, whose composite key must be cleared and released.
     pub opened: Opened,
+    /// The documents of its sources.
+    pub sources: List<Doc>,
 }
 
 /// The bytes of a line, where there is one.
@@ -39,8 +42,7 @@ pub fn bytes_in(line: &Option<Secret>) -> Option<&[u8]>
     }
 }
 
-/// What the words ask for: their command, its lines, and its database.
-#[tactic(auto, unfolding(crate::specs::Tasks::task_of))]
+/// What the words ask for: their command, its lines, and its databases.
 pub fn read_task<F: FileStore, S: Source>(
     alloc: Global,
     words: &[String],
@@ -81,8 +83,8 @@ pub fn read_task<F: FileStore, S: Source>(
             return Err(stop);
         }
     };
-    let opened = match open(alloc, files, needs, bytes_in(&lines.password)) {
-        Ok(opened) => opened,
+    let Databases { target, sources } = match open(alloc, files, needs, &lines) {
+        Ok(databases) => databases,
         Err(stop) => {
             drop(lines);
             drop(command);
@@ -92,6 +94,7 @@ pub fn read_task<F: FileStore, S: Source>(
     Ok(Task {
         command,
         lines,
-        opened,
+        opened: target,
+        sources,
     })
 }

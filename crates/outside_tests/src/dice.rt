@@ -27,10 +27,10 @@ fn counting_dice_count(rt: HostRuntime) -> Result<(), Fail> {
 }
 
 /// Dice with two bytes, the call of this number being planned to fail.
-fn two_bytes(alloc: Global, call: u64) -> Result<MemoryDice, &'static str> {
+fn two_bytes(alloc: Global, call: u64) -> Result<MemoryDice, Fail> {
     let mut dice = MemoryDice::new(alloc);
-    dice.fill_with(&[9, 8]).map_err(|_| "no memory")?;
-    dice.fail_at(call).map_err(|_| "no memory")?;
+    dice.fill_with(&[9, 8])?;
+    dice.fail_at(call)?;
     Ok(dice)
 }
 

@@ -1,6 +1,6 @@
 //! The host's input, output and random bytes, and what becomes of their errors.
-use crate::streams::gives;
-use outside_core::{Dice, DiceFail, Sink, SinkFail, Source, SourceFail, write_all};
+use crate::streams::{gives, write_text};
+use outside_core::{Dice, DiceFail, Sink, SinkFail, Source, SourceFail};
 use outside_host::{HostDice, HostInput, HostOutput};
 use std::fmt::Display;
 use std::io;
@@ -59,7 +59,7 @@ fn the_host_reads_input(rt: HostRuntime) {
 #[test]
 fn the_host_writes_output(rt: HostRuntime) {
     assert_eq!(rt;
-        write_all(&mut HostOutput::new(&rt), b"written to standard output\n"),
+        write_text(&mut HostOutput::new(&rt), b"written to standard output\n"),
         Ok(())
     );
     for (fails, piece, answer) in [

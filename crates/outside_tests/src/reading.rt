@@ -102,36 +102,48 @@ fn a_file_is_read_through_one_window_of_65536_bytes(rt: HostRuntime) -> Result<(
     Ok(())
 }
 
-/// The answer of reading `name` from a store with one file, `vault`, of 70,000 bytes, whose call
-/// `failing` fails: how many bytes were read, or the refusal.
-fn answer(
-    alloc: Global,
-    name: &str,
-    limit: u64,
-    failing: u64,
-) -> Result<Result<usize, ReadFail>, Fail> {
+/// A store with one file, `vault`, of 70,000 bytes, whose call `failing` fails.
+fn long_file(alloc: Global, failing: u64) -> Result<MemoryFiles, Fail> {
     let bytes = vec![in alloc; 5; 70_000]?;
     let mut files = MemoryFiles::new(alloc);
     files.put("vault", bytes.as_slice())?;
     files.fail_at(failing)?;
-    Ok(read_file(alloc, &mut files, name, limit).map(|secret| secret.len()))
+    Ok(files)
 }
+
+/// The answer of reading a file: how many bytes were read, or the refusal.
+fn answer(
+    alloc: Global,
+    files: &mut MemoryFiles,
+    name: &str,
+    limit: u64,
+) -> Result<usize, ReadFail> {
+    match read_file(alloc, files, name, limit) {
+        Ok(secret) => Ok(secret.len()),
+        Err(fail) => Err(fail),
+    }
+}
+
+/// A name that is read, a limit, the call that fails, and the answer.
+const ROWS: &[(&str, u64, u64, Result<usize, ReadFail>)] = &[
+    ("vault", 70_000, u64::MAX, Ok(70_000)),
+    ("vault", 69_999, u64::MAX, Err(ReadFail::TooLarge(70_000))),
+    ("other", 70_000, u64::MAX, Err(ReadFail::NoSuchFile)),
+    ("vault", 70_000, 0, Err(ReadFail::FileFault)),
+    ("vault", 70_000, 1, Err(ReadFail::FileFault)),
+    ("vault", 70_000, 2, Err(ReadFail::FileFault)),
+    ("vault", 70_000, 3, Ok(70_000)),
+];
 
 /// Asking for the size is call 0, reading by windows calls 1 and 2.
 #[test]
 fn each_refusal_has_its_cause(rt: HostRuntime) -> Result<(), Fail> {
-    for (name, limit, failing, want) in [
-        ("vault", 70_000, u64::MAX, Ok(70_000)),
-        ("vault", 69_999, u64::MAX, Err(ReadFail::TooLarge(70_000))),
-        ("other", 70_000, u64::MAX, Err(ReadFail::NoSuchFile)),
-        ("vault", 70_000, 0, Err(ReadFail::FileFault)),
-        ("vault", 70_000, 1, Err(ReadFail::FileFault)),
-        ("vault", 70_000, 2, Err(ReadFail::FileFault)),
-        ("vault", 70_000, 3, Ok(70_000)),
-    ] {
+    for (name, limit, failing, want) in ROWS {
+        let mut files = long_file(rt.alloc(), *failing)?;
+        let found = answer(rt.alloc(), &mut files, name, *limit);
         assert_eq!(rt;
-            answer(rt.alloc(), name, limit, failing)?,
-            want,
+            found,
+            *want,
             "{name} within {limit}, call {failing} failing"
         );
     }

@@ -4,8 +4,8 @@ use std::alloc::Global;
 use std::test::Fail;
 
 /// A Secret with room for six bytes, of which five are used.
-fn passw(alloc: Global) -> Result<Secret, &'static str> {
-    let mut secret = Secret::with_room(alloc, 6).map_err(|_| "no memory")?;
+fn passw(alloc: Global) -> Result<Secret, Fail> {
+    let mut secret = Secret::with_room(alloc, 6)?;
     if secret.len() == 0 && secret.spare() == 6 {
         secret.push(b'p');
         secret.extend(b"assw");
@@ -13,11 +13,15 @@ fn passw(alloc: Global) -> Result<Secret, &'static str> {
     Ok(secret)
 }
 
+/// Whether a Secret has these bytes, and room for this many more.
+fn holds(secret: &Secret, bytes: &[u8], spare: usize) -> bool {
+    secret.lend(0, secret.len()) == bytes && secret.spare() == spare
+}
+
 #[test]
 fn a_secret_is_filled_and_lent(rt: HostRuntime) -> Result<(), Fail> {
     let secret = passw(rt.alloc())?;
-    assert_eq!(rt; (secret.len(), secret.spare()), (5, 1));
-    assert_eq!(rt; secret.lend(0, secret.len()), b"passw".as_slice());
+    assert!(rt; holds(&secret, b"passw", 1));
     if secret.len() >= 3 {
         assert_eq!(rt; secret.lend(1, 3), b"as".as_slice());
     }
@@ -34,9 +38,8 @@ fn a_secret_is_changed_in_place_cut_and_copied(rt: HostRuntime) -> Result<(), Fa
         secret.cut(2);
     }
     assert_eq!(rt; (secret.len(), secret.spare()), (2, 4));
-    let copy = secret.copy(rt.alloc()).map_err(|_| "no memory")?;
-    assert_eq!(rt; copy.lend(0, copy.len()), b"PA".as_slice());
-    assert_eq!(rt; copy.spare(), 0);
+    let copy = secret.copy(rt.alloc())?;
+    assert!(rt; holds(&copy, b"PA", 0));
     Ok(())
 }
 

@@ -1,16 +1,15 @@
-use Rattle.std.proofs.Common.{refl}
 use Rattle.vault_model.specs.SeenDoc.{doc_seen}
-use Rattle.cli_commands.proofs.Changes.{bin_needed, cause_reported, lent_text, returns_reported, written_reported}
+use Rattle.cli_commands.proofs.Changes.{bin_needed, lent_text}
 use Rattle.cli_commands.proofs.performing.change_document.Goals as goal
 
 pub add_entry-requires : goal.add_entry-requires
-add_entry-requires c = lent_text c.args.line c.requires
+add_entry-requires c = rw c.given_of-given.ensures.password (lent_text c.args.input.line c.requires)
 
 pub edit_entry-requires : goal.edit_entry-requires
-edit_entry-requires c = lent_text c.args.line c.requires
+edit_entry-requires c = rw c.given_of-given.ensures.password (lent_text c.args.input.line c.requires)
 
 pub remove_entry_of-requires : goal.remove_entry_of-requires
 remove_entry_of-requires c = bin_needed _ c.args.id (doc_seen c.args.doc.now) c.bin_id-bin.ensures
 
 pub remove_group_of-requires : goal.remove_group_of-requires
-remove_group_of-requires c = bin_needed _ c.args.id (doc_seen c.args.doc.now) c.bin_id-bin-in-Rmdir.ensures
+remove_group_of-requires c = bin_needed _ c.args.id (doc_seen c.args.doc.now) c.bin_id-bin-in-RemoveGroup.ensures

@@ -1,4 +1,3 @@
-use Rattle.std.proofs.Common.{sym}
 use Rattle.cli_lines.proofs.Inputs.{line_stops, told_by}
 use Rattle.cli_lines.proofs.lines.read_if.Goals as goal
 

@@ -1,4 +1,4 @@
-use Rattle.std.proofs.Common.{◌≡◌, true, false, refl}
+use Rattle.std.proofs.Common.{true, refl}
 use Rattle.cli_lines.proofs.Inputs.{told_by}
 use Rattle.keepass_call.proofs.Carried.{keeps_draft, plain_stop, plain_written, sealed_written}
 use Rattle.cli_commands.proofs.Changes.{loses_none}

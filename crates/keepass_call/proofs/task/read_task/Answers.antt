@@ -1,16 +1,19 @@
 use Rattle.std.proofs.Common.{map}
 use Rattle.std.specs.Prelude.{string_bytes}
-use Rattle.cli_databases.specs.SeenOpened.{opened_seen}
+use Rattle.std.proofs.lemmas.Result.{err_from_is_err_and}
+use Rattle.cli_databases.specs.SeenOpened.{databases_seen}
 use Rattle.cli_lines.specs.SeenLines.{lines_seen}
 use Rattle.cli_words.specs.SeenNeeds.{needs_seen}
 use Rattle.cli_words.specs.Words.{command_of}
-use Rattle.keepass_call.proofs.Tasks.{asked_needs, at_needs, can_open_needs, database_refused, has_file_by_needs, lines_refused, needs_leave, needs_left, sealed_by_needs, stops_left, task_by_needs}
+use Rattle.keepass_call.proofs.Tasks.{asked_needs, at_needs, database_refused, has_file_by_needs, keys_of_needs, input_early, lines_refused, needs_leave, needs_left, sealed_by_needs, stops_left, task_by_needs, words_early, words_leave, words_refused}
 use Rattle.keepass_call.proofs.task.read_task.Goals as goal
 
-pub open-requires : goal.open-requires
-open-requires g c =
-    rw c.bytes_in.ensures (can_open_needs c.in_ok-command.command (needs_seen c.needs_of-needs.result) (lines_seen c.in-Ok.lines)
-    c.needs_of-needs.ensures c.in_ok-command.ensures.has_key c.in-Ok.ensures.given)
+pub open-requires-clause-keys : goal.open-requires-clause-keys
+open-requires-clause-keys g c =
+    keys_of_needs c.in_ok-command.command (needs_seen c.needs_of-needs.result) c.needs_of-needs.ensures c.in_ok-command.ensures.has_key
+
+pub open-requires-clause-lines : goal.open-requires-clause-lines
+open-requires-clause-lines g c = c.in-Ok.ensures.given
 
 pub returns-in-Err-open-clause-cause : goal.returns-in-Err-open-clause-cause
 returns-in-Err-open-clause-cause g c =
@@ -21,16 +24,16 @@ pub returns-clause-told : goal.returns-clause-told
 returns-clause-told g c = λ m i isF isS.
     let command = c.in_ok-command.command in
     let needs = needs_seen c.needs_of-needs.result in
-    task_by_needs (map string_bytes c.args.words.now) i m command needs (lines_seen c.in-Ok.lines) (opened_seen c.in-Ok-open.opened)
+    task_by_needs (map string_bytes c.args.words.now) i m command needs (lines_seen c.in-Ok.lines) (databases_seen c.in-Ok-open.databases)
     c.in_ok-command.ensures.told c.needs_of-needs.ensures
     (c.in-Ok.ensures.told i (asked_needs _ command needs _ i c.in_ok-command.ensures.told c.needs_of-needs.ensures isS)).0
-    (rw c.bytes_in.ensures at (c.in-Ok-open.ensures.told m isF))
+    (c.in-Ok-open.ensures.told m isF)
 
 pub returns-clause-some_file : goal.returns-clause-some_file
 returns-clause-some_file g c =
     has_file_by_needs (map string_bytes c.args.words.now) c.in_ok-command.command (needs_seen c.needs_of-needs.result) (lines_seen c.in-Ok.lines)
-    (opened_seen c.in-Ok-open.opened) c.in_ok-command.ensures.told c.needs_of-needs.ensures c.in-Ok.ensures.given
-    (rw c.bytes_in.ensures at c.in-Ok-open.ensures.some_file)
+    (databases_seen c.in-Ok-open.databases) c.in_ok-command.ensures.told c.needs_of-needs.ensures c.in-Ok.ensures.given
+    c.in-Ok-open.ensures.some_file
 
 pub returns-in-Err-clause-told : goal.returns-in-Err-clause-told
 returns-in-Err-clause-told g c = λ m i isF isS.
@@ -51,7 +54,7 @@ returns-in-Err-open-clause-told g c = λ m i isF isS.
     database_refused c.in-Err-open.stop (map string_bytes c.args.words.now) i m c.in_ok-command.command needs (lines_seen c.in-Ok.lines)
     c.in_ok-command.ensures.told c.needs_of-needs.ensures
     (c.in-Ok.ensures.told i (asked_needs _ c.in_ok-command.command needs _ i c.in_ok-command.ensures.told c.needs_of-needs.ensures isS)).0
-    (rw c.bytes_in.ensures at (c.in-Err-open.ensures.told m isF))
+    (c.in-Err-open.ensures.told m isF)
 
 pub returns-clause-left : goal.returns-clause-left
 returns-clause-left g c = λ i isS.
@@ -61,7 +64,7 @@ returns-clause-left g c = λ i isS.
 
 pub returns-clause-sealed : goal.returns-clause-sealed
 returns-clause-sealed g c =
-    sealed_by_needs c.in_ok-command.command (needs_seen c.needs_of-needs.result) _ (opened_seen c.in-Ok-open.opened) c.needs_of-needs.ensures
+    sealed_by_needs c.in_ok-command.command (needs_seen c.needs_of-needs.result) (lines_seen c.in-Ok.lines) (databases_seen c.in-Ok-open.databases) c.needs_of-needs.ensures
     c.in-Ok-open.ensures.some_file
 
 pub returns-in-Err-open-clause-left : goal.returns-in-Err-open-clause-left
@@ -70,3 +73,21 @@ returns-in-Err-open-clause-left g c = λ i isS.
     stops_left c.in-Err-open.stop _ _ _ (needs_left (command_of (map string_bytes c.args.words.now)) c.in_ok-command.command needs _ _ i
     c.in_ok-command.ensures.told c.needs_of-needs.ensures
     (c.in-Ok.ensures.told i (asked_needs _ c.in_ok-command.command needs _ i c.in_ok-command.ensures.told c.needs_of-needs.ensures isS)).1)
+
+pub returns-in_err-command-clause-told : goal.returns-in_err-command-clause-told
+returns-in_err-command-clause-told g c = λ m i isF isS.
+    let p = err_from_is_err_and c.from_residual.result c.from_residual.ensures.1 in
+    rw (p.1, p.2) (words_refused c.in_err-command.field-0.0 (map string_bytes c.args.words.now) i m c.in_err-command.ensures.told)
+
+pub returns-in_err-command-clause-left : goal.returns-in_err-command-clause-left
+returns-in_err-command-clause-left g c = λ i isS.
+    let p = err_from_is_err_and c.from_residual.result c.from_residual.ensures.1 in
+    rw (p.1, p.2) (words_leave c.in_err-command.field-0.0 (command_of (map string_bytes c.args.words.now)) _ i c.in_err-command.ensures.cause c.in_err-command.ensures.told isS)
+
+pub returns-in_err-command-clause-cause : goal.returns-in_err-command-clause-cause
+returns-in_err-command-clause-cause g c =
+    let p = err_from_is_err_and c.from_residual.result c.from_residual.ensures.1 in
+    rw (p.1, p.2) (words_early c.in_err-command.field-0.0 _ _ _ _ _ _ _ c.in_err-command.ensures.cause)
+
+pub returns-in-Err-clause-cause : goal.returns-in-Err-clause-cause
+returns-in-Err-clause-cause g c = input_early c.in-Err.stop _ _ _ _ _ _ _ c.in-Err.ensures.cause

@@ -1,0 +1,4 @@
+//! The laws of merging parts of an agreed set.
+#![tactic(auto)]
+
+pub mod laws;

@@ -1,0 +1,14 @@
+use Rattle.cli_lines.specs.SeenLines.{lines_seen}
+use Rattle.cli_words.specs.Needs.{database_files, source_files}
+use Rattle.cli_words.specs.SeenNeeds.{needs_seen}
+use Rattle.cli_databases.proofs.Openable.{can_open_sources}
+use Rattle.cli_databases.proofs.Stops.{later_at_files}
+use Rattle.cli_databases.proofs.databases.open.Goals as goal
+
+pub open_all-requires : goal.open_all-requires
+open_all-requires g c = can_open_sources (needs_seen c.args.needs) (lines_seen c.args.lines.now) c.requires.keys c.requires.lines
+
+pub returns-in-Err-clause-cause : goal.returns-in-Err-clause-cause
+returns-in-Err-clause-cause g c =
+    later_at_files (database_files c.args.needs.access.now c.args.needs.file.now) (source_files c.args.needs.from.now c.args.needs.sources.now) _ _ _ _ _ _
+    c.in-Err.stop c.in_ok-target.ensures.faults c.in_ok-target.ensures.absences c.in-Err.ensures.cause

@@ -1,0 +1,64 @@
+-- Lines that are taken from the input are there exactly where they are due.
+use Rattle.std.proofs.Common.{◌≡◌, ℕ, List, [], ◌∷◌, ◌++◌, map, refl, sym, ◌∙◌, ap, subst, append_assoc, append-nil, Bool, true, false, Option, Some, None, Result, Ok, Err}
+use Rattle.std.specs.Prelude.{is_some}
+use Rattle.std.proofs.lemmas.List.{map-append}
+use Rattle.outside_core.specs.Results.{◌>>=◌}
+use Rattle.cli_answers.specs.declared.answers.Refusal.{Refusal}
+use Rattle.cli_answers.specs.Phases.{StreamAnswer, after_left}
+use Rattle.cli_words.specs.Needs.{Needs, asks_password, asks_passwords_from}
+use Rattle.cli_lines.specs.Lines.{HasLines, Lines, line_if, line_of, lines_from, lines_of, number_after, number_from, number_of_more}
+use Rattle.cli_lines.proofs.Inputs.{after_password, after_passwords}
+
+ok_is : {A : Type 0} (a b : A) → ◌≡◌ {A = Result A Refusal} (Ok a) (Ok b) → a ≡ b
+ok_is a b h = cc
+
+-- Of two phases that gave this, what the first gave.
+after_given : {A B : Type 0} (r : Result A Refusal) (left : List ℕ) (next : A → List ℕ → StreamAnswer B) (b : B) → (after_left r left next).answer ≡ Ok b
+    → (a : A) × ((r ≡ Ok a) × ((next a left).answer ≡ Ok b))
+after_given (Ok a) left next b h = (a, (refl, h))
+after_given (Err refusal) left next b h = cc
+
+some_given : (r : Result (List ℕ) Refusal) (line : Option (List ℕ)) → (r >>= (λ l. Ok (Some l))) ≡ Ok line → is_some line ≡ true
+some_given (Ok l) line h = ap is_some (sym (ok_is (Some l) line h))
+some_given (Err refusal) line h = cc
+
+-- A line is there if it is due.
+line_has : (due : Bool) (number : ℕ) (input : List ℕ) (line : Option (List ℕ)) → (line_if due number input).answer ≡ Ok line → is_some line ≡ due
+line_has true number input line h = some_given (line_of number input).answer line h
+line_has false number input line h = ap is_some (sym (ok_is None line h))
+
+one_more : (read : List (Option (List ℕ))) (line : Option (List ℕ)) (due : Bool) (more : List Bool) → is_some line ≡ due
+    → map is_some (read ++ line ∷ []) ++ more ≡ map is_some read ++ due ∷ more
+one_more read line due more h =
+    ap (λ (bs : List Bool). bs ++ more) (map-append is_some read (line ∷ []))
+    ∙ append_assoc (map is_some read) (is_some line ∷ []) more
+    ∙ ap (λ (b : Bool). map is_some read ++ b ∷ more) h
+
+-- The lines of sources, each there if it is due.
+sources_have : (due : Bool) (names : List (List ℕ)) (number : ℕ) (read : List (Option (List ℕ))) (input : List ℕ) (lines : List (Option (List ℕ)))
+    → (lines_from due names number read input).answer ≡ Ok lines → map is_some lines ≡ map is_some read ++ map (λ name. due) names
+sources_have due [] number read input lines h = ap (map is_some) (sym (ok_is read lines h)) ∙ sym (append-nil (map is_some read))
+sources_have due (name ∷ names) number read input lines h =
+    let taken = line_if due number input in
+    let c = after_given taken.answer taken.left (λ line left. lines_from due names (number_after due number) (read ++ line ∷ []) left) lines h in
+    sources_have due names (number_after due number) (read ++ c.0 ∷ []) taken.left lines c.1.1
+    ∙ one_more read c.0 due (map (λ name. due) names) (line_has due number input c.0 c.1.0)
+
+-- The lines of a call.
+pub lines_have : (needs : Needs) (input : List ℕ) (lines : Lines) → (lines_of needs input).answer ≡ Ok lines → HasLines needs lines
+lines_have needs input lines h =
+    let first = line_if (asks_password needs.access) 1 input in
+    let p = after_given first.answer first.left (after_password needs) lines h in
+    let sources = lines_from (asks_passwords_from needs) needs.sources (number_from needs) [] first.left in
+    let s = after_given sources.answer sources.left (after_passwords needs p.0) lines p.1.1 in
+    let last = line_if needs.has_line (number_of_more needs) sources.left in
+    let m = after_given last.answer last.left (λ more end. record {
+      answer = Ok (record { password = p.0; sources = s.0; more = more });
+      left = end;
+    }) lines s.1.1 in
+    subst (HasLines needs) (ok_is (record { password = p.0; sources = s.0; more = m.0 }) lines m.1.1)
+    (record {
+      has_password = line_has (asks_password needs.access) 1 input p.0 p.1.0;
+      have_passwords = sources_have (asks_passwords_from needs) needs.sources (number_from needs) [] first.left s.0 s.1.0;
+      has_more = line_has needs.has_line (number_of_more needs) sources.left m.0 m.1.0;
+    })

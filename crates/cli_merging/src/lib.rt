@@ -1,0 +1,9 @@
+//! `merge` on documents: what it makes of its target, and what it prints.
+#![tactic(auto)]
+
+mod merging;
+mod names;
+mod reports;
+mod texts;
+
+pub use merging::{MergeGiven, MergeReport, merge_into};

@@ -1,0 +1,116 @@
+//! What `merge` makes of its target.
+ghost use Rattle.std.specs.Prelude.{◌≡◌, ◌≢◌, IfErr, IfOk, OnErr, map, true, false};
+ghost use Rattle.vault_model.specs.SeenDoc.{doc_seen};
+ghost use Rattle.cli_answers.specs.Messages.{Refuses, refusal_of};
+ghost use Rattle.cli_answers.specs.Phases.{IsPlainStop};
+ghost use Rattle.cli_merging.specs.Merging as spec;
+ghost use Rattle.cli_merging.specs.Merging.{IsUnmerged, MergeChanges, after_merge};
+
+use crate::reports::{MergeFiles, report};
+use cli_answers::{Reason, Stop, refused};
+use document_merge::merging::{MergeFail, Merged, merge_lent};
+use outside_core::{NoMemory, Text};
+use secret_core::Secret;
+use std::alloc::Global;
+use vault_model::Doc;
+
+/// What a merge is given beside its documents.
+#[derive(Clone, Copy)]
+pub struct MergeGiven<'a> {
+    /// The file of the target, which a refusal names.
+    pub file: &'a str,
+    /// The files of the sources.
+    pub sources: &'a [Text],
+    /// Whether the merge reports nothing.
+    pub quiet: bool,
+    /// Whether no file is to be written.
+    pub dry: bool,
+}
+
+/// What a merge prints, and whether its target is to be written.
+#[derive(Drop)]
+pub struct MergeReport {
+    /// What is printed, in memory that is wiped, since a title may be secret.
+    pub text: Secret,
+    /// Whether the target is to be written.
+    pub is_written: bool,
+}
+
+// The answer that a refusal to merge is.
+fn merge_answer(fail: MergeFail) -> Reason
+    ensures is { result ≡ spec.merge_answer fail }
+    ensures there { result ≢ Reason.NoSuchFile }
+{
+    match fail {
+        MergeFail::RootClash(id) => Reason::Clash(id),
+        MergeFail::KindClash(id) => Reason::Clash(id),
+        MergeFail::MoveCycle(ids) => Reason::MoveCycle(ids),
+        MergeFail::TooDeep(_) => Reason::TooDeep,
+        MergeFail::NoMemory => Reason::OutOfMemory,
+    }
+}
+
+// The stop of a merge that was refused, whose target is of this file.
+fn unmerged(alloc: Global, fail: MergeFail, file: &str) -> Stop
+    ensures is { IsUnmerged fail file.now result }
+    ensures plain { IsPlainStop result }
+{
+    match fail {
+        MergeFail::NoMemory => Stop::NoMemory,
+        fail => refused(alloc, merge_answer(fail), file),
+    }
+}
+
+// The report of a merge, and its target, if that is to be written.
+fn finished(
+    alloc: Global,
+    doc: &mut Doc,
+    merged: Merged,
+    given: MergeGiven<'_>,
+) -> Result<MergeReport, NoMemory>
+    ensures told { IfOk result (λ report. spec.report_seen report (doc_seen doc.new)
+        ≡ spec.after_merged given.entry.file.now given.entry.quiet given.entry.dry
+        given.entry.sources.now (doc_seen doc.old) merged.changed (doc_seen merged.doc)
+        merged.changes) }
+    ensures dry { IfOk result (λ report. given.entry.dry ≡ true → report.is_written ≡ false) }
+    ensures kept { OnErr result (doc_seen doc.new ≡ doc_seen doc.old) }
+{
+    let files = MergeFiles {
+        target: given.file,
+        sources: given.sources,
+    };
+    let text = report(alloc, given.quiet, files, doc, &merged)?;
+    let Merged {
+        doc: new,
+        changed,
+        changes: _,
+    } = merged;
+    let is_written = changed && !given.dry;
+    if is_written {
+        *doc = new;
+    }
+    Ok(MergeReport { text, is_written })
+}
+
+/// Merges sources into a document, which is changed in place where it is to be written; a refusal
+/// changes nothing.
+pub fn merge_into(
+    alloc: Global,
+    doc: &mut Doc,
+    sources: &[Doc],
+    given: MergeGiven<'_>,
+) -> Result<MergeReport, Stop>
+    ensures told { MergeChanges result (after_merge given.entry.file.now given.entry.quiet
+        given.entry.dry given.entry.sources.now (doc_seen doc.old) (map doc_seen sources.now))
+        (doc_seen doc.old) (doc_seen doc.new) }
+    ensures dry { IfOk result (λ report. given.entry.dry ≡ true → report.is_written ≡ false) }
+    ensures cause { IfErr result IsPlainStop }
+{
+    match merge_lent(alloc, doc, sources) {
+        Ok(merged) => match finished(alloc, doc, merged, given) {
+            Ok(report) => Ok(report),
+            Err(NoMemory) => Err(Stop::NoMemory),
+        },
+        Err(fail) => Err(unmerged(alloc, fail, given.file)),
+    }
+}

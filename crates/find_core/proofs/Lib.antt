@@ -1,0 +1,4 @@
+pub mod Containing
+pub mod Examples
+pub mod FoldedTerms
+pub mod Letters

@@ -1,0 +1,10 @@
+//! Searching a document for the entries that terms match.
+#![tactic(auto)]
+
+mod folding;
+mod matching;
+mod searching;
+
+pub use find_references::resolve;
+pub use find_terms::{FindFail, SearchField, Term, Terms, parse_terms};
+pub use searching::{Ids, search};

@@ -1,0 +1,6 @@
+pub mod Adding
+pub mod Examples
+pub mod Limits
+pub mod Pieces
+pub mod SoughtEntries
+pub mod Steps

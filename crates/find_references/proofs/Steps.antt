@@ -1,0 +1,78 @@
+-- Steps one after another.
+use Rattle.std.proofs.Common.{◌≡◌, ◌<◌, ◌-◌, ℕ, zero, suc, List, [], ◌∷◌, ◌++◌, flat_map, length, Some, None, Result, Ok, Err, refl, ap, ◌∙◌, arith}
+use Rattle.std.specs.List.{find}
+use Rattle.outside_core.specs.Results.{◌>>=◌}
+use Rattle.find_terms.specs.declared.fail.FindFail.{FindFail}
+use Rattle.find_references.specs.Fields.{has_at, part_value}
+use Rattle.find_references.specs.References.{Reference, pieces, reference_at}
+use Rattle.find_references.specs.Resolved.{Made, Step, after_step, after_steps, copied, piece_steps, reference_steps, replaced, steps}
+use Rattle.find_references.proofs.Pieces.{byte_first, reference_first}
+use Rattle.vault_model.specs.Db.{NodeId}
+use Rattle.vault_model.specs.Shape.{EntryRecord}
+
+abbrev pub Row : Type 0
+Row = NodeId × EntryRecord
+
+-- what binds twice binds once
+pub in_turn : {A B C : Type 0} (first : Result A FindFail) (then : A → Result B FindFail) (last : B → Result C FindFail)
+    → ((first >>= then) >>= last) ≡ (first >>= λ a. then a >>= last)
+in_turn (Ok a) then last = refl
+in_turn (Err e) then last = refl
+
+-- with nothing behind it a computation is what it was
+pub nothing_behind : {A : Type 0} (first : Result A FindFail) → (first >>= λ a. Ok a) ≡ first
+nothing_behind (Ok a) = refl
+nothing_behind (Err e) = refl
+
+pub after_both : (front behind : List Step) (made : Made) → after_steps (front ++ behind) made ≡ (after_steps front made >>= after_steps behind)
+after_both [] behind made = refl
+after_both (step ∷ front) behind made = first (after_step made step) (λ now. after_both front behind now)
+  where
+    first : (r : Result Made FindFail) → ((now : Made) → after_steps (front ++ behind) now ≡ (after_steps front now >>= after_steps behind))
+        → (r >>= after_steps (front ++ behind)) ≡ ((r >>= after_steps front) >>= after_steps behind)
+    first (Ok now) later = later now
+    first (Err e) later = refl
+
+-- ---- the pieces of a text, with the levels that are left below
+
+abbrev pub after_pieces : ℕ → List Row → List ℕ → Made → Result Made FindFail
+after_pieces levels rows text = after_steps (flat_map (piece_steps rows (steps levels rows)) (pieces 0 text))
+
+pub with_levels : (levels : ℕ) (rows : List Row) (text : List ℕ) (made : Made) → 0 < levels
+    → after_steps (steps levels rows text) made ≡ after_pieces (levels - 1) rows text made
+with_levels zero rows text made some = absurd (omega arith)
+with_levels (suc levels) rows text made some =
+    let n : levels ≡ suc levels - 1 = omega arith in ap (λ k. after_pieces k rows text made) n
+
+pub without_levels : (rows : List Row) (text : List ℕ) (made : Made) → after_steps (steps 0 rows text) made ≡ after_step made (copied text)
+without_levels rows text made = nothing_behind (after_step made (copied text))
+
+-- a byte that is copied
+pub after_byte : (levels : ℕ) (rows : List Row) (b : ℕ) (bs : List ℕ) (made : Made) → reference_at (b ∷ bs) ≡ None
+    → after_pieces levels rows (b ∷ bs) made ≡ (after_step made (copied (b ∷ [])) >>= after_pieces levels rows bs)
+after_byte levels rows b bs made none =
+    ap (λ ps. after_steps (flat_map (piece_steps rows (steps levels rows)) ps) made) (byte_first b bs none)
+
+-- a reference that stands
+pub after_standing : (levels : ℕ) (rows : List Row) (text behind : List ℕ) (r : Reference) (made : Made)
+    → reference_at text ≡ Some r → text ≡ r.written ++ behind → 0 < length r.written → find (has_at r.place r.text) rows ≡ None
+    → after_pieces levels rows text made ≡ (after_step made (copied r.written) >>= after_pieces levels rows behind)
+after_standing levels rows text behind r made found joined some missing =
+    ap (λ ps. after_steps (flat_map (piece_steps rows (steps levels rows)) ps) made) (reference_first text behind r found joined some)
+    ∙ ap (λ o. after_steps (reference_steps (steps levels rows) r o ++ flat_map (piece_steps rows (steps levels rows)) (pieces 0 behind)) made) missing
+
+-- a reference that is replaced
+pub after_replaced : (levels : ℕ) (rows : List Row) (text behind : List ℕ) (r : Reference) (e : Row) (made : Made)
+    → reference_at text ≡ Some r → text ≡ r.written ++ behind → 0 < length r.written → find (has_at r.place r.text) rows ≡ Some e
+    → after_pieces levels rows text made
+    ≡ (after_step made replaced >>= λ now. after_steps (steps levels rows (part_value r.wanted e)) now >>= after_pieces levels rows behind)
+after_replaced levels rows text behind r e made found joined some there =
+    ap (λ ps. after_steps (flat_map (piece_steps rows (steps levels rows)) ps) made) (reference_first text behind r found joined some)
+    ∙ ap (λ o. after_steps (reference_steps (steps levels rows) r o ++ flat_map (piece_steps rows (steps levels rows)) (pieces 0 behind)) made) there
+    ∙ first (after_step made replaced)
+  where
+    first : (x : Result Made FindFail)
+        → (x >>= after_steps (steps levels rows (part_value r.wanted e) ++ flat_map (piece_steps rows (steps levels rows)) (pieces 0 behind)))
+        ≡ (x >>= λ now. after_steps (steps levels rows (part_value r.wanted e)) now >>= after_pieces levels rows behind)
+    first (Ok now) = after_both (steps levels rows (part_value r.wanted e)) (flat_map (piece_steps rows (steps levels rows)) (pieces 0 behind)) now
+    first (Err fail) = refl

@@ -1,0 +1,12 @@
+use Rattle.std.proofs.Common.{◌≡◌, false, length}
+use denote.Text.{Utf8}
+use denote.Shadow.{shadow}
+use Rattle.find_terms.specs.Terms as spec
+use Rattle.find_terms.proofs.parsing.signs_before.Given as goal
+
+abbrev pub invariant-signs : goal.invariant-signs
+invariant-signs l =
+    shadow (Utf8 l.behind) × (spec.signs_before l.not l.whole l.behind ≡ spec.signs_before false false l.text)
+
+abbrev pub decreases-signs : goal.decreases-signs
+decreases-signs l = length l.behind

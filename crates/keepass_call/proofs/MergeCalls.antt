@@ -1,0 +1,351 @@
+-- What calls come to that merge parts of an agreed set.
+use Rattle.std.proofs.Common.{◌≡◌, ◌≢◌, ℕ, Bool, true, false, not, cond, ◌&&◌, inl, inr, List, ◌∷◌, Option, Some, None, Result, Ok, Err, map, refl, sym, ap, subst, ◌∙◌, arith, true≢false}
+use Rattle.std.specs.Prelude.{if◌then◌else◌, option_map}
+use Rattle.std.specs.FinMap.{get, get-insert}
+use Rattle.std.specs.FinMap as map
+use Rattle.outside_core.specs.Files.{FileMap}
+use Rattle.outside_core.specs.Results.{◌>>=◌}
+use Rattle.stream_core.specs.InnerStream.{NoKeystream}
+use Rattle.vault_model.specs.Db.{Db}
+use Rattle.vault_model.specs.Join.{is_id, join, Agreed}
+use Rattle.vault_model.specs.Tree.{BareDoc, LEVELS, IsSettled, db_in}
+use Rattle.vault_model.specs.declared.forms.DocForm.TheVariants.{Plain}
+use Rattle.vault_model.proofs.Ids.{id_itself, same_id}
+use Rattle.vault_model.proofs.Orders.{bytes_order}
+use Rattle.vault_model.proofs.Tests.{is_false}
+use Rattle.merge_core.specs.JoinLaws.{AreParts, end_to_end}
+use Rattle.document_equality.specs.Equality.{same_doc}
+use Rattle.document_equality.proofs.SameValues.{doc_decides}
+use Rattle.document_merge.specs.declared.merging.MergeFail.TheVariants.{RootClash, KindClash, MoveCycle, TooDeep, NoMemory}
+use Rattle.document_merge.specs.Merging.{MergeResult, merge_result}
+use Rattle.agreed_laws.specs.Merges.{AreDocs, MergesInto}
+use Rattle.agreed_laws.proofs.Again.{again}
+use Rattle.agreed_laws.proofs.Merged.{parts_merged}
+use Rattle.doc_write.specs.Written.{write_outcome}
+use Rattle.doc_write.specs.declared.writing.WriteFail.{WriteFail}
+use Rattle.doc_write.specs.declared.writing.WriteFail.TheVariants as write
+use Rattle.kdbx_frame.specs.declared.settings.Settings.{Settings}
+use Rattle.kdbx_open.specs.declared.sealings.Sealing.{Sealing}
+use Rattle.kdbx_seal.specs.Answers.{size_refusal}
+use Rattle.kdbx_seal.specs.Made.{made_file}
+use Rattle.kdbx_seal.specs.declared.fail.SealFail.{SealFail}
+use Rattle.kdbx_seal.specs.declared.fail.SealFail.TheVariants as seal
+use Rattle.cli_answers.specs.Messages.{status_of}
+use Rattle.cli_answers.specs.Phases.{IsLeft, StreamAnswer, TellsStream, after_left, with_left}
+use Rattle.cli_answers.specs.declared.answers.Refusal.{Refusal}
+use Rattle.cli_words.specs.declared.command.Access.{Access}
+use Rattle.cli_words.specs.declared.command.Command.{Command}
+use Rattle.cli_words.specs.declared.command.Command.TheVariants.{Ls, Add, Edit, Move, Remove, MakeGroup, RemoveGroup, Merge}
+use Rattle.cli_words.specs.Needs.{files_named, needs_of}
+use Rattle.cli_words.specs.Words.{command_of}
+use Rattle.cli_lines.specs.Lines.{Lines}
+use Rattle.cli_databases.specs.Databases.{Opened, plain_document}
+use Rattle.cli_databases.specs.Held.{HoldsBy}
+use Rattle.cli_writing.specs.Writing.{Store, file_or_refusal, write_answer}
+use Rattle.cli_sealing.specs.Draws.{draws_of}
+use Rattle.cli_sealing.specs.Held.{contents_with}
+use Rattle.cli_sealing.specs.Sealing.{file_by, file_unless, seal_answer, settings_for}
+use Rattle.cli_merging.specs.Merging.{AfterMerge, after_merge, after_merged, changes_between, merged_or_refusal}
+use Rattle.cli_merging.specs.Reports.{merge_report}
+use Rattle.cli_commands.specs.Commands.{Change, merged_change}
+use Rattle.keepass_call.specs.Endings.{Ending, HoldsNew, ReadsBack, carried_out, change_of_task, ended_with, ending_with, new_file}
+use Rattle.keepass_call.specs.Held.{IsAuthentic, IsTask}
+use Rattle.keepass_call.specs.Merges.{HoldsDatabase, HoldsUnder, IsUntouched, MergesAgreed, MergesNothing, MergesParts, TargetHolds, merges, unmodified_text}
+use Rattle.keepass_call.specs.Outcome.{Counts, Gains, IsAsSaid, IsRefused, Seen, Tells, World, answer_of, ended, outcome}
+use Rattle.keepass_call.specs.Tasks.{Task, draws_by}
+use Rattle.keepass_call.proofs.Answered.{answer_is}
+use Rattle.keepass_call.proofs.HeldTasks.{task_given}
+use Rattle.keepass_call.proofs.TaskDocs.{task_docs}
+
+-- ---- answers that are of another status than 6
+
+abbrev NotSix : {A : Type 0} → Result A Refusal → Type 0
+NotSix (Ok x) = Unit {0}
+NotSix (Err refusal) = status_of refusal.reason ≢ 6
+
+after_not_six : {A B : Type 0} (r : Result A Refusal) (left : List ℕ) (next : A → List ℕ → StreamAnswer B) → NotSix r
+    → ((x : A) (l : List ℕ) → NotSix (next x l).answer) → NotSix (after_left r left next).answer
+after_not_six (Ok x) left next h f = f x left
+after_not_six (Err refusal) left next h f = h
+
+write_not_six : (why : WriteFail) → status_of (write_answer why) ≢ 6
+write_not_six (write.TooMany count) = λ h. omega arith
+write_not_six (write.TooLarge length) = λ h. omega arith
+write_not_six write.NoMemory = λ h. omega arith
+
+seal_not_six : (why : SealFail) → status_of (seal_answer why) ≢ 6
+seal_not_six (seal.TooMany count) = λ h. omega arith
+seal_not_six (seal.TooLarge length) = λ h. omega arith
+seal_not_six seal.FileFault = λ h. omega arith
+seal_not_six seal.NoMemory = λ h. omega arith
+
+plain_not_six : (name : List ℕ) (r : Result (List ℕ) WriteFail) → NotSix (file_or_refusal name r)
+plain_not_six name (Ok text) = tt
+plain_not_six name (Err why) = write_not_six why
+
+unless_not_six : (name : List ℕ) (o : Option SealFail) (bytes : List ℕ) → NotSix (file_unless name o bytes)
+unless_not_six name None bytes = tt
+unless_not_six name (Some why) bytes = seal_not_six why
+
+sealed_not_six : (name : List ℕ) (settings : Settings) (composite : List ℕ) (doc : BareDoc) (dice : List ℕ) → NotSix (file_by name settings composite doc dice).answer
+unfolding file_by
+sealed_not_six name settings composite doc dice =
+    unless_not_six name (size_refusal settings (draws_of settings dice) doc) (made_file settings (draws_of settings dice) composite doc)
+
+file_not_six : (name : List ℕ) (sealing : Option Sealing) (doc : BareDoc) (dice : List ℕ) → NotSix (new_file name sealing doc dice).answer
+file_not_six name None doc dice = plain_not_six name (write_outcome Plain NoKeystream None doc)
+file_not_six name (Some sealing) doc dice = sealed_not_six name (settings_for sealing.settings doc) sealing.composite doc dice
+
+ended_not_six : (name : List ℕ) (sealing : Option Sealing) (text : List ℕ) (doc : Option BareDoc) (dice : List ℕ) → NotSix (ended_with name sealing text doc dice).answer
+ended_not_six name sealing text None dice = tt
+ended_not_six name sealing text (Some doc) dice =
+    after_not_six (new_file name sealing doc dice).answer (new_file name sealing doc dice).left (λ file left. with_left (Ok (ending_with text file)) left)
+    (file_not_six name sealing doc dice) (λ file left. tt)
+
+status_not_six : (left : List ℕ) (r : Result Ending Refusal) (dice : List ℕ) → NotSix r → (ended left r dice).status ≢ 6
+status_not_six left (Ok ending) dice h = λ e. omega arith
+status_not_six left (Err refusal) dice h = h
+
+-- ---- a merge
+
+module _ (file : List ℕ) (quiet : Bool) (names : List (List ℕ)) (t : BareDoc) (ss : List BareDoc) where
+  -- what comes of a merge's result
+  abbrev after : MergeResult → Result AfterMerge Refusal
+  after r = merged_or_refusal file r >>= λ new. Ok (after_merged file quiet false names t (not (same_doc t new)) new (changes_between t ss new))
+
+  after_is : after_merge file quiet false names t ss ≡ after (merge_result t ss)
+  unfolding after_merge
+  after_is = refl
+
+  result_not_six : (m : Db) (r : MergeResult) → MergesInto m r → NotSix (merged_change (after r))
+  result_not_six m (Ok new) h = tt
+  result_not_six m (Err (TooDeep u)) h = λ e. omega arith
+  result_not_six m (Err (RootClash u)) h = absurd h
+  result_not_six m (Err (KindClash u)) h = absurd h
+  result_not_six m (Err (MoveCycle us)) h = absurd h
+  result_not_six m (Err NoMemory) h = absurd h
+
+  change_not_six : (m : Db) → MergesInto m (merge_result t ss) → NotSix (merged_change (after_merge file quiet false names t ss))
+  change_not_six m h = subst (λ (r : Result AfterMerge Refusal). NotSix (merged_change r)) (sym after_is) (result_not_six m (merge_result t ss) h)
+
+  -- What a merge made that was not refused.
+  record IsMade (change : Change) : Type 0 where
+    new : BareDoc
+    merged : merge_result t ss ≡ Ok new
+    text : merge_report quiet (not (not (same_doc t new))) file names t new (changes_between t ss new) ≡ change.text
+    doc : (if not (same_doc t new) && true then Some new else None) ≡ change.doc
+
+  abbrev changed : Change → Result Change Refusal → Change
+  changed other (Ok change) = change
+  changed other (Err refusal) = other
+
+  made_by : (change : Change) (r : MergeResult) → merge_result t ss ≡ r → merged_change (after r) ≡ Ok change → IsMade change
+  made_by change (Ok new) e h =
+      let is = ap (changed change) h in
+      record { new = new; merged = e; text = ap (λ (c : Change). c.text) is; doc = ap (λ (c : Change). c.doc) is }
+  made_by change (Err why) e h = cc h
+
+  made : (change : Change) → merged_change (after_merge file quiet false names t ss) ≡ Ok change → IsMade change
+  made change h = made_by change (merge_result t ss) refl (ap merged_change (sym after_is) ∙ h)
+
+-- ---- what the target holds
+
+module _ (file : List ℕ) (files : FileMap) where
+  abbrev HoldsAt : Option Sealing → BareDoc → Type 0
+  HoldsAt sealing doc = (bytes : List ℕ) × ((get files file ≡ Some bytes) × HoldsUnder sealing doc bytes)
+
+  held_at : (plain : Bool) (key_file : Option (List ℕ)) (password : Option (List ℕ)) (opened : Opened) → HoldsBy plain key_file file password files opened
+      → HoldsAt opened.sealing opened.doc
+  held_at true key_file password opened h =
+      (h.bytes, (h.there.found, subst (λ (o : Opened). HoldsUnder o.sealing o.doc h.bytes) h.is (h.read, (h.says, refl))))
+  held_at false key_file password opened h =
+      (h.bytes, (h.there.found, subst (λ (o : Opened). HoldsUnder o.sealing o.doc h.bytes) h.is (h.vault, (h.sealed, refl))))
+
+holds_new : (sealing : Option Sealing) (doc : BareDoc) (bytes : List ℕ) → HoldsNew sealing doc bytes → HoldsUnder sealing doc bytes
+unfolding plain_document
+holds_new None doc bytes h = ((doc, None), (h, refl))
+holds_new (Some sealing) doc bytes h = (contents_with (settings_for sealing.settings doc) h.0 doc, (h.1, refl))
+
+module _ (name : List ℕ) (sealing : Option Sealing) (t new : BareDoc) (files : FileMap) (before now : Store) (are : before.files ≡ Some files) (held : HoldsAt name files sealing t) where
+  target_holds : (same : Bool) → same_doc t new ≡ same → ReadsBack name sealing (if not same && true then Some new else None) before now
+      → TargetHolds name sealing new files now
+  target_holds true e h = record {
+    files = files;
+    are = h.files ∙ are;
+    bytes = held.0;
+    found = held.1.0;
+    holds = subst (λ (d : BareDoc). HoldsUnder sealing d held.0) (doc_decides.says t new e) held.1.1;
+    others = λ other off. refl;
+  }
+  target_holds false e h = record {
+    files = map.insert files name h.bytes;
+    are = h.alone.files ∙ ap (option_map (λ (m : FileMap). map.insert m name h.bytes)) are;
+    bytes = h.bytes;
+    found = get-insert bytes_order.total files name h.bytes name ∙ ap (λ b. cond b (Some h.bytes) (get files name)) (id_itself name);
+    holds = holds_new sealing new h.bytes h.holds;
+    others = λ other off.
+        get-insert bytes_order.total files name h.bytes other
+        ∙ ap (λ b. cond b (Some h.bytes) (get files other)) (is_false (is_id other name) (λ q. off (same_id other name q)));
+  }
+
+-- ---- a task that merges parts of an agreed set
+
+-- What is known of it.
+record AgreedTask (words : List (List ℕ)) (world : World) (parts : List (List Db)) (task : Task) : Type 0 where
+  is_task : IsTask words world task
+  set : List Db
+  agreed : Agreed set
+  are_parts : AreParts parts set
+  joins : map db_in (task.opened.doc ∷ task.sources) ≡ map join parts
+
+-- What it made.
+record Carried (time : ℕ) (world : World) (before now : Seen) (task : Task) : Type 0 where
+  change : Change
+  makes : (change_of_task time task world.dice).answer ≡ Ok change
+  text : Gains before.written now.written change.text
+  reads_back : ReadsBack (needs_of task.command).file task.opened.sealing change.doc before.store now.store
+
+-- The words of a merge that is no dry run.
+record MergeWords (command : Command) : Type 0 where
+  access : Access
+  file : List ℕ
+  names : List (List ℕ)
+  from : Access
+  same : Bool
+  is : Merge access file names from same false ≡ command
+
+merge_words : (command : Command) → merges command ≡ true → MergeWords command
+merge_words (Ls access file group recursive flat) e = absurd (true≢false (sym e))
+merge_words (Add access file entry asked) e = absurd (true≢false (sym e))
+merge_words (Edit access file entry asked) e = absurd (true≢false (sym e))
+merge_words (Move access file node group) e = absurd (true≢false (sym e))
+merge_words (Remove access file entry) e = absurd (true≢false (sym e))
+merge_words (MakeGroup access file group) e = absurd (true≢false (sym e))
+merge_words (RemoveGroup access file group) e = absurd (true≢false (sym e))
+merge_words (Merge access file names from same true) e = absurd (true≢false (sym e))
+merge_words (Merge access file names from same false) e = record { access = access; file = file; names = names; from = from; same = same; is = refl }
+
+ok_is : {A : Type 0} (a b : A) → ◌≡◌ {A = Result A Refusal} (Ok a) (Ok b) → a ≡ b
+ok_is a b h = cc
+
+merged_is : (a b : BareDoc) → ◌≡◌ {A = MergeResult} (Ok a) (Ok b) → a ≡ b
+merged_is a b h = cc
+
+-- of dice that report what they hold nothing is gone where all of it is left
+none_gone : (asked : Bool) (dice : List ℕ) (before now : Option (List ℕ)) → TellsStream asked before dice → IsLeft before now dice → now ≡ before
+none_gone asked dice None now t h = h
+none_gone asked dice (Some left) now t h = h ∙ ap Some (sym t)
+
+ended_dice : (left : List ℕ) (r : Result Ending Refusal) (dice : List ℕ) → (ended left r dice).dice ≡ dice
+ended_dice left (Ok ending) dice = refl
+ended_dice left (Err refusal) dice = refl
+
+report_same : (quiet same : Bool) (file : List ℕ) (names : List (List ℕ)) (old new : BareDoc) (changes : _) → same ≡ true → merge_report quiet (not (not same)) file names old new changes ≡ unmodified_text quiet
+report_same true same file names old new changes e = refl
+report_same false same file names old new changes e = ap (λ b. merge_report false (not (not b)) file names old new changes) e
+
+module _ (words : List (List ℕ)) (time result : ℕ) (before now : Seen) (counts counts' : Counts) (world : World) (told : Tells words before world)
+    (refused : IsRefused (files_named (command_of words)) (outcome words time world) result before now counts counts')
+    (authentic : result ≡ 0 → IsAuthentic words time world before now)
+    (said : result ≡ 0 → IsAsSaid (outcome words time world) result before now) where
+  carried : (task : Task) → IsTask words world task → result ≡ 0 → Carried time world before now task
+  carried task is zero =
+      let a = authentic zero in
+      let same = ok_is a.task task (sym (task_given words world a.task a.is_task) ∙ task_given words world task is) in
+      subst (Carried time world before now) same (record { change = a.change; makes = a.makes; text = a.text; reads_back = a.reads_back })
+
+  module _ (access : Access) (file : List ℕ) (names : List (List ℕ)) (from : Access) (same : Bool) (lines : Lines) (opened : Opened) (sources : List BareDoc) where
+    abbrev task : Task
+    task = record { command = Merge access file names from same false; lines = lines; opened = opened; sources = sources }
+
+    abbrev t : BareDoc
+    t = opened.doc
+
+    abbrev change_is : Result Change Refusal
+    change_is = merged_change (after_merge file access.quiet false names t sources)
+
+    abbrev next : Change → List ℕ → StreamAnswer Ending
+    next change left = ended_with file opened.sealing change.text change.doc left
+
+    carried_is : carried_out time task world.dice ≡ after_left change_is world.dice next
+    unfolding carried_out
+    carried_is = refl
+
+    answer_so : IsTask words world task → answer_of words time world ≡ after_left change_is world.dice next
+    answer_so is = answer_is words time world task (task_given words world task is) ∙ carried_is
+
+    module _ (parts : List (List Db)) (a : AgreedTask words world parts task) where
+      are_docs : AreDocs (t ∷ sources)
+      are_docs = task_docs words world task a.is_task
+
+      into : MergesInto (join (end_to_end parts)) (merge_result t sources)
+      into = parts_merged t sources a.set parts are_docs a.agreed a.are_parts a.joins
+
+      answer_not_six : NotSix (answer_of words time world).answer
+      answer_not_six =
+          subst (λ (s : StreamAnswer Ending). NotSix s.answer) (sym (answer_so a.is_task))
+          (after_not_six change_is world.dice next (change_not_six file access.quiet names t sources (join (end_to_end parts)) into)
+          (λ change left. ended_not_six file opened.sealing change.text change.doc left))
+
+      not_refused : result ≢ 6
+      not_refused six =
+          elim (refused (λ z. omega (arith, z, six)) (λ z. omega (arith, z, six)) (λ z. omega (arith, z, six))) [
+            | inl is ↦ status_not_six _ (answer_of words time world).answer _ answer_not_six (sym is.status ∙ six)
+            | inr fault ↦ elim fault [ inl f ↦ omega (arith, f.0, six) | inr d ↦ omega (arith, d.0, six) ]
+          ]
+
+      merged : result ≡ 0 → HoldsDatabase task (join (end_to_end parts)) world now
+      merged zero =
+          let c = carried task a.is_task zero in
+          let m = made file access.quiet names t sources c.change c.makes in
+          record {
+            doc = m.new;
+            is = subst (MergesInto (join (end_to_end parts))) m.merged into;
+            target = target_holds file opened.sealing t m.new world.files before.store now.store told.files
+                (held_at file world.files access.plain access.key_file lines.password opened a.is_task.holds.target)
+                (same_doc t m.new) refl
+                (subst (λ (d : Option BareDoc). ReadsBack file opened.sealing d before.store now.store) (sym m.doc) c.reads_back);
+          }
+
+      merges_parts : MergesParts task parts world result now
+      merges_parts = record { not_refused = not_refused; merged = merged }
+
+    module _ (first : List Db) (others : List (List Db)) (a : AgreedTask words world (first ∷ others) task) (within : AreParts others first)
+        (settled : IsSettled LEVELS t) (zero : result ≡ 0) where
+      stays : merge_result t sources ≡ Ok t
+      stays = again t sources a.set first others (task_docs words world task a.is_task) a.agreed a.are_parts.0 within a.joins settled
+
+      untouched : IsUntouched task before now
+      untouched =
+          let c = carried task a.is_task zero in
+          let m = made file access.quiet names t sources c.change c.makes in
+          let is : t ≡ m.new = merged_is t m.new (sym stays ∙ m.merged) in
+          let equal : same_doc t m.new ≡ true = ap (same_doc t) (sym is) ∙ doc_decides.holds t in
+          let no_doc : c.change.doc ≡ None = sym m.doc ∙ ap (λ b. if not b && true then Some m.new else None) equal in
+          let left : (answer_of words time world).left ≡ world.dice =
+          ap (λ (s : StreamAnswer Ending). s.left) (answer_so a.is_task)
+          ∙ ap (λ (r : Result Change Refusal). (after_left r world.dice next).left) c.makes
+          ∙ ap (λ (d : Option BareDoc). (ended_with file opened.sealing c.change.text d world.dice).left) no_doc in
+          record {
+            text = subst (Gains before.written now.written) (sym m.text ∙ report_same access.quiet (same_doc t m.new) file names t m.new (changes_between t sources m.new) equal) c.text;
+            store = subst (λ (d : Option BareDoc). ReadsBack file opened.sealing d before.store now.store) no_doc c.reads_back;
+            dice = none_gone (draws_by (command_of words)) world.dice before.stream now.stream told.dice
+                (subst (IsLeft before.stream now.stream) (ended_dice _ (answer_of words time world).answer _ ∙ left) (said zero).stream);
+          }
+
+  -- ---- by the command
+
+  pub merges_agreed : MergesAgreed words world result now
+  merges_agreed parts m =
+      let w = merge_words m.task.command m.is_merge in
+      subst (λ (c : Command). AgreedTask words world parts (record m.task { command = c }) → MergesParts (record m.task { command = c }) parts world result now) w.is
+      (merges_parts w.access w.file w.names w.from w.same m.task.lines m.task.opened m.task.sources parts)
+      (record { is_task = m.is_task; set = m.set; agreed = m.agreed; are_parts = m.are_parts; joins = m.joins })
+
+  pub merges_nothing : MergesNothing words world result before now
+  merges_nothing g zero =
+      let m = g.merge in
+      let w = merge_words m.task.command m.is_merge in
+      subst (λ (c : Command). AgreedTask words world (g.first ∷ g.others) (record m.task { command = c }) → IsUntouched (record m.task { command = c }) before now) w.is
+      (λ a. untouched w.access w.file w.names w.from w.same m.task.lines m.task.opened m.task.sources g.first g.others a g.within g.settled zero)
+      (record { is_task = m.is_task; set = m.set; agreed = m.agreed; are_parts = m.are_parts; joins = m.joins })

@@ -1,0 +1,63 @@
+-- The documents of a task keep what every document keeps, since they are read.
+use Rattle.std.proofs.Common.{◌≡◌, ℕ, Bool, true, false, inl, inr, List, [], ◌∷◌, Option, Result, Ok, Err, map, refl, ap, subst}
+use Rattle.outside_core.specs.Files.{FileMap}
+use Rattle.stream_core.specs.InnerStream.{NoKeystream}
+use Rattle.vault_model.specs.Tree.{BareDoc, IsDoc}
+use Rattle.vault_model.specs.declared.forms.DocForm.TheVariants.{Plain, V4}
+use Rattle.doc_forms.specs.Documents.{DocumentAndHash, document}
+use Rattle.doc_forms.specs.ElementTexts.{Setting}
+use Rattle.doc_forms.specs.declared.fails.DocFail.{DocFail}
+use Rattle.read_laws.proofs.ReadDocuments.{read_is_doc}
+use Rattle.kdbx_open.specs.Documents.{attachment, document_or_refusal}
+use Rattle.kdbx_open.specs.Opening.{FileContents}
+use Rattle.kdbx_open.specs.Sealed.{Sealed}
+use Rattle.kdbx_open.specs.declared.fail.OpenFail.{OpenFail}
+use Rattle.cli_words.specs.declared.command.Access.{Access}
+use Rattle.cli_databases.specs.Databases.{Opened, password_from, plain_document}
+use Rattle.cli_databases.specs.Held.{HoldAll, HoldsBy}
+use Rattle.agreed_laws.specs.Merges.{AreDocs}
+use Rattle.cli_words.specs.Needs.{needs_of}
+use Rattle.keepass_call.specs.Held.{IsTask}
+use Rattle.keepass_call.specs.Outcome.{World}
+use Rattle.keepass_call.specs.Tasks.{Task}
+
+plain_is_doc : (bytes : List ℕ) (read : DocumentAndHash) → plain_document bytes ≡ Ok read → IsDoc read.0
+unfolding plain_document
+plain_is_doc bytes read h = read_is_doc (record { form = Plain; keystream = NoKeystream }) [] bytes read h
+
+abbrev doc_in : BareDoc → Result BareDoc OpenFail → BareDoc
+doc_in other (Ok doc) = doc
+doc_in other (Err fail) = other
+
+of_read : (doc : BareDoc) (r : Result DocumentAndHash DocFail) → ((read : DocumentAndHash) → r ≡ Ok read → IsDoc read.0) → document_or_refusal r ≡ Ok doc → IsDoc doc
+of_read doc (Ok read) is h = subst IsDoc (ap (doc_in doc) h) (is read refl)
+of_read doc (Err fail) is h = cc h
+
+vault_is_doc : (bytes composite : List ℕ) (vault : FileContents) → Sealed bytes composite vault → IsDoc vault.doc
+vault_is_doc bytes composite vault s =
+    let setting : Setting = record { form = V4; keystream = s.payload.stream } in
+    of_read vault.doc (document setting (map attachment s.payload.pool) s.payload.text)
+    (λ read e. read_is_doc setting (map attachment s.payload.pool) s.payload.text read e) s.document
+
+held_is_doc : (plain : Bool) (key_file : Option (List ℕ)) (file : List ℕ) (password : Option (List ℕ)) (files : FileMap) (opened : Opened)
+    → HoldsBy plain key_file file password files opened → IsDoc opened.doc
+held_is_doc true key_file file password files opened h = subst (λ (o : Opened). IsDoc o.doc) h.is (plain_is_doc h.bytes h.read h.says)
+held_is_doc false key_file file password files opened h = subst (λ (o : Opened). IsDoc o.doc) h.is (vault_is_doc h.bytes _ h.vault h.sealed)
+
+all_are_docs : (from : Access) (same : Bool) (target : Option (List ℕ)) (names : List (List ℕ)) (lines : List (Option (List ℕ))) (files : FileMap) (docs : List BareDoc)
+    → HoldAll from same target names lines files docs → AreDocs docs
+all_are_docs from same target [] lines files [] h d i = absurd i
+all_are_docs from same target [] lines files (doc ∷ docs) h d i = absurd h
+all_are_docs from same target (name ∷ names) [] files docs h d i = absurd h
+all_are_docs from same target (name ∷ names) (line ∷ lines) files [] h d i = absurd h
+all_are_docs from same target (name ∷ names) (line ∷ lines) files (doc ∷ docs) h d (inl p) =
+    subst IsDoc p (subst IsDoc h.0.is (held_is_doc from.plain from.key_file name (password_from same target line) files h.0.opened h.0.holds))
+all_are_docs from same target (name ∷ names) (line ∷ lines) files (doc ∷ docs) h d (inr i) = all_are_docs from same target names lines files docs h.1 d i
+
+pub task_docs : (words : List (List ℕ)) (world : World) (task : Task) → IsTask words world task → AreDocs (task.opened.doc ∷ task.sources)
+task_docs words world task is d (inl p) =
+    let needs = needs_of task.command in
+    subst IsDoc p (held_is_doc needs.access.plain needs.access.key_file needs.file task.lines.password world.files task.opened is.holds.target)
+task_docs words world task is d (inr i) =
+    let needs = needs_of task.command in
+    all_are_docs needs.from needs.same task.lines.password needs.sources task.lines.sources world.files task.sources is.holds.sources d i
