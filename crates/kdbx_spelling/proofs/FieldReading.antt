@@ -1,5 +1,5 @@
 -- A field that is spelled is read.
-use Rattle.std.proofs.Common.{◌≡◌, ℕ, ◌+◌, ◌<◌, ◌≤◌, ◌^◌, Bool, false, cond, List, [], ◌∷◌, ◌++◌, length, Ok, Err, refl, sym, ◌∙◌, ap, arith, length-append}
+use Rattle.std.proofs.Common.{◌≡◌, ℕ, ◌+◌, ◌≤◌, Bool, false, cond, List, [], ◌∷◌, ◌++◌, length, Ok, Err, refl, sym, ◌∙◌, ap, arith, length-append}
 use Rattle.std.specs.Prelude.{◌==◌}
 use Rattle.std.specs.List.{flat_map}
 use Rattle.std.specs.Int.{w16, w32, to_le_bytes, from_le_bytes}
@@ -9,7 +9,7 @@ use Rattle.kdbx_parts.specs.declared.fail.FrameFail.{FrameFail}
 use Rattle.kdbx_parts.specs.declared.fail.FrameFail.TheVariants.{FieldLength}
 use Rattle.kdbx_parts.specs.declared.parts.LengthWidth.{LengthWidth}
 use Rattle.kdbx_parts.specs.declared.parts.LengthWidth.TheVariants.{Two, Four}
-use Rattle.kdbx_parts.specs.Parts.{field_at, unique_of_length, width_of}
+use Rattle.kdbx_parts.specs.Parts.{field_at, unique_of_length}
 use Rattle.kdbx_spelling.specs.Fields.{HasRoom, spelled_field_with}
 use Rattle.kdbx_spelling.proofs.Readings.{split_again, then_ok}
 

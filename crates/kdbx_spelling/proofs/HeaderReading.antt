@@ -1,5 +1,5 @@
 -- A header that is spelled is read.
-use Rattle.std.proofs.Common.{◌≡◌, ℕ, ◌+◌, ◌-◌, ◌<◌, ◌≤◌, ◌^◌, false, List, [], ◌∷◌, ◌++◌, length, take, Option, Some, None, Ok, refl, sym, ◌∙◌, ap, subst, arith, append_assoc, length-append}
+use Rattle.std.proofs.Common.{◌≡◌, ℕ, ◌+◌, ◌-◌, ◌<◌, ◌≤◌, false, List, [], ◌∷◌, ◌++◌, length, take, Option, Some, None, Ok, refl, sym, ◌∙◌, ap, subst, arith, append_assoc, length-append}
 use Rattle.std.specs.Prelude.{◌==◌}
 use Rattle.std.specs.List.{flat_map, AllByRecursion}
 use Rattle.std.specs.Int.{w32, to_le_bytes}
@@ -24,7 +24,7 @@ use Rattle.kdbx_spelling.specs.Header.{header_end, header_fields, header_with, p
 use Rattle.kdbx_spelling.specs.Kdf.{with_salt}
 use Rattle.kdbx_spelling.proofs.FieldReading.{CanBeWritten, field_long}
 use Rattle.kdbx_spelling.proofs.HeaderFields.{add_field}
-use Rattle.kdbx_spelling.proofs.HeaderParts.{header_at_again, header_of_fields, sums_again}
+use Rattle.kdbx_spelling.proofs.HeaderParts.{header_at_again, sums_again}
 use Rattle.kdbx_spelling.proofs.KdfLimits.{checked_again, fits_again}
 use Rattle.kdbx_spelling.proofs.KdfReading.{Fits}
 use Rattle.kdbx_spelling.proofs.Readings.{folded}

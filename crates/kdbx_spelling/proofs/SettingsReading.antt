@@ -68,6 +68,10 @@ added : (version : FileVersion) (p : HeaderFields) (f : ℕ × List ℕ) (more :
 unfolding folded
 added version p f more q h = then_ok _ _ _ h
 
+nothing_left : (version : FileVersion) (p : HeaderFields) → folded (add_field version) p [] ≡ Ok p
+unfolding folded
+nothing_left version p = refl
+
 public_added : (public : Option (List ℕ)) (p : HeaderFields) → p.public ≡ None → folded (add_field V40) p (public_fields public) ≡ Ok (record p { public = public })
 unfolding folded with_field_4 with_common_field
 public_added None p none = ap (λ (o : Option (List ℕ)). Ok (record p { public = o })) none
@@ -117,7 +121,7 @@ pub added_31 : (c : Cipher) (rounds : ℕ) (d : Draws) → length d.seed ≡ 32 
     → folded (add_field V31) no_fields ((2, cipher_id c) ∷ (3, to_le_bytes w32 0) ∷ (4, d.seed) ∷ (5, d.kdf) ∷ (6, to_le_bytes w64 rounds)
     ∷ (7, take (iv_len c) d.iv) ∷ (8, stream_key_31 d) ∷ (9, d.start) ∷ (10, to_le_bytes w32 salsa20) ∷ [])
     ≡ Ok (fields_31 c rounds d)
-unfolding folded with_field_31 with_common_field
+unfolding with_field_31 with_common_field
 added_31 c rounds d seed_len kdf_len start_len small =
     let p1 = record no_fields { cipher = Some (cipher_id c) } in
     let p2 = record p1 { compression = Some 0 } in
@@ -137,6 +141,7 @@ added_31 c rounds d seed_len kdf_len start_len small =
     ∙ added V31 p6 (8, stream_key_31 d) _ p7 refl
     ∙ added V31 p7 (9, d.start) _ p8 (then_ok _ _ _ (length_again 9 32 d.start start_len))
     ∙ added V31 p8 (10, to_le_bytes w32 salsa20) _ p9 refl
+    ∙ nothing_left V31 p9
 
 pub settings_31 : (c : Cipher) (rounds : ℕ) (d : Draws) → AreFront (iv_len c) 16 d.iv → IsChecked (Aes rounds d.kdf)
     → checked_header_31 (fields_31 c rounds d)

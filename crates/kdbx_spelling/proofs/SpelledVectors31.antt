@@ -1,6 +1,6 @@
 -- The written form of a whole header of version 3.1, and what is drawn for it, so that a wrong order, width or type in it does
 -- not check.
-use Rattle.std.proofs.Common.{◌≡◌, ℕ, List, [], ◌∷◌, ◌++◌, None, replicate, refl}
+use Rattle.std.proofs.Common.{◌≡◌, ℕ, List, [], ◌∷◌, None, replicate, refl}
 use Rattle.key_core.specs.declared.kdf.Kdf.TheVariants.{Aes}
 use Rattle.vault_model.specs.declared.forms.FileVersion.TheVariants.{V31}
 use Rattle.kdbx_frame.specs.declared.settings.Cipher.TheVariants as cipher
