@@ -128,7 +128,8 @@ fn put_fields_4(
     put_field(out, width, 7, &draws.iv.bytes()[..iv_len(settings.cipher)])?;
     let kdf = kdf_bytes(alloc, &settings.kdf, draws.kdf.bytes())?;
     put_field(out, width, 11, kdf.as_slice())?;
-    put_public(out, &settings.public)
+    put_public(out, &settings.public)?;
+    Ok(())
 }
 
 // Puts the fields of a header of version 3.1 at the end, but for the one that ends them.
@@ -145,7 +146,8 @@ fn put_fields_31(out: &mut Bytes, settings: &Settings, draws: &Draws) -> Result<
     put_field(out, width, 7, &draws.iv.bytes()[..iv_len(settings.cipher)])?;
     put_field(out, width, 8, &draws.stream.bytes()[..STREAM_KEY_31])?;
     put_field(out, width, 9, draws.start.bytes())?;
-    put_field(out, width, 10, &SALSA20.to_le_bytes())
+    put_field(out, width, 10, &SALSA20.to_le_bytes())?;
+    Ok(())
 }
 
 // Puts the fields of a header at the end, but for the one that ends them.
@@ -162,7 +164,8 @@ fn put_fields(
 {
     match settings.version {
         FileVersion::V31 => put_fields_31(out, settings, draws),
-        FileVersion::V40 | FileVersion::V41 => put_fields_4(alloc, out, settings, draws),
+        FileVersion::V40 => put_fields_4(alloc, out, settings, draws),
+        FileVersion::V41 => put_fields_4(alloc, out, settings, draws),
     }
 }
 
