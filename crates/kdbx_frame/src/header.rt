@@ -110,12 +110,7 @@ pub fn sums_len(version: FileVersion) -> usize
 }
 
 // Checks what must follow a header of a version: in version 4 its hash and an HMAC.
-fn check_sums(
-    version: FileVersion,
-    size: u64,
-    header: &[u8],
-    rest: &[u8],
-) -> Result<(), FrameFail>
+fn check_sums(version: FileVersion, size: u64, header: &[u8], rest: &[u8]) -> Result<(), FrameFail>
     requires { length header.now < 2 ^ 62 }
     ensures gives { Returns meaning_of (λ x. x) result
         (check_sums version size header.now rest.now) }

@@ -13,10 +13,10 @@ ghost use Rattle.kdbx_open.specs.Seen.{opened_seen, unsealed_seen};
 
 use crate::OpenFail;
 use crate::documents::{check_hash, document_of};
+use doc_read::ReadDoc;
 use kdbx_frame::{Settings, form_of};
 use kdbx_payload::{Payload, open_payload};
 use outside_core::FileStore;
-use doc_read::ReadDoc;
 use secret_core::{Key, Secret, read_file};
 use std::alloc::Global;
 use vault_model::Doc;
@@ -58,8 +58,10 @@ fn open_bytes(alloc: Global, composite: &Key, file: Secret) -> Result<Unsealed, 
         document,
     } = open_payload(alloc, composite, file)?;
     let form = form_of(settings.version);
-    let ReadDoc { doc, header_hash: kept } =
-        document_of(alloc, form, stream, &pool, text, document)?;
+    let ReadDoc {
+        doc,
+        header_hash: kept,
+    } = document_of(alloc, form, stream, &pool, text, document)?;
     check_hash(kept, header_hash)?;
     Ok(Unsealed { settings, doc })
 }

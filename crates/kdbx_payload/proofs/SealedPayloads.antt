@@ -157,8 +157,7 @@ sealed_4 : (base key : List ℕ) (header : Header) (file hash hidden : List ℕ)
 sealed_4 base key header file hash hidden payload h i =
     let b = text_is base key header file hidden h in
     let f = fields_of header hash hidden payload i in
-    let t = f.0 in
-    (
+    let t = f.0 in (
       record {
         authentic = b.authentic;
         parts = b.parts;
@@ -198,8 +197,7 @@ sealed_31 key header file hash contents payload h i =
     let s = after_start_is header.start text contents a.1.1 in
     let w = AreHashed-contents_of (length text) (drop 32 text) contents s.blocks in
     let b = both _ _ payload i in
-    let same = payload_same _ payload b.1.1 in
-    (
+    let same = payload_same _ payload b.1.1 in (
       record {
         hidden = text;
         hides = hides header.settings.cipher key header.iv (content_31 header.size file) text (padding_ok _ _ a.1.0);
@@ -242,12 +240,12 @@ given_4 : (base key : List ℕ) (header : Header) (file hash : List ℕ) (payloa
 unfolding hidden_text_4 payload_in_4
 given_4 base key header file hash payload settings hash_same s = (
   each _ _ tt s.hidden (compared_again _ _ s.authentic)
-  (each _ _ (concat_contents s.parts) s.hidden
-  (ap of_blocks (contents.contents_of-AreContents base (length file) (after_header header.size file) (Ok (concat_contents s.parts)) (s.parts, (s.blocks, refl))))
-  (ap right_padding (hidden_again header.settings.cipher key header.iv (concat_contents s.parts) s.hidden s.hides))),
+      (each _ _ (concat_contents s.parts) s.hidden
+      (ap of_blocks (contents.contents_of-AreContents base (length file) (after_header header.size file) (Ok (concat_contents s.parts)) (s.parts, (s.blocks, refl))))
+      (ap right_padding (hidden_again header.settings.cipher key header.iv (concat_contents s.parts) s.hidden s.hides))),
   each _ _ s.inner payload (ap frame_or_refusal s.fields)
-  (each _ _ payload.stream payload (ap (known_stream s.inner.stream_id) s.stream)
-  (λ i. Ok (record { settings = settings i; pool = s.pool i; stream = payload.stream; header_hash = hash_same i; text = s.text i }))),
+      (each _ _ payload.stream payload (ap (known_stream s.inner.stream_id) s.stream)
+      (λ i. Ok (record { settings = settings i; pool = s.pool i; stream = payload.stream; header_hash = hash_same i; text = s.text i }))),
 )
 
 -- Start bytes and right blocks after them are read.
@@ -263,10 +261,10 @@ given_31 : (key : List ℕ) (header : Header) (file hash : List ℕ) (payload : 
 unfolding hidden_text_31 payload_in_31
 given_31 key header file hash payload settings hash_same s = (
   each _ _ s.hidden (concat_contents s.parts)
-  (ap right_padding (hidden_again header.settings.cipher key header.iv (content_31 header.size file) s.hidden s.hides))
-  (after_start_again header.start s.hidden (concat_contents s.parts) s.starts (contents_of-AreHashed (length s.hidden) (drop 32 s.hidden) s.parts s.blocks)),
+      (ap right_padding (hidden_again header.settings.cipher key header.iv (content_31 header.size file) s.hidden s.hides))
+      (after_start_again header.start s.hidden (concat_contents s.parts) s.starts (contents_of-AreHashed (length s.hidden) (drop 32 s.hidden) s.parts s.blocks)),
   each _ _ payload.stream payload (ap (known_stream header.stream_id) s.stream)
-  (λ i. Ok (record { settings = settings i; pool = s.pool i; stream = payload.stream; header_hash = hash_same i; text = s.text i })),
+      (λ i. Ok (record { settings = settings i; pool = s.pool i; stream = payload.stream; header_hash = hash_same i; text = s.text i })),
 )
 
 given_by : (v : FileVersion) (base key : List ℕ) (header : Header) (file hash : List ℕ) (payload : Payload) → header.settings ≡ payload.settings

@@ -51,8 +51,7 @@ short_fields : (width : LengthWidth) (fields : List (ℕ × List ℕ)) → HasRo
 short_fields width [] h ids = tt
 short_fields width (f ∷ fields) h ids =
     let all = length (flat_map (spelled_field_with width) (f ∷ fields)) in
-    let len = length-append (spelled_field_with width f) (flat_map (spelled_field_with width) fields) in
-    (
+    let len = length-append (spelled_field_with width f) (flat_map (spelled_field_with width) fields) in (
       (ids.0, room_below width (length f.1) all (omega (arith, len, field_long width f)) h),
       short_fields width fields (room_below width _ all (omega (arith, len)) h) ids.1,
     )

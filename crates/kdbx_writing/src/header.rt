@@ -85,12 +85,7 @@ fn put_length(out: &mut Bytes, width: LengthWidth, len: usize) -> Result<(), NoM
 }
 
 // Puts a field at the end.
-fn put_field(
-    out: &mut Bytes,
-    width: LengthWidth,
-    id: u8,
-    content: &[u8],
-) -> Result<(), NoMemory>
+fn put_field(out: &mut Bytes, width: LengthWidth, id: u8, content: &[u8]) -> Result<(), NoMemory>
     requires { HasRoom width (length content.now) }
     ensures { OnOk result (out.new ≡ out.old ++ spelled_field_with width (id, content.now)) }
 {

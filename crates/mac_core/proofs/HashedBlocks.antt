@@ -232,7 +232,7 @@ record Found (i : ℕ) (given bytes content : List ℕ) : Type 0 where
 module _ (size n i : ℕ) (given bytes content : List ℕ)
     (is : contents_from (hashed_at size) (Truncated size) (suc n) i given bytes ≡ Ok content)
     (again : (b : BlockRead) → contents_from (hashed_at size) (Truncated size) n (suc i) (given ++ b.content) b.rest ≡ Ok content
-        → Found (suc i) (given ++ b.content) b.rest content) where
+    → Found (suc i) (given ++ b.content) b.rest content) where
   found_end : (b : BlockRead) → hashed_at size i bytes ≡ Ok b → length b.content ≡ 0 → Found i given bytes content
   unfolding written_blocks
   found_end b read none = record {
@@ -284,8 +284,7 @@ pub AreHashed-contents_of : (size : ℕ) (bytes content : List ℕ) → hashed_c
 AreHashed-contents_of size bytes content is =
     let f = found size (length bytes) 0 [] bytes content is in
     let blocks = hashed_blocks 0 f.contents in
-    let last : f.end ≡ length f.contents = omega (arith, f.due) in
-    (
+    let last : f.end ≡ length f.contents = omega (arith, f.due) in (
       f.contents,
       (
         record {
