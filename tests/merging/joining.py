@@ -189,7 +189,7 @@ class Joined:
         return found
 
     def cycle(self):
-        """The groups that lie within one another, as the first own node that does not come to the root finds them; or None."""
+        """The groups that lie within one another, as the first own node whose path does not reach the root finds them; or None."""
         for identity in sorted(self.own):
             path = self.path(identity)
             if path[-1] != self.root:

@@ -63,7 +63,7 @@ class Outline:
         return found, versions
 
     def nodes(self):
-        """What stands in parentheses: entries before groups."""
+        """What is in parentheses: entries before groups."""
         assert self.take() == "(", self.words
         entries, groups = [], []
         while self.words[0] != ")":

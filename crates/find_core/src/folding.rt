@@ -10,7 +10,7 @@ use outside_core::NoMemory;
 use secret_core::Secret;
 use std::alloc::Global;
 
-// Puts bytes behind a text, in larger memory where there is no room.
+// Puts bytes after a text, in larger memory where there is no room.
 fn add(alloc: Global, text: &mut Secret, bytes: &[u8]) -> Result<(), NoMemory>
     ensures { OnOk result (text.new.bytes ≡ text.old.bytes ++ bytes.now) }
 {
@@ -26,7 +26,7 @@ fn add(alloc: Global, text: &mut Secret, bytes: &[u8]) -> Result<(), NoMemory>
     Ok(())
 }
 
-// Puts a folded text behind nothing, in memory that is used again.
+// Puts a folded text alone, in memory that is used again.
 fn fold_text(alloc: Global, folded: &mut Secret, text: &str) -> Result<(), NoMemory>
     ensures { OnOk result (folded.new.bytes
         ≡ encode_utf8_all (default_case_fold (chars text.now))) }

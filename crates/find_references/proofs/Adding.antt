@@ -26,13 +26,13 @@ pub of_whole : (levels : ℕ) (rows : List Row) (text rest : List ℕ) (made sta
     → after_pieces (levels - 1) rows rest made ≡ after_steps (steps levels rows text) start
 of_whole levels rows text rest made start some so_far = so_far ∙ sym (with_levels levels rows text start some)
 
--- what is left of a text behind so many bytes
+-- what is left of a text following so many bytes
 pub rest_of : (n : ℕ) (text : List ℕ) → take (length text - n) (drop n text) ≡ drop n text
 rest_of n text = let long : length (drop n text) ≤ length text - n = omega (arith, length-drop n text) in take_all (length text - n) (drop n text) long
 
 module _ (k : ℕ) (rows : List Row) (text : List ℕ) (r : Reference) (made : Made) (whole : Result Made FindFail)
     (found : reference_at text ≡ Some r) (so_far : after_pieces k rows text made ≡ whole) where
-  -- a reference that stands
+  -- a reference that stays
   pub standing_refused : (e : FindFail) → find (has_at r.place r.text) rows ≡ None
       → Fails (meaning_of e) (after_step made (copied r.written)) → Fails (meaning_of e) whole
   standing_refused e missing h =

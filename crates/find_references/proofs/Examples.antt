@@ -63,7 +63,7 @@ doc = record (empty_bare (id 1) 0) {
       none;
 }
 
--- A reference to itself is replaced ten times, and stands then.
+-- A reference to itself is replaced ten times, and stays then.
 own_reference : resolved doc own_title ≡ Ok own_title
 unfolding resolved reference_at by_index
 own_reference = refl

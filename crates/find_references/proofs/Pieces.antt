@@ -1,4 +1,4 @@
--- The pieces of a text behind its first.
+-- The pieces of a text after its first.
 use Rattle.std.proofs.Common.{◌≡◌, ◌≤◌, ◌<◌, ℕ, suc, ◌+◌, ◌-◌, Bool, true, false, cond, ◌==◌, List, [], ◌∷◌, ◌++◌, length, take, drop, Option, Some, None, refl, sym, ap, ◌∙◌, subst, arith, length-append, length-drop}
 use Rattle.std.specs.Prelude.{nat_lt, slice_index}
 use Rattle.std.specs.List.{position, position_or_len}
@@ -7,30 +7,30 @@ use Rattle.std.proofs.lemmas.Bool.Decides.{nat_tests}
 use Rattle.std.proofs.lemmas.List.{length-take-le, take-append-drop}
 use Rattle.find_references.specs.References.{Reference, byte, closed_reference, is_close, is_opened, part_of, pieces, place_of, reference, reference_at}
 
-pub pieces_past : (front behind : List ℕ) → pieces (length front) (front ++ behind) ≡ pieces 0 behind
-pieces_past [] behind = refl
-pieces_past (b ∷ front) behind = pieces_past front behind
+pub pieces_past : (front following : List ℕ) → pieces (length front) (front ++ following) ≡ pieces 0 following
+pieces_past [] following = refl
+pieces_past (b ∷ front) following = pieces_past front following
 
 -- a byte that begins no reference
 pub byte_first : (b : ℕ) (bs : List ℕ) → reference_at (b ∷ bs) ≡ None → pieces 0 (b ∷ bs) ≡ byte b ∷ pieces 0 bs
 byte_first b bs none = rw none refl
 
 -- a reference, which is written with one byte at least
-pub reference_first : (text behind : List ℕ) (r : Reference) → reference_at text ≡ Some r → text ≡ r.written ++ behind → 0 < length r.written
-    → pieces 0 text ≡ reference r ∷ pieces 0 behind
-reference_first [] behind r found joined some = absurd (omega (arith, ap length joined, length-append r.written behind))
-reference_first (b ∷ bs) behind r found joined some = rw found (ap (λ ps. reference r ∷ ps) (tail r.written joined some))
+pub reference_first : (text following : List ℕ) (r : Reference) → reference_at text ≡ Some r → text ≡ r.written ++ following → 0 < length r.written
+    → pieces 0 text ≡ reference r ∷ pieces 0 following
+reference_first [] following r found joined some = absurd (omega (arith, ap length joined, length-append r.written following))
+reference_first (b ∷ bs) following r found joined some = rw found (ap (λ ps. reference r ∷ ps) (tail r.written joined some))
   where
-    tail : (written : List ℕ) → b ∷ bs ≡ written ++ behind → 0 < length written → pieces (length written - 1) bs ≡ pieces 0 behind
+    tail : (written : List ℕ) → b ∷ bs ≡ written ++ following → 0 < length written → pieces (length written - 1) bs ≡ pieces 0 following
     tail [] e none = absurd (omega arith)
     tail (c ∷ written) e more =
-        let rest : bs ≡ written ++ behind = cc in
+        let rest : bs ≡ written ++ following = cc in
         let n : suc (length written) - 1 ≡ length written = omega arith in
-        ap (λ k. pieces k bs) n ∙ ap (pieces (length written)) rest ∙ pieces_past written behind
+        ap (λ k. pieces k bs) n ∙ ap (pieces (length written)) rest ∙ pieces_past written following
 
 -- ---- how a reference is written
 
--- a reference stands at the beginning of its text
+-- a reference is at the beginning of its text
 pub record StandsFirst (written text : List ℕ) : Type 0 where
   pub joined : text ≡ written ++ drop (length written) text
   pub some : 0 < length written

@@ -44,7 +44,7 @@ found_here g place text x found =
     ap (λ o. or_else o (sought_among place text (all_trees (map tree_seen (out-Group g).groups)))) (sym found)
     ∙ ap (sought_in place text) (sym (seen_group g))
 
--- what is found in one of a group's groups, behind those in which it is not, is found in the group
+-- what is found in one of a group's groups, following those in which it is not, is found in the group
 pub found_below : (g : Group) (place : Place) (text : List ℕ) (gs : List Group) (at : ℕ) (child : Group) (x : Row)
     → find (has_at place text) (map entry_row (out-Group g).entries) ≡ None → gs ≡ (out-Group g).groups → at < length gs → child ≡ get_or gs at child
     → sought_among place text (all_trees (map tree_seen (drop at gs))) ≡ sought_among place text (all_trees (map tree_seen gs))

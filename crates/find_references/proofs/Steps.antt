@@ -19,17 +19,17 @@ pub in_turn : {A B C : Type 0} (first : Result A FindFail) (then : A → Result 
 in_turn (Ok a) then last = refl
 in_turn (Err e) then last = refl
 
--- with nothing behind it a computation is what it was
+-- with nothing following it a computation is what it was
 pub nothing_behind : {A : Type 0} (first : Result A FindFail) → (first >>= λ a. Ok a) ≡ first
 nothing_behind (Ok a) = refl
 nothing_behind (Err e) = refl
 
-pub after_both : (front behind : List Step) (made : Made) → after_steps (front ++ behind) made ≡ (after_steps front made >>= after_steps behind)
-after_both [] behind made = refl
-after_both (step ∷ front) behind made = first (after_step made step) (λ now. after_both front behind now)
+pub after_both : (front following : List Step) (made : Made) → after_steps (front ++ following) made ≡ (after_steps front made >>= after_steps following)
+after_both [] following made = refl
+after_both (step ∷ front) following made = first (after_step made step) (λ now. after_both front following now)
   where
-    first : (r : Result Made FindFail) → ((now : Made) → after_steps (front ++ behind) now ≡ (after_steps front now >>= after_steps behind))
-        → (r >>= after_steps (front ++ behind)) ≡ ((r >>= after_steps front) >>= after_steps behind)
+    first : (r : Result Made FindFail) → ((now : Made) → after_steps (front ++ following) now ≡ (after_steps front now >>= after_steps following))
+        → (r >>= after_steps (front ++ following)) ≡ ((r >>= after_steps front) >>= after_steps following)
     first (Ok now) later = later now
     first (Err e) later = refl
 
@@ -53,26 +53,26 @@ pub after_byte : (levels : ℕ) (rows : List Row) (b : ℕ) (bs : List ℕ) (mad
 after_byte levels rows b bs made none =
     ap (λ ps. after_steps (flat_map (piece_steps rows (steps levels rows)) ps) made) (byte_first b bs none)
 
--- a reference that stands
-pub after_standing : (levels : ℕ) (rows : List Row) (text behind : List ℕ) (r : Reference) (made : Made)
-    → reference_at text ≡ Some r → text ≡ r.written ++ behind → 0 < length r.written → find (has_at r.place r.text) rows ≡ None
-    → after_pieces levels rows text made ≡ (after_step made (copied r.written) >>= after_pieces levels rows behind)
-after_standing levels rows text behind r made found joined some missing =
-    ap (λ ps. after_steps (flat_map (piece_steps rows (steps levels rows)) ps) made) (reference_first text behind r found joined some)
-    ∙ ap (λ o. after_steps (reference_steps (steps levels rows) r o ++ flat_map (piece_steps rows (steps levels rows)) (pieces 0 behind)) made) missing
+-- a reference that stays
+pub after_standing : (levels : ℕ) (rows : List Row) (text following : List ℕ) (r : Reference) (made : Made)
+    → reference_at text ≡ Some r → text ≡ r.written ++ following → 0 < length r.written → find (has_at r.place r.text) rows ≡ None
+    → after_pieces levels rows text made ≡ (after_step made (copied r.written) >>= after_pieces levels rows following)
+after_standing levels rows text following r made found joined some missing =
+    ap (λ ps. after_steps (flat_map (piece_steps rows (steps levels rows)) ps) made) (reference_first text following r found joined some)
+    ∙ ap (λ o. after_steps (reference_steps (steps levels rows) r o ++ flat_map (piece_steps rows (steps levels rows)) (pieces 0 following)) made) missing
 
 -- a reference that is replaced
-pub after_replaced : (levels : ℕ) (rows : List Row) (text behind : List ℕ) (r : Reference) (e : Row) (made : Made)
-    → reference_at text ≡ Some r → text ≡ r.written ++ behind → 0 < length r.written → find (has_at r.place r.text) rows ≡ Some e
+pub after_replaced : (levels : ℕ) (rows : List Row) (text following : List ℕ) (r : Reference) (e : Row) (made : Made)
+    → reference_at text ≡ Some r → text ≡ r.written ++ following → 0 < length r.written → find (has_at r.place r.text) rows ≡ Some e
     → after_pieces levels rows text made
-    ≡ (after_step made replaced >>= λ now. after_steps (steps levels rows (part_value r.wanted e)) now >>= after_pieces levels rows behind)
-after_replaced levels rows text behind r e made found joined some there =
-    ap (λ ps. after_steps (flat_map (piece_steps rows (steps levels rows)) ps) made) (reference_first text behind r found joined some)
-    ∙ ap (λ o. after_steps (reference_steps (steps levels rows) r o ++ flat_map (piece_steps rows (steps levels rows)) (pieces 0 behind)) made) there
+    ≡ (after_step made replaced >>= λ now. after_steps (steps levels rows (part_value r.wanted e)) now >>= after_pieces levels rows following)
+after_replaced levels rows text following r e made found joined some there =
+    ap (λ ps. after_steps (flat_map (piece_steps rows (steps levels rows)) ps) made) (reference_first text following r found joined some)
+    ∙ ap (λ o. after_steps (reference_steps (steps levels rows) r o ++ flat_map (piece_steps rows (steps levels rows)) (pieces 0 following)) made) there
     ∙ first (after_step made replaced)
   where
     first : (x : Result Made FindFail)
-        → (x >>= after_steps (steps levels rows (part_value r.wanted e) ++ flat_map (piece_steps rows (steps levels rows)) (pieces 0 behind)))
-        ≡ (x >>= λ now. after_steps (steps levels rows (part_value r.wanted e)) now >>= after_pieces levels rows behind)
-    first (Ok now) = after_both (steps levels rows (part_value r.wanted e)) (flat_map (piece_steps rows (steps levels rows)) (pieces 0 behind)) now
+        → (x >>= after_steps (steps levels rows (part_value r.wanted e) ++ flat_map (piece_steps rows (steps levels rows)) (pieces 0 following)))
+        ≡ (x >>= λ now. after_steps (steps levels rows (part_value r.wanted e)) now >>= after_pieces levels rows following)
+    first (Ok now) = after_both (steps levels rows (part_value r.wanted e)) (flat_map (piece_steps rows (steps levels rows)) (pieces 0 following)) now
     first (Err fail) = refl

@@ -15,7 +15,7 @@ copied_in [] = []
 copied_in (copied bytes ∷ others) = bytes ++ copied_in others
 copied_in (replaced ∷ others) = copied_in others
 
--- What a text comes to over a document.
+-- How a text is resolved over a document.
 abbrev pub steps_over : BareDoc → List ℕ → List Step
 steps_over doc text = steps MOST_LEVELS (entry_rows doc.tree) text
 

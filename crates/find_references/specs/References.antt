@@ -69,7 +69,7 @@ pub data Piece : Type 0 where
   byte : ℕ → Piece
   reference : Reference → Piece
 
--- The piece that stands where a byte does.
+-- The piece at a byte: the reference that begins there, or the byte.
 abbrev pub piece_of : ℕ → Option Reference → Piece
 piece_of b None = byte b
 piece_of b (Some r) = reference r

@@ -1,4 +1,4 @@
--- What the references in a text come to.
+-- How the references in a text are resolved.
 use Rattle.std.specs.Prelude.{ℕ, zero, suc, ◌+◌, nat_lt, nat_le, if◌then◌else◌, List, [], ◌∷◌, ◌++◌, flat_map, length, Option, None, Some, Result, Ok, Err}
 use Rattle.std.specs.List.{find}
 use Rattle.outside_core.specs.Results.{◌>>=◌}
@@ -27,20 +27,20 @@ pub data Step : Type 0 where
   copied : List ℕ → Step
   replaced : Step
 
--- What a reference comes to: what the value wanted of the entry that was found comes to, or the
+-- How a reference is resolved: as the value wanted of the entry that was found is, or as the
 -- reference as it is written where there is no such entry.
 abbrev pub reference_steps : (List ℕ → List Step) → Reference → Option (NodeId × EntryRecord)
     → List Step
 reference_steps deeper r (Some e) = replaced ∷ deeper (part_value r.wanted e)
 reference_steps deeper r None = copied r.written ∷ []
 
--- What a piece comes to; the first of the entries that have the text answers.
+-- How a piece is resolved; the first of the entries that have the text answers.
 abbrev pub piece_steps : List (NodeId × EntryRecord) → (List ℕ → List Step) → Piece → List Step
 piece_steps rows deeper (byte b) = copied (b ∷ []) ∷ []
 piece_steps rows deeper (reference r) = reference_steps deeper r
     (find (has_at r.place r.text) rows)
 
--- What a text comes to, in which so many replacements may still lie within one another.
+-- How a text is resolved in which so many replacements may still lie within one another.
 abbrev pub steps : ℕ → List (NodeId × EntryRecord) → List ℕ → List Step
 steps zero rows text = copied text ∷ []
 steps (suc levels) rows text = flat_map (piece_steps rows (steps levels rows)) (pieces 0 text)

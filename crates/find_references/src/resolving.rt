@@ -34,7 +34,7 @@ struct Resolving {
     text: Secret,
 }
 
-// Makes room for so many bytes behind a text, and for as many as it has.
+// Makes room for so many bytes after a text, and for as many as it has.
 fn reserve(alloc: Global, text: &mut Secret, more: usize) -> Result<(), NoMemory>
     ensures bytes { text.new.bytes ≡ text.old.bytes }
     ensures spare { OnOk result (more ≤ text.new.spare) }
@@ -115,7 +115,7 @@ fn add_resolved(
 }
 
 /// A text with its references to entries of a document resolved. Each reference
-/// `{REF:W@S:TEXT}` is replaced by the part W of the first entry that has the text at S, and stands
+/// `{REF:W@S:TEXT}` is replaced by the part W of the first entry that has the text at S, and stays
 /// where there is no such entry. What takes its place is resolved too, through ten levels.
 #[tactic(auto, unfolding(crate::specs::Resolved::resolved))]
 pub fn resolve(alloc: Global, doc: &Doc, text: &[u8]) -> Result<Secret, FindFail>

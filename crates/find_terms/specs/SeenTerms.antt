@@ -3,13 +3,13 @@ use Rattle.find_terms.specs.declared.parsing.Found.{Found}
 use Rattle.find_terms.specs.declared.parsing.Signs.{Signs}
 use Rattle.find_terms.specs.Terms.{SignsBefore, TermBefore}
 
--- Signs, and what is behind them.
+-- Signs, and what follows them.
 abbrev pub signs_seen : Signs → SignsBefore
-signs_seen s = record { not = s.not; whole = s.whole; behind = s.behind.now }
+signs_seen s = record { not = s.not; whole = s.whole; following = s.following.now }
 
--- A term, and what is behind it.
+-- A term, and what follows it.
 abbrev pub found_seen : Found → TermBefore
 found_seen f = record {
   term = record { not = f.not; whole = f.whole; field = f.field; text = f.text.now };
-  behind = f.behind.now;
+  following = f.following.now;
 }

@@ -28,20 +28,20 @@ is_not_sign b = b == 33 || b == 45
 abbrev pub is_whole_sign : ℕ → Bool
 is_whole_sign b = b == 43
 
--- Which signs there are, and what is behind them.
+-- Which signs there are, and what follows them.
 pub record SignsBefore : Type 0 where
   pub not : Bool
   pub whole : Bool
-  pub behind : List ℕ
+  pub following : List ℕ
 
 -- The signs that a text begins with, beside those that were there already. They may stand in any
 -- order, and more than once.
 abbrev pub signs_before : Bool → Bool → List ℕ → SignsBefore
-signs_before not whole [] = record { not = not; whole = whole; behind = [] }
+signs_before not whole [] = record { not = not; whole = whole; following = [] }
 signs_before not whole (b ∷ bs) =
     if is_not_sign b then signs_before true whole bs
     else (if is_whole_sign b then signs_before not true bs
-    else record { not = not; whole = whole; behind = b ∷ bs })
+    else record { not = not; whole = whole; following = b ∷ bs })
 
 -- The field of a name.
 abbrev pub field_named : List ℕ → Option SearchField
@@ -63,35 +63,36 @@ field_named word =
     else (if bytes_eq word (codes "attr") then Some field.Attr
     else None))))))))))))))
 
--- A text up to some byte, and what is behind that byte.
+-- A text up to some byte, and what follows that byte.
 pub record Cut : Type 0 where
   pub text : List ℕ
-  pub behind : List ℕ
+  pub following : List ℕ
 
--- What is up to the first byte of a kind, or to the end, and what is behind that byte.
+-- What is up to the first byte of a kind, or to the end, and what follows that byte.
 abbrev pub cut_at : (ℕ → Bool) → List ℕ → Cut
-cut_at is_end text = record { text = before_first is_end text; behind = after_first is_end text }
+cut_at is_end text = record { text = before_first is_end text; following = after_first is_end text }
 
 -- Whether a byte of a kind is there.
 abbrev pub has_byte : (ℕ → Bool) → List ℕ → Bool
 has_byte is_end text = nat_lt (position_or_len is_end text) (length text)
 
--- A field, and what is behind it.
+-- A field, and what follows it.
 pub record FieldBefore : Type 0 where
   pub field : SearchField
-  pub behind : List ℕ
+  pub following : List ℕ
 
 -- The field of a name that was found, or any field of a text that names none.
 abbrev pub field_or_any : List ℕ → List ℕ → Option SearchField → FieldBefore
-field_or_any text behind (Some f) = record { field = f; behind = behind }
-field_or_any text behind None = record { field = field.Any; behind = text }
+field_or_any text following (Some f) = record { field = f; following = following }
+field_or_any text following None = record { field = field.Any; following = text }
 
 -- The field that a text begins with: what is before the first colon, where that is a field's name.
 -- Any other word before a colon is a part of the text.
 abbrev pub field_before : List ℕ → FieldBefore
 field_before text =
     if has_byte is_colon text
-    then field_or_any text (cut_at is_colon text).behind (field_named (cut_at is_colon text).text)
+    then field_or_any text (cut_at is_colon text).following
+    (field_named (cut_at is_colon text).text)
     else field_or_any text [] None
 
 -- The text that a text begins with: from a quotation mark up to the next, or else up to a space.
@@ -99,10 +100,10 @@ abbrev pub text_before : List ℕ → Cut
 text_before [] = cut_at is_space []
 text_before (b ∷ bs) = if is_quote b then cut_at is_quote bs else cut_at is_space (b ∷ bs)
 
--- A term, and what is behind it.
+-- A term, and what follows it.
 pub record TermBefore : Type 0 where
   pub term : Term
-  pub behind : List ℕ
+  pub following : List ℕ
 
 -- The term of these parts.
 abbrev pub term_of : SignsBefore → FieldBefore → Cut → TermBefore
@@ -113,15 +114,15 @@ term_of signs body text = record {
     field = body.field;
     text = text.text;
   };
-  behind = text.behind;
+  following = text.following;
 }
 
 -- The term that a text begins with: signs, then a field, then a text.
 unfoldable pub term_before : List ℕ → TermBefore
 term_before text =
     let signs = signs_before false false text in
-    let body = field_before signs.behind in
-    term_of signs body (text_before body.behind)
+    let body = field_before signs.following in
+    term_of signs body (text_before body.following)
 
 -- A term with its offset.
 pub record PlacedTerm : Type 0 where
@@ -136,7 +137,7 @@ terms_from offset zero (b ∷ bs) =
     if is_space b then terms_from (offset + 1) 0 bs
     else (let found = term_before (b ∷ bs) in
     record { offset = offset; term = found.term }
-    ∷ terms_from (offset + 1) (length bs - length found.behind) bs)
+    ∷ terms_from (offset + 1) (length bs - length found.following) bs)
 
 -- Some terms and then others, or the refusal of the first of those that has no text.
 abbrev pub with_texts : List Term → List PlacedTerm → Result (List Term) FindFail

@@ -29,12 +29,12 @@ fn field_named(word: &str) -> Option<SearchField>
     }
 }
 
-// The signs that a text begins with, and what is behind them.
+// The signs that a text begins with, and what follows them.
 #[derive(Clone, Copy)]
 struct Signs<'a> {
     not: bool,
     whole: bool,
-    behind: &'a str,
+    following: &'a str,
 }
 
 // The signs that a text begins with.
@@ -43,40 +43,44 @@ fn signs_before(text: &str) -> Signs<'_>
 {
     let mut not = false;
     let mut whole = false;
-    let mut behind = text;
+    let mut following = text;
     'signs: loop {
-        if let Some(rest) = behind.strip_prefix('!') {
+        if let Some(rest) = following.strip_prefix('!') {
             not = true;
-            behind = rest;
-        } else if let Some(rest) = behind.strip_prefix('-') {
+            following = rest;
+        } else if let Some(rest) = following.strip_prefix('-') {
             not = true;
-            behind = rest;
-        } else if let Some(rest) = behind.strip_prefix('+') {
+            following = rest;
+        } else if let Some(rest) = following.strip_prefix('+') {
             whole = true;
-            behind = rest;
+            following = rest;
         } else {
-            return Signs { not, whole, behind };
+            return Signs {
+                not,
+                whole,
+                following,
+            };
         }
     }
 }
 
-// The field that a text begins with, and what is behind it.
+// The field that a text begins with, and what follows it.
 fn field_before(text: &str) -> (SearchField, &str)
     ensures field { result.0 ≡ (spec.field_before text.now).field }
-    ensures behind { result.1.now ≡ (spec.field_before text.now).behind }
+    ensures following { result.1.now ≡ (spec.field_before text.now).following }
 {
-    if let Some((word, behind)) = text.split_once(':') {
+    if let Some((word, following)) = text.split_once(':') {
         if let Some(field) = field_named(word) {
-            return (field, behind);
+            return (field, following);
         }
     }
     (SearchField::Any, text)
 }
 
-// What is before the first byte of this kind, or up to the end, and what is behind it.
+// What is before the first byte of this kind, or up to the end, and what follows it.
 fn cut_at_space(text: &str) -> (&str, &str)
     ensures text { result.0.now ≡ (spec.cut_at is_space text.now).text }
-    ensures behind { result.1.now ≡ (spec.cut_at is_space text.now).behind }
+    ensures following { result.1.now ≡ (spec.cut_at is_space text.now).following }
 {
     match text.split_once(' ') {
         Some(parts) => parts,
@@ -87,7 +91,7 @@ fn cut_at_space(text: &str) -> (&str, &str)
 // The same up to a quotation mark.
 fn cut_at_quote(text: &str) -> (&str, &str)
     ensures text { result.0.now ≡ (spec.cut_at is_quote text.now).text }
-    ensures behind { result.1.now ≡ (spec.cut_at is_quote text.now).behind }
+    ensures following { result.1.now ≡ (spec.cut_at is_quote text.now).following }
 {
     match text.split_once('"') {
         Some(parts) => parts,
@@ -95,10 +99,10 @@ fn cut_at_quote(text: &str) -> (&str, &str)
     }
 }
 
-// A term's text, and what is behind it.
+// A term's text, and what follows it.
 fn text_before(text: &str) -> (&str, &str)
     ensures text { result.0.now ≡ (spec.text_before text.now).text }
-    ensures behind { result.1.now ≡ (spec.text_before text.now).behind }
+    ensures following { result.1.now ≡ (spec.text_before text.now).following }
 {
     match text.strip_prefix('"') {
         Some(quoted) => cut_at_quote(quoted),
@@ -106,14 +110,14 @@ fn text_before(text: &str) -> (&str, &str)
     }
 }
 
-// A term as it stands in a text, and what is behind it.
+// A term as a text has it, and what follows it.
 #[derive(Clone, Copy)]
 struct Found<'a> {
     not: bool,
     whole: bool,
     field: SearchField,
     text: &'a str,
-    behind: &'a str,
+    following: &'a str,
 }
 
 // The term that a text begins with.
@@ -121,15 +125,19 @@ struct Found<'a> {
 fn term_before(text: &str) -> Found<'_>
     ensures { found_seen result ≡ spec.term_before text.now }
 {
-    let Signs { not, whole, behind } = signs_before(text);
-    let (field, behind) = field_before(behind);
-    let (text, behind) = text_before(behind);
+    let Signs {
+        not,
+        whole,
+        following,
+    } = signs_before(text);
+    let (field, following) = field_before(following);
+    let (text, following) = text_before(following);
     Found {
         not,
         whole,
         field,
         text,
-        behind,
+        following,
     }
 }
 
@@ -158,14 +166,14 @@ pub fn parse_terms(alloc: Global, text: &str) -> Result<Terms, FindFail>
     let mut rest = text;
     while !rest.is_empty() {
         match rest.strip_prefix(' ') {
-            Some(behind) => rest = behind,
+            Some(following) => rest = following,
             None => {
                 let found = term_before(rest);
                 if found.text.is_empty() {
                     return Err(FindFail::EmptyTerm(text.len() - rest.len()));
                 }
                 add_term(alloc, &mut terms, found)?;
-                rest = found.behind;
+                rest = found.following;
             }
         }
     }

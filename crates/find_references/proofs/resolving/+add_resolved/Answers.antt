@@ -1,4 +1,4 @@
--- A step of the loop is a byte, a reference that stands, or one that is replaced.
+-- A step of the loop is a byte, a reference that stays, or one that is replaced.
 use Rattle.std.proofs.Common.{◌<◌, ◌-◌, length, take, drop, sym, ap, ◌∙◌, arith, length-drop}
 use Rattle.std.proofs.lemmas.Result.{err_from_is_err_and}
 use Rattle.find_references.specs.inside.Seen.{made_seen, reference_seen}

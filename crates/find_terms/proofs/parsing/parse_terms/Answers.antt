@@ -22,8 +22,8 @@ loop-rest-smaller c =
     let rest = c.loop-rest.rest.now in
     let full : (length (term_before rest).term.text == 0) ≡ false =
     ap (λ t. length t.term.text == 0) (sym c.term_before-found.ensures) ∙ sym c.is_empty-in-None.ensures ∙ c.if-is_empty.false in
-    let less : length c.term_before-found.result.behind.now < length rest =
-    omega (arith, shorter rest full, ap (λ t. length t.behind) c.term_before-found.ensures) in
+    let less : length c.term_before-found.result.following.now < length rest =
+    omega (arith, shorter rest full, ap (λ t. length t.following) c.term_before-found.ensures) in
     less
 
 pub loop-rest-preserved : goal.loop-rest-preserved
@@ -32,20 +32,20 @@ loop-rest-preserved c =
     let rest = c.loop-rest.rest.now in
     let terms = c.loop-rest.terms in
     let term = (term_before rest).term in
-    let behind = c.term_before-found.result.behind.now in
+    let following = c.term_before-found.result.following.now in
     let some : (length rest == 0) ≡ false = first_of (cc, grind (arith, common_steps)) in
     let full : (length (term_before rest).term.text == 0) ≡ false =
     ap (λ t. length t.term.text == 0) (sym c.term_before-found.ensures) ∙ sym c.is_empty-in-None.ensures ∙ c.if-is_empty.false in
-    let same : behind ≡ (term_before rest).behind = ap (λ t. t.behind) c.term_before-found.ensures in
-    let less : length behind < length rest = omega (arith, shorter rest full, ap length same) in
-    let place : length text - length behind ≡ length text - length rest + (length rest - length (term_before rest).behind) =
+    let same : following ≡ (term_before rest).following = ap (λ t. t.following) c.term_before-found.ensures in
+    let less : length following < length rest = omega (arith, shorter rest full, ap length same) in
+    let place : length text - length following ≡ length text - length rest + (length rest - length (term_before rest).following) =
     omega (arith, less, c.loop-rest.invariant.1, ap length same) in (
       search rules,
       omega (arith, less, c.loop-rest.invariant.1),
-      ap (λ ts. with_texts ts (terms_from (length text - length behind) 0 behind))
+      ap (λ ts. with_texts ts (terms_from (length text - length following) 0 following))
           (c.in_ok-add_term-in-None.ensures ∙ ap (λ t. terms ++ t.term ∷ []) c.term_before-found.ensures)
-          ∙ ap (λ k. with_texts (terms ++ term ∷ []) (terms_from k 0 behind)) place
-          ∙ ap (λ l. with_texts (terms ++ term ∷ []) (terms_from (length text - length rest + (length rest - length (term_before rest).behind)) 0 l)) same
+          ∙ ap (λ k. with_texts (terms ++ term ∷ []) (terms_from k 0 following)) place
+          ∙ ap (λ l. with_texts (terms ++ term ∷ []) (terms_from (length text - length rest + (length rest - length (term_before rest).following)) 0 l)) same
           ∙ sym (next_term terms (length text - length rest) rest some (strip_prefix_char 32 rest None c.in-None.ensures.cases (omega arith)) full)
           ∙ c.loop-rest.invariant.2,
     )

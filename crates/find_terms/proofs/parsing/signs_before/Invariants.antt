@@ -6,7 +6,7 @@ use Rattle.find_terms.proofs.parsing.signs_before.Given as goal
 
 abbrev pub invariant-signs : goal.invariant-signs
 invariant-signs l =
-    shadow (Utf8 l.behind) × (spec.signs_before l.not l.whole l.behind ≡ spec.signs_before false false l.text)
+    shadow (Utf8 l.following) × (spec.signs_before l.not l.whole l.following ≡ spec.signs_before false false l.text)
 
 abbrev pub decreases-signs : goal.decreases-signs
-decreases-signs l = length l.behind
+decreases-signs l = length l.following

@@ -8,7 +8,7 @@ returns-in-None-clause-text c =
     c.cut_at_space.ensures.text
     ∙ ap (λ cut. cut.text) (sym (unquoted c.args.text.now (strip_prefix_char 34 c.args.text.now None c.in-None.ensures.cases (omega arith))))
 
-pub returns-in-None-clause-behind : goal.returns-in-None-clause-behind
-returns-in-None-clause-behind c =
-    c.cut_at_space.ensures.behind
-    ∙ ap (λ cut. cut.behind) (sym (unquoted c.args.text.now (strip_prefix_char 34 c.args.text.now None c.in-None.ensures.cases (omega arith))))
+pub returns-in-None-clause-following : goal.returns-in-None-clause-following
+returns-in-None-clause-following c =
+    c.cut_at_space.ensures.following
+    ∙ ap (λ cut. cut.following) (sym (unquoted c.args.text.now (strip_prefix_char 34 c.args.text.now None c.in-None.ensures.cases (omega arith))))
