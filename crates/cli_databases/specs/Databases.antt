@@ -75,6 +75,8 @@ frame_answer frame.NoMemory = OutOfMemory
 abbrev pub block_answer : BlockFail → Reason
 block_answer (block.Truncated place) = answer.EndsEarly place
 block_answer (block.BlockMac number) = answer.DamagedBlock number
+block_answer (block.BlockHash number) = answer.DamagedBlock number
+block_answer (block.BlockIndex number) = answer.DamagedBlock number
 
 -- A refusal to read a file. A fault of the store is no refusal of this kind.
 abbrev pub file_answer : ReadFail → Reason
@@ -90,8 +92,10 @@ open_answer (sealed.Frame fail) = frame_answer fail
 open_answer (sealed.KeyOrHeader kept found) = answer.DamagedOrWrongKey kept found
 open_answer (sealed.Block fail) = block_answer fail
 open_answer sealed.BadPadding = answer.WrongKeyOrDamaged
+open_answer sealed.StartBytes = answer.WrongKeyOrDamaged
 open_answer (sealed.StreamUnknown number) = answer.StreamUnknown number
 open_answer (sealed.Doc fail) = document_answer fail
+open_answer (sealed.HeaderHash kept found) = answer.DamagedOrWrongKey kept found
 open_answer sealed.NoMemory = OutOfMemory
 
 -- A refusal of a key file.

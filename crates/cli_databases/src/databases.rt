@@ -115,6 +115,8 @@ fn block_answer(fail: BlockFail) -> Reason
     match fail {
         BlockFail::Truncated(at) => Reason::EndsEarly(at),
         BlockFail::BlockMac(number) => Reason::DamagedBlock(number),
+        BlockFail::BlockHash(number) => Reason::DamagedBlock(number),
+        BlockFail::BlockIndex(number) => Reason::DamagedBlock(number),
     }
 }
 
@@ -141,9 +143,14 @@ fn unopened(alloc: Global, fail: OpenFail, name: &str) -> Stop
             refused(alloc, Reason::DamagedOrWrongKey { kept, found }, name)
         }
         OpenFail::Block(fail) => refused(alloc, block_answer(fail), name),
-        OpenFail::BadPadding => refused(alloc, Reason::WrongKeyOrDamaged, name),
+        OpenFail::BadPadding | OpenFail::StartBytes => {
+            refused(alloc, Reason::WrongKeyOrDamaged, name)
+        }
         OpenFail::StreamUnknown(number) => refused(alloc, Reason::StreamUnknown(number), name),
         OpenFail::Doc(fail) => refused(alloc, document_answer(fail), name),
+        OpenFail::HeaderHash { kept, found } => {
+            refused(alloc, Reason::DamagedOrWrongKey { kept, found }, name)
+        }
         OpenFail::NoMemory => Stop::NoMemory,
     }
 }

@@ -8,7 +8,7 @@ use Rattle.vault_model.specs.declared.forms.FileVersion.{FileVersion}
 use Rattle.vault_model.specs.declared.forms.FileVersion.TheVariants.{V31, V40, V41}
 use Rattle.key_core.specs.declared.kdf.Kdf.{Kdf}
 use Rattle.kdbx_frame.specs.declared.settings.Settings.{Settings}
-use Rattle.kdbx_frame.specs.Settings.{IsInOrder, IsOfVersion, IsVersion4}
+use Rattle.kdbx_frame.specs.Settings.{IsInOrder, IsOfVersion}
 use Rattle.kdbx_spelling.specs.declared.draws.Draws.{Draws}
 use Rattle.kdbx_seal.specs.Answers as seal
 use Rattle.kdbx_seal.specs.Answers.{size_refusal}
@@ -24,35 +24,29 @@ use Rattle.cli_answers.specs.declared.answers.Stop.{Stop}
 use Rattle.cli_answers.specs.declared.answers.Stop.TheVariants.{Refused, FileFault, InputFault, NoMemory}
 use Rattle.cli_writing.specs.Writing.{HasFile, IsSame, KeepsDraft, NewFile, RefusesFile, Store, WritesFile}
 use Rattle.cli_sealing.specs.Draws.{after_draws, draws_of}
-use Rattle.cli_sealing.specs.Sealing.{IsUnsealed, Seals, file_by, file_unless, seal_answer, settings_for, version_for}
+use Rattle.cli_sealing.specs.Sealing.{IsUnsealed, Seals, file_by, file_unless, seal_answer, settings_for}
 
 -- ---- versions
 
-pub is_version4 : (v w : FileVersion) → IsVersion4 (later V40 (later v w))
-is_version4 V31 V31 = tt
-is_version4 V31 V40 = tt
-is_version4 V31 V41 = tt
-is_version4 V40 V31 = tt
-is_version4 V40 V40 = tt
-is_version4 V40 V41 = tt
-is_version4 V41 w = tt
-
-pub is_late : (v w : FileVersion) → later v (later V40 (later v w)) ≡ later V40 (later v w)
+pub is_late : (v w : FileVersion) → later v (later v w) ≡ later v w
 is_late V31 w = refl
 is_late V40 V31 = refl
 is_late V40 V40 = refl
 is_late V40 V41 = refl
 is_late V41 w = refl
 
-of_version : (v : FileVersion) (kdf : Kdf) (public : Option (List ℕ)) → IsVersion4 v → IsOfVersion v kdf public
-of_version V31 kdf public h = absurd h
-of_version V40 kdf public h = tt
-of_version V41 kdf public h = tt
+-- What a version can have a later one can have too.
+raised : (v w : FileVersion) (kdf : Kdf) (public : Option (List ℕ)) → IsOfVersion w kdf public → IsOfVersion (later v w) kdf public
+raised V31 w kdf public h = h
+raised V40 V31 kdf public h = tt
+raised V40 V40 kdf public h = tt
+raised V40 V41 kdf public h = tt
+raised V41 w kdf public h = tt
 
 pub in_order : (s : Settings) (doc : BareDoc) → IsInOrder s → IsInOrder (settings_for s doc)
 in_order s doc h = record {
   kdf = h.kdf;
-  version = of_version (version_for s.version doc) s.kdf s.public (is_version4 (needed_version doc) s.version);
+  version = raised (needed_version doc) s.version s.kdf s.public h.version;
   public = h.public;
 }
 

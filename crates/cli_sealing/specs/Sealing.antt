@@ -3,7 +3,6 @@ use Rattle.std.specs.Prelude.{◌≡◌, ℕ, List, Option, None, Some, Result, 
 use Rattle.vault_making.specs.NeededVersion.{later, needed_version}
 use Rattle.vault_model.specs.Tree.{BareDoc}
 use Rattle.vault_model.specs.declared.forms.FileVersion.{FileVersion}
-use Rattle.vault_model.specs.declared.forms.FileVersion.TheVariants.{V40}
 use Rattle.kdbx_frame.specs.declared.settings.Settings.{Settings}
 use Rattle.kdbx_seal.specs.Answers.{size_refusal}
 use Rattle.kdbx_seal.specs.Made.{made_file}
@@ -19,11 +18,10 @@ use Rattle.cli_answers.specs.declared.answers.Stop.TheVariants.{Refused, FileFau
 use Rattle.cli_writing.specs.Writing.{NewFile, RefusesFile, Store, WritesFile}
 use Rattle.cli_sealing.specs.Draws.{after_draws, draws_of}
 
--- The version of a file that is written anew: no earlier than it was, than the one that its document
--- needs, and than 4.0. No file of an earlier version is opened, so that none is raised for that last
--- part alone.
+-- The version of a file that is written anew: no earlier than it was, and than the one that its
+-- document needs.
 abbrev pub version_for : FileVersion → BareDoc → FileVersion
-version_for version doc = later V40 (later (needed_version doc) version)
+version_for version doc = later (needed_version doc) version
 
 -- Settings with that version.
 abbrev pub settings_for : Settings → BareDoc → Settings
@@ -41,8 +39,8 @@ abbrev pub file_unless : List ℕ → Option SealFail → List ℕ → Result Ne
 file_unless name None bytes = Ok (record { name = name; bytes = bytes })
 file_unless name (Some why) bytes = Err (refusal_of (seal_answer why) name)
 
--- The file that holds a document sealed by these settings under a composite key, over the dice. What
--- it is sealed with is drawn before its size is looked at.
+-- The file that holds a document sealed by these settings under a composite key, over the dice.
+-- What it is sealed with is drawn before its size is looked at.
 unfoldable pub file_by : List ℕ → Settings → List ℕ → BareDoc → List ℕ → StreamAnswer NewFile
 file_by name settings composite doc dice = with_left
     (file_unless name (size_refusal settings (draws_of settings dice) doc)

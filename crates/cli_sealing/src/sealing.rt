@@ -4,7 +4,7 @@ ghost use Rattle.outside_core.specs.Counts.{Increased};
 ghost use Rattle.outside_core.specs.Streams.{LosesPrefix};
 ghost use Rattle.vault_making.specs.NeededVersion.{later, needed_version};
 ghost use Rattle.vault_model.specs.SeenDoc.{doc_seen};
-ghost use Rattle.kdbx_frame.specs.Settings.{IsInOrder, IsVersion4};
+ghost use Rattle.kdbx_frame.specs.Settings.{IsInOrder};
 ghost use Rattle.kdbx_spelling.specs.Draws.{AreDrawn};
 ghost use Rattle.cli_answers.specs.Phases.{IsCommandStop, IsFault};
 ghost use Rattle.cli_writing.specs.Held.{IsWritten};
@@ -35,12 +35,11 @@ fn later_of(one: FileVersion, other: FileVersion) -> FileVersion
     }
 }
 
-// Raises the version of settings to that which a document needs, and to 4.0 at least.
+// Raises the version of settings to that which a document needs.
 fn raise(settings: &mut Settings, doc: &Doc)
     ensures { settings.new ≡ settings_for settings.old (doc_seen doc.now) }
 {
-    let version = later_of(needed(doc), settings.version);
-    settings.version = later_of(FileVersion::V40, version);
+    settings.version = later_of(needed(doc), settings.version);
 }
 
 // The answer that a refusal to seal a document is.
@@ -102,7 +101,6 @@ fn seal<F: FileStore, D: Dice>(
     sealing: &Sealing,
 ) -> Result<(), Stop>
     requires in_order { IsInOrder sealing.now.settings }
-    requires version { IsVersion4 sealing.now.settings.version }
     requires needed { later (needed_version (doc_seen doc.now)) sealing.now.settings.version
         ≡ sealing.now.settings.version }
     ensures told { (d : List ℕ) → D.stream dice.old ≡ Some d → Seals result

@@ -5,11 +5,11 @@ use Rattle.key_core.specs.declared.kdf.Kdf.TheVariants.{Aes}
 use Rattle.kdbx_frame.specs.declared.settings.Cipher.TheVariants.{ChaCha}
 use Rattle.vault_model.specs.declared.forms.FileVersion.TheVariants.{V40}
 use Rattle.kdbx_dictionary.specs.Dictionary.{description_of, dictionary_of, item_at, item_step, with_item}
-use Rattle.kdbx_frame.specs.Fields.{field_step, with_field}
+use Rattle.kdbx_frame.specs.Fields.{field_step, with_common_field, with_field_4}
 use Rattle.kdbx_frame.specs.Header.{header_at, header_of}
 use Rattle.kdbx_parts.specs.Parts.{field_at}
 use Rattle.outside_core.specs.Results.{repeat_steps}
-use Rattle.kdbx_frame.specs.Settings.{checked_header, settings_and_iv}
+use Rattle.kdbx_frame.specs.Settings.{checked_header_4, settings_and_iv}
 
 -- ChaCha20, no compression, the master seed 20 to 3F, the nonce 40 to 4B, AES as the key derivation with 100 rounds
 -- under the key 00 to 1F, and the end field
@@ -61,5 +61,5 @@ pub header_of_chacha20 : header_of (header ++ hash ++ mac) ≡ Ok (record {
       0x00 ∷ 0x00 ∷ 0x00 ∷ 0x00 ∷ 0x00 ∷ 0x00 ∷ 0x00 ∷ 0x00 ∷ 0x00 ∷ 0x00 ∷ 0x00 ∷ 0x00 ∷ 0x00 ∷ 0x00 ∷ 0x00 ∷ 0x00 ∷ [];
   size = 203;
 })
-unfolding header hash mac first_words schedule rounds compress hash_after digest_bytes sha256 field_at repeat_steps item_at with_item item_step description_of dictionary_of with_field field_step settings_and_iv checked_header header_at
+unfolding header hash mac first_words schedule rounds compress hash_after digest_bytes sha256 field_at repeat_steps item_at with_item item_step description_of dictionary_of with_common_field with_field_4 field_step settings_and_iv checked_header_4 header_at
 header_of_chacha20 = refl

@@ -1,3 +1,4 @@
 mod HeaderVectors
+mod HeaderVectors31
 pub mod Prefixes
 pub mod Versions

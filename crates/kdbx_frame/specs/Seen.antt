@@ -14,7 +14,12 @@ header_fields_seen f = record {
   cipher = f.cipher;
   compression = f.compression;
   seed = f.seed;
+  kdf_seed = f.kdf_seed;
+  rounds = f.rounds;
   iv = option_map (λ x. x.now) f.iv;
+  stream_key = option_map (λ x. x.now) f.stream_key;
+  start = f.start;
+  stream_id = f.stream_id;
   kdf = option_map description_seen f.kdf;
   public = option_map (λ x. x.now) f.public;
 }
@@ -28,6 +33,13 @@ abbrev pub HasSmall : Option (Bor (List ℕ)) → Type 0
 HasSmall None = Unit {0}
 HasSmall (Some bytes) = length bytes.now ≤ fields.header_limit
 
--- The settings of a header, with the master seed and the IV.
+-- What the fields of a header give.
 abbrev pub checked_header_seen : settings_code.CheckedHeader → settings.CheckedHeader
-checked_header_seen h = record { settings = h.settings; seed = h.seed; iv = h.iv }
+checked_header_seen h = record {
+  settings = h.settings;
+  seed = h.seed;
+  iv = h.iv;
+  stream_id = h.stream_id;
+  stream_key = h.stream_key;
+  start = h.start;
+}

@@ -4,8 +4,8 @@ ghost use Rattle.std.specs.Prelude.{ℕ, List, ◌≡◌, ◌+◌, ◌≤◌, �
 ghost use Rattle.outside_core.specs.Results.{Returns};
 ghost use Rattle.kdbx_parts.specs.Results.{meaning_of};
 ghost use Rattle.kdbx_frame.specs.Fields.{header_limit};
-ghost use Rattle.kdbx_frame.specs.Header.{check_hash, header_at, header_of, version_and_rest, version_of};
-ghost use Rattle.kdbx_frame.specs.Settings.{IsInOrder, IsVersion4};
+ghost use Rattle.kdbx_frame.specs.Header.{check_hash, check_sums, header_at, header_of, sums_len, version_and_rest, version_of};
+ghost use Rattle.kdbx_frame.specs.Settings.{IsInOrder};
 
 use crate::fields::{FieldsRead, fields_from};
 use crate::settings::{CheckedHeader, Settings, checked_header};
@@ -15,11 +15,14 @@ use sha2::{Digest, Sha256};
 use std::alloc::Global;
 use vault_model::FileVersion;
 
-/// How many bytes of a file its header may reach into, with its hash and its HMAC.
+/// How many bytes of a file its header may reach into, in version 4 with its hash and its HMAC.
 pub const HEADER_LIMIT: usize = 65_536;
 
 /// The bytes that a file begins with.
 const SIGNATURE: [u8; 8] = [0x03, 0xD9, 0xA2, 0x9A, 0x67, 0xFB, 0x4B, 0xB5];
+
+/// Version 3.1.
+const VERSION_31: u32 = 0x0003_0001;
 
 /// Version 4.0.
 const VERSION_40: u32 = 0x0004_0000;
@@ -42,16 +45,17 @@ pub struct Header {
     pub stream_key: Bytes,
     /// The bytes that a deciphered file of version 3.1 begins with; 0 in version 4.
     pub start: [u8; 32],
-    /// The header's length in bytes, up to its hash.
+    /// The header's length in bytes, up to what follows its last field.
     pub size: usize,
 }
 
 // The version of a number.
 fn version_of(number: u32) -> Result<FileVersion, FrameFail>
-    ensures gives { Returns meaning_of (λ x. x) result (version_of number) }
-    ensures four { IfOk result IsVersion4 }
+    ensures { Returns meaning_of (λ x. x) result (version_of number) }
 {
-    if number == VERSION_40 {
+    if number == VERSION_31 {
+        Ok(FileVersion::V31)
+    } else if number == VERSION_40 {
         Ok(FileVersion::V40)
     } else if number == VERSION_41 {
         Ok(FileVersion::V41)
@@ -64,7 +68,6 @@ fn version_of(number: u32) -> Result<FileVersion, FrameFail>
 fn version_and_rest(size: u64, text: &[u8]) -> Result<(FileVersion, &[u8]), FrameFail>
     ensures gives { Returns meaning_of (λ x. (x.0, x.1.now)) result
         (version_and_rest size text.now) }
-    ensures four { IfOk result (λ x. IsVersion4 x.0) }
     ensures shorter { IfOk result (λ x. length x.1.now ≤ length text.now) }
 {
     let (signature, rest) = split_bytes(FrameFail::NotKdbx, SIGNATURE.len(), text)?;
@@ -95,26 +98,57 @@ fn check_hash(size: u64, header: &[u8], rest: &[u8]) -> Result<(), FrameFail>
     Ok(())
 }
 
+/// How many bytes of hash and HMAC follow a header of a version.
+pub fn sums_len(version: FileVersion) -> usize
+    ensures value { result ≡ sums_len version }
+    ensures limit { result ≤ 64 }
+{
+    match version {
+        FileVersion::V31 => 0,
+        FileVersion::V40 | FileVersion::V41 => 64,
+    }
+}
+
+// Checks what must follow a header of a version: in version 4 its hash and an HMAC.
+fn check_sums(version: FileVersion, size: u64, header: &[u8], rest: &[u8]) -> Result<(), FrameFail>
+    requires { length header.now < 2 ^ 62 }
+    ensures gives { Returns meaning_of (λ x. x) result
+        (check_sums version size header.now rest.now) }
+    ensures within { IfOk result (λ _. sums_len version ≤ length rest.now) }
+{
+    match version {
+        FileVersion::V31 => Ok(()),
+        FileVersion::V40 | FileVersion::V41 => check_hash(size, header, rest),
+    }
+}
+
 // The header at the start of these bytes, with which a file of this size begins.
 #[tactic(auto, unfolding(crate::specs::Header::header_at))]
 fn header_at(alloc: Global, size: u64, text: &[u8]) -> Result<Header, FrameFail>
     requires { length text.now ≤ header_limit }
     ensures gives { Returns meaning_of (λ x. x) result (header_at size text.now) }
     ensures in_order { IfOk result (λ h. IsInOrder h.settings) }
-    ensures within { IfOk result (λ h. h.size + 64 ≤ length text.now) }
+    ensures within { IfOk result (λ h. h.size + sums_len h.settings.version ≤ length text.now) }
 {
     let (version, rest) = version_and_rest(size, text)?;
-    let FieldsRead { found, rest } = fields_from(size, text.len(), rest)?;
+    let FieldsRead { found, rest } = fields_from(version, size, text.len(), rest)?;
     let len = text.len() - rest.len();
-    check_hash(size, &text[..len], rest)?;
-    let CheckedHeader { settings, seed, iv } = checked_header(alloc, version, found)?;
+    check_sums(version, size, &text[..len], rest)?;
+    let CheckedHeader {
+        settings,
+        seed,
+        iv,
+        stream_id,
+        stream_key,
+        start,
+    } = checked_header(alloc, version, found)?;
     Ok(Header {
         settings,
         seed,
         iv,
-        stream_id: 0,
-        stream_key: Bytes::new(alloc),
-        start: [0; 32],
+        stream_id,
+        stream_key,
+        start,
         size: len,
     })
 }
@@ -136,9 +170,10 @@ fn prefix(text: &[u8]) -> &[u8]
 /// of them.
 ///
 /// The refusals are those of FrameFail in their order; of Truncated, TooLarge, FieldTwice,
-/// FieldLength and Dictionary the first from the left comes. The hash of the header is checked
-/// here. The HMAC is not: its 32 bytes follow the hash, and who has the key checks them. The layout
-/// is that of KeePass's documentation of KDBX 4.
+/// FieldLength and Dictionary the first from the left comes. The hash of a header of version 4 is
+/// checked here. The HMAC is not: its 32 bytes follow the hash, and who has the key checks them. A
+/// file of version 3.1 has neither; its document may keep the header's hash. The layout is that of
+/// KeePass's documentation of KDBX 3.1 and 4.
 ///
 /// A text of fewer bytes is the whole file, and the answer is that of every file of this length
 /// that the text is a prefix of.
@@ -150,8 +185,8 @@ pub fn read_header(alloc: Global, text: &[u8], file_len: u64) -> Result<Header, 
         → text.now ≡ take (length text.now) file
         → Returns meaning_of (λ x. x) result (header_of file) }
     ensures in_order { IfOk result (λ h. IsInOrder h.settings) }
-    ensures within { IfOk result (λ h. h.size + 64 ≤ length text.now) }
-    ensures limit { IfOk result (λ h. h.size + 64 ≤ header_limit) }
+    ensures within { IfOk result (λ h. h.size + sums_len h.settings.version ≤ length text.now) }
+    ensures limit { IfOk result (λ h. h.size + sums_len h.settings.version ≤ header_limit) }
 {
     header_at(alloc, file_len, prefix(text))
 }

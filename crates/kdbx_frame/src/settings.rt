@@ -1,12 +1,14 @@
 //! The settings that the fields of a header give.
 
-ghost use Rattle.std.specs.Prelude.{◌≡◌, ◌-◌, ◌≤◌, ◌++◌, IfOk, IfSome, Ok, length, option_map, replicate};
+ghost use Rattle.std.specs.Prelude.{◌≡◌, ◌-◌, ◌≤◌, ◌++◌, IfOk, IfSome, None, Ok, length, option_map, replicate};
 ghost use Rattle.key_core.specs.Kdf.{IsChecked};
 ghost use Rattle.outside_core.specs.Results.{Returns};
 ghost use Rattle.kdbx_parts.specs.Results.{meaning_of};
-ghost use Rattle.kdbx_frame.specs.Settings.{IsInOrder, IsVersion4, cipher_of, iv_of, checked_header, kdf_of, settings_and_iv, refuse_compression};
+ghost use Rattle.vault_model.specs.declared.forms.FileVersion.TheVariants.{V31};
+ghost use Rattle.kdbx_frame.specs.Settings.{IsInOrder, IsVersion4, cipher_of, iv_of, checked_header, checked_header_31, checked_header_4, kdf_of, settings_and_iv, refuse_compression};
 ghost use Rattle.kdbx_frame.specs.Fields.{header_limit};
 ghost use Rattle.kdbx_frame.specs.Seen.{HasSmall, header_fields_seen, checked_header_seen};
+ghost use Rattle.kdbx_dictionary.specs.Dictionary as dictionary;
 ghost use Rattle.kdbx_dictionary.specs.Seen.{description_seen};
 
 use crate::fields::HeaderFields;
@@ -51,6 +53,12 @@ pub struct CheckedHeader {
     pub seed: [u8; 32],
     /// The IV of the cipher, with zeros after it up to 16 bytes.
     pub iv: [u8; 16],
+    /// The inner stream of a file of version 3.1; 0 in version 4.
+    pub stream_id: u32,
+    /// The key of the inner stream of a file of version 3.1; empty in version 4.
+    pub stream_key: Bytes,
+    /// The bytes that a deciphered file of version 3.1 begins with; 0 in version 4.
+    pub start: [u8; 32],
 }
 
 /// The id of AES-256.
@@ -169,7 +177,7 @@ fn public_of(alloc: Global, public: Option<&[u8]>) -> Result<Option<Bytes>, Fram
     }
 }
 
-// The settings and the IV that required fields give.
+// The settings and the IV that required fields of version 4 give.
 #[tactic(auto, using(crate::proofs::Versions::any_of_version), unfolding(crate::specs::Settings::settings_and_iv))]
 fn settings_and_iv(
     alloc: Global,
@@ -186,6 +194,7 @@ fn settings_and_iv(
         (settings_and_iv version id flag iv.now (description_seen described.entry)
         (option_map (λ x. x.now) public.entry)) }
     ensures in_order { IfOk result (λ x. IsInOrder x.0) }
+    ensures version { IfOk result (λ x. x.0.version ≡ version) }
 {
     let cipher = cipher_of(id)?;
     let iv = iv_of(cipher, iv)?;
@@ -201,11 +210,37 @@ fn settings_and_iv(
     Ok((settings, iv))
 }
 
-/// The settings, master seed and IV that the fields of a header of this version give. The refusals
-/// are FieldMissing, CipherUnknown, FieldLength of the IV, Compressed, KdfUnknown, Variant and
-/// KdfLimit, the first in this order.
-#[tactic(auto, unfolding(crate::specs::Settings::checked_header))]
-pub fn checked_header(
+// The settings and the IV that required fields of version 3.1 give.
+#[tactic(auto, unfolding(crate::specs::Settings::settings_and_iv))]
+fn settings_and_iv_31(
+    id: [u8; 16],
+    flag: u32,
+    iv: &[u8],
+    rounds: u64,
+    seed: [u8; 32],
+) -> Result<(Settings, [u8; 16]), FrameFail>
+    ensures gives { Returns meaning_of (λ x. (x.0, x.1)) result
+        (settings_and_iv V31 id flag iv.now (dictionary.aes rounds seed) None) }
+    ensures in_order { IfOk result (λ x. IsInOrder x.0) }
+    ensures version { IfOk result (λ x. x.0.version ≡ V31) }
+{
+    let cipher = cipher_of(id)?;
+    let iv = iv_of(cipher, iv)?;
+    refuse_compression(flag)?;
+    let kdf = Kdf::Aes { rounds, seed };
+    check_kdf(&kdf)?;
+    let settings = Settings {
+        version: FileVersion::V31,
+        cipher,
+        kdf,
+        public: None,
+    };
+    Ok((settings, iv))
+}
+
+// What the fields of a header of version 4 give.
+#[tactic(auto, unfolding(crate::specs::Settings::checked_header_4))]
+fn checked_header_4(
     alloc: Global,
     version: FileVersion,
     found: HeaderFields,
@@ -213,8 +248,9 @@ pub fn checked_header(
     requires version { IsVersion4 version }
     requires public { HasSmall found.public }
     ensures gives { Returns meaning_of checked_header_seen result
-        (checked_header version (header_fields_seen found.entry)) }
-    ensures in_order { IfOk result (λ j. IsInOrder j.settings) }
+        (checked_header_4 version (header_fields_seen found.entry)) }
+    ensures in_order { IfOk result (λ h. IsInOrder h.settings) }
+    ensures version { IfOk result (λ h. h.settings.version ≡ version) }
 {
     let id = required(2, found.cipher)?;
     let flag = required(3, found.compression)?;
@@ -222,5 +258,60 @@ pub fn checked_header(
     let iv = required(7, found.iv)?;
     let described = required(11, found.kdf)?;
     let (settings, iv) = settings_and_iv(alloc, version, id, flag, iv, described, found.public)?;
-    Ok(CheckedHeader { settings, seed, iv })
+    Ok(CheckedHeader {
+        settings,
+        seed,
+        iv,
+        stream_id: 0,
+        stream_key: Bytes::new(alloc),
+        start: [0; 32],
+    })
+}
+
+// What the fields of a header of version 3.1 give.
+#[tactic(auto, unfolding(crate::specs::Settings::checked_header_31))]
+fn checked_header_31(alloc: Global, found: HeaderFields) -> Result<CheckedHeader, FrameFail>
+    ensures gives { Returns meaning_of checked_header_seen result
+        (checked_header_31 (header_fields_seen found.entry)) }
+    ensures in_order { IfOk result (λ h. IsInOrder h.settings) }
+    ensures version { IfOk result (λ h. h.settings.version ≡ V31) }
+{
+    let id = required(2, found.cipher)?;
+    let flag = required(3, found.compression)?;
+    let seed = required(4, found.seed)?;
+    let kdf_seed = required(5, found.kdf_seed)?;
+    let rounds = required(6, found.rounds)?;
+    let iv = required(7, found.iv)?;
+    let stream_key = required(8, found.stream_key)?;
+    let start = required(9, found.start)?;
+    let stream_id = required(10, found.stream_id)?;
+    let (settings, iv) = settings_and_iv_31(id, flag, iv, rounds, kdf_seed)?;
+    let stream_key = copy_of(alloc, stream_key)?;
+    Ok(CheckedHeader {
+        settings,
+        seed,
+        iv,
+        stream_id,
+        stream_key,
+        start,
+    })
+}
+
+/// What the fields of a header of this version give. The refusals are FieldMissing, CipherUnknown,
+/// FieldLength of the IV, Compressed, KdfUnknown, Variant and KdfLimit, the first in this order.
+pub fn checked_header(
+    alloc: Global,
+    version: FileVersion,
+    found: HeaderFields,
+) -> Result<CheckedHeader, FrameFail>
+    requires { HasSmall found.public }
+    ensures gives { Returns meaning_of checked_header_seen result
+        (checked_header version (header_fields_seen found.entry)) }
+    ensures in_order { IfOk result (λ h. IsInOrder h.settings) }
+    ensures version { IfOk result (λ h. h.settings.version ≡ version) }
+{
+    match version {
+        FileVersion::V31 => checked_header_31(alloc, found),
+        FileVersion::V40 | FileVersion::V41 => checked_header_4(alloc, version, found),
+    }
 }

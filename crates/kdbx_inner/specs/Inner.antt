@@ -5,6 +5,7 @@ use Rattle.std.specs.Int.{w32, from_le_bytes}
 use Rattle.outside_core.specs.Results.{◌>>=◌, repeat_steps}
 use Rattle.kdbx_parts.specs.declared.fail.FrameFail.{FrameFail}
 use Rattle.kdbx_parts.specs.declared.fail.FrameFail.TheVariants.{FieldLength, Truncated}
+use Rattle.kdbx_parts.specs.declared.parts.LengthWidth.TheVariants.{Four}
 use Rattle.kdbx_parts.specs.Parts.{Field, field_at, required, unique, unique_of_length}
 
 -- An attached file, and whether it is hidden in memory.
@@ -46,7 +47,7 @@ pub record InnerRead : Type 0 where
 -- One field of a text of `whole` bytes, which ends within the text; field 0 is the last.
 unfoldable pub inner_step : ℕ → InnerRead → Result (Bool × InnerRead) FrameFail
 inner_step whole read = do
-  field ← field_at (λ _. Truncated whole) read.rest
+  field ← field_at Four (λ _. Truncated whole) read.rest
   if field.id == 0
       then Ok (true, record { fields = read.fields; rest = field.rest })
       else (with_inner_field read.fields field >>= λ more.

@@ -4,6 +4,7 @@ ghost use Rattle.std.specs.Prelude.{◌≡◌, ◌+◌, ◌≤◌, ◌<◌, ◌^
 ghost use Rattle.outside_core.specs.Results.{Returns};
 ghost use Rattle.kdbx_parts.specs.Results.{meaning_of};
 ghost use Rattle.kdbx_parts.specs.declared.fail.FrameFail.TheVariants.{Truncated};
+ghost use Rattle.kdbx_parts.specs.declared.parts.LengthWidth.TheVariants.{Four};
 ghost use Rattle.kdbx_parts.specs.Parts.{field_at};
 ghost use Rattle.kdbx_inner.specs.Inner.{binary_of, inner_from, inner_of, inner_step, with_inner_field};
 ghost use Rattle.kdbx_inner.specs.Seen.{binary_seen, partial_inner_seen, inner_read_seen, inner_seen};
@@ -112,7 +113,7 @@ fn add_field<'a>(
 #[tactic(auto, unfolding(kdbx_parts::specs::Parts::field_at))]
 fn field_of(whole: u64, rest: &[u8]) -> Result<Field, FrameFail>
     ensures gives { Returns meaning_of field_seen result
-        (field_at (λ _. Truncated whole) rest.now) }
+        (field_at Four (λ _. Truncated whole) rest.now) }
     ensures shorter { IfOk result (λ f. length f.rest.now ≤ length rest.now) }
 {
     let (head, rest) = split_bytes(FrameFail::Truncated(whole), 5, rest)?;

@@ -1,5 +1,5 @@
 -- What an answer shows of the store's counts where the file was read.
-use Rattle.std.proofs.Common.{◌≡◌, ℕ, List, refl, subst, Result, Ok, Err}
+use Rattle.std.proofs.Common.{◌≡◌, ℕ, List, refl, subst, Bool, true, false, cond, bytes_eq, Option, Some, None, Result, Ok, Err}
 use Rattle.secret_core.specs.Secret.{SecretBuffer}
 use Rattle.secret_core.specs.ReadFail.{HasReadCause}
 use Rattle.secret_core.specs.declared.files.ReadFail.{ReadFail}
@@ -13,10 +13,11 @@ use Rattle.doc_forms.specs.Documents.{DocumentAndHash}
 use Rattle.doc_forms.specs.declared.fails.DocFail.{DocFail}
 use Rattle.doc_forms.specs.declared.fails.DocFail.TheVariants as document
 use Rattle.kdbx_open.specs.declared.fail.OpenFail.{OpenFail}
-use Rattle.kdbx_open.specs.declared.fail.OpenFail.TheVariants.{Doc, File, Frame}
+use Rattle.kdbx_open.specs.declared.fail.OpenFail.TheVariants.{Doc, File, Frame, HeaderHash}
 use Rattle.kdbx_open.specs.declared.opening.Unsealed.{Unsealed}
 use Rattle.kdbx_open.specs.Causes.{HasOpenCause, MemoryIsOutermost, file_limit, of_payload, of_read}
-use Rattle.kdbx_open.specs.Documents.{document_of, document_or_refusal}
+use Rattle.kdbx_frame.specs.Forms.{form_of}
+use Rattle.kdbx_open.specs.Documents.{document_of, document_or_refusal, hash_check}
 use Rattle.kdbx_open.specs.Opening.{FileContents, opening, payload_or_refusal}
 use Rattle.outside_core.specs.Results.{◌>>=◌}
 use Rattle.kdbx_open.specs.Results.{Refuses, Returns}
@@ -43,6 +44,7 @@ of_payloads (Err fail) = of_fail fail
     of_fail (payload.KeyOrHeader kept found) = tt
     of_fail (payload.Block fail) = tt
     of_fail payload.BadPadding = tt
+    of_fail payload.StartBytes = tt
     of_fail (payload.StreamUnknown id) = tt
     of_fail payload.NoMemory = tt
 
@@ -50,11 +52,20 @@ of_documents : (r : Result DocumentAndHash DocFail) → NoFileFail (document_or_
 of_documents (Ok x) = tt
 of_documents (Err fail) = tt
 
+of_hashes : (kept : Option (List ℕ)) (found : List ℕ) → NoFileFail (hash_check kept found)
+of_hashes None found = tt
+of_hashes (Some kept) found = by (bytes_eq kept found)
+  where
+    by : (b : Bool) → NoFileFail {A = Unit {0}} (cond b (Ok tt) (Err (HeaderHash kept found)))
+    by true = tt
+    by false = tt
+
 of_bytes : (file composite : List ℕ) → NoFileFail (opening file composite)
 unfolding opening
 of_bytes file composite =
     in_turn (payload_or_refusal (payload_of file composite)) _ (of_payloads (payload_of file composite))
-    (λ payload. in_turn (document_of payload.stream payload.pool payload.text) _ (of_documents _) (λ doc. tt))
+    (λ payload. in_turn (document_of (form_of payload.settings.version) payload.stream payload.pool payload.text) _ (of_documents _)
+    (λ read. in_turn (hash_check read.1 payload.header_hash) _ (of_hashes read.1 payload.header_hash) (λ u. tt)))
 
 not_of_file : (file composite : List ℕ) (fail : ReadFail) → Refuses (File fail) (opening file composite) → ⊥
 not_of_file file composite read.NoMemory h = h

@@ -10,7 +10,7 @@ use Rattle.kdbx_payload.specs.declared.fail.PayloadFail.TheVariants as payload
 use Rattle.doc_forms.specs.declared.fails.DocFail.{DocFail}
 use Rattle.doc_forms.specs.declared.fails.DocFail.TheVariants as document
 use Rattle.kdbx_open.specs.declared.fail.OpenFail.{OpenFail}
-use Rattle.kdbx_open.specs.declared.fail.OpenFail.TheVariants.{File, Frame, KeyOrHeader, Block, BadPadding, StreamUnknown, Doc, NoMemory}
+use Rattle.kdbx_open.specs.declared.fail.OpenFail.TheVariants.{File, Frame, KeyOrHeader, Block, BadPadding, StartBytes, StreamUnknown, Doc, NoMemory}
 
 -- How many bytes a file may have.
 abbrev pub file_limit : ℕ
@@ -27,6 +27,7 @@ of_payload (payload.Frame fail) = Frame fail
 of_payload (payload.KeyOrHeader kept found) = KeyOrHeader kept found
 of_payload (payload.Block fail) = Block fail
 of_payload payload.BadPadding = BadPadding
+of_payload payload.StartBytes = StartBytes
 of_payload (payload.StreamUnknown id) = StreamUnknown id
 of_payload payload.NoMemory = NoMemory
 

@@ -10,7 +10,8 @@ use mac_core::BlockFail;
 use secret_core::ReadFail;
 
 /// Why a file is not opened. The first that holds comes, in the order of these variants; but Frame
-/// is tried twice, of the header at its place, and of the inner fields after BadPadding.
+/// is tried twice, of the header at its place, and of the inner fields after the blocks; and Block
+/// of a file of version 3.1 is tried after StartBytes.
 #[derive(Clone, Copy, Debug, PartialEq, Eq)]
 pub enum OpenFail {
     /// The file was not read.
@@ -25,14 +26,26 @@ pub enum OpenFail {
         /// The MAC of the header as it is, under the composite key.
         found: [u8; 32],
     },
-    /// A block's MAC is not right, or the file ends before its end block does.
+    /// A block's MAC is not right, or the file ends before its end block does; in version 3.1 a
+    /// block's index or hash is not right, or the deciphered text ends before its end block does.
     Block(BlockFail),
     /// The content is not made up of whole blocks of the cipher, or its padding is not right.
     BadPadding,
+    /// The deciphered text of a file of version 3.1 does not begin with the start bytes that the
+    /// header has: the composite key is another, or the file was changed.
+    StartBytes,
     /// The inner stream of this number is not known.
     StreamUnknown(u32),
-    /// The text after the inner fields is no document.
+    /// The text, in version 4 after the inner fields, is no document.
     Doc(DocFail),
+    /// The document of a file of version 3.1 keeps another hash than the header's: the header was
+    /// changed.
+    HeaderHash {
+        /// The hash that the document keeps.
+        kept: [u8; 32],
+        /// SHA-256 of the header as it is.
+        found: [u8; 32],
+    },
     /// Memory ran out.
     NoMemory,
 }
@@ -57,6 +70,7 @@ impl From<PayloadFail> for OpenFail {
             PayloadFail::KeyOrHeader { kept, found } => OpenFail::KeyOrHeader { kept, found },
             PayloadFail::Block(fail) => OpenFail::Block(fail),
             PayloadFail::BadPadding => OpenFail::BadPadding,
+            PayloadFail::StartBytes => OpenFail::StartBytes,
             PayloadFail::StreamUnknown(id) => OpenFail::StreamUnknown(id),
             PayloadFail::NoMemory => OpenFail::NoMemory,
         }

@@ -1,5 +1,5 @@
-//! Opening a file of KDBX 4: from its name and a composite key to its document and its settings,
-//! or why not.
+//! Opening a file of KDBX 3.1, 4.0 or 4.1: from its name and a composite key to its document and
+//! its settings, or why not.
 #![tactic(auto)]
 
 mod documents;

@@ -12,8 +12,9 @@ ghost use Rattle.kdbx_open.specs.Sealed.{Holds, IsHeld};
 ghost use Rattle.kdbx_open.specs.Seen.{opened_seen, unsealed_seen};
 
 use crate::OpenFail;
-use crate::documents::document_of;
-use kdbx_frame::Settings;
+use crate::documents::{check_hash, document_of};
+use doc_read::ReadDoc;
+use kdbx_frame::{Settings, form_of};
 use kdbx_payload::{Payload, open_payload};
 use outside_core::FileStore;
 use secret_core::{Key, Secret, read_file};
@@ -52,10 +53,16 @@ fn open_bytes(alloc: Global, composite: &Key, file: Secret) -> Result<Unsealed, 
         settings,
         pool,
         stream,
+        header_hash,
         text,
         document,
     } = open_payload(alloc, composite, file)?;
-    let doc = document_of(alloc, stream, &pool, text, document)?;
+    let form = form_of(settings.version);
+    let ReadDoc {
+        doc,
+        header_hash: kept,
+    } = document_of(alloc, form, stream, &pool, text, document)?;
+    check_hash(kept, header_hash)?;
     Ok(Unsealed { settings, doc })
 }
 
@@ -82,13 +89,15 @@ fn open_named<F: FileStore>(
     open_bytes(alloc, composite, file)
 }
 
-/// Opens the KDBX 4 file of a name under a composite key.
+/// Opens the KDBX file of a name under a composite key.
 ///
-/// At Ok the file is authentic: all its bytes up to the end block are under right MACs of keys made
-/// from the composite key, which is handed back. After a refusal the composite key was cleared and
-/// released. Whatever the answer, the keys that were derived were cleared and released, and the
-/// store's files and its draft are as they were. The clauses `some_file` and `held` hold of any
-/// store, whether or not it reports its files: the answer is that of the bytes that it handed out.
+/// At Ok a file of version 4 is authentic: all its bytes up to the end block are under right MACs
+/// of keys made from the composite key, which is handed back. A file of version 3.1 has no MAC: its
+/// start bytes, the hashes of its blocks and the hash of its header, where the document keeps one,
+/// are right. After a refusal the composite key was cleared and released. Whatever the answer, the
+/// keys that were derived were cleared and released, and the store's files and its draft are as
+/// they were. The clauses `some_file` and `held` hold of any store, whether or not it reports its
+/// files: the answer is that of the bytes that it handed out.
 ///
 /// # Errors
 ///

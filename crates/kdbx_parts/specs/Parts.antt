@@ -1,9 +1,11 @@
 -- The parts that headers, dictionaries and inner fields are made of.
 use Rattle.std.specs.Prelude.{ℕ, ◌+◌, List, length, take, drop, Bool, Option, Some, None, Result, Ok, Err, nat_lt, ◌==◌, slice_index, if◌then◌else◌}
-use Rattle.std.specs.Int.{w32, from_le_bytes}
+use Rattle.std.specs.Int.{Width, w16, w32, byte_len, from_le_bytes}
 use Rattle.outside_core.specs.Results.{◌>>=◌}
 use Rattle.kdbx_parts.specs.declared.fail.FrameFail.{FrameFail}
 use Rattle.kdbx_parts.specs.declared.fail.FrameFail.TheVariants.{Truncated, TooLarge, FieldTwice, FieldLength, FieldMissing}
+use Rattle.kdbx_parts.specs.declared.parts.LengthWidth.{LengthWidth}
+use Rattle.kdbx_parts.specs.declared.parts.LengthWidth.TheVariants.{Two, Four}
 
 -- The next n bytes and the bytes after them, or this refusal where there are fewer.
 abbrev pub split_bytes : FrameFail → ℕ → List ℕ → Result (List ℕ × List ℕ) FrameFail
@@ -20,13 +22,22 @@ pub record Field : Type 0 where
   pub content : List ℕ
   pub rest : List ℕ
 
--- The next field: a byte of id, four bytes of length, and that many bytes. `fail n` is the refusal
--- of a part that ends n bytes from here.
-unfoldable pub field_at : (ℕ → FrameFail) → List ℕ → Result Field FrameFail
-field_at fail rest = do
-  head ← split_bytes (fail 5) 5 rest
-  let n = from_le_bytes w32 (drop 1 head.0)
-  content ← split_bytes (fail (5 + n)) n head.1
+-- The width of a length: so many bytes.
+abbrev pub width_of : LengthWidth → Width
+width_of Two = w16
+width_of Four = w32
+
+-- How many bytes are before the content of a field: a byte of id, and the length.
+abbrev pub field_head_len : LengthWidth → ℕ
+field_head_len width = 1 + byte_len (width_of width)
+
+-- The next field: a byte of id, a length of this width, and that many bytes. `fail n` is the
+-- refusal of a part that ends n bytes from here.
+unfoldable pub field_at : LengthWidth → (ℕ → FrameFail) → List ℕ → Result Field FrameFail
+field_at width fail rest = do
+  head ← split_bytes (fail (field_head_len width)) (field_head_len width) rest
+  let n = from_le_bytes (width_of width) (drop 1 head.0)
+  content ← split_bytes (fail (field_head_len width + n)) n head.1
   Ok (record { id = slice_index head.0 0; content = content.0; rest = content.1 })
 
 -- The content of a field that may occur once; `occurred` says whether it did before.

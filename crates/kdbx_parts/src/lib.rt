@@ -6,6 +6,6 @@ mod parts;
 
 pub use fail::FrameFail;
 pub use parts::{
-    Field, array_of, copy_of, field_of, out_of_bounds, required, same, split_bytes, u32_of, u64_of,
-    unique, unique_of_length,
+    Field, LengthWidth, array_of, copy_of, field_head_len, field_of, out_of_bounds, required, same,
+    split_bytes, u32_of, u64_of, unique, unique_of_length,
 };

@@ -1,16 +1,25 @@
 //! The parts that headers, dictionaries and inner fields are made of.
 
 ghost use Rattle.std.specs.Prelude.{◌≡◌, ◌+◌, ◌-◌, ◌≤◌, ◌<◌, ◌^◌, ◌++◌, IfOk, Ok, length, replicate};
-ghost use Rattle.std.specs.Int.{w32, w64, from_le_bytes};
+ghost use Rattle.std.specs.Int.{w16, w32, w64, byte_len, from_le_bytes};
 ghost use Rattle.std.specs.Prelude.{bytes_eq};
 ghost use Rattle.outside_core.specs.Results.{Returns};
 ghost use Rattle.kdbx_parts.specs.Results.{meaning_of};
-ghost use Rattle.kdbx_parts.specs.Parts.{field_at, required, unique, out_of_bounds, unique_of_length, split_bytes};
+ghost use Rattle.kdbx_parts.specs.Parts.{field_at, field_head_len, required, unique, out_of_bounds, unique_of_length, split_bytes, width_of};
 ghost use Rattle.kdbx_parts.specs.Seen.{field_seen};
 
 use crate::FrameFail;
 use outside_core::Bytes;
 use std::alloc::Global;
+
+/// How many bytes the length of a field has.
+#[derive(Clone, Copy, Debug, PartialEq, Eq)]
+pub enum LengthWidth {
+    /// Two bytes, as in a header of KDBX 3.1.
+    Two,
+    /// Four bytes, as in a header of KDBX 4 and in inner fields.
+    Four,
+}
 
 /// A field of a header, or an inner field.
 #[derive(Clone, Copy)]
@@ -48,19 +57,47 @@ pub fn out_of_bounds(size: u64, end: u64) -> FrameFail
     }
 }
 
+/// How many bytes are before the content of a field.
+pub fn field_head_len(width: LengthWidth) -> usize
+    ensures value { result ≡ field_head_len width }
+    ensures limit { result ≤ 5 }
+{
+    match width {
+        LengthWidth::Two => 3,
+        LengthWidth::Four => 5,
+    }
+}
+
+// The length that these bytes give.
+fn length_of(width: LengthWidth, bytes: &[u8]) -> u32
+    requires { length bytes.now ≡ byte_len (width_of width) }
+    ensures { result ≡ from_le_bytes (width_of width) bytes.now }
+{
+    match width {
+        LengthWidth::Two => u16_of(bytes) as u32,
+        LengthWidth::Four => u32_of(bytes),
+    }
+}
+
 /// The field at this offset of a file of `size` bytes.
 #[tactic(auto, unfolding(crate::specs::Parts::field_at))]
-pub fn field_of(size: u64, offset: usize, rest: &[u8]) -> Result<Field, FrameFail>
+pub fn field_of(
+    width: LengthWidth,
+    size: u64,
+    offset: usize,
+    rest: &[u8],
+) -> Result<Field, FrameFail>
     requires { offset + length rest.now < 2 ^ 63 }
     ensures gives { Returns meaning_of field_seen result
-        (field_at (λ n. out_of_bounds size (offset + n)) rest.now) }
-    ensures shorter { IfOk result (λ f. length f.rest.now + 5 ≤ length rest.now) }
+        (field_at width (λ n. out_of_bounds size (offset + n)) rest.now) }
+    ensures shorter { IfOk result (λ f. length f.rest.now < length rest.now) }
     ensures content { IfOk result (λ f. length f.content.now ≤ length rest.now) }
 {
-    let (head, rest) = split_bytes(out_of_bounds(size, offset as u64 + 5), 5, rest)?;
-    let n = u32_of(&head[1..]);
+    let len = field_head_len(width);
+    let (head, rest) = split_bytes(out_of_bounds(size, offset as u64 + len as u64), len, rest)?;
+    let n = length_of(width, &head[1..]);
     let (content, rest) = split_bytes(
-        out_of_bounds(size, offset as u64 + (5 + n as u64)),
+        out_of_bounds(size, offset as u64 + (len as u64 + n as u64)),
         n as usize,
         rest,
     )?;
@@ -127,6 +164,14 @@ pub fn array_of<const N: usize>(bytes: &[u8]) -> [u8; N]
     let mut array = [0; N];
     array.copy_from_slice(bytes);
     array
+}
+
+// A number of two bytes, the lowest first.
+fn u16_of(bytes: &[u8]) -> u16
+    requires { length bytes.now ≡ 2 }
+    ensures { result ≡ from_le_bytes w16 bytes.now }
+{
+    u16::from_le_bytes(array_of(bytes))
 }
 
 /// A number of four bytes, the lowest first.

@@ -1,22 +1,27 @@
-//! The content of a file's blocks, and the text that it hides.
+//! The content of a file, the text that it hides, and what that text is in version 3.1.
 
-ghost use Rattle.std.specs.Prelude.{◌≡◌, ◌≤◌, ◌%◌, ◌^◌, IfOk, length, take};
+ghost use Rattle.std.specs.Prelude.{◌≡◌, ◌≤◌, ◌%◌, ◌^◌, IfOk, Ok, length, take};
 ghost use Rattle.block_core.specs.Cbc.{cbc_deciphered};
 ghost use Rattle.block_core.specs.Padding.{unpadded};
+ghost use Rattle.std.specs.Prelude.{IsTrue, bytes_eq, drop};
 ghost use Rattle.mac_core.specs.Contents.{contents_of};
+ghost use Rattle.mac_core.specs.HashedBlocks.{hashed_contents_of};
 ghost use Rattle.stream_core.specs.ChaCha20.{chacha_byte};
 ghost use Rattle.stream_core.specs.Stream.{xor_stream};
 ghost use Rattle.kdbx_payload.specs.Ciphers.{cbc_text, deciphered_text};
-ghost use Rattle.kdbx_payload.specs.Parts.{of_blocks, right_padding};
+ghost use Rattle.kdbx_payload.specs.Parts.{after_start, of_blocks, right_padding};
 ghost use Rattle.kdbx_payload.specs.Results.{Returns};
 
 use crate::PayloadFail;
 use block_core::{Aes256, BadPadding, Block16, Twofish256, cbc_decrypt, unpad};
 use kdbx_frame::Cipher;
-use mac_core::read_contents;
+use mac_core::{join_hashed, read_contents};
 use secret_core::{Key, Key64, Secret};
 use std::alloc::Global;
 use stream_core::ChaCha20;
+
+/// How many start bytes a deciphered text of version 3.1 has.
+const START: usize = 32;
 
 /// The joined contents of the blocks at the end of a file of `size` bytes, up to the end block,
 /// under the file's MAC base.
@@ -101,4 +106,36 @@ pub fn decipher(
         Cipher::Twofish => decipher_chained(&Twofish256::new(key), iv, content),
         Cipher::ChaCha => Ok(decipher_stream(key, iv, content)),
     }
+}
+
+/// Bytes in a secret of their own.
+pub fn secret_of(alloc: Global, bytes: &[u8]) -> Result<Secret, PayloadFail>
+    ensures { Returns (λ s. s.bytes) result (Ok bytes.now) }
+{
+    let mut secret = Secret::with_room(alloc, bytes.len())?;
+    secret.extend(bytes);
+    Ok(secret)
+}
+
+// Whether a text begins with these bytes.
+fn starts_with(text: &Secret, start: &[u8; 32]) -> bool
+    ensures is { result ≡ bytes_eq (take 32 text.now.bytes) start.now }
+    ensures long { IsTrue result → 32 ≤ length text.now.bytes }
+{
+    if text.len() < START {
+        return false;
+    }
+    text.lend(0, START) == start.as_slice()
+}
+
+/// The contents of the hashed blocks of a deciphered text, which begins with these start bytes.
+pub fn after_start(start: &[u8; 32], mut text: Secret) -> Result<Secret, PayloadFail>
+    ensures { Returns (λ s. s.bytes) result (after_start start.now text.bytes) }
+{
+    if !starts_with(&text, start) {
+        return Err(PayloadFail::StartBytes);
+    }
+    let len = join_hashed(&mut text, START)?;
+    text.cut(len);
+    Ok(text)
 }

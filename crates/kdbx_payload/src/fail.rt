@@ -10,7 +10,8 @@ use outside_core::NoMemory;
 use stream_core::StreamUnknown;
 
 /// Why a file's payload is refused. The first that holds comes, in the order of these variants; but
-/// Frame is tried twice, of the header at its place, and of the inner fields after BadPadding.
+/// Frame is tried twice, of the header at its place, and of the inner fields after the blocks; and
+/// Block of a file of version 3.1 is tried after StartBytes.
 #[derive(Clone, Copy, Debug, PartialEq, Eq)]
 pub enum PayloadFail {
     /// The header is refused, before any key is derived; or the inner fields before the document
@@ -23,10 +24,14 @@ pub enum PayloadFail {
         /// The MAC of the header as it is, under the composite key.
         found: [u8; 32],
     },
-    /// A block's MAC is not right, or the file ends before its end block does.
+    /// A block's MAC is not right, or the file ends before its end block does; in version 3.1 a
+    /// block's index or hash is not right, or the deciphered text ends before its end block does.
     Block(BlockFail),
     /// The content is not made up of whole blocks of the cipher, or its padding is not right.
     BadPadding,
+    /// The deciphered text of a file of version 3.1 does not begin with the start bytes that the
+    /// header has: the composite key is another, or the file was changed.
+    StartBytes,
     /// The inner stream of this number is not known.
     StreamUnknown(u32),
     /// Memory ran out.

@@ -1,6 +1,6 @@
-//! The payload of a file of KDBX 4: from the file's bytes and a composite key to its settings, its
-//! attached files, and the text of its document with the stream that hides values in it; or why not.
-//! Nothing here speaks of what the document says.
+//! The payload of a file of KDBX 3.1, 4.0 or 4.1: from the file's bytes and a composite key to its
+//! settings, its attached files, and the text of its document with the stream that hides values in
+//! it; or why not. Nothing here speaks of what the document says.
 #![tactic(auto)]
 
 mod content;

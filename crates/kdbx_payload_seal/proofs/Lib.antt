@@ -1,4 +1,5 @@
 mod Appended
+mod HashedPieces
 mod MadeFiles
 mod Padded
 mod Pieces

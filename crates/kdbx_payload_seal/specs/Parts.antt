@@ -12,7 +12,8 @@ parts_content key p plain = content_of key p.settings.now p.draws.now plain
 
 -- The file of a content under its MAC base and the key of its cipher.
 abbrev pub parts_file : List ℕ → List ℕ → Parts → List ℕ → List ℕ
-parts_file base key p plain = file_of base p.header.now (parts_content key p plain)
+parts_file base key p plain =
+    file_of p.settings.now.version base p.header.now (parts_content key p plain)
 
 -- The file's MAC base under a composite key.
 abbrev pub parts_base : Parts → List ℕ → List ℕ

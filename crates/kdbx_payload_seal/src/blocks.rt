@@ -10,7 +10,7 @@ use outside_core::{FileFail, FileStore};
 use secret_core::Key64;
 
 /// How many bytes of a content a block has; the last may have fewer.
-const PIECE: usize = 1_048_576;
+pub const PIECE: usize = 1_048_576;
 
 // Appends the next block, which has this content.
 fn append_block<F: FileStore>(
@@ -36,8 +36,8 @@ fn append_block<F: FileStore>(
     files.append(piece)
 }
 
-// The first piece of a content, and the bytes after it.
-fn split_piece(left: &[u8]) -> (&[u8], &[u8])
+/// The first piece of a content, and the bytes after it.
+pub fn split_piece(left: &[u8]) -> (&[u8], &[u8])
     ensures piece { result.0.now ≡ take 1048576 left.now }
     ensures rest { result.1.now ≡ drop 1048576 left.now }
     ensures len { length result.0.now ≤ 1048576 }

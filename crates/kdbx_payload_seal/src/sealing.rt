@@ -3,17 +3,18 @@
 ghost use Rattle.std.specs.Prelude.{◌≡◌, ◌+◌, ◌≤◌, ◌^◌, ◌++◌, ℕ, IfSome, IsSome, IsErrOf, OnOk, None, Some, length};
 ghost use Rattle.key_core.specs.Kdf.{IsChecked};
 ghost use Rattle.outside_core.specs.Counts.{HasCause};
-ghost use Rattle.kdbx_frame.specs.Settings.{IsInOrder, IsVersion4};
+ghost use Rattle.kdbx_frame.specs.Header.{sums_len};
+ghost use Rattle.kdbx_frame.specs.Settings.{IsInOrder};
 ghost use Rattle.kdbx_spelling.specs.Draws.{AreDrawn};
 ghost use Rattle.kdbx_spelling.specs.Header.{spelled_header};
 ghost use Rattle.kdbx_payload_seal.specs.Answers.{IsSealedWith, JudgesEnd, LeavesNoDraft, Puts};
-ghost use Rattle.kdbx_payload_seal.specs.Made.{file_of, made_with};
+ghost use Rattle.kdbx_payload_seal.specs.Made.{file_of, file_of_4, made_with};
 ghost use Rattle.kdbx_payload_seal.specs.Parts.{IsUndone, parts_base, parts_file, parts_key};
 
 use crate::SealPayloadFail;
 use crate::blocks::append_blocks;
 use crate::ciphering::encipher;
-use kdbx_frame::{HEADER_LIMIT, Settings};
+use kdbx_frame::{FileVersion, HEADER_LIMIT, Settings, sums_len};
 use kdbx_payload::header_mac;
 use kdbx_writing::{Draws, with_salt, write_header};
 use key_core::{FileKeys, file_keys, transform};
@@ -22,11 +23,12 @@ use secret_core::{Key, Key64, Secret};
 use sha2::{Digest, Sha256};
 use std::alloc::Global;
 
-/// How many bytes of a file its header may reach into, with its hash and its MAC.
+/// How many bytes of a file its header may reach into, in version 4 with its hash and its MAC.
 const LIMIT: u64 = HEADER_LIMIT as u64;
 
-// Appends a header with its hash and its MAC, and a content in blocks, to the draft.
-fn append_file<F: FileStore>(
+// Appends a header with its hash and its MAC, and a content in blocks, to the draft: a file of
+// version 4.
+fn append_file_4<F: FileStore>(
     files: &mut F,
     base: &Key64,
     header: &[u8],
@@ -34,7 +36,7 @@ fn append_file<F: FileStore>(
 ) -> Result<(), FileFail>
     requires draft { IsSome (F.draft_name files.old) }
     ensures bytes { OnOk result (IfSome (F.files files.old) (λ _. F.draft_bytes files.new
-        ≡ F.draft_bytes files.old ++ file_of base.now header.now content.now)) }
+        ≡ F.draft_bytes files.old ++ file_of_4 base.now header.now content.now)) }
     ensures name { F.draft_name files.new ≡ F.draft_name files.old }
     ensures files { F.files files.new ≡ F.files files.old }
     ensures not_missing { ¬ IsErrOf result FileFail.NoSuchFile }
@@ -47,24 +49,51 @@ fn append_file<F: FileStore>(
     append_blocks(files, base, content)
 }
 
+// Appends the file of a version of a header and a content to the draft.
+fn append_file<F: FileStore>(
+    files: &mut F,
+    version: FileVersion,
+    base: &Key64,
+    header: &[u8],
+    content: &[u8],
+) -> Result<(), FileFail>
+    requires draft { IsSome (F.draft_name files.old) }
+    ensures bytes { OnOk result (IfSome (F.files files.old) (λ _. F.draft_bytes files.new
+        ≡ F.draft_bytes files.old ++ file_of version base.now header.now content.now)) }
+    ensures name { F.draft_name files.new ≡ F.draft_name files.old }
+    ensures files { F.files files.new ≡ F.files files.old }
+    ensures not_missing { ¬ IsErrOf result FileFail.NoSuchFile }
+    ensures faults { HasCause FileFail.Failed (F.faults files.old) (F.faults files.new) result }
+    ensures absences { F.absences files.old ≤ F.absences files.new }
+{
+    match version {
+        FileVersion::V31 => {
+            files.append(header)?;
+            files.append(content)
+        }
+        FileVersion::V40 | FileVersion::V41 => append_file_4(files, base, header, content),
+    }
+}
+
 // Puts the file of a header and a content under a name. After a refusal the files are as they were.
 // There is no draft afterwards, whatever the answer.
 fn put_file<F: FileStore>(
     files: &mut F,
     name: &str,
+    version: FileVersion,
     base: &Key64,
     header: &[u8],
     content: &[u8],
 ) -> Result<(), FileFail>
     ensures files { Puts result (F.files files.old) (F.files files.new) name.now
-        (file_of base.now header.now content.now) }
+        (file_of version base.now header.now content.now) }
     ensures no_draft { F.draft_name files.new ≡ None }
     ensures not_missing { ¬ IsErrOf result FileFail.NoSuchFile }
     ensures faults { HasCause FileFail.Failed (F.faults files.old) (F.faults files.new) result }
     ensures absences { F.absences files.old ≤ F.absences files.new }
 {
     files.begin(name)?;
-    if let Err(refusal) = append_file(files, base, header, content) {
+    if let Err(refusal) = append_file(files, version, base, header, content) {
         files.discard();
         return Err(refusal);
     }
@@ -102,6 +131,7 @@ fn put_with_file_keys<F: FileStore>(
     put_file(
         files,
         name,
+        parts.settings.version,
         &keys.base,
         parts.header,
         content.lend(0, content.len()),
@@ -142,9 +172,10 @@ fn put_with_composite<F: FileStore>(
     result
 }
 
-/// Seals a content as the KDBX 4 file of a name, under a composite key: inner fields with attached
-/// files, and the text of a document after them. It is enciphered where it is, so it needs room for
-/// its padding. The draws and the content are dropped.
+/// Seals a content as the KDBX file of a name, under a composite key: in version 4 inner fields
+/// with attached files, and the text of a document after them; in 3.1 start bytes, and the text in
+/// hashed blocks. It is enciphered where it is, so it needs room for its padding. The draws and the
+/// content are dropped.
 ///
 /// At Ok the store has the file that is made of them, and all else as it was. After a refusal the
 /// files are as they were, and but for TooLarge there is no draft. The keys that were derived were
@@ -165,14 +196,14 @@ pub fn seal_payload<F: FileStore>(
     name: &str,
 ) -> Result<(), SealPayloadFail>
     requires in_order { IsInOrder settings.now }
-    requires version { IsVersion4 settings.now.version }
     requires drawn { AreDrawn settings.now draws }
     requires spare { 16 ≤ plain.spare }
     requires limit { length plain.bytes ≤ 2 ^ 38 }
     ensures files { Puts result (F.files files.old) (F.files files.new) name.now
         (made_with settings.now draws composite.now plain.bytes) }
     ensures sealed { OnOk result (IsSealedWith settings.now draws composite.now plain.bytes) }
-    ensures end { JudgesEnd result (length (spelled_header settings.now draws) + 64) }
+    ensures end { JudgesEnd result
+        (length (spelled_header settings.now draws) + sums_len settings.now.version) }
     ensures too_large { (n : ℕ) → IsErrOf result (SealPayloadFail.TooLarge n)
         → files.new ≡ files.old }
     ensures no_draft { LeavesNoDraft result (F.draft_name files.new) }
@@ -184,7 +215,7 @@ pub fn seal_payload<F: FileStore>(
         files.discard();
         return Err(SealPayloadFail::NoMemory);
     };
-    let end = header.len() as u64 + 64;
+    let end = header.len() as u64 + sums_len(settings.version) as u64;
     if end > LIMIT {
         return Err(SealPayloadFail::TooLarge(end));
     }

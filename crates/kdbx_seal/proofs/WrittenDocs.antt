@@ -1,5 +1,5 @@
 -- A document that was written: its text, its attached files, and what has room for them.
-use Rattle.std.proofs.Common.{◌≡◌, ℕ, ◌+◌, ◌<◌, ◌≤◌, ◌^◌, List, [], ◌∷◌, ◌++◌, length, map, None, Ok, Err, refl, sym, ◌∙◌, ap, subst, arith, length-append}
+use Rattle.std.proofs.Common.{◌≡◌, ℕ, ◌+◌, ◌<◌, ◌≤◌, ◌^◌, List, [], ◌∷◌, ◌++◌, length, map, None, Result, Ok, Err, refl, sym, ◌∙◌, ap, subst, arith, length-append}
 use Rattle.std.specs.Int.{w32, to_le_bytes}
 use Rattle.std.specs.List.{AllByRecursion, flat_map}
 use Rattle.secret_core.specs.Secret.{SecretBuffer}
@@ -14,17 +14,20 @@ use Rattle.doc_spelling.specs.Ranges.{IsWritable, count_all}
 use Rattle.doc_write.specs.Written.{Measures, binary_len}
 use Rattle.doc_write.specs.declared.writing.WriteFail.{WriteFail}
 use Rattle.doc_write.specs.declared.writing.WriteFail.TheVariants.{NoMemory, TooLarge, TooMany}
+use Rattle.vault_model.specs.declared.forms.FileVersion.{FileVersion}
+use Rattle.vault_model.specs.declared.forms.FileVersion.TheVariants.{V31, V40, V41}
 use Rattle.kdbx_frame.specs.declared.settings.Settings.{Settings}
+use Rattle.kdbx_frame.specs.Settings.{IsVersion4}
 use Rattle.kdbx_inner.specs.Inner.{Binary}
 use Rattle.kdbx_inner.specs.Seen.{binary_seen}
 use Rattle.kdbx_payload.specs.Sealed.{SealedPayload}
 use Rattle.kdbx_payload_seal.specs.Answers.{IsSealedWith}
-use Rattle.kdbx_payload_seal.specs.Made.{made_with, written_keystream}
+use Rattle.kdbx_payload_seal.specs.Made.{chacha_keystream, made_with}
 use Rattle.kdbx_spelling.specs.declared.draws.Draws.{Draws}
 use Rattle.kdbx_spelling.specs.Fields.{spelled_field}
 use Rattle.kdbx_spelling.specs.Inner.{FitsField, binary_field, spelled_inner}
-use Rattle.kdbx_seal.specs.Answers.{IsWritten, WritesContent, document_content, written_document}
-use Rattle.kdbx_seal.specs.Made.{attached_file, attached_files, document_text, made_file, made_file_payload}
+use Rattle.kdbx_seal.specs.Answers.{IsWritten, IsWritten4, WritesContent, WritesContent4, written_document, written_document_4}
+use Rattle.kdbx_seal.specs.Made.{attached_file, attached_files, document_text, files_of, made_file, made_file_payload, text_4}
 
 -- ---- attached files
 
@@ -53,7 +56,7 @@ files_fit [] h = tt
 files_fit (p ∷ pool) h = (omega (arith, h), files_fit pool (omega (arith, h)))
 
 -- A document that is not measured is not written.
-pub not_written : (draws : Draws) (d : BareDoc) (e : WriteFail) → written_document draws d ≡ Err e → WritesContent draws d (Err e)
+pub not_written : (draws : Draws) (d : BareDoc) (e : WriteFail) → written_document_4 draws d ≡ Err e → WritesContent4 draws d (Err e)
 not_written draws d (TooMany n) h = h
 not_written draws d (TooLarge n) h = h
 not_written draws d NoMemory h = tt
@@ -62,20 +65,20 @@ not_written draws d NoMemory h = tt
 
 module _ (draws : Draws) (d : BareDoc) (size : length draws.stream ≡ 64) (key : List ℕ) (drawn : key ≡ draws.stream) (pool : List PoolPair) (own : pool ≡ pool_of d)
     (items : List PoolItem) (seen : map pool_item items ≡ pool) (len : ℕ) (measured : (k : Keystream) → Measures V4 k None d (Ok len)) where
-  files : map binary_seen items ≡ attached_files d
+  files : map binary_seen items ≡ files_of d
   files = same_files items ∙ ap (map attached_file) (seen ∙ own)
 
   abbrev text : List ℕ
-  text = document_text draws d
+  text = text_4 draws d
 
-  is_text : written_document draws d ≡ Ok text
-  is_text = (measured (written_keystream draws.stream)).outcome
+  is_text : written_document_4 draws d ≡ Ok text
+  is_text = (measured (chacha_keystream draws.stream)).outcome
 
   has_len : len ≡ length text
-  has_len = (measured (written_keystream draws.stream)).text
+  has_len = (measured (chacha_keystream draws.stream)).text
 
   has_limit : length text + count_all binary_len (pool_of d) ≤ 134086656
-  has_limit = omega (arith, has_len, (measured (written_keystream draws.stream)).limit)
+  has_limit = omega (arith, has_len, (measured (chacha_keystream draws.stream)).limit)
 
   pub inner_is : length (spelled_inner key (map binary_seen items)) ≡ 83 + count_all binary_len (pool_of d)
   inner_is = omega (arith, inner_len key (pool_of d), ap (λ (f : List Binary). length (spelled_inner key f)) files, ap length drawn, size)
@@ -91,11 +94,11 @@ module _ (draws : Draws) (d : BareDoc) (size : length draws.stream ≡ 64) (key 
   pub text_len : (k : Keystream) → length (spelled_document V4 k None d) ≡ len
   text_len k = sym (measured k).text
 
-  pub is_written : (content : SecretBuffer) (k : Keystream) → k ≡ written_keystream draws.stream
+  pub is_written : (content : SecretBuffer) (k : Keystream) → k ≡ chacha_keystream draws.stream
       → content.bytes ≡ spelled_inner key (map binary_seen items) ++ spelled_document V4 k None d
-      → 16 ≤ content.spare → IsWritable d → IsWritten draws d content
+      → 16 ≤ content.spare → IsWritable d → IsWritten4 draws d content
   is_written content k stream put spare writable =
-      let bytes : content.bytes ≡ document_content draws d =
+      let bytes : content.bytes ≡ spelled_inner draws.stream (files_of d) ++ text =
       put ∙ ap (λ (x : Keystream). spelled_inner key (map binary_seen items) ++ spelled_document V4 x None d) stream
       ∙ ap (λ (b : List ℕ). spelled_inner b (map binary_seen items) ++ text) drawn
       ∙ ap (λ (f : List Binary). spelled_inner draws.stream f ++ text) files in
@@ -108,15 +111,39 @@ module _ (draws : Draws) (d : BareDoc) (size : length draws.stream ≡ 64) (key 
         small = files_fit (pool_of d) (omega (arith, has_limit));
       }
 
+-- ---- by the version
+
+-- What was written in version 4 was written for settings of such a version.
+in_version_4 : (v : FileVersion) (s : Settings) (draws : Draws) (d : BareDoc) (content : SecretBuffer) → IsVersion4 v → IsWritten4 draws d content
+    → IsWritten (record s { version = v }) draws d content
+in_version_4 V31 s draws d content is w = absurd is
+in_version_4 V40 s draws d content is w =
+    record { bytes = w.bytes; spare = w.spare; limit = w.limit; within = w.within; writable = w.writable; apart = w.small }
+in_version_4 V41 s draws d content is w =
+    record { bytes = w.bytes; spare = w.spare; limit = w.limit; within = w.within; writable = w.writable; apart = w.small }
+
+same_document : (v : FileVersion) (s : Settings) (draws : Draws) (d : BareDoc) → IsVersion4 v
+    → written_document (record s { version = v }) draws d ≡ written_document_4 draws d
+same_document V31 s draws d is = absurd is
+same_document V40 s draws d is = refl
+same_document V41 s draws d is = refl
+
+pub writes_4 : (s : Settings) (draws : Draws) (d : BareDoc) (result : Result SecretBuffer WriteFail) → IsVersion4 s.version
+    → WritesContent4 draws d result → WritesContent s draws d result
+writes_4 s draws d (Ok content) is h = in_version_4 s.version s draws d content is h
+writes_4 s draws d (Err NoMemory) is h = tt
+writes_4 s draws d (Err (TooMany n)) is h = same_document s.version s draws d is ∙ h
+writes_4 s draws d (Err (TooLarge n)) is h = same_document s.version s draws d is ∙ h
+
 -- ---- the file
 
-pub is_made : (s : Settings) (draws : Draws) (composite : List ℕ) (d : BareDoc) (content : SecretBuffer) → IsWritten draws d content
+pub is_made : (s : Settings) (draws : Draws) (composite : List ℕ) (d : BareDoc) (content : SecretBuffer) → IsWritten s draws d content
     → made_with s draws composite content.bytes ≡ made_file s draws composite d
 is_made s draws composite d content is = ap (λ (bytes : List ℕ). made_with s draws composite bytes) is.bytes
 
-pub is_sealed : (s : Settings) (draws : Draws) (composite : List ℕ) (d : BareDoc) (content : SecretBuffer) → IsWritten draws d content
+pub is_sealed : (s : Settings) (draws : Draws) (composite : List ℕ) (d : BareDoc) (content : SecretBuffer) → IsWritten s draws d content
     → IsSealedWith s draws composite content.bytes
     → SealedPayload (made_file s draws composite d) composite (made_file_payload s draws d)
 is_sealed s draws composite d content is h =
     subst (λ (bytes : List ℕ). SealedPayload bytes composite (made_file_payload s draws d)) (is_made s draws composite d content is)
-    (h (attached_files d) (document_text draws d) is.small is.bytes)
+    (h (attached_files s.version d) (document_text s draws d) is.apart is.bytes)

@@ -5,6 +5,7 @@ use Rattle.std.specs.List.{flat_map, AllByRecursion}
 use Rattle.outside_core.specs.Results.{◌>>=◌, repeat_steps}
 use Rattle.kdbx_parts.specs.declared.fail.FrameFail.{FrameFail}
 use Rattle.kdbx_parts.specs.declared.fail.FrameFail.TheVariants.{Truncated}
+use Rattle.kdbx_parts.specs.declared.parts.LengthWidth.TheVariants.{Four}
 use Rattle.kdbx_inner.specs.Inner.{Binary, InnerRead, PartialInner, inner_end_missing, inner_from, inner_of, inner_step, no_inner_fields, with_inner_field}
 use Rattle.kdbx_spelling.specs.Fields.{spelled_field}
 use Rattle.kdbx_spelling.specs.Inner.{FitsField, binary_field, inner_fields, inner_with, spelled_inner}
@@ -19,15 +20,15 @@ at found rest = record { fields = found; rest = rest }
 abbrev add_inner : PartialInner → ℕ × List ℕ → Result PartialInner FrameFail
 add_inner found field = with_inner_field found (record { id = field.0; content = field.1; rest = [] })
 
-inner_step_again : (whole : ℕ) (found : PartialInner) (field : ℕ × List ℕ) (rest : List ℕ) → CanBeWritten field
+inner_step_again : (whole : ℕ) (found : PartialInner) (field : ℕ × List ℕ) (rest : List ℕ) → CanBeWritten Four field
     → inner_step whole (at found (spelled_field field ++ rest)) ≡ (add_inner found field >>= λ q. Ok (false, at q rest))
 unfolding inner_step with_inner_field
 inner_step_again whole found field rest is =
-    then_ok _ _ _ (field_again (λ _. Truncated whole) field.0 field.1 rest is.1) ∙ rw is.0 refl
+    then_ok _ _ _ (field_again Four (λ _. Truncated whole) field.0 field.1 rest is.1) ∙ rw is.0 refl
 
 end_step_again : (whole : ℕ) (found : PartialInner) (rest : List ℕ) → inner_step whole (at found (spelled_field (0, []) ++ rest)) ≡ Ok (true, at found rest)
 unfolding inner_step
-end_step_again whole found rest = then_ok _ _ _ (field_again (λ _. Truncated whole) 0 [] rest (omega arith))
+end_step_again whole found rest = then_ok _ _ _ (field_again Four (λ _. Truncated whole) 0 [] rest (omega arith))
 
 hidden_again : (h : Bool) → (bit_and (if h then 1 else 0) 1 == 1) ≡ h
 hidden_again true = refl
@@ -47,7 +48,7 @@ all_added : (key : List ℕ) (pool : List Binary) → folded add_inner no_inner_
 unfolding folded with_inner_field
 all_added key pool = pool_added (record { stream_id = Some 3; stream_key = Some key; pool = [] }) pool
 
-pool_fits : (pool : List Binary) → AllByRecursion FitsField pool → AllByRecursion CanBeWritten (map binary_field pool)
+pool_fits : (pool : List Binary) → AllByRecursion FitsField pool → AllByRecursion (CanBeWritten Four) (map binary_field pool)
 pool_fits [] h = tt
 pool_fits (b ∷ pool) h = ((refl, omega (arith, h.0)), pool_fits pool h.1)
 
@@ -61,11 +62,11 @@ inner_again key text pool key_fits pool_small =
     let end = spelled_field (0, []) in
     let whole = length (body ++ end ++ text) in
     let len : whole ≡ length (body ++ end) + length text = length-append (body ++ end) text in
-    let enough : length fields < whole = omega (arith, fewer_fields fields, len, length-append body end) in
+    let enough : length fields < whole = omega (arith, fewer_fields Four fields, len, length-append body end) in
     let found : PartialInner = record { stream_id = Some 3; stream_key = Some key; pool = pool } in
     let read : inner_from (body ++ end ++ text) ≡ Ok (at found text) =
     ap (λ (t : List ℕ). repeat_steps (inner_step whole) (inner_end_missing whole) whole (at no_inner_fields t)) (append_assoc body end text)
-    ∙ spelled_steps (inner_step whole) (inner_end_missing whole) at (spelled_field) add_inner end CanBeWritten
+    ∙ spelled_steps (inner_step whole) (inner_end_missing whole) at (spelled_field) add_inner end (CanBeWritten Four)
     (inner_step_again whole) (end_step_again whole) whole fields no_inner_fields text
     ((refl, omega arith), ((refl, key_fits), pool_fits pool pool_small)) enough
     ∙ then_ok _ _ _ (all_added key pool) in

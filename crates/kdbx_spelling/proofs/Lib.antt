@@ -9,3 +9,4 @@ mod KdfReading
 mod Readings
 mod SettingsReading
 mod SpelledVectors
+mod SpelledVectors31

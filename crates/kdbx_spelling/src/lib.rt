@@ -1,5 +1,5 @@
-//! The written form of a file's header and inner fields in KDBX 4.0 and 4.1, what is drawn for a
-//! file, and the laws that what is written is read as what it was written from.
+//! The written form of a file's header, and of inner fields in KDBX 4.0 and 4.1, what is drawn for
+//! a file, and the laws that what is written is read as what it was written from.
 #![tactic(auto)]
 
 mod draws;

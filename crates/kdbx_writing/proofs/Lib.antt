@@ -1,2 +1,3 @@
+mod HeaderPieces
 mod InnerPieces
 mod KdfPieces

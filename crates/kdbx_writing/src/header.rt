@@ -1,15 +1,19 @@
 //! A header as it is written.
 
-ghost use Rattle.std.specs.Prelude.{◌≡◌, ◌<◌, ◌≤◌, ◌^◌, ◌++◌, OnOk, IfOk, IfSome, length};
+ghost use Rattle.std.specs.Prelude.{◌≡◌, ◌≤◌, ◌++◌, OnOk, IfOk, IfSome, length};
+ghost use Rattle.std.specs.Int.{to_le_bytes};
 ghost use Rattle.std.specs.List.{flat_map};
-ghost use Rattle.kdbx_frame.specs.Fields.{header_limit};
-ghost use Rattle.kdbx_frame.specs.Settings.{IsInOrder, IsVersion4};
-ghost use Rattle.kdbx_spelling.specs.Fields.{spelled_field};
-ghost use Rattle.kdbx_spelling.specs.Header.{cipher_id, public_fields, spelled_header, version_number};
+ghost use Rattle.kdbx_parts.specs.Parts.{width_of};
+ghost use Rattle.kdbx_parts.specs.declared.parts.LengthWidth.TheVariants.{Two, Four};
+ghost use Rattle.kdbx_frame.specs.Fields.{header_limit, length_width};
+ghost use Rattle.kdbx_frame.specs.Settings.{IsInOrder};
+ghost use Rattle.kdbx_spelling.specs.Fields.{HasRoom, spelled_field, spelled_field_with};
+ghost use Rattle.kdbx_spelling.specs.Header.{cipher_id, header_fields, header_fields_31, header_fields_4, public_fields, rounds_of, spelled_header, version_number};
 
 use crate::kdf::kdf_bytes;
-use kdbx_frame::{Cipher, FileVersion, Settings};
+use kdbx_frame::{Cipher, FileVersion, LengthWidth, Settings, length_width};
 use kdbx_spelling::{Draws, iv_len};
+use key_core::Kdf;
 use outside_core::{Bytes, NoMemory};
 use std::alloc::Global;
 
@@ -53,13 +57,40 @@ fn cipher_id(cipher: Cipher) -> [u8; 16]
     }
 }
 
+/// The number of Salsa20 as an inner stream.
+const SALSA20: u32 = 2;
+
+/// How many bytes the stream key of a file of version 3.1 has.
+const STREAM_KEY_31: usize = 32;
+
+// The rounds of a key derivation by AES.
+fn rounds_of(kdf: &Kdf) -> u64
+    ensures { result ≡ rounds_of kdf.now }
+{
+    match kdf {
+        Kdf::Aes { rounds, seed: _ } => *rounds,
+        Kdf::Argon { .. } => 0,
+    }
+}
+
+// Puts a length at the end.
+fn put_length(out: &mut Bytes, width: LengthWidth, len: usize) -> Result<(), NoMemory>
+    requires { HasRoom width len }
+    ensures { OnOk result (out.new ≡ out.old ++ to_le_bytes (width_of width) len) }
+{
+    match width {
+        LengthWidth::Two => out.add(&(len as u16).to_le_bytes()),
+        LengthWidth::Four => out.add(&(len as u32).to_le_bytes()),
+    }
+}
+
 // Puts a field at the end.
-fn put_field(out: &mut Bytes, id: u8, content: &[u8]) -> Result<(), NoMemory>
-    requires { length content.now < 2 ^ 32 }
-    ensures { OnOk result (out.new ≡ out.old ++ spelled_field (id, content.now)) }
+fn put_field(out: &mut Bytes, width: LengthWidth, id: u8, content: &[u8]) -> Result<(), NoMemory>
+    requires { HasRoom width (length content.now) }
+    ensures { OnOk result (out.new ≡ out.old ++ spelled_field_with width (id, content.now)) }
 {
     out.add(&[id])?;
-    out.add(&(content.len() as u32).to_le_bytes())?;
+    put_length(out, width, content.len())?;
     out.add(content)
 }
 
@@ -69,8 +100,67 @@ fn put_public(out: &mut Bytes, public: &Option<Bytes>) -> Result<(), NoMemory>
     ensures { OnOk result (out.new ≡ out.old ++ flat_map spelled_field (public_fields public.now)) }
 {
     match public {
-        Some(bytes) => put_field(out, 12, bytes.as_slice()),
+        Some(bytes) => put_field(out, LengthWidth::Four, 12, bytes.as_slice()),
         None => Ok(()),
+    }
+}
+
+// Puts the fields of a header of version 4 at the end, but for the one that ends them.
+fn put_fields_4(
+    alloc: Global,
+    out: &mut Bytes,
+    settings: &Settings,
+    draws: &Draws,
+) -> Result<(), NoMemory>
+    requires { IsInOrder settings.now }
+    ensures { OnOk result (out.new
+        ≡ out.old ++ flat_map (spelled_field_with Four) (header_fields_4 settings.now draws.now)) }
+{
+    let width = LengthWidth::Four;
+    put_field(out, width, 2, &cipher_id(settings.cipher))?;
+    put_field(out, width, 3, &0u32.to_le_bytes())?;
+    put_field(out, width, 4, draws.seed.bytes())?;
+    put_field(out, width, 7, &draws.iv.bytes()[..iv_len(settings.cipher)])?;
+    let kdf = kdf_bytes(alloc, &settings.kdf, draws.kdf.bytes())?;
+    put_field(out, width, 11, kdf.as_slice())?;
+    put_public(out, &settings.public)?;
+    Ok(())
+}
+
+// Puts the fields of a header of version 3.1 at the end, but for the one that ends them.
+fn put_fields_31(out: &mut Bytes, settings: &Settings, draws: &Draws) -> Result<(), NoMemory>
+    ensures { OnOk result (out.new
+        ≡ out.old ++ flat_map (spelled_field_with Two) (header_fields_31 settings.now draws.now)) }
+{
+    let width = LengthWidth::Two;
+    put_field(out, width, 2, &cipher_id(settings.cipher))?;
+    put_field(out, width, 3, &0u32.to_le_bytes())?;
+    put_field(out, width, 4, draws.seed.bytes())?;
+    put_field(out, width, 5, draws.kdf.bytes())?;
+    put_field(out, width, 6, &rounds_of(&settings.kdf).to_le_bytes())?;
+    put_field(out, width, 7, &draws.iv.bytes()[..iv_len(settings.cipher)])?;
+    put_field(out, width, 8, &draws.stream.bytes()[..STREAM_KEY_31])?;
+    put_field(out, width, 9, draws.start.bytes())?;
+    put_field(out, width, 10, &SALSA20.to_le_bytes())?;
+    Ok(())
+}
+
+// Puts the fields of a header at the end, but for the one that ends them.
+fn put_fields(
+    alloc: Global,
+    out: &mut Bytes,
+    settings: &Settings,
+    draws: &Draws,
+) -> Result<(), NoMemory>
+    requires { IsInOrder settings.now }
+    ensures { OnOk result (out.new
+        ≡ out.old ++ flat_map (spelled_field_with (length_width settings.now.version))
+        (header_fields settings.now.version settings.now draws.now)) }
+{
+    match settings.version {
+        FileVersion::V31 => put_fields_31(out, settings, draws),
+        FileVersion::V40 => put_fields_4(alloc, out, settings, draws),
+        FileVersion::V41 => put_fields_4(alloc, out, settings, draws),
     }
 }
 
@@ -80,20 +170,13 @@ fn put_public(out: &mut Bytes, public: &Option<Bytes>) -> Result<(), NoMemory>
 /// ([`kdbx_spelling::laws::headers_read_back`]). The only refusal is that memory ran out.
 #[tactic(auto, unfolding(kdbx_spelling::specs::Header::spelled_header))]
 pub fn write_header(alloc: Global, settings: &Settings, draws: &Draws) -> Result<Bytes, NoMemory>
-    requires in_order { IsInOrder settings.now }
-    requires version { IsVersion4 settings.now.version }
+    requires { IsInOrder settings.now }
     ensures { IfOk result (λ b. b ≡ spelled_header settings.now draws.now) }
 {
     let mut out = Bytes::new(alloc);
     out.add(&SIGNATURE)?;
     out.add(&version_number(settings.version).to_le_bytes())?;
-    put_field(&mut out, 2, &cipher_id(settings.cipher))?;
-    put_field(&mut out, 3, &0u32.to_le_bytes())?;
-    put_field(&mut out, 4, draws.seed.bytes())?;
-    put_field(&mut out, 7, &draws.iv.bytes()[..iv_len(settings.cipher)])?;
-    let kdf = kdf_bytes(alloc, &settings.kdf, draws.kdf.bytes())?;
-    put_field(&mut out, 11, kdf.as_slice())?;
-    put_public(&mut out, &settings.public)?;
-    put_field(&mut out, 0, b"\r\n\r\n")?;
+    put_fields(alloc, &mut out, settings, draws)?;
+    put_field(&mut out, length_width(settings.version), 0, b"\r\n\r\n")?;
     Ok(out)
 }

@@ -1,4 +1,4 @@
-//! Headers and inner fields of KDBX 4.0 and 4.1 as they are written.
+//! Headers, and inner fields of KDBX 4.0 and 4.1, as they are written.
 #![tactic(auto)]
 
 mod header;

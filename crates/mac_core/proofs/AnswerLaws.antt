@@ -4,7 +4,7 @@ use Rattle.std.proofs.lemmas.List.{append_assoc}
 use Rattle.mac_core.specs.Answers.{FeedReturns, AtEnd, Start}
 use Rattle.mac_core.specs.Blocks.{IsContent, block, blocks, concat_contents, mac_of, length_prefixed}
 use Rattle.mac_core.specs.declared.fail.BlockFail.{BlockFail}
-use Rattle.mac_core.specs.declared.fail.BlockFail.TheVariants.{BlockMac, Truncated}
+use Rattle.mac_core.specs.declared.fail.BlockFail.TheVariants.{BlockMac}
 use Rattle.mac_core.proofs.OneReading.{Stop, one_reading}
 
 -- what an answer tells of the bytes: the contents of the right blocks, and what stops behind them
@@ -43,7 +43,7 @@ told start out bytes (Err (BlockMac i)) a = record {
     },
   );
 }
-told start out bytes (Err (Truncated n)) a = absurd a
+told start out bytes (Err fail) a = absurd a
 
 -- two tellings of the same bytes are one
 one_telling : (base bytes : List ℕ) (x y : Result Bool BlockFail) (a : Told base bytes x) (b : Told base bytes y)
@@ -84,7 +84,7 @@ still_refused start out other bytes more (BlockMac i) a = record {
   wrong = a.wrong;
   is = ap (λ (b : List ℕ). b ++ more) a.is ∙ append_assoc (blocks start.base 0 a.contents ++ (a.mac ++ length_prefixed a.content)) a.tail more;
 }
-still_refused start out other bytes more (Truncated n) a = absurd a
+still_refused start out other bytes more fail a = absurd a
 
 -- bytes behind the end block change nothing
 pub still_ended : (start : Start) (out bytes more : List ℕ) → AtEnd start out bytes → AtEnd start out (bytes ++ more)

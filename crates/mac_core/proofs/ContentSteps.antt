@@ -155,6 +155,7 @@ module _ (base : List ℕ) (size : ℕ) where
   contents_of-AreContents bytes (Ok content) s = contents_of-IsWhole bytes s.0 s.1.0 ∙ ap Ok (sym s.1.1)
   contents_of-AreContents bytes (Err (BlockMac i)) s = contents_of-IsDamaged bytes i s
   contents_of-AreContents bytes (Err (Truncated place)) s = contents_of-IsUnfinished bytes s.1.0 s.1.1.0 s.1.1.1 ∙ ap (λ (n : ℕ). Err (Truncated n)) (sym s.0)
+  contents_of-AreContents bytes (Err fail) s = absurd s
 
 -- ---- from the function to what is in the blocks
 
@@ -221,7 +222,7 @@ module _ (bytes : List ℕ) (low : Low bytes) (whole : 36 + size_in bytes ≤ le
       ∙ ap (λ (xs : List ℕ). (mac ++ (xs ++ content)) ++ rest) (sym size_is)
 
 -- what four bytes are written for is small
-number_small : (n : ℕ) → from_le_bytes w32 (to_le_bytes w32 n) < 2 ^ 32
+pub number_small : (n : ℕ) → from_le_bytes w32 (to_le_bytes w32 n) < 2 ^ 32
 number_small n = omega arith
 
 -- a whole block that begins with the head of its content is that content's block
@@ -382,7 +383,7 @@ module _ (base : List ℕ) (size : ℕ) where
       by : (x : Result (List ℕ) BlockFail) → AreContentsOfBytes bytes x → AreContents base size bytes x
       by (Ok content) s = s
       by (Err (BlockMac i)) s = s low
-      by (Err (Truncated n)) s = s
+      by (Err fail) s = s
 
   -- contents that are given are those of right blocks, whatever the numbers
   pub IsWhole-contents_of : (bytes content : List ℕ) → contents_of base size bytes ≡ Ok content → AreContents base size bytes (Ok content)

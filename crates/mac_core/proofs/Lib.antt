@@ -2,6 +2,9 @@ pub mod AnswerLaws
 pub mod BlockLists
 mod BlockVectors
 pub mod ContentSteps
+pub mod HashedBlocks
+pub mod HashedMoves
+mod HashedVectors
 mod HmacVectors
 pub mod JoiningSteps
 pub mod OneReading

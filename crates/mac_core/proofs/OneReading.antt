@@ -7,7 +7,7 @@ use Rattle.sha2.proofs.Facts256.{length-sha256}
 use Rattle.mac_core.specs.Blocks.{IsContent, block, blocks, mac_of, size_in, length_prefixed}
 use Rattle.mac_core.specs.Hmac.{hmac}
 use Rattle.mac_core.specs.declared.fail.BlockFail.{BlockFail}
-use Rattle.mac_core.specs.declared.fail.BlockFail.TheVariants.{BlockMac, Truncated}
+use Rattle.mac_core.specs.declared.fail.BlockFail.TheVariants.{BlockMac}
 use Rattle.mac_core.proofs.BlockLists.{size_in_head}
 
 -- the bytes begin with a whole block, whatever its MAC
@@ -101,7 +101,7 @@ abbrev pub Stop : List ℕ → ℕ → List ℕ → Result Bool BlockFail → Ty
 Stop base i rest (Ok true) = (tail : List ℕ) × (rest ≡ block base i [] ++ tail)
 Stop base i rest (Ok false) = length rest < 36 + size_in rest
 Stop base i rest (Err (BlockMac n)) = (n ≡ i) × IsWrong base i rest
-Stop base i rest (Err (Truncated n)) = ⊥
+Stop base i rest (Err _) = ⊥
 
 -- where a block with a content is due and right, nothing stops
 no_stop : (base : List ℕ) (i : ℕ) (content tail bytes : List ℕ) (x : Result Bool BlockFail) → IsContent content
@@ -114,24 +114,24 @@ no_stop base i content tail bytes (Ok true) is e stop =
     omega (arith, size, some)
 no_stop base i content tail bytes (Ok false) is e stop = not_part bytes (right_frame base i content tail bytes is.1 e) stop
 no_stop base i content tail bytes (Err (BlockMac n)) is e stop = not_wrong base i content tail bytes is.1 e stop.1
-no_stop base i content tail bytes (Err (Truncated n)) is e stop = stop
+no_stop base i content tail bytes (Err fail) is e stop = absurd stop
 
 -- the same bytes stop in one way
 one_stop : (base : List ℕ) (i : ℕ) (bytes : List ℕ) (x y : Result Bool BlockFail) → Stop base i bytes x → Stop base i bytes y → x ≡ y
 one_stop base i bytes (Ok true) (Ok true) s t = refl
 one_stop base i bytes (Ok true) (Ok false) s t = absurd (not_part bytes (right_frame base i [] s.0 bytes (omega arith) s.1) t)
 one_stop base i bytes (Ok true) (Err (BlockMac n)) s t = absurd (not_wrong base i [] s.0 bytes (omega arith) s.1 t.1)
-one_stop base i bytes (Ok true) (Err (Truncated n)) s t = absurd t
+one_stop base i bytes (Ok true) (Err fail) s t = absurd t
 one_stop base i bytes (Ok false) (Ok true) s t = absurd (not_part bytes (right_frame base i [] t.0 bytes (omega arith) t.1) s)
 one_stop base i bytes (Ok false) (Ok false) s t = refl
 one_stop base i bytes (Ok false) (Err (BlockMac n)) s t = absurd (not_part bytes t.1.frame s)
-one_stop base i bytes (Ok false) (Err (Truncated n)) s t = absurd t
+one_stop base i bytes (Ok false) (Err fail) s t = absurd t
 one_stop base i bytes (Err (BlockMac m)) (Ok true) s t = absurd (not_wrong base i [] t.0 bytes (omega arith) t.1 s.1)
 one_stop base i bytes (Err (BlockMac m)) (Ok false) s t = absurd (not_part bytes s.1.frame t)
 one_stop base i bytes (Err (BlockMac m)) (Err (BlockMac n)) s t =
     let refused : ℕ → Result Bool BlockFail = λ k. Err (BlockMac k) in ap refused (s.0 ∙ sym t.0)
-one_stop base i bytes (Err (BlockMac m)) (Err (Truncated n)) s t = absurd t
-one_stop base i bytes (Err (Truncated m)) y s t = absurd s
+one_stop base i bytes (Err (BlockMac m)) (Err fail) s t = absurd t
+one_stop base i bytes (Err fail) y s t = absurd s
 
 -- the bytes are right blocks, and what stops behind them
 pub record Reading (base bytes : List ℕ) (i : ℕ) (x : Result Bool BlockFail) : Type 0 where

@@ -16,7 +16,7 @@ module _ (base : List ℕ) (offset : ℕ) (before out bytes : List ℕ) where
   pub feed_refused : (fail : BlockFail) → FeedReturns (started base offset before) out bytes (Err fail)
       → contents_of base (offset + length bytes) bytes ≡ Err fail
   feed_refused (BlockMac i) h = contents_of-AreContents base (offset + length bytes) bytes (Err (BlockMac i)) h
-  feed_refused (Truncated n) h = absurd h
+  feed_refused fail h = absurd h
 
   -- no end block was read
   pub end_refused : (ended : Bool) (fail : BlockFail) → FeedReturns (started base offset before) out bytes (Ok ended)
@@ -24,7 +24,7 @@ module _ (base : List ℕ) (offset : ℕ) (before out bytes : List ℕ) where
   end_refused true (Truncated n) a h = absurd (h.1 out a)
   end_refused false (Truncated n) a h =
       contents_of-AreContents base (offset + length bytes) bytes (Err (Truncated n)) (h.0, (a.contents, (a.rest, a.unfinished)))
-  end_refused ended (BlockMac i) a h = absurd h
+  end_refused ended fail a h = absurd h
 
   -- the end block was read
   pub end_read : before ≡ [] → AtEnd (started base offset before) out bytes → contents_of base (offset + length bytes) bytes ≡ Ok out

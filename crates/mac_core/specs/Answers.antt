@@ -30,7 +30,7 @@ abbrev pub FeedReturns : Start → List ℕ → List ℕ → Result Bool BlockFa
 FeedReturns start out bytes (Ok true) = AtEnd start out bytes
 FeedReturns start out bytes (Ok false) = AtPart start out bytes
 FeedReturns start out bytes (Err (BlockMac i)) = IsDamaged start.base bytes i
-FeedReturns start out bytes (Err (Truncated place)) = ⊥
+FeedReturns start out bytes (Err _) = ⊥
 
 -- what an answer of `end` says: Truncated carries the place after the last byte, and no end block
 -- was read
@@ -38,4 +38,4 @@ abbrev pub EndReturns : Start → List ℕ → List ℕ → Result (Unit {0}) Bl
 EndReturns start out bytes (Ok _) = AtEnd start out bytes
 EndReturns start out bytes (Err (Truncated place)) =
     (place ≡ start.place + length bytes) × ((other : List ℕ) → AtEnd start other bytes → ⊥)
-EndReturns start out bytes (Err (BlockMac i)) = ⊥
+EndReturns start out bytes (Err _) = ⊥

@@ -41,3 +41,4 @@ AreContents base size bytes (Err (BlockMac i)) = IsDamaged base bytes i
 AreContents base size bytes (Err (Truncated offset)) =
     (offset ≡ size) × ((parts : List (List ℕ))
     × ((rest : List ℕ) × IsUnfinished base bytes parts rest))
+AreContents base size bytes (Err _) = ⊥

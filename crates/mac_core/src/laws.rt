@@ -1,11 +1,12 @@
-//! What holds of the blocks of a KDBX 4 file, and of the answers of a block reader whatever the
-//! pieces were that it was fed with. Each law is a function whose contract is the law; it computes
+//! What holds of the blocks of a file, and of the answers of a block reader whatever the pieces were
+//! that it was fed with. Each law is a function whose contract is the law; it computes
 //! nothing.
 
-ghost use Rattle.std.specs.Prelude.{◌≡◌, ℕ, ◌<◌, List, [], ◌++◌, length, slice_index, All, Bool, true, Result, OnOk};
+ghost use Rattle.std.specs.Prelude.{◌≡◌, ℕ, ◌<◌, List, [], ◌++◌, length, slice_index, All, Bool, true, Result, Ok, Err, OnOk};
 ghost use Rattle.mac_core.specs.Answers.{FeedReturns, Start};
 ghost use Rattle.mac_core.specs.Blocks.{IsContent, block, blocks, concat_contents};
 ghost use Rattle.mac_core.specs.Contents.{AreContents, contents_of};
+ghost use Rattle.mac_core.specs.HashedBlocks.{AreHashed, hashed_contents_of};
 ghost use Rattle.mac_core.specs.declared.fail.BlockFail.{BlockFail};
 
 /// The same bytes have one answer, and where it is no refusal one output.
@@ -46,4 +47,16 @@ pub fn contents_of_blocks()
         → AreContents base size bytes (contents_of base size bytes) }
     ensures right { (base : List ℕ) (size : ℕ) (bytes content : List ℕ)
         → contents_of base size bytes ≡ Ok content → AreContents base size bytes (Ok content) }
+{}
+
+/// `hashed_contents_of` gives the contents of right hashed blocks and a right end block, whatever
+/// follows them; and contents that it gives are those of such blocks.
+pub fn contents_of_hashed_blocks()
+    ensures value { (size : ℕ) (bytes : List ℕ) (contents : List (List ℕ))
+        → AreHashed bytes contents
+        → hashed_contents_of size bytes ≡ Ok (concat_contents contents) }
+    ensures right { (size : ℕ) (bytes content : List ℕ)
+        → hashed_contents_of size bytes ≡ Ok content
+        → (contents : List (List ℕ))
+        × (AreHashed bytes contents × (content ≡ concat_contents contents)) }
 {}

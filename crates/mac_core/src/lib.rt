@@ -1,8 +1,10 @@
-//! Message authentication: HMAC-SHA-256, and the authenticated blocks of a KDBX 4 file.
+//! Message authentication: HMAC-SHA-256, and the authenticated blocks of a KDBX 4 file; and the
+//! hashed blocks of a KDBX 3.1 file.
 #![tactic(auto)]
 
 pub use contents::read_contents;
 pub use fail::BlockFail;
+pub use hashed::{hashed_head, join_hashed};
 pub use hmac::Hmac256;
 pub use reader::BlockReader;
 pub use running_mac::block_key;
@@ -10,6 +12,7 @@ pub use writer::BlockWriter;
 
 mod contents;
 mod fail;
+mod hashed;
 mod head;
 mod hmac;
 pub mod laws;

@@ -41,8 +41,8 @@ pub struct State<'a> {
     phase: Phase,
 }
 
-// Whether two MACs are the same.
-fn is_same(found: &[u8], kept: &[u8]) -> bool
+/// Whether two MACs or hashes are the same.
+pub fn is_same(found: &[u8], kept: &[u8]) -> bool
     ensures { IsTrue result ↔ (found.now ≡ kept.now) }
 {
     found == kept

@@ -1,13 +1,12 @@
 use Rattle.std.proofs.Common.{sym, subst}
 use Rattle.vault_making.specs.NeededVersion.{later, needed_version}
 use Rattle.vault_model.specs.SeenDoc.{doc_seen}
-use Rattle.cli_sealing.proofs.Sealed.{in_order, is_late, is_version4}
+use Rattle.cli_sealing.proofs.Sealed.{in_order, is_late}
 use Rattle.cli_sealing.proofs.sealing.write_sealed.Goals as goal
 
 pub seal-requires : goal.seal-requires
 seal-requires g c =
     rw c.raise.ensures (record {
       in_order = in_order c.args.sealing.now.settings (doc_seen c.args.doc.now) c.requires;
-      version = is_version4 (needed_version (doc_seen c.args.doc.now)) c.args.sealing.now.settings.version;
       needed = is_late (needed_version (doc_seen c.args.doc.now)) c.args.sealing.now.settings.version;
     })

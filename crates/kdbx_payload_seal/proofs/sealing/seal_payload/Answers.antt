@@ -6,5 +6,5 @@ use Rattle.kdbx_payload_seal.proofs.sealing.seal_payload.Goals as goal
 pub returns-in-Ok-put_with_composite-clause-sealed : goal.returns-in-Ok-put_with_composite-clause-sealed
 returns-in-Ok-put_with_composite-clause-sealed g c =
     made_is_sealed c.args.settings.now c.args.draws c.args.composite.now c.args.plain.bytes
-    c.requires.version c.requires.in_order c.requires.drawn
-    (omega (arith, c.if-end-gt-LIMIT.false, c.len.ensures, ap length c.in-Ok.ensures)) c.in-Ok-put_with_composite.ensures.undone
+    c.requires.in_order c.requires.drawn
+    (omega (arith, c.if-end-gt-LIMIT.false, c.len.ensures, c.sums_len.ensures.value, ap length c.in-Ok.ensures)) c.in-Ok-put_with_composite.ensures.undone

@@ -2,6 +2,7 @@ use Rattle.std.proofs.Common.{ℕ, ◌+◌, List, length, option_map, ap, ◌∙
 use Rattle.std.specs.FinMap as map
 use Rattle.outside_core.specs.Files.{FileMap}
 use Rattle.vault_model.specs.SeenDoc.{doc_seen}
+use Rattle.kdbx_frame.specs.Header.{sums_len}
 use Rattle.kdbx_spelling.specs.Header.{spelled_header}
 use Rattle.kdbx_seal.specs.Answers.{written_document}
 use Rattle.kdbx_seal.specs.Made.{document_text}
@@ -23,11 +24,11 @@ returns-in-Ok-seal_payload-clause-sealed g c =
 pub returns-in-Ok-seal_payload-clause-refusal : goal.returns-in-Ok-seal_payload-clause-refusal
 returns-in-Ok-seal_payload-clause-refusal g c =
     let d = doc_seen c.args.doc.now in
-    not_refused (written_document c.args.draws d) (document_text c.args.draws d) (length (spelled_header c.args.settings.now c.args.draws) + 64)
+    not_refused (written_document c.args.settings.now c.args.draws d) (document_text c.args.settings.now c.args.draws d) (length (spelled_header c.args.settings.now c.args.draws) + sums_len c.args.settings.now.version)
     c.in-Ok.ensures.within c.in-Ok-seal_payload.ensures.end
 
 pub returns-in-Err-seal_payload-clause-refusal : goal.returns-in-Err-seal_payload-clause-refusal
 returns-in-Err-seal_payload-clause-refusal g c =
     let d = doc_seen c.args.doc.now in
-    refused c.in-Err-seal_payload.refusal c.from-in-Err-seal_payload.result (written_document c.args.draws d) (document_text c.args.draws d)
-    (length (spelled_header c.args.settings.now c.args.draws) + 64) c.from-in-Err-seal_payload.ensures c.in-Ok.ensures.within c.in-Err-seal_payload.ensures.end
+    refused c.in-Err-seal_payload.refusal c.from-in-Err-seal_payload.result (written_document c.args.settings.now c.args.draws d) (document_text c.args.settings.now c.args.draws d)
+    (length (spelled_header c.args.settings.now c.args.draws) + sums_len c.args.settings.now.version) c.from-in-Err-seal_payload.ensures c.in-Ok.ensures.within c.in-Err-seal_payload.ensures.end

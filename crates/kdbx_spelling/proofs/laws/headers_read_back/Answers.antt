@@ -1,5 +1,8 @@
-use Rattle.kdbx_spelling.proofs.HeaderReading.{header_again}
+use Rattle.kdbx_spelling.proofs.HeaderReading.{header_again, header_again_31}
 use Rattle.kdbx_spelling.proofs.laws.headers_read_back.Goals as goal
 
-pub returns : goal.returns
-returns c = header_again
+pub returns-clause-four : goal.returns-clause-four
+returns-clause-four c = header_again
+
+pub returns-clause-three : goal.returns-clause-three
+returns-clause-three c = header_again_31
