@@ -4,8 +4,11 @@
 //     mcs -r:/usr/lib/keepass2/KeePass.exe -out:keepass2-database.exe keepass2-database.cs
 //     MONO_PATH=/usr/lib/keepass2 mono keepass2-database.exe FILE CIPHER PASSWORD KEYFILE
 //
-// CIPHER is aes256 or chacha20, which KeePass 2 has of its own; an empty PASSWORD or KEYFILE is none.
+// CIPHER is aes256 or chacha20, which KeePass 2 has of its own; an empty PASSWORD or KEYFILE is none. KeePass 2 would write a
+// database under ChaCha20 as KDBX 4, so that its version is asked for.
 using System;
+using System.IO;
+using System.Reflection;
 using System.Text;
 using KeePassLib;
 using KeePassLib.Collections;
@@ -82,7 +85,10 @@ static class KeePass2Database
         database.KdfParameters.SetUInt64(AesKdf.ParamRounds, 1000);
         derivation.Randomize(database.KdfParameters);
         Fill(database);
-        database.SaveAs(place, true, new NullStatusLogger());
+        var file = new KdbxFile(database);
+        var everything = BindingFlags.Instance | BindingFlags.Public | BindingFlags.NonPublic;
+        typeof(KdbxFile).GetProperty("ForceVersion", everything).SetValue(file, 0x00030001u, null);
+        using (var stream = new FileStream(words[0], FileMode.Create)) file.Save(stream, null, KdbxFormat.Default, new NullStatusLogger());
         return 0;
     }
 }
