@@ -239,6 +239,13 @@ two_edits() {
   works "$name: an entry that was there, again" 'Successfully edited entry Bank.' "$program" edit "$@" -p --notes 'new notes' FILE "$bank"
 }
 
+# of_version VERSION: FILE has this number of its version.
+of_version() {
+  od -An -tx4 -j 8 -N 4 FILE >report.txt
+  [ "$(tr -d ' ' <report.txt)" = "$1" ]
+  judged "$name: the version stays" $?
+}
+
 # seen_by HOW BEFORE PASSWORD KEYFILE: what another program reads of FILE.
 seen_by() {
   "$changing/compare" "$1" "$2" FILE "$3" "$4" >report.txt 2>&1 </dev/null
@@ -261,6 +268,9 @@ entries_of_other_programs() {
       lines=
     fi
     two_edits "${words[@]}"
+    case $name in
+      *-3.1 | *-3.1-*) of_version 00030001 ;;
+    esac
     if [ -n "$with_pykeepass" ]; then seen_by pykeepass "$1/$name.kdbx" "$password" "$key_file"; fi
     if [ -n "$keepassxc" ]; then seen_by keepassxc - "$password" "$key_file"; fi
   done < <(tr '\t' '\037' <"$1/databases")
@@ -307,6 +317,7 @@ changed_files() {
     "$with_pykeepass" "$changing/make" sealed large.kdbx "$secret"
     on_a_full_disk 'sealed: a full disk' large.kdbx 5m edit -u me disk/FILE Title
     many_times 'sealed: killed' "$changing/killed" "$program" large.kdbx "$secret" 100
+    many_times 'versions of files of KDBX 3.1' "$with_pykeepass" "$changing/versions" "$program" $(command -v keepassxc-cli >/dev/null && echo keepassxc)
   fi
   cp "$1/keepassxc-saved-by-pykeepass.kdbx" FILE
   many_times 'sealed: two at once' "$changing/together" "$program" FILE "$secret" 20

@@ -10,7 +10,6 @@ import joining
 from joining import documents
 
 moving = documents.loaded("moving", "against")
-CIPHERS = "aes", "chacha20", "twofish"
 
 
 class Plain(moving.Plain):
@@ -28,7 +27,7 @@ class Sealed(moving.Sealed):
         self.file, self.password, self.key_file, self.number = file, password, key_file, number
 
     def put(self, text):
-        super().put(text, CIPHERS[self.number % 3], self.number // 3 % 2)
+        super().put(text, self.number)
 
 
 class Trial:

@@ -150,7 +150,7 @@ merges_of_other_programs() {
   while IFS=$'\x1f' read -r name password key_file; do
     asked=()
     case $name in
-      keepassxc-* | pykeepass-4.1-* | file-kdbx-4.1-*) if [ -n "$keepassxc" ]; then asked=(keepassxc); fi ;;
+      keepassxc-* | pykeepass-4.1-* | file-kdbx-4.1-* | *-3.1 | *-3.1-*) if [ -n "$keepassxc" ]; then asked=(keepassxc); fi ;;
     esac
     compared "$name: two copies merged" "$with_pykeepass" "$merging/others" "$program" "$1/$name.kdbx" "$password" "$key_file" "${asked[@]}"
   done < <(tr '\t' '\037' <"$1/databases")

@@ -67,7 +67,7 @@ nodes_of_other_programs() {
   while IFS=$'\x1f' read -r name password key_file; do
     asked=()
     case $name in
-      keepassxc-* | pykeepass-4.1-* | file-kdbx-4.1-*) if [ -n "$keepassxc" ]; then asked=(keepassxc); fi ;;
+      keepassxc-* | pykeepass-4.1-* | file-kdbx-4.1-* | *-3.1 | *-3.1-*) if [ -n "$keepassxc" ]; then asked=(keepassxc); fi ;;
     esac
     compared "$name: nodes moved and removed" "$with_pykeepass" "$moving/others" "$program" "$1/$name.kdbx" "$password" "$key_file" "${asked[@]}"
   done < <(tr '\t' '\037' <"$1/databases")
@@ -98,7 +98,7 @@ moved_files() {
     "$with_pykeepass" "$changing/make" sealed large.kdbx "$secret"
     on_a_full_disk 'sealed: a full disk, moved' large.kdbx 5m rm disk/FILE Title
     many_times 'sealed: moves killed' "$moving/killed" "$program" large.kdbx "$secret" 50
-    for name in file-kdbx-chacha20-aeskdf pykeepass-twofish-argon2id; do
+    for name in file-kdbx-chacha20-aeskdf pykeepass-twofish-argon2id keepass2-3.1-aes; do
       compared "$name: drawn calls, seed $seed" "$with_pykeepass" "$moving/against" "$program" found "$seed" 25 "$1/$name.kdbx" "$secret" ''
     done
     nodes_of_other_programs "$1"

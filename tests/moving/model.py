@@ -255,9 +255,10 @@ def pool_of(document):
 
 
 class Writer:
-    """Writes a document by itself, or, where there is a stream, as a file of KDBX 4 holds it."""
+    """Writes a document by itself, or, where there is a stream, as a file of KDBX 4 holds it, or, with the hash of a header, one of 3.1."""
 
-    def __init__(self, document, stream=None):
+    def __init__(self, document, stream=None, header_hash=None):
+        self.header_hash = header_hash
         self.stream, self.pool, self.parts = stream, pool_of(document), ['<?xml version="1.0" encoding="utf-8"?>\n']
         with_parts = self.open("KeePassFile")
         self.meta(document["Meta"])
@@ -286,7 +287,7 @@ class Writer:
         return escaped(value) if isinstance(value, str) else str(value)
 
     def time(self, value):
-        if self.stream is not None:
+        if self.stream is not None and self.header_hash is None:
             return base64.b64encode(value.to_bytes(8, "little")).decode()
         return (reading.YEAR_1 + datetime.timedelta(seconds=value)).isoformat() + "Z"
 
@@ -313,6 +314,8 @@ class Writer:
     def meta(self, meta):
         self.open("Meta")
         self.value("Generator", "vaultmerge")
+        if self.header_hash is not None:
+            self.value("HeaderHash", self.header_hash)
         self.value("SettingsChanged", Time(meta["SettingsChanged"]))
         for name in ("DatabaseName", "DatabaseDescription", "DefaultUserName"):
             self.text_value(name, meta[name])
@@ -328,7 +331,7 @@ class Writer:
                               ("EntryTemplatesGroupChanged", 1), ("LastSelectedGroup", 0), ("LastTopVisibleGroup", 0),
                               ("HistoryMaxItems", 0), ("HistoryMaxSize", 0)):
             self.value(name, Time(meta[name]) if is_time else meta[name])
-        if self.stream is None:
+        if self.stream is None or self.header_hash is not None:
             self.binaries()
         self.open("CustomData")
         self.items(meta["CustomData"])
@@ -353,7 +356,10 @@ class Writer:
     def binaries(self):
         self.open("Binaries")
         for (content, hidden), number in self.pool.items():
-            self.value("Binary", content, f' ID="{number}"' + (' ProtectInMemory="True"' if hidden else ""))
+            mark = ' ProtectInMemory="True"' if self.stream is None else ' Protected="True"'
+            if hidden and self.stream is not None:
+                content = self.stream(content)
+            self.value("Binary", content, f' ID="{number}"' + (mark if hidden else ""))
         self.close("Binaries")
 
     def items(self, custom_data):
@@ -477,6 +483,13 @@ def needs_4_1(document):
     return (any(node["Tags"] for is_entry, node in nodes if not is_entry) or any(node["PreviousParentGroup"] != NIL for _, node in nodes)
             or any(not version["QualityCheck"] for version in versions) or any(item["LastModificationTime"] for item in items)
             or any(icon["Name"] or icon["LastModificationTime"] for icon in document["Meta"]["CustomIcons"]["Icon"].values()))
+
+
+def needed_version(document):
+    """The first version of KDBX in which a document can be, as a file has its number: items of groups and entries came with 4.0."""
+    nodes = [(is_entry, found.node) for is_entry, found in walk(document["Root"])]
+    parts = [part for is_entry, node in nodes for part in [node, *(node["History"]["Entry"] if is_entry else [])]]
+    return 0x00040001 if needs_4_1(document) else 0x00040000 if any(part["CustomData"]["Item"] for part in parts) else 0x00030001
 
 
 def new_id(drawn):

@@ -1,5 +1,5 @@
 #!/usr/bin/python3
-"""A slow reader of KDBX 4.0 and 4.1 files, written from the rules alone: the second pair of eyes on tests/opening/rows.
+"""A slow reader of KDBX 3.1, 4.0 and 4.1 files, written from the rules alone: the second pair of eyes on tests/opening/rows.
 
     reference.py ls [-R] [-f] [-q] [-k FILE] [--no-password] DATABASE [GROUP]
                              prints what the program should print, and gives its status
@@ -17,12 +17,15 @@ found.loader.exec_module(plain)
 Refused = plain.Refused
 
 SIGNATURE = bytes.fromhex("03d9a29a67fb4bb5")
-VERSION_4_0, VERSION_4_1 = 0x00040000, 0x00040001
-HEADER_LIMIT, FILE_LIMIT, LINE_LIMIT = 65536, 134217728, 4096
+VERSION_3_1, VERSION_4_0, VERSION_4_1 = 0x00030001, 0x00040000, 0x00040001
+HEADER_LIMIT, FILE_LIMIT, LINE_LIMIT, ROUNDS_LIMIT = 65536, 134217728, 4096, 4294967296
 CIPHERS = {"31c1f2e6-bf71-4350-be58-05216afc5aff": "aes", "ad68f29f-576f-4bb9-a36a-d47af965346c": "twofish",
            "d6038a2b-8b6f-4cb5-a524-339a31dbb59a": "chacha20"}
 KDFS = {"c9d9f39a-628a-4460-bf74-0d08c18a4fea": "aes", "7c02bb82-79a7-4ac0-927d-114a00648238": "aes",
         "ef636ddf-8c29-444b-91f7-a9a403e30a0c": "argon2d", "9e298b19-56db-4773-b23d-fc3ec6f0a1e6": "argon2id"}
+# The fields of a header that count: those of 3.1, those of 4.x, and the lengths that some of them must have.
+FIELDS_3, FIELDS_4 = (2, 3, 4, 5, 6, 7, 8, 9, 10), (2, 3, 4, 7, 11, 12)
+FIELD_SIZES = {2: 16, 3: 4, 4: 32, 5: 32, 6: 8, 9: 32, 10: 4}
 SIZES = {4: 4, 5: 8, 8: 1, 0x0C: 4, 0x0D: 8}
 LIMIT = Refused(8, "limit passed")
 
@@ -47,19 +50,21 @@ def kept_and_found(kept, computed):
 
 
 class Header:
-    """The fields of a header, where it ends, and the two numbers after it."""
+    """The fields of a header, where it ends, and in 4.x the two numbers after it."""
 
     def __init__(self, data):
         if data[:8] != SIGNATURE:
             raise Refused(4, "not a KDBX file")
         self.data, self.at, self.fields = data, 8, {}
         version = little(self.part(4))
-        if version not in (VERSION_4_0, VERSION_4_1):
+        if version not in (VERSION_3_1, VERSION_4_0, VERSION_4_1):
             raise Refused(5, f"version {version}")
+        self.is_old = version == VERSION_3_1
         while self.field() != 0:
             pass
         self.size = self.at
-        self.hash, self.code = self.part(32), self.part(32)
+        if not self.is_old:
+            self.hash, self.code = self.part(32), self.part(32)
         self.body = self.at
 
     def part(self, size):
@@ -73,20 +78,19 @@ class Header:
         return self.data[end - size : end]
 
     def field(self):
-        number, size = struct.unpack("<BI", self.part(5))
+        number, size = struct.unpack("<BH", self.part(3)) if self.is_old else struct.unpack("<BI", self.part(5))
         content = self.part(size)
-        if number in (2, 3, 4, 7, 11, 12):
-            if number in self.fields or size != {2: 16, 3: 4, 4: 32}.get(number, size):
+        if number in (FIELDS_3 if self.is_old else FIELDS_4):
+            if number in self.fields or size != FIELD_SIZES.get(number, size):
                 raise Refused(4, f"bad header field {number}")
             self.fields[number] = dictionary(content) if number == 11 else content
         return number
 
     def settle(self):
         """What is tried once the header is whole, in its order."""
-        computed = sha256(self.data[: self.size])
-        if computed != self.hash:
-            raise kept_and_found(self.hash, computed)
-        for number in (2, 3, 4, 7, 11):
+        if not self.is_old and sha256(self.data[: self.size]) != self.hash:
+            raise kept_and_found(self.hash, sha256(self.data[: self.size]))
+        for number in FIELDS_3 if self.is_old else FIELDS_4[:5]:
             if number not in self.fields:
                 raise Refused(4, f"bad header field {number}")
         named = str(uuid.UUID(bytes=self.fields[2]))
@@ -97,7 +101,12 @@ class Header:
             raise Refused(4, "bad header field 7")
         if little(self.fields[3]) != 0:
             raise Refused(5, "compressed")
-        self.kdf = settled_kdf(self.fields[11])
+        if self.is_old:
+            self.kdf = "aes", little(self.fields[6]), 0, 0, self.fields[5]
+            if self.kdf[1] > ROUNDS_LIMIT:
+                raise LIMIT
+        else:
+            self.kdf = settled_kdf(self.fields[11])
         return self
 
 
@@ -159,7 +168,7 @@ def settled_kdf(items):
     numbers = {key: little(value) for key, (_, value) in items.items()}
     salt = items[b"S"][1]
     if kind == "aes":
-        if numbers[b"R"] > 4294967296:
+        if numbers[b"R"] > ROUNDS_LIMIT:
             raise LIMIT
         return kind, numbers[b"R"], 0, 0, salt
     if numbers[b"V"] != 0x13:
@@ -284,7 +293,8 @@ def cipher_of(header, key):
 
 
 def deciphered(header, keys):
-    text = contents(header, keys)
+    """The deciphered bytes of a file: in 4.x of the blocks' contents, in 3.1 of all after the header."""
+    text = header.data[header.body :] if header.is_old else contents(header, keys)
     if header.cipher == "chacha20":
         return cipher_of(header, keys.cipher).decrypt(text) if text else b""
     faulty = Refused(3, "wrong key or damaged")
@@ -295,6 +305,24 @@ def deciphered(header, keys):
     if not 1 <= padding <= 16 or text[-padding:] != bytes([padding]) * padding:
         raise faulty
     return text[:-padding]
+
+
+def hashed_contents(start, text):
+    """The joined contents of the hashed blocks in the deciphered bytes of a file of 3.1, which begin with its start bytes."""
+    if text[:32] != start:
+        raise Refused(3, "wrong key or damaged")
+    joined, at, index = [], 32, 0
+    while True:
+        number, code, size = text[at : at + 4], text[at + 4 : at + 36], text[at + 36 : at + 40]
+        content = text[at + 40 : at + 40 + little(size)]
+        if len(size) < 4 or len(content) < little(size):
+            raise Refused(4, f"ends early at {len(text)}")
+        if little(number) != index or code != (sha256(content) if content else bytes(32)):
+            raise Refused(3, f"damaged block {index}")
+        if not content:
+            return b"".join(joined)
+        joined.append(content)
+        at, index = at + 40 + len(content), index + 1
 
 
 def inner_fields(text):
@@ -349,7 +377,7 @@ class SealedReader(plain.Reader):
     def open(self, element, rule, opened):
         """Puts the plain bytes in the place of the base64, so that the rule of the element's kind reads them."""
         del element.attributes["Protected"]
-        if rule == "attached" or rule is plain.base64_bytes:
+        if rule in ("attached", "pooled") or rule is plain.base64_bytes:
             element.text = base64.b64encode(opened).decode()
         elif rule is not None and not isinstance(rule, dict):
             try:
@@ -362,11 +390,17 @@ SEALED_META = {name: rule for name, rule in plain.META.items() if name != "Binar
 SEALED_TEXT = {"KeePassFile": plain.last({"Meta": plain.last(SEALED_META), "Root": plain.once(plain.ROOT)})}
 
 
-def document(text, stream, pool):
-    """The root group of a document."""
+def document(text, stream, pool=None, header_hash=None):
+    """The root group of a document. Without a pool it is one of 3.1: its binaries, and the hash of its header, are in Meta."""
     outermost = plain.Element(0, {})
-    SealedReader(text, stream).inside(outermost, SEALED_TEXT, 0)
+    SealedReader(text, stream).inside(outermost, plain.TEXT if pool is None else SEALED_TEXT, 0)
     file = outermost.one("KeePassFile")
+    meta = file and file.one("Meta")
+    if pool is None:
+        binaries = meta and meta.one("Binaries")
+        pool = {binary.number for binary in binaries.all("Binary")} if binaries else set()
+    else:
+        pool = set(range(len(pool)))
     root = file and file.one("Root")
     group = root and root.one("Group")
     if group is None:
@@ -378,9 +412,12 @@ def document(text, stream, pool):
     if twice:
         raise Refused(4, f"duplicate id {uuid.UUID(bytes=twice[0])}")
     versions = entries + [item for entry in entries if entry.one("History") for item in entry.one("History").all("Entry")]
-    missing = sorted(at for version in versions for at in plain.references(version) if at[1] >= len(pool))
+    missing = sorted(at for version in versions for at in plain.references(version) if at[1] not in pool)
     if missing:
         raise Refused(4, f"no binary {missing[0][1]}")
+    kept = meta and meta.one("HeaderHash")
+    if header_hash is not None and kept and kept.value is not None and kept.value != header_hash:
+        raise kept_and_found(kept.value, header_hash)
     return group
 
 
@@ -390,6 +427,9 @@ def opened(data, composite):
         raise LIMIT
     header = Header(data).settle()
     keys = Keys(header, composite)
+    if header.is_old:
+        text = hashed_contents(header.fields[9], deciphered(header, keys))
+        return document(text, stream_of(little(header.fields[10]), header.fields[8]), header_hash=sha256(data[: header.size]))
     computed = keys.header_code(header)
     if computed != header.code:
         raise kept_and_found(header.code, computed)
@@ -547,7 +587,7 @@ def changed(data, change):
     if what == "cut":
         return data[:place]
     if what == "put":
-        return data[:place] + bytes.fromhex(numbers[1]) + data[place + len(numbers[1]) // 2 :]
+        return data[:place].ljust(place, b"\0") + bytes.fromhex(numbers[1]) + data[place + len(numbers[1]) // 2 :]
     raise ValueError(change)
 
 

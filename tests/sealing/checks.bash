@@ -31,6 +31,24 @@ sealed() {
   done
 }
 
+# sealed_old CIPHER: the document is sealed as KDBX 3.1, and every program finds it in the file. pykeepass and File::KDBX do not read hidden
+# attachments of such a file, so they are given the document with open ones, and File::KDBX one in which every time is set too.
+sealed_old() {
+  local all=("${others[@]}") other
+  sed 's/ ProtectInMemory="True">\([^<]*<\/Binary>\)/>\1/' "$sealing/document.xml" >open.xml
+  "$sealing/timed" open.xml >timed.xml
+  for other in "${all[@]}"; do
+    others=("$other")
+    case $other in
+      pykeepass) sealed 3.1 "$1" aes/1000 open.xml ;;
+      file-kdbx) sealed 3.1 "$1" aes/1000 timed.xml ;;
+      *) sealed 3.1 "$1" aes/1000 "$sealing/document.xml" ;;
+    esac
+  done
+  others=("${all[@]}")
+  rm open.xml timed.xml
+}
+
 # unpublished NAME COMMAND...: the command, which seals as sealed.kdbx, ends with a fault of the store; what sealed.kdbx was is as
 # it was, and there is no draft.
 unpublished() {
@@ -85,8 +103,8 @@ sealed_rows() {
   rm -rf limits small.xml
 }
 
-# sealed_documents: one document as KDBX 4.0 under each cipher with each key derivation, and what KDBX 4.1 added as 4.1 under
-# each cipher and each key derivation.
+# sealed_documents: one document as KDBX 4.0 under each cipher with each key derivation, as KDBX 3.1 under each cipher, and what KDBX
+# 4.1 added as 4.1 under each cipher and each key derivation.
 sealed_documents() {
   local password='one two three é' others=() cipher kdf rich=$top/crates/bench_sealing/data/rich.xml
   if [ -z "$sealer" ]; then
@@ -97,6 +115,7 @@ sealed_documents() {
   if /usr/bin/python3 -c 'import pykeepass' 2>/dev/null; then others+=(pykeepass); else echo 'skipped: sealed documents in pykeepass, which is not installed'; fi
   if perl -MFile::KDBX -MJSON::PP -e 1 2>/dev/null; then others+=(file-kdbx); else echo 'skipped: sealed documents in File::KDBX, which is not installed'; fi
   for cipher in aes twofish chacha20; do
+    sealed_old "$cipher"
     for kdf in aes/1000 argon2d/1/8388608/2 argon2id/1/8388608/2; do
       sealed 4.0 "$cipher" "$kdf" "$sealing/document.xml"
     done
