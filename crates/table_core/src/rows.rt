@@ -1,0 +1,115 @@
+//! Fields and rows.
+
+ghost use Rattle.std.specs.Prelude.{◌≡◌, flat_map, map, OnOk};
+ghost use Rattle.doc_spelling.specs.Moments.{iso_at};
+ghost use Rattle.table_core.specs.Rows.{entry_fields, header};
+ghost use Rattle.table_core.specs.Tables as spec;
+ghost use Rattle.table_core.specs.Tables.{after_commas, doubled, row_of};
+ghost use Rattle.vault_model.specs.SeenNodes.{entry_row};
+ghost use Rattle.vault_model.specs.Walk.{slash_joined};
+
+use crate::sinks::TableSink;
+use find_references::field_value;
+use outside_core::NoMemory;
+use time_core::{Stamp, iso_of};
+use vault_model::Entry;
+
+// Puts the bytes of a field, each quote twice.
+fn put_doubled<O: TableSink>(out: &mut O, field: &[u8]) -> Result<(), NoMemory>
+    ensures { OnOk result (O.state out.new
+        ≡ O.step (O.state out.old) (flat_map doubled field.now)) }
+{
+    for byte in field {
+        match *byte {
+            b'"' => out.put(b"\"\"")?,
+            byte => out.put(&[byte])?,
+        }
+    }
+    Ok(())
+}
+
+// Puts a field in quotes.
+fn put_quoted<O: TableSink>(out: &mut O, field: &[u8]) -> Result<(), NoMemory>
+    ensures { OnOk result (O.state out.new ≡ O.step (O.state out.old) (spec.quoted field.now)) }
+{
+    out.put(b"\"")?;
+    put_doubled(out, field)?;
+    out.put(b"\"")
+}
+
+// Puts fields, each after a comma.
+fn put_after_commas<O: TableSink>(out: &mut O, fields: &[&[u8]]) -> Result<(), NoMemory>
+    ensures { OnOk result (O.state out.new
+        ≡ O.step (O.state out.old) (after_commas (map (λ f. f.now) fields.now))) }
+{
+    for field in fields {
+        out.put(b",")?;
+        put_quoted(out, field)?;
+    }
+    Ok(())
+}
+
+// Puts the names that lead to a group, with a slash between each two, each quote twice.
+fn put_names<O: TableSink>(out: &mut O, names: &[&[u8]]) -> Result<(), NoMemory>
+    ensures { OnOk result (O.state out.new ≡ O.step (O.state out.old)
+        (flat_map doubled (slash_joined (map (λ n. n.now) names.now)))) }
+{
+    let [root, below @ ..] = names else {
+        return Ok(());
+    };
+    put_doubled(out, root)?;
+    for name in below {
+        out.put(b"/")?;
+        put_doubled(out, name)?;
+    }
+    Ok(())
+}
+
+// The text of a time.
+fn iso_text(stamp: Stamp) -> [u8; 20]
+    ensures { result ≡ iso_at stamp }
+{
+    iso_of(stamp)
+}
+
+// Puts what a row has after the names of the group: the values and times of an entry.
+fn put_values<O: TableSink>(out: &mut O, entry: &Entry) -> Result<(), NoMemory>
+{
+    let current = &entry.current;
+    put_after_commas(
+        out,
+        &[
+            field_value(entry, "Title"),
+            field_value(entry, "UserName"),
+            field_value(entry, "Password"),
+            field_value(entry, "URL"),
+            field_value(entry, "Notes"),
+            &iso_text(current.modified),
+            &iso_text(current.content.created),
+        ],
+    )
+}
+
+/// Puts the row with the names of the columns.
+pub(crate) fn put_header<O: TableSink>(out: &mut O) -> Result<(), NoMemory>
+    ensures { OnOk result (O.state out.new ≡ O.step (O.state out.old) (row_of header)) }
+{
+    out.put(b"\"Group\",\"Title\",\"Username\",\"Password\",")?;
+    out.put(b"\"URL\",\"Notes\",\"Last Modified\",\"Created\"\n")
+}
+
+/// Puts the row of an entry in a group to which these names lead from the root.
+pub(crate) fn put_entry<O: TableSink>(
+    out: &mut O,
+    names: &[&[u8]],
+    entry: &Entry,
+) -> Result<(), NoMemory>
+    ensures { OnOk result (O.state out.new ≡ O.step (O.state out.old)
+        (row_of (entry_fields (map (λ n. n.now) names.now) (entry_row entry.now)))) }
+{
+    out.put(b"\"")?;
+    put_names(out, names)?;
+    out.put(b"\"")?;
+    put_values(out, entry)?;
+    out.put(b"\n")
+}
