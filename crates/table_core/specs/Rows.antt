@@ -17,17 +17,21 @@ header = codes "Group" ∷ codes "Title" ∷ codes "Username" ∷ codes "Passwor
 abbrev pub current_value : List ℕ → EntryRecord → List ℕ
 current_value key entry = value_of key entry.current.mark.content.fields
 
+-- What the row of an entry has after its group: the values of its current version, when that was
+-- made, and when the entry was created.
+abbrev pub entry_values : EntryRecord → List (List ℕ)
+entry_values entry = current_value (codes "Title") entry
+    ∷ current_value (codes "UserName") entry
+    ∷ current_value (codes "Password") entry
+    ∷ current_value (codes "URL") entry
+    ∷ current_value (codes "Notes") entry
+    ∷ iso_at entry.current.mark.modified
+    ∷ iso_at entry.current.mark.content.created
+    ∷ []
+
 -- The row of an entry in the group to which these names lead from the root.
 abbrev pub entry_fields : List (List ℕ) → NodeId × EntryRecord → List (List ℕ)
-entry_fields names entry = slash_joined names
-    ∷ current_value (codes "Title") entry.1
-    ∷ current_value (codes "UserName") entry.1
-    ∷ current_value (codes "Password") entry.1
-    ∷ current_value (codes "URL") entry.1
-    ∷ current_value (codes "Notes") entry.1
-    ∷ iso_at entry.1.current.mark.modified
-    ∷ iso_at entry.1.current.mark.content.created
-    ∷ []
+entry_fields names entry = slash_joined names ∷ entry_values entry.1
 
 -- The rows of a group's entries, then those of its groups in their order; the names are those that
 -- lead to the group from the root, its own among them.

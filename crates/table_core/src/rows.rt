@@ -2,10 +2,10 @@
 
 ghost use Rattle.std.specs.Prelude.{◌≡◌, flat_map, map, OnOk};
 ghost use Rattle.doc_spelling.specs.Moments.{iso_at};
-ghost use Rattle.table_core.specs.Rows.{entry_fields, header};
+ghost use Rattle.table_core.specs.Rows.{entry_fields, entry_values, header};
 ghost use Rattle.table_core.specs.Tables as spec;
 ghost use Rattle.table_core.specs.Tables.{after_commas, doubled, row_of};
-ghost use Rattle.vault_model.specs.SeenNodes.{entry_row};
+ghost use Rattle.vault_model.specs.SeenNodes.{entry_record, entry_row};
 ghost use Rattle.vault_model.specs.Walk.{slash_joined};
 
 use crate::sinks::TableSink;
@@ -74,6 +74,8 @@ fn iso_text(stamp: Stamp) -> [u8; 20]
 
 // Puts what a row has after the names of the group: the values and times of an entry.
 fn put_values<O: TableSink>(out: &mut O, entry: &Entry) -> Result<(), NoMemory>
+    ensures { OnOk result (O.state out.new ≡ O.step (O.state out.old)
+        (after_commas (entry_values (entry_record entry.now)))) }
 {
     let current = &entry.current;
     put_after_commas(
