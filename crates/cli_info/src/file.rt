@@ -33,6 +33,16 @@ fn cipher_name(cipher: Cipher) -> &'static [u8]
     }
 }
 
+// The type of Argon2.
+fn kind_name(kind: ArgonKind) -> &'static str
+    ensures { result.now ≡ spec.kind_name kind }
+{
+    match kind {
+        ArgonKind::D => "Argon2d",
+        ArgonKind::Id => "Argon2id",
+    }
+}
+
 // The key derivation of a file with its costs.
 fn kdf_text(alloc: Global, kdf: &Kdf) -> Result<String, AllocError>
     ensures { IfOk result (λ text. string_bytes text ≡ kdf_text kdf.now) }
@@ -46,15 +56,9 @@ fn kdf_text(alloc: Global, kdf: &Kdf) -> Result<String, AllocError>
             lanes,
             ..
         } => {
+            let kind = kind_name(*kind);
             let kib = *bytes / 1024;
-            match *kind {
-                ArgonKind::D => format!(in alloc;
-                    "Argon2d ({passes} passes, {kib} KiB, {lanes} lanes)"
-                ),
-                ArgonKind::Id => format!(in alloc;
-                    "Argon2id ({passes} passes, {kib} KiB, {lanes} lanes)"
-                ),
-            }
+            format!(in alloc; "{kind} ({passes} passes, {kib} KiB, {lanes} lanes)")
         }
     }
 }

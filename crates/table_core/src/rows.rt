@@ -1,12 +1,12 @@
 //! Fields and rows.
 
-ghost use Rattle.std.specs.Prelude.{◌≡◌, flat_map, map, OnOk};
+ghost use Rattle.std.specs.Prelude.{◌≡◌, ◌++◌, codes, flat_map, map, OnOk};
 ghost use Rattle.doc_spelling.specs.Moments.{iso_at};
 ghost use Rattle.table_core.specs.Rows.{entry_fields, entry_values, header};
 ghost use Rattle.table_core.specs.Tables as spec;
 ghost use Rattle.table_core.specs.Tables.{after_commas, doubled, row_of};
 ghost use Rattle.vault_model.specs.SeenNodes.{entry_record, entry_row};
-ghost use Rattle.vault_model.specs.Walk.{slash_joined};
+ghost use Rattle.vault_model.specs.Walk.{slash_joined, slashed};
 
 use crate::sinks::TableSink;
 use find_references::field_value;
@@ -14,16 +14,23 @@ use outside_core::NoMemory;
 use time_core::{Stamp, iso_of};
 use vault_model::Entry;
 
+// Puts a byte of a field, a quote twice.
+fn put_byte<O: TableSink>(out: &mut O, byte: u8) -> Result<(), NoMemory>
+    ensures { OnOk result (O.state out.new ≡ O.step (O.state out.old) (doubled byte)) }
+{
+    match byte {
+        b'"' => out.put(b"\"\""),
+        _ => out.put(&[byte]),
+    }
+}
+
 // Puts the bytes of a field, each quote twice.
 fn put_doubled<O: TableSink>(out: &mut O, field: &[u8]) -> Result<(), NoMemory>
     ensures { OnOk result (O.state out.new
         ≡ O.step (O.state out.old) (flat_map doubled field.now)) }
 {
     for byte in field {
-        match *byte {
-            b'"' => out.put(b"\"\"")?,
-            byte => out.put(&[byte])?,
-        }
+        put_byte(out, *byte)?;
     }
     Ok(())
 }
@@ -37,32 +44,56 @@ fn put_quoted<O: TableSink>(out: &mut O, field: &[u8]) -> Result<(), NoMemory>
     out.put(b"\"")
 }
 
+// Puts a field after a comma.
+fn put_after_comma<O: TableSink>(out: &mut O, field: &[u8]) -> Result<(), NoMemory>
+    ensures { OnOk result (O.state out.new
+        ≡ O.step (O.state out.old) (codes "," ++ spec.quoted field.now)) }
+{
+    out.put(b",")?;
+    put_quoted(out, field)
+}
+
 // Puts fields, each after a comma.
 fn put_after_commas<O: TableSink>(out: &mut O, fields: &[&[u8]]) -> Result<(), NoMemory>
     ensures { OnOk result (O.state out.new
         ≡ O.step (O.state out.old) (after_commas (map (λ f. f.now) fields.now))) }
 {
     for field in fields {
-        out.put(b",")?;
-        put_quoted(out, field)?;
+        put_after_comma(out, field)?;
     }
     Ok(())
 }
 
-// Puts the names that lead to a group, with a slash between each two, each quote twice.
+// Puts a name after a slash, each quote twice.
+fn put_after_slash<O: TableSink>(out: &mut O, name: &[u8]) -> Result<(), NoMemory>
+    ensures { OnOk result (O.state out.new
+        ≡ O.step (O.state out.old) (flat_map doubled (codes "/" ++ name.now))) }
+{
+    out.put(b"/")?;
+    put_doubled(out, name)
+}
+
+// Puts names, each after a slash, each quote twice.
+fn put_slashed<O: TableSink>(out: &mut O, names: &[&[u8]]) -> Result<(), NoMemory>
+    ensures { OnOk result (O.state out.new ≡ O.step (O.state out.old)
+        (flat_map doubled (slashed (map (λ n. n.now) names.now)))) }
+{
+    for name in names {
+        put_after_slash(out, name)?;
+    }
+    Ok(())
+}
+
+// Puts names with a slash between each two, each quote twice.
 fn put_names<O: TableSink>(out: &mut O, names: &[&[u8]]) -> Result<(), NoMemory>
     ensures { OnOk result (O.state out.new ≡ O.step (O.state out.old)
         (flat_map doubled (slash_joined (map (λ n. n.now) names.now)))) }
 {
-    let [root, below @ ..] = names else {
+    let [first, rest @ ..] = names else {
         return Ok(());
     };
-    put_doubled(out, root)?;
-    for name in below {
-        out.put(b"/")?;
-        put_doubled(out, name)?;
-    }
-    Ok(())
+    put_doubled(out, first)?;
+    put_slashed(out, rest)
 }
 
 // The text of a time.
