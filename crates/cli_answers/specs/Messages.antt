@@ -4,7 +4,7 @@ use Rattle.std.specs.Fmt.{decimal}
 use Rattle.hex.specs.Hex.{encode_lower}
 use Rattle.uuid.specs.Text.{hyphenated_text, lower}
 use Rattle.cli_answers.specs.declared.answers.Reason.{Reason}
-use Rattle.cli_answers.specs.declared.answers.Reason.TheVariants.{WrongWords, NoSuchPath, NameTaken, AlreadyThere, RootFixed, IntoItself, IdTaken, DamagedOrWrongKey, DamagedBlock, WrongKeyOrDamaged, KeyFileHash, NotKdbx, EndsEarly, BadHeaderField, BadDictionary, Form, MissingElement, BadValue, NilId, DuplicateId, BinaryRef, BadKeyFile, LineForm, Version, UnknownId, StreamUnknown, Compressed, Variant, Clash, MoveCycle, NoSuchFile, TooLarge, Depth, TooDeep, TooMany, KdfLimit, StampLimit, LineLimit, OutOfMemory, InputEnded}
+use Rattle.cli_answers.specs.declared.answers.Reason.TheVariants.{WrongWords, EmptyTerm, NoSuchPath, NameTaken, AlreadyThere, RootFixed, IntoItself, IdTaken, NoAttribute, NoResult, DamagedOrWrongKey, DamagedBlock, WrongKeyOrDamaged, KeyFileHash, NotKdbx, EndsEarly, BadHeaderField, BadDictionary, Form, MissingElement, BadValue, NilId, DuplicateId, BinaryRef, BadKeyFile, LineForm, Version, UnknownId, StreamUnknown, Compressed, Variant, Clash, MoveCycle, NoSuchFile, TooLarge, Depth, TooDeep, TooMany, KdfLimit, StampLimit, LineLimit, TooMuch, OutOfMemory, InputEnded}
 use Rattle.cli_answers.specs.declared.answers.Refusal.{Refusal}
 use Rattle.cli_answers.specs.declared.answers.Stop.{Stop}
 use Rattle.cli_answers.specs.declared.answers.Stop.TheVariants.{Refused, FileFault, InputFault, NoMemory}
@@ -12,12 +12,15 @@ use Rattle.cli_answers.specs.declared.answers.Stop.TheVariants.{Refused, FileFau
 -- The program's status for an answer.
 abbrev pub status_of : Reason → ℕ
 status_of WrongWords = 1
+status_of (EmptyTerm place) = 1
 status_of NoSuchPath = 2
 status_of NameTaken = 2
 status_of AlreadyThere = 2
 status_of RootFixed = 2
 status_of (IntoItself id) = 2
 status_of (IdTaken id) = 2
+status_of (NoAttribute name) = 2
+status_of NoResult = 2
 status_of (DamagedOrWrongKey kept found) = 3
 status_of (DamagedBlock number) = 3
 status_of WrongKeyOrDamaged = 3
@@ -49,6 +52,7 @@ status_of TooMany = 8
 status_of KdfLimit = 8
 status_of StampLimit = 8
 status_of LineLimit = 8
+status_of TooMuch = 8
 status_of OutOfMemory = 9
 status_of (InputEnded number) = 12
 
@@ -61,12 +65,15 @@ spaced_ids (id ∷ ids) = codes " " ++ hyphenated_text lower id ++ spaced_ids id
 -- lower-case hexadecimal.
 abbrev pub reason_text : Reason → List ℕ
 reason_text WrongWords = codes "wrong words"
+reason_text (EmptyTerm place) = codes "empty term at " ++ decimal place
 reason_text NoSuchPath = codes "not found"
 reason_text NameTaken = codes "already there"
 reason_text AlreadyThere = codes "already in that group"
 reason_text RootFixed = codes "the root stays"
 reason_text (IntoItself id) = hyphenated_text lower id ++ codes " into itself"
 reason_text (IdTaken id) = codes "id taken " ++ hyphenated_text lower id
+reason_text (NoAttribute name) = codes "no attribute " ++ name
+reason_text NoResult = codes "no results"
 reason_text (DamagedOrWrongKey kept found) = codes "damaged or wrong key: kept "
     ++ encode_lower kept ++ codes " found " ++ encode_lower found
 reason_text (DamagedBlock number) = codes "damaged block " ++ decimal number
@@ -100,6 +107,7 @@ reason_text TooMany = codes "limit passed"
 reason_text KdfLimit = codes "limit passed"
 reason_text StampLimit = codes "limit passed"
 reason_text LineLimit = codes "limit passed"
+reason_text TooMuch = codes "limit passed"
 reason_text OutOfMemory = codes "out of memory"
 reason_text (InputEnded number) = codes "line " ++ decimal number ++ codes " missing"
 

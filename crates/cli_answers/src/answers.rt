@@ -14,6 +14,8 @@ use uuid::Uuid;
 pub enum Reason {
     /// The words are no command.
     WrongWords,
+    /// A term of a search, at the place in the words that say it, has no text.
+    EmptyTerm(usize),
     /// The path names nothing.
     NoSuchPath,
     /// Another node has the path already.
@@ -26,6 +28,10 @@ pub enum Reason {
     IntoItself(Uuid),
     /// This id is nil, a node's, or that of a node that was deleted.
     IdTaken(Uuid),
+    /// The entry has no attribute of the name.
+    NoAttribute(Text),
+    /// No entry matches the terms of a search.
+    NoResult,
     /// The file keeps another hash or MAC of its header than the header has under the key.
     DamagedOrWrongKey { kept: [u8; 32], found: [u8; 32] },
     /// The block of this number is not the one that was written.
@@ -90,6 +96,8 @@ pub enum Reason {
     StampLimit,
     /// A line of the input is too long.
     LineLimit,
+    /// What is shown would be too long with its references resolved.
+    TooMuch,
     /// Memory ran out.
     OutOfMemory,
     /// The input ended before the line of this number, which is due.
@@ -134,12 +142,15 @@ pub fn status(reason: &Reason) -> u8
 {
     match reason {
         Reason::WrongWords => 1,
+        Reason::EmptyTerm(_) => 1,
         Reason::NoSuchPath => 2,
         Reason::NameTaken => 2,
         Reason::AlreadyThere => 2,
         Reason::RootFixed => 2,
         Reason::IntoItself(_) => 2,
         Reason::IdTaken(_) => 2,
+        Reason::NoAttribute(_) => 2,
+        Reason::NoResult => 2,
         Reason::DamagedOrWrongKey { .. } => 3,
         Reason::DamagedBlock(_) => 3,
         Reason::WrongKeyOrDamaged => 3,
@@ -171,6 +182,7 @@ pub fn status(reason: &Reason) -> u8
         Reason::KdfLimit => 8,
         Reason::StampLimit => 8,
         Reason::LineLimit => 8,
+        Reason::TooMuch => 8,
         Reason::OutOfMemory => 9,
         Reason::InputEnded(_) => 12,
     }
@@ -203,6 +215,15 @@ fn line_is(alloc: Global, number: u64, wrong: &str) -> Result<String, AllocError
     Ok(text)
 }
 
+// An attribute by its name, which is not there.
+fn no_attribute(alloc: Global, name: &str) -> Result<String, AllocError>
+    ensures { IfOk result (λ text. string_bytes text ≡ codes "no attribute " ++ name.now) }
+{
+    let mut text = String::from_str(alloc, "no attribute ")?;
+    text.push_str(name)?;
+    Ok(text)
+}
+
 // The nodes of a cycle, each id after a space.
 fn cycle_text(alloc: Global, ids: &[Uuid]) -> Result<String, AllocError>
     ensures { IfOk result (λ text. string_bytes text ≡ codes "move cycle" ++ spaced_ids ids.now) }
@@ -221,12 +242,15 @@ pub fn text_of_reason(alloc: Global, reason: &Reason) -> Result<String, AllocErr
 {
     match reason {
         Reason::WrongWords => String::from_str(alloc, "wrong words"),
+        Reason::EmptyTerm(at) => format!(in alloc; "empty term at {at}"),
         Reason::NoSuchPath => String::from_str(alloc, "not found"),
         Reason::NameTaken => String::from_str(alloc, "already there"),
         Reason::AlreadyThere => String::from_str(alloc, "already in that group"),
         Reason::RootFixed => String::from_str(alloc, "the root stays"),
         Reason::IntoItself(id) => format!(in alloc; "{id} into itself"),
         Reason::IdTaken(id) => format!(in alloc; "id taken {id}"),
+        Reason::NoAttribute(name) => no_attribute(alloc, name.as_str()),
+        Reason::NoResult => String::from_str(alloc, "no results"),
         Reason::DamagedOrWrongKey { kept, found } => {
             compared(alloc, "damaged or wrong key: kept ", *kept, *found)
         }
@@ -260,6 +284,7 @@ pub fn text_of_reason(alloc: Global, reason: &Reason) -> Result<String, AllocErr
         Reason::KdfLimit => String::from_str(alloc, "limit passed"),
         Reason::StampLimit => String::from_str(alloc, "limit passed"),
         Reason::LineLimit => String::from_str(alloc, "limit passed"),
+        Reason::TooMuch => String::from_str(alloc, "limit passed"),
         Reason::OutOfMemory => String::from_str(alloc, "out of memory"),
         Reason::InputEnded(number) => line_is(alloc, *number, " missing"),
     }

@@ -3,7 +3,7 @@ use Rattle.std.specs.Prelude.{◌≡◌, ℕ, Bool, false, true, IsSome, ◌&&�
 use Rattle.cli_answers.specs.declared.answers.Refusal.{Refusal}
 use Rattle.cli_words.specs.declared.command.Access.{Access}
 use Rattle.cli_words.specs.declared.command.Command.{Command}
-use Rattle.cli_words.specs.declared.command.Command.TheVariants.{Ls, Add, Edit, Move, Remove, MakeGroup, RemoveGroup, Merge}
+use Rattle.cli_words.specs.declared.command.Command.TheVariants.{Ls, Show, Search, Add, Edit, Move, Remove, MakeGroup, RemoveGroup, Merge, Export, Info}
 
 -- What a command asks for: the file of its database and how it is opened; the files of its sources,
 -- how each is opened, and whether each has the password of the database; and whether a line of the
@@ -30,6 +30,8 @@ without_sources access file has_line = record {
 -- What each command asks for.
 abbrev pub needs_of : Command → Needs
 needs_of (Ls access file group recursive flat) = without_sources access file false
+needs_of (Show access file entry clear all attachments names) = without_sources access file false
+needs_of (Search access file term) = without_sources access file false
 needs_of (Add access file entry asked) = without_sources access file asked.password
 needs_of (Edit access file entry asked) = without_sources access file asked.password
 needs_of (Move access file node group) = without_sources access file false
@@ -44,6 +46,8 @@ needs_of (Merge access file sources from same dry) = record {
   sources = sources;
   has_line = false;
 }
+needs_of (Export access format file) = without_sources access file false
+needs_of (Info access file) = without_sources access file false
 
 -- A database asks for a line: its password, unless it is a plain document or has none.
 abbrev pub asks_password : Access → Bool

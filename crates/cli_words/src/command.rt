@@ -30,6 +30,15 @@ pub struct Asked {
     pub password: bool,
 }
 
+/// The format that a database is written in for another program.
+#[derive(Clone, Copy)]
+pub enum ExportFormat {
+    /// The plain document.
+    Xml,
+    /// A table of its entries.
+    Csv,
+}
+
 /// What the program is asked to do.
 #[derive(Drop)]
 pub enum Command {
@@ -45,6 +54,32 @@ pub enum Command {
         recursive: bool,
         /// Whether each name comes after the path that leads to it.
         flat: bool,
+    },
+    /// Shows an entry of a database.
+    Show {
+        /// How the database is opened.
+        access: Access,
+        /// The file of the database.
+        file: Text,
+        /// The path of the entry.
+        entry: Text,
+        /// Whether hidden values are shown as they are.
+        clear: bool,
+        /// Whether the entry's own fields are shown after its standard ones.
+        all: bool,
+        /// Whether its attachments are shown.
+        attachments: bool,
+        /// The names of the fields that alone are shown, where any is named.
+        names: List<Text>,
+    },
+    /// Lists the entries of a database that match the terms of a search.
+    Search {
+        /// How the database is opened.
+        access: Access,
+        /// The file of the database.
+        file: Text,
+        /// The terms.
+        term: Text,
     },
     /// Adds an entry to a database.
     Add {
@@ -120,5 +155,21 @@ pub enum Command {
         same: bool,
         /// Whether no file is written.
         dry: bool,
+    },
+    /// Writes a database in another format.
+    Export {
+        /// How the database is opened.
+        access: Access,
+        /// The format.
+        format: ExportFormat,
+        /// The file of the database.
+        file: Text,
+    },
+    /// Shows what a database is.
+    Info {
+        /// How the database is opened.
+        access: Access,
+        /// The file of the database.
+        file: Text,
     },
 }

@@ -8,6 +8,6 @@ mod needs;
 mod options;
 mod words;
 
-pub use command::{Access, Asked, Command};
+pub use command::{Access, Asked, Command, ExportFormat};
 pub use commands::read_words;
 pub use needs::{Needs, asks_password, asks_passwords_from, needs_of};

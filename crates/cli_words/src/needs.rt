@@ -44,6 +44,8 @@ pub fn needs_of(command: &Command) -> Needs<'_>
 {
     match command {
         Command::Ls { access, file, .. } => without_sources(access, file, false),
+        Command::Show { access, file, .. } => without_sources(access, file, false),
+        Command::Search { access, file, .. } => without_sources(access, file, false),
         Command::Add {
             access,
             file,
@@ -75,6 +77,8 @@ pub fn needs_of(command: &Command) -> Needs<'_>
             sources: sources.as_slice(),
             has_line: false,
         },
+        Command::Export { access, file, .. } => without_sources(access, file, false),
+        Command::Info { access, file, .. } => without_sources(access, file, false),
     }
 }
 

@@ -3,4 +3,4 @@
 
 mod writing;
 
-pub use writing::write_plain;
+pub use writing::{plain_text, unwritten, write_plain};

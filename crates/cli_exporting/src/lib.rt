@@ -1,0 +1,6 @@
+//! What `export` prints of a document.
+#![tactic(auto)]
+
+mod exporting;
+
+pub use exporting::export;

@@ -1,0 +1,66 @@
+-- What is printed of a small document, by itself and in files.
+use Rattle.std.proofs.Common.{◌≡◌, ℕ, List, [], ◌∷◌, codes, None, Some, refl, replicate}
+use Rattle.std.specs.Fmt.{digits}
+use Rattle.argon_core.specs.declared.argon.ArgonKind.TheVariants.{D, Id}
+use Rattle.kdbx_frame.specs.declared.settings.Cipher.TheVariants as cipher
+use Rattle.kdbx_frame.specs.declared.settings.Settings.{Settings}
+use Rattle.key_core.specs.declared.kdf.Kdf.TheVariants as kdf
+use Rattle.vault_model.specs.Bare.{BareField}
+use Rattle.vault_model.specs.Db.{NodeId, nil_id}
+use Rattle.vault_model.specs.Empty.{new_group, new_meta}
+use Rattle.vault_model.specs.Shape.{BareVersion, EntryRecord}
+use Rattle.vault_model.specs.Tree.{BareDoc, node, none, beside}
+use Rattle.vault_model.specs.declared.forms.FileVersion.TheVariants.{V31, V40, V41}
+use Rattle.doc_forms.specs.Entries.{no_content}
+use Rattle.cli_info.specs.Info.{file_lines, info_shown}
+
+abbrev id : ℕ → NodeId
+id b = replicate 16 b
+
+abbrev version : BareVersion
+version = record {
+  mark = record { modified = 0; content = no_content };
+  stats = record { accessed = 0; usage = 0 };
+}
+
+-- An entry with a history of two versions.
+abbrev entry : EntryRecord
+entry = record { placed = 0; previous = nil_id; current = version; history = version ∷ version ∷ [] }
+
+-- Two entries in the root, and an empty group.
+abbrev two_entries : BareDoc
+two_entries = record {
+  tree = node (id 1) (new_group (codes "Root") 0) ((id 2, entry) ∷ (id 3, entry) ∷ [])
+      (beside (node (id 4) (new_group (codes "Work") 0) [] none) none);
+  tombs = [];
+  meta = new_meta;
+}
+
+plain_document : info_shown None two_entries ≡ codes "Name: \nDescription: \nVersion: plain\nCipher: none\nKDF: none\nGroups: 2\nEntries: 2\nRecycle bin: enabled\n"
+unfolding digits
+plain_document = refl
+
+-- 64 MiB, and 1,023 bytes that are not used
+abbrev argon_file : Settings
+argon_file = record {
+  version = V41;
+  cipher = cipher.ChaCha;
+  kdf = kdf.Argon D 10 67109887 2 [];
+  public = None;
+}
+
+argon_lines : file_lines (Some argon_file) ≡ codes "Version: 4.1\nCipher: ChaCha20\nKDF: Argon2d (10 passes, 65536 KiB, 2 lanes)\n"
+unfolding digits
+argon_lines = refl
+
+abbrev aes_file : Settings
+aes_file = record {
+  version = V31;
+  cipher = cipher.Twofish;
+  kdf = kdf.Aes 6000 [];
+  public = None;
+}
+
+aes_lines : file_lines (Some aes_file) ≡ codes "Version: 3.1\nCipher: Twofish\nKDF: AES (6000 rounds)\n"
+unfolding digits
+aes_lines = refl

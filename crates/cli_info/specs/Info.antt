@@ -1,0 +1,78 @@
+-- What `db-info` prints.
+use Rattle.std.specs.Prelude.{ℕ, ◌/◌, Bool, true, false, List, ◌++◌, codes, length, Option, None, Some}
+use Rattle.std.specs.Fmt.{decimal}
+use Rattle.argon_core.specs.declared.argon.ArgonKind.{ArgonKind}
+use Rattle.argon_core.specs.declared.argon.ArgonKind.TheVariants.{D, Id}
+use Rattle.kdbx_frame.specs.declared.settings.Cipher.{Cipher}
+use Rattle.kdbx_frame.specs.declared.settings.Cipher.TheVariants as cipher
+use Rattle.kdbx_frame.specs.declared.settings.Settings.{Settings}
+use Rattle.key_core.specs.declared.kdf.Kdf.{Kdf}
+use Rattle.key_core.specs.declared.kdf.Kdf.TheVariants as kdf
+use Rattle.vault_model.specs.Tree.{BareDoc, entry_rows, group_rows}
+use Rattle.vault_model.specs.declared.forms.FileVersion.{FileVersion}
+use Rattle.vault_model.specs.declared.forms.FileVersion.TheVariants.{V31, V40, V41}
+
+-- A line: what it is about, and a value.
+abbrev pub line : List ℕ → List ℕ → List ℕ
+line about value = about ++ value ++ codes "\n"
+
+-- ---- the file
+
+-- The version of a file's format.
+abbrev pub version_name : FileVersion → List ℕ
+version_name V31 = codes "3.1"
+version_name V40 = codes "4.0"
+version_name V41 = codes "4.1"
+
+-- The cipher of a file's content.
+abbrev pub cipher_name : Cipher → List ℕ
+cipher_name cipher.Aes = codes "AES-256"
+cipher_name cipher.Twofish = codes "Twofish"
+cipher_name cipher.ChaCha = codes "ChaCha20"
+
+-- The type of Argon2.
+abbrev pub kind_name : ArgonKind → List ℕ
+kind_name D = codes "Argon2d"
+kind_name Id = codes "Argon2id"
+
+-- The key derivation of a file with its costs. Of the memory, which is kept in bytes, whole units of
+-- 1,024 bytes are used.
+abbrev pub kdf_text : Kdf → List ℕ
+kdf_text (kdf.Aes rounds seed) = codes "AES (" ++ decimal rounds ++ codes " rounds)"
+kdf_text (kdf.Argon kind passes bytes lanes salt) = kind_name kind
+    ++ codes " (" ++ decimal passes
+    ++ codes " passes, " ++ decimal (bytes / 1024)
+    ++ codes " KiB, " ++ decimal lanes
+    ++ codes " lanes)"
+
+-- How a file keeps its document: its version, its cipher and its key derivation. A plain document
+-- has no settings.
+abbrev pub file_lines : Option Settings → List ℕ
+file_lines None = line (codes "Version: ") (codes "plain")
+    ++ line (codes "Cipher: ") (codes "none")
+    ++ line (codes "KDF: ") (codes "none")
+file_lines (Some settings) = line (codes "Version: ") (version_name settings.version)
+    ++ line (codes "Cipher: ") (cipher_name settings.cipher)
+    ++ line (codes "KDF: ") (kdf_text settings.kdf)
+
+-- ---- the document
+
+-- What a document says of its database.
+abbrev pub name_lines : BareDoc → List ℕ
+name_lines doc = line (codes "Name: ") doc.meta.name.value
+    ++ line (codes "Description: ") doc.meta.description.value
+
+-- Whether removed nodes are put into the bin.
+abbrev pub bin_state : Bool → List ℕ
+bin_state true = codes "enabled"
+bin_state false = codes "disabled"
+
+-- What a document has: its groups, the root among them, its entries, and the bin.
+abbrev pub content_lines : BareDoc → List ℕ
+content_lines doc = line (codes "Groups: ") (decimal (length (group_rows doc.tree)))
+    ++ line (codes "Entries: ") (decimal (length (entry_rows doc.tree)))
+    ++ line (codes "Recycle bin: ") (bin_state doc.meta.bin.value.enabled)
+
+-- What is printed of a document and of the settings of its file.
+abbrev pub info_shown : Option Settings → BareDoc → List ℕ
+info_shown settings doc = name_lines doc ++ file_lines settings ++ content_lines doc

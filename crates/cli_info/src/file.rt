@@ -1,0 +1,94 @@
+//! How a file keeps its document.
+
+ghost use Rattle.std.specs.Prelude.{◌≡◌, ◌++◌, IfOk, OnOk, codes, option_map, string_bytes};
+ghost use Rattle.cli_info.specs.Info as spec;
+ghost use Rattle.cli_info.specs.Info.{file_lines, kdf_text, line};
+
+use argon_core::ArgonKind;
+use kdbx_frame::{Cipher, Settings};
+use key_core::Kdf;
+use outside_core::{Bytes, NoMemory};
+use std::alloc::{AllocError, Global};
+use vault_model::FileVersion;
+
+// The version of a file's format.
+fn version_name(version: FileVersion) -> &'static [u8]
+    ensures { result.now ≡ spec.version_name version }
+{
+    match version {
+        FileVersion::V31 => b"3.1",
+        FileVersion::V40 => b"4.0",
+        FileVersion::V41 => b"4.1",
+    }
+}
+
+// The cipher of a file's content.
+fn cipher_name(cipher: Cipher) -> &'static [u8]
+    ensures { result.now ≡ spec.cipher_name cipher }
+{
+    match cipher {
+        Cipher::Aes => b"AES-256",
+        Cipher::Twofish => b"Twofish",
+        Cipher::ChaCha => b"ChaCha20",
+    }
+}
+
+// The type of Argon2.
+fn kind_name(kind: ArgonKind) -> &'static str
+    ensures { result.now ≡ spec.kind_name kind }
+{
+    match kind {
+        ArgonKind::D => "Argon2d",
+        ArgonKind::Id => "Argon2id",
+    }
+}
+
+// The key derivation of a file with its costs.
+fn kdf_text(alloc: Global, kdf: &Kdf) -> Result<String, AllocError>
+    ensures { IfOk result (λ text. string_bytes text ≡ kdf_text kdf.now) }
+{
+    match kdf {
+        Kdf::Aes { rounds, .. } => format!(in alloc; "AES ({rounds} rounds)"),
+        Kdf::Argon {
+            kind,
+            passes,
+            bytes,
+            lanes,
+            ..
+        } => {
+            let kind = kind_name(*kind);
+            let kib = *bytes / 1024;
+            format!(in alloc; "{kind} ({passes} passes, {kib} KiB, {lanes} lanes)")
+        }
+    }
+}
+
+/// Adds a line: what it is about, and a value.
+pub(crate) fn add_line(text: &mut Bytes, about: &[u8], value: &[u8]) -> Result<(), NoMemory>
+    ensures { OnOk result (text.new ≡ text.old ++ line about.now value.now) }
+{
+    text.add(about)?;
+    text.add(value)?;
+    text.add(b"\n")
+}
+
+/// Adds how a file keeps its document: its version, its cipher and its key derivation; a plain
+/// document has no settings.
+pub(crate) fn add_file_lines(
+    alloc: Global,
+    text: &mut Bytes,
+    settings: Option<&Settings>,
+) -> Result<(), NoMemory>
+    ensures { OnOk result (text.new
+        ≡ text.old ++ file_lines (option_map (λ s. s.now) settings.entry)) }
+{
+    let Some(settings) = settings else {
+        add_line(text, b"Version: ", b"plain")?;
+        add_line(text, b"Cipher: ", b"none")?;
+        return add_line(text, b"KDF: ", b"none");
+    };
+    let kdf = kdf_text(alloc, &settings.kdf)?;
+    add_line(text, b"Version: ", version_name(settings.version))?;
+    add_line(text, b"Cipher: ", cipher_name(settings.cipher))?;
+    add_line(text, b"KDF: ", kdf.as_str().as_bytes())
+}

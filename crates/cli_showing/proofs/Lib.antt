@@ -1,0 +1,3 @@
+pub mod FoundIds
+pub mod Lines
+pub mod WalkedPaths

@@ -1,0 +1,4 @@
+pub mod Paths
+pub mod Refusals
+pub mod Showing
+pub mod inside

@@ -1,0 +1,45 @@
+//! The attachments of an entry, each on a line.
+ghost use Rattle.std.specs.Prelude.{◌≡◌, ◌++◌, OnOk, codes, flat_map, map};
+ghost use Rattle.vault_model.specs.Seen.{bare_attachment};
+ghost use Rattle.cli_showing.specs.Showing as spec;
+ghost use Rattle.cli_showing.specs.Showing.{attachment_line};
+
+use crate::texts::append;
+use outside_core::NoMemory;
+use secret_core::Secret;
+use std::alloc::Global;
+use vault_model::Attachment;
+
+// Puts the line of an attachment after a text.
+fn append_attachment(
+    alloc: Global,
+    text: &mut Secret,
+    attachment: &Attachment,
+) -> Result<(), NoMemory>
+    ensures { OnOk result (text.new.bytes ≡ text.old.bytes
+        ++ attachment_line (bare_attachment attachment.now)) }
+{
+    let size = format!(in alloc; "{}", attachment.bytes.len())?;
+    append(alloc, text, b"  ")?;
+    append(alloc, text, attachment.name.as_str().as_bytes())?;
+    append(alloc, text, b" (")?;
+    append(alloc, text, size.as_str().as_bytes())?;
+    append(alloc, text, b" bytes)\n")
+}
+
+/// Puts the lines of attachments after a text.
+pub(crate) fn append_attachments(
+    alloc: Global,
+    text: &mut Secret,
+    attachments: &[Attachment],
+) -> Result<(), NoMemory>
+    ensures { OnOk result (text.new.bytes ≡ text.old.bytes
+        ++ (codes "Attachments:\n"
+        ++ flat_map attachment_line (map bare_attachment attachments.now))) }
+{
+    append(alloc, text, b"Attachments:\n")?;
+    for attachment in attachments {
+        append_attachment(alloc, text, attachment)?;
+    }
+    Ok(())
+}

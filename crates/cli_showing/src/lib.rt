@@ -1,0 +1,13 @@
+//! What `show` and `search` print of a document.
+#![tactic(auto)]
+
+mod attachments;
+mod paths;
+mod refusals;
+mod searching;
+mod showing;
+mod texts;
+mod values;
+
+pub use searching::search_entries;
+pub use showing::{ShowGiven, show_entry};

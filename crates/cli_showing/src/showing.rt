@@ -1,0 +1,151 @@
+//! `show` on a document.
+ghost use Rattle.std.specs.Prelude.{◌≡◌, ◌++◌, IfErr, OnOk, option_map};
+ghost use Rattle.find_terms.specs.Results.{meaning_of};
+ghost use Rattle.outside_core.specs.Results as results;
+ghost use Rattle.vault_model.specs.SeenDoc.{doc_seen};
+ghost use Rattle.vault_model.specs.SeenNodes.{entry_record, entry_row};
+ghost use Rattle.cli_answers.specs.Phases.{IsPlainStop, Returns};
+ghost use Rattle.cli_showing.specs.Showing as spec;
+ghost use Rattle.cli_showing.specs.Showing.{attachments_shown, entry_shown, id_and_tags, values_shown, whole_entry};
+ghost use Rattle.cli_showing.specs.inside.Entries.{entry_sought};
+
+use crate::attachments::append_attachments;
+use crate::refusals::{lacking, unfound};
+use crate::texts::append;
+use crate::values::{NAMED_KEYS, append_keys, append_names, append_others, missing_name};
+use cli_answers::{Reason, Stop, refused};
+use find_terms::FindFail;
+use outside_core::{NoMemory, Text};
+use secret_core::Secret;
+use std::alloc::Global;
+use tree_core::find_entry;
+use tree_steps::{entry_of, holder};
+use vault_model::{Doc, Entry};
+
+/// What `show` is given beside its document and the path of its entry.
+#[derive(Clone, Copy)]
+pub struct ShowGiven<'a> {
+    /// The file of the document, which a refusal names.
+    pub file: &'a str,
+    /// Whether hidden values are shown too.
+    pub clear: bool,
+    /// Whether all fields are shown, and not only the five that every entry has.
+    pub all: bool,
+    /// Whether the attachments are listed.
+    pub attachments: bool,
+    /// The names of the fields whose values are shown alone; where there is none, the entry is
+    /// shown.
+    pub names: &'a [Text],
+}
+
+// The entry that a path names.
+fn entry_named<'a>(doc: &'a Doc, path: &str) -> Option<&'a Entry>
+    ensures { option_map (λ entry. entry_row entry.now) result
+        ≡ entry_sought path.now (doc_seen doc.now) }
+{
+    let id = find_entry(doc, path)?;
+    let group = holder(&doc.root, id)?;
+    entry_of(&doc.root, group, id)
+}
+
+// Puts the lines of an entry's id and its tags after a text.
+fn append_id_and_tags(alloc: Global, text: &mut Secret, entry: &Entry) -> Result<(), NoMemory>
+    ensures { OnOk result (text.new.bytes ≡ text.old.bytes ++ id_and_tags (entry_row entry.now)) }
+{
+    let mut digits = [0; 36];
+    let id = entry.id.hyphenated().encode_lower(&mut digits);
+    append(alloc, text, b"Uuid: {")?;
+    append(alloc, text, id.as_bytes())?;
+    append(alloc, text, b"}\nTags: ")?;
+    append(alloc, text, entry.current.content.tags.as_str().as_bytes())?;
+    append(alloc, text, b"\n")
+}
+
+// What is shown of an entry where no fields are named.
+fn whole_entry(
+    alloc: Global,
+    doc: &Doc,
+    clear: bool,
+    all: bool,
+    entry: &Entry,
+) -> Result<Secret, FindFail>
+    ensures { results.Returns meaning_of (λ text. text.bytes) result
+        (spec.whole_entry (doc_seen doc.now) clear all (entry_row entry.now)) }
+{
+    let fields = entry.current.content.fields.as_slice();
+    let mut text = Secret::with_room(alloc, 0)?;
+    append_keys(alloc, doc, clear, &mut text, fields, &NAMED_KEYS)?;
+    if all {
+        append_others(alloc, doc, clear, &mut text, fields)?;
+    }
+    append_id_and_tags(alloc, &mut text, entry)?;
+    Ok(text)
+}
+
+// The values that are shown of an entry.
+fn values_shown(
+    alloc: Global,
+    doc: &Doc,
+    given: ShowGiven<'_>,
+    entry: &Entry,
+) -> Result<Secret, FindFail>
+    ensures { results.Returns meaning_of (λ text. text.bytes) result
+        (spec.values_shown (doc_seen doc.now) given.entry.clear given.entry.all
+        given.entry.names.now (entry_row entry.now)) }
+{
+    if given.names.is_empty() {
+        return whole_entry(alloc, doc, given.clear, given.all, entry);
+    }
+    let mut text = Secret::with_room(alloc, 0)?;
+    let fields = entry.current.content.fields.as_slice();
+    append_names(alloc, doc, &mut text, fields, given.names)?;
+    Ok(text)
+}
+
+// What is shown of an entry.
+fn entry_text(
+    alloc: Global,
+    doc: &Doc,
+    given: ShowGiven<'_>,
+    entry: &Entry,
+) -> Result<Secret, FindFail>
+    ensures { results.Returns meaning_of (λ text. text.bytes) result
+        (spec.entry_text (doc_seen doc.now) given.entry.clear given.entry.all
+        given.entry.attachments given.entry.names.now (entry_row entry.now)) }
+{
+    let mut text = values_shown(alloc, doc, given, entry)?;
+    if given.attachments {
+        append_attachments(
+            alloc,
+            &mut text,
+            entry.current.content.attachments.as_slice(),
+        )?;
+    }
+    Ok(text)
+}
+
+/// What `show` prints of the entry that a path names, in memory that is wiped.
+#[tactic(auto, unfolding(crate::specs::Showing::entry_shown))]
+pub fn show_entry(
+    alloc: Global,
+    doc: &Doc,
+    path: &str,
+    given: ShowGiven<'_>,
+) -> Result<Secret, Stop>
+    ensures told { Returns (λ text. text.bytes) result (entry_shown given.entry.file.now
+        given.entry.clear given.entry.all given.entry.attachments given.entry.names.now path.now
+        (doc_seen doc.now)) }
+    ensures cause { IfErr result IsPlainStop }
+{
+    let Some(entry) = entry_named(doc, path) else {
+        return Err(refused(alloc, Reason::NoSuchPath, given.file));
+    };
+    let fields = entry.current.content.fields.as_slice();
+    if let Some(name) = missing_name(fields, given.names) {
+        return Err(lacking(alloc, name, given.file));
+    }
+    match entry_text(alloc, doc, given, entry) {
+        Ok(text) => Ok(text),
+        Err(fail) => Err(unfound(alloc, fail, given.file)),
+    }
+}

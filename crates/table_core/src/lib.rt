@@ -1,0 +1,9 @@
+//! The table of a document: one row for each entry.
+#![tactic(auto)]
+
+mod export;
+mod groups;
+mod rows;
+mod sinks;
+
+pub use export::{TableFail, export_csv};
