@@ -1,4 +1,5 @@
 pub mod Flags
+pub mod Examples
 pub mod FlagWords
 pub mod Keys
 pub mod LongNames

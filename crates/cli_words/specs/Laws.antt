@@ -1,11 +1,10 @@
 -- The words that the laws of a call speak of.
-use Rattle.std.specs.Prelude.{ℕ, Bool, true, false, not, ◌&&◌, ◌≡◌, ◌⊎◌, List, [], ◌∷◌, ◌++◌, codes, Option, None, Some, option_and_then}
+use Rattle.std.specs.Prelude.{ℕ, Bool, true, false, not, ◌&&◌, ◌≡◌, ◌⊎◌, List, [], ◌∷◌, ◌++◌, codes, Option, None, Some}
 use Rattle.std.specs.List.{list_all}
 use Rattle.std.specs.Str.{bytes_eq}
-use Rattle.cli_words.specs.declared.options.CommandName.{CommandName}
-use Rattle.cli_words.specs.declared.options.CommandOption.{CommandOption}
-use Rattle.cli_words.specs.Options.{has_value, letter_option, name_option}
-use Rattle.cli_words.specs.Words.{Said, with_position}
+use Rattle.cli_options.specs.declared.names.CommandName.{CommandName}
+use Rattle.cli_options.specs.declared.forms.CommandOption.{CommandOption}
+use Rattle.cli_options.specs.Options.{has_value, letter_option, name_option}
 
 -- An option that has no value.
 abbrev pub is_flag : Option CommandOption → Bool
@@ -33,9 +32,3 @@ IsFlagWord command word =
 -- None of the words is `--`.
 abbrev pub lack_end : List (List ℕ) → Bool
 lack_end words = list_all (λ word. not (bytes_eq word (codes "--"))) words
-
--- The words are the positions, whatever they begin with.
-abbrev pub with_positions : List (List ℕ) → Said → Option Said
-with_positions [] said = Some said
-with_positions (word ∷ words) said =
-    option_and_then (with_positions words) (with_position said word)

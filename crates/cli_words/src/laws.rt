@@ -1,9 +1,9 @@
 //! What holds of the words of every call. The functions do nothing, and take no memory.
 ghost use Rattle.std.specs.Prelude.{◌≡◌, ◌++◌, ◌∷◌, ℕ, List, None, Some, codes, false, true};
-ghost use Rattle.cli_words.specs.declared.options.CommandName.{CommandName};
-ghost use Rattle.cli_words.specs.Laws.{IsFlagWord, are_flag_letters, lack_end, with_positions};
-ghost use Rattle.cli_words.specs.Options.{command_named};
-ghost use Rattle.cli_words.specs.Words.{Said, command_of, command_saying, nothing_said, with_words};
+ghost use Rattle.cli_options.specs.declared.names.CommandName.{CommandName};
+ghost use Rattle.cli_words.specs.Laws.{IsFlagWord, are_flag_letters, lack_end};
+ghost use Rattle.cli_options.specs.Options.{command_named};
+ghost use Rattle.cli_words.specs.Words.{Said, command_of, command_saying, nothing_said, or_wrong_words, with_words};
 
 /// The order of flags does not matter: two flags beside each other, wherever they are before
 /// `--`, may be exchanged.
@@ -31,5 +31,6 @@ pub fn words_after_end_are_positions()
         → with_words command before nothing_said ≡ Some said
         → said.due ≡ None → said.ended ≡ false
         → command_of (name ∷ before ++ codes "--" ∷ words)
-        ≡ command_saying command (with_positions words (record said { ended = true })) }
+        ≡ or_wrong_words (command_saying command
+        (record said { ended = true; positions = said.positions ++ words })) }
 {}

@@ -1,7 +1,7 @@
 use Rattle.std.proofs.Common.{◌∙◌, ap, map, Some, slice_set}
 use Rattle.cli_words.specs.SaidWords.{text_seen}
 use Rattle.cli_words.proofs.Texts.{text_put}
-use Rattle.cli_words.proofs.words.with_text.Goals as goal
+use Rattle.cli_words.proofs.said.with_text.Goals as goal
 
 pub returns : goal.returns
 returns c =

@@ -1,6 +1,6 @@
 use Rattle.std.proofs.Common.{arith}
 use Rattle.std.proofs.lemmas.Str.{IsCharBoundary-after_ascii}
-use Rattle.cli_words.proofs.words.with_short.Goals as goal
+use Rattle.cli_words.proofs.words.add_short.Goals as goal
 
 pub range_from-requires : goal.range_from-requires
 range_from-requires c =

@@ -1,7 +1,7 @@
 use Rattle.std.proofs.Common.{◌∙◌, ap, map, None, slice_index_or}
 use Rattle.cli_words.specs.SaidWords.{text_seen}
 use Rattle.cli_words.proofs.Texts.{text_at}
-use Rattle.cli_words.proofs.words.text_of.Goals as goal
+use Rattle.cli_words.proofs.said.text_of.Goals as goal
 
 pub returns : goal.returns
 returns c =

@@ -1,7 +1,7 @@
 use Rattle.std.proofs.Common.{◌≡◌, drop}
 use Rattle.cli_words.specs.SaidWords.{said_seen}
 use Rattle.cli_words.specs.Words.{with_letters}
-use Rattle.cli_words.proofs.words.with_letters.Given as goal
+use Rattle.cli_words.proofs.words.add_letters.Given as goal
 
 abbrev pub invariant-loop-letter : goal.invariant-loop-letter
 invariant-loop-letter l =
