@@ -70,6 +70,7 @@ as_user() {
 refusals_of_opening() {
   awk -F '\t' -v OFS='\t' '
     $1 == "file" { print; next }
+    /^sealed: 3\.1,/ && old++ % 5 { next } # a fifth of them
     $2 > 0 && $2 != 2 && $7 == "ls" && $NF == "FILE" {
       if (count++ % 2) { $7 = "add\t-u\tme"; print $0, "New" } else { $7 = "edit\t-u\tme"; print $0, "Bank" }
     }' "$top/tests/opening/rows" >rows.txt

@@ -8,6 +8,7 @@ command_refusals() {
   awk -F '\t' -v OFS='\t' '
     BEGIN { split("mv,rm,mkdir,rmdir", commands, ","); split("Bank\tWork,Bank,New,Work", paths, ",") }
     $1 == "file" { print; next }
+    /^sealed: 3\.1,/ && old++ % 5 { next } # a fifth of them
     $2 > 0 && $2 != 2 && $7 == "ls" && $NF == "FILE" {
       turn = count++ % 4 + 1
       $7 = commands[turn]
@@ -67,7 +68,7 @@ nodes_of_other_programs() {
   while IFS=$'\x1f' read -r name password key_file; do
     asked=()
     case $name in
-      keepassxc-* | pykeepass-4.1-* | file-kdbx-4.1-* | *-3.1 | *-3.1-*) if [ -n "$keepassxc" ]; then asked=(keepassxc); fi ;;
+      keepassxc-* | pykeepass-4.1-* | file-kdbx-4.1-* | keepass2-3.1-aes) if [ -n "$keepassxc" ]; then asked=(keepassxc); fi ;;
     esac
     compared "$name: nodes moved and removed" "$with_pykeepass" "$moving/others" "$program" "$1/$name.kdbx" "$password" "$key_file" "${asked[@]}"
   done < <(tr '\t' '\037' <"$1/databases")

@@ -16,3 +16,5 @@ mod opening;
 mod plain;
 #[cfg(test)]
 mod sealed;
+#[cfg(test)]
+mod version_3_1;

@@ -30,14 +30,14 @@ const LEFT_OUT_OF_REPORTS: &str =
 const DIGITS: &[u8] = b"0000000000000000000000000000000000000000000000000000000000000000";
 
 /// What is listed of the files.
-const LISTED: Outcome<'_> = Outcome {
+pub(crate) const LISTED: Outcome<'_> = Outcome {
     status: 0,
     text: b"Bank\nMail\nWork/\n",
     line: b"",
 };
 
 /// The bytes of hexadecimal digits.
-fn bytes_of(alloc: Global, digits: &str) -> Result<Vec<u8>, Fail> {
+pub(crate) fn bytes_of(alloc: Global, digits: &str) -> Result<Vec<u8>, Fail> {
     let mut bytes = Vec::new(alloc);
     for pair in digits.as_bytes().chunks(2) {
         let text = std::str::from_utf8(pair).map_err(|_| "not a text")?;
