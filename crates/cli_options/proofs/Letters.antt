@@ -1,8 +1,9 @@
 -- The letters of options.
-use Rattle.std.proofs.Common.{◌≡◌, ◌<◌, ◌==◌, ℕ, Bool, true, false, cond, arith, subst, List, [], ◌∷◌, Option, Some, None, sym, refl}
+use Rattle.std.proofs.Common.{◌≡◌, ◌<◌, ℕ, Bool, true, false, cond, arith, subst, List, [], ◌∷◌, Option, Some, None, refl}
 use Rattle.std.specs.Prelude.{IfSome}
 use Rattle.std.proofs.lemmas.Bool.Decides.{Decides-eqb}
 use Rattle.cli_options.specs.declared.names.CommandName.{CommandName}
+use Rattle.cli_options.specs.declared.names.CommandName.TheVariants as name
 use Rattle.cli_options.specs.declared.forms.CommandOption.{CommandOption}
 use Rattle.cli_options.specs.declared.forms.CommandOption.TheVariants.{Recursive, Flat, Quiet, Plain, NoPassword, KeyFile, Title, User, Url, Notes, EntryPassword, SameCredentials, DryRun, KeyFileFrom, NoPasswordFrom, Clear, All, Attachments, Format, Attribute}
 use Rattle.cli_options.specs.Options.{first_of, form_of, has_letter, is_letter, letter_option, own_options, shared_options, with_letter}
@@ -39,11 +40,12 @@ low_letter (Some own) letter h e = subst (λ n. n < 128) ((Decides-eqb own lette
 
 found_low : (letter : ℕ) (options : List CommandOption) → IfSome (with_letter letter options) (λ option. letter < 128)
 found_low letter [] = tt
-found_low letter (option ∷ options) = by (has_letter option letter) refl
+found_low letter (option ∷ options) = by (has_letter option letter) refl (found_low letter options)
   where
-    by : (b : Bool) → has_letter option letter ≡ b → IfSome (cond b (Some option) (with_letter letter options)) (λ option. letter < 128)
-    by true e = low_letter (form_of option).letter letter (low option) e
-    by false e = found_low letter options
+    by : (b : Bool) → has_letter option letter ≡ b → IfSome (with_letter letter options) (λ option. letter < 128)
+        → IfSome (cond b (Some option) (with_letter letter options)) (λ option. letter < 128)
+    by true e h = low_letter (form_of option).letter letter (low option) e
+    by false e h = h
 
 either_low : (letter : ℕ) (one other : Option CommandOption) → IfSome one (λ option. letter < 128) → IfSome other (λ option. letter < 128)
     → IfSome (first_of one other) (λ option. letter < 128)
@@ -55,3 +57,18 @@ pub ascii_letter : (command : CommandName) (letter : ℕ) → IfSome (letter_opt
 ascii_letter command letter =
     either_low letter (with_letter letter (own_options command)) (with_letter letter shared_options)
     (found_low letter (own_options command)) (found_low letter shared_options)
+
+-- The sign `-` is the letter of no option.
+pub no_dash : (command : CommandName) → letter_option command 45 ≡ None
+no_dash name.Ls = refl
+no_dash name.Show = refl
+no_dash name.Search = refl
+no_dash name.Add = refl
+no_dash name.Edit = refl
+no_dash name.Move = refl
+no_dash name.Remove = refl
+no_dash name.MakeGroup = refl
+no_dash name.RemoveGroup = refl
+no_dash name.Merge = refl
+no_dash name.Export = refl
+no_dash name.Info = refl

@@ -1,5 +1,5 @@
 //! The options, and how each of them is written.
-ghost use Rattle.std.specs.Prelude.{◌≡◌, ◌<◌, IfSome};
+ghost use Rattle.std.specs.Prelude.{◌≡◌, ◌<◌};
 ghost use Rattle.cli_options.specs.Options as spec;
 ghost use Rattle.cli_options.specs.SeenForms.{form_seen};
 

@@ -1,12 +1,12 @@
 -- Words of calls, and which commands they are.
-use Rattle.std.proofs.Common.{◌≡◌, refl, List, [], ◌∷◌, codes, true, false, Some, None}
+use Rattle.std.proofs.Common.{◌≡◌, refl, [], ◌∷◌, codes, true, false, Some, None}
 use Rattle.cli_words.specs.declared.command.Access.{Access}
 use Rattle.cli_words.specs.declared.command.Command.TheVariants.{Ls, Show, Merge, Export}
 use Rattle.cli_words.specs.declared.command.ExportFormat.TheVariants.{Csv}
 use Rattle.cli_words.specs.Words.{command_in}
 
 -- A database is opened by its password alone.
-by_password : Access
+abbrev by_password : Access
 by_password = record { plain = false; quiet = false; key_file = None; no_password = false }
 
 -- Names of fields are kept in their order, and `-s` of `show` is a flag of its own.

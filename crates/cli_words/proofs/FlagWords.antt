@@ -1,14 +1,14 @@
 -- Words that say flags and nothing else.
-use Rattle.std.proofs.Common.{◌≡◌, inl, inr, ℕ, Bool, true, false, not, ◌&&◌, ◌==◌, cond, List, [], ◌∷◌, ◌++◌, is_some, codes, bytes_eq, Option, Some, None, refl, sym, ap, subst, ◌∙◌}
+use Rattle.std.proofs.Common.{◌≡◌, inl, inr, ℕ, Bool, true, false, not, ◌&&◌, ◌==◌, cond, List, [], ◌∷◌, ◌++◌, codes, Option, Some, None, refl, sym, ap, subst, ◌∙◌}
 use Rattle.std.specs.List.{list_all}
 use Rattle.std.specs.Option.{option_and_then}
 use Rattle.std.proofs.lemmas.Bool.Decides.{Decides-eqb}
-use Rattle.std.proofs.lemmas.Slice.Eq.{bytes_eq-Decides}
 use Rattle.cli_options.specs.declared.names.CommandName.{CommandName}
 use Rattle.cli_options.specs.declared.forms.CommandOption.{CommandOption}
 use Rattle.cli_options.specs.declared.forms.CommandOption.TheVariants.{Recursive, Flat, Quiet, Plain, NoPassword, KeyFile, Title, User, Url, Notes, EntryPassword, SameCredentials, DryRun, KeyFileFrom, NoPasswordFrom, Clear, All, Attachments, Format, Attribute}
 use Rattle.cli_words.specs.Laws.{IsFlagWord, are_flag_letters, is_flag, is_flag_letter, lack_end}
 use Rattle.cli_options.specs.Options.{form_of, has_value, letter_option, name_option}
+use Rattle.cli_options.proofs.Letters.{no_dash}
 use Rattle.cli_options.proofs.Named.{named}
 use Rattle.cli_words.specs.Prefixes.{strip_prefix}
 use Rattle.cli_words.specs.Words.{Said, by_letter, is_option, nothing_said, with_due, with_flag, with_given, with_joined, with_letters, with_long, with_name, with_next, with_option, with_position, with_word, with_words}
@@ -37,11 +37,11 @@ one_flag flag said = same (with_given said flag [])
     same (Some s) = refl
 
 -- A name that is not empty and has no `=` in it.
-abbrev IsWhole : List ℕ → Type 0
+abbrev pub IsWhole : List ℕ → Type 0
 IsWhole name = (command : CommandName) (said : Said) → with_name command said name ≡ with_long said (name_option command name) None
 
 -- The name of an option.
-name_whole : (option : CommandOption) → IsWhole (form_of option).name
+pub name_whole : (option : CommandOption) → IsWhole (form_of option).name
 name_whole Recursive = λ c s. refl
 name_whole Flat = λ c s. refl
 name_whole Quiet = λ c s. refl
@@ -142,7 +142,7 @@ letters_say command (letter ∷ letters) h = record {
   said = λ said e d.
       read_option command said (codes "-" ++ letter ∷ letters) refl e d
       ∙ ap (λ (b : Bool). with_option command said (cond b (Some letters) None) (Some (letter ∷ letters)))
-      (other_letter command letter 45 (parts _ _ h).0 refl)
+      (other_letter command letter 45 (parts _ _ h).0 (ap is_flag (no_dash command)))
       ∙ by_flag command said letter letters (letter_option command letter) (parts _ _ h).0
       ∙ letters_said command (letter ∷ letters) said h;
 }
@@ -193,7 +193,7 @@ flag_words_first command fs gs a b words said one two e d =
     regroup (Some s) = refl
 
 -- Where the value of an option is due another option is refused.
-due_refused : (command : CommandName) (word : List ℕ) (words : List (List ℕ)) (said : Said) (option : CommandOption)
+pub due_refused : (command : CommandName) (word : List ℕ) (words : List (List ℕ)) (said : Said) (option : CommandOption)
     → is_option word ≡ true → said.due ≡ Some option → with_words command (word ∷ words) said ≡ None
 due_refused command word words said option o d =
     ap (λ (due : Option CommandOption). option_and_then (with_words command words) (with_next command said word due)) d
@@ -240,7 +240,7 @@ separate_here command a b words h g said begun = by said.due refl
         ∙ sym (flag_words_first command (flags_of command a) (flags_of command b) (codes "-" ++ a) (codes "-" ++ b) words said one two begun d)
 
 -- Words that say the same after any others without `--`.
-same_after : (command : CommandName) (before one other : List (List ℕ)) → lack_end before ≡ true
+pub same_after : (command : CommandName) (before one other : List (List ℕ)) → lack_end before ≡ true
     → ((said : Said) → IsOpen said → with_words command one said ≡ with_words command other said)
     → with_words command (before ++ one) nothing_said ≡ with_words command (before ++ other) nothing_said
 same_after command before one other h same =

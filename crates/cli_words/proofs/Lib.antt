@@ -3,6 +3,7 @@ pub mod Examples
 pub mod FlagWords
 pub mod Keys
 pub mod LongNames
+pub mod OptionWords
 pub mod Positions
 pub mod PrefixCases
 pub mod Saying

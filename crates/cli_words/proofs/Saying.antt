@@ -43,7 +43,7 @@ abbrev pub IsState : Bool → Option CommandOption → Said → Type 0
 IsState ended due said = (said.ended ≡ ended) × (said.due ≡ due)
 
 -- An option with its text changes neither.
-text_keeps : (ended : Bool) (due : Option CommandOption) (said : Said) (option : CommandOption) (text : List ℕ) → IsState ended due said
+pub text_keeps : (ended : Bool) (due : Option CommandOption) (said : Said) (option : CommandOption) (text : List ℕ) → IsState ended due said
     → IsState ended due (with_option_text said option text)
 text_keeps e d said option text p = by (is_repeatable option)
   where

@@ -10,18 +10,14 @@ use Rattle.cli_words.specs.Words.{Said}
 abbrev pub text_seen : Option (Bor (List ℕ)) → Option (List ℕ)
 text_seen = option_map (λ text. text.now)
 
--- The bytes of texts.
-abbrev pub texts_seen : List (Bor (List ℕ)) → List (List ℕ)
-texts_seen = map (λ text. text.now)
-
--- the same with the texts' bytes
+-- the same with the bytes of options' texts, and without the memory
 abbrev pub said_seen : SaidWords → Said
 said_seen said = record {
   given = map text_seen said.given;
-  names = texts_seen said.names;
+  names = said.names;
   due = said.due;
   ended = said.ended;
-  positions = texts_seen said.positions;
+  positions = said.positions;
 }
 
 -- A function gives what is defined, as it is seen, or fails where nothing is defined, or memory ran

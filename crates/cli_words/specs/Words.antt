@@ -1,5 +1,5 @@
 -- The words of a call: what they say, and which command they are.
-use Rattle.std.specs.Prelude.{ℕ, Bool, true, false, not, ◌&&◌, ◌||◌, ◌==◌, ◌+◌, nat_lt, if◌then◌else◌, is_some, length, List, [], ◌∷◌, ◌++◌, codes, replicate, Option, None, Some, Result, Ok, Err, option_and_then, slice_index_or, slice_set}
+use Rattle.std.specs.Prelude.{ℕ, Bool, true, false, not, ◌&&◌, ◌||◌, ◌==◌, nat_lt, if◌then◌else◌, is_some, length, List, [], ◌∷◌, ◌++◌, codes, replicate, Option, None, Some, Result, Ok, Err, option_and_then, slice_index_or, slice_set}
 use Rattle.std.specs.Str.{bytes_eq}
 use Rattle.cli_words.specs.Prefixes.{after_sign, before_sign, strip_prefix}
 use Rattle.cli_answers.specs.declared.answers.Reason.TheVariants.{WrongWords}
@@ -50,11 +50,11 @@ nothing_said = record {
 abbrev pub text_of : CommandOption → Said → Option (List ℕ)
 text_of option said = slice_index_or said.given (place_of option) None
 
--- An option was given, which stands at most once.
+-- An option that stands at most once was given.
 abbrev pub is_given : CommandOption → Said → Bool
 is_given option said = is_some (text_of option said)
 
--- An option must not be given once more.
+-- An option was given and must not be given once more.
 abbrev pub is_used : CommandOption → Said → Bool
 is_used option said = not (is_repeatable option) && is_given option said
 
@@ -265,10 +265,14 @@ abbrev pub add_at : Said → List (List ℕ) → Option Command
 add_at said (file ∷ entry ∷ []) = Some (Add (access_of said) file entry (asked_of said))
 add_at said positions = None
 
+-- The change of a file's entry.
+abbrev pub edit_of : Said → List ℕ → List ℕ → Command
+edit_of said file entry = Edit (access_of said) file entry (asked_of said)
+
 -- `edit DATABASE ENTRY`, if a value is given
 abbrev pub edit_at : Said → List (List ℕ) → Option Command
-edit_at said (file ∷ entry ∷ []) = if has_change said
-    then Some (Edit (access_of said) file entry (asked_of said)) else None
+edit_at said (file ∷ entry ∷ []) =
+    if has_change said then Some (edit_of said file entry) else None
 edit_at said positions = None
 
 -- `mv DATABASE NODE GROUP`

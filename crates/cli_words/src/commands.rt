@@ -2,7 +2,7 @@
 ghost use Rattle.std.specs.Prelude.{◌≡◌, IfErr, IfOk, map, string_bytes};
 ghost use Rattle.cli_answers.specs.Phases.{IsWordsStop, Returns};
 ghost use Rattle.cli_words.specs.Needs.{HasKeys, needs_of};
-ghost use Rattle.cli_words.specs.SaidWords.{Gives, said_seen, text_seen, texts_seen};
+ghost use Rattle.cli_words.specs.SaidWords.{Gives, said_seen, text_seen};
 ghost use Rattle.cli_words.specs.Words as spec;
 ghost use Rattle.cli_words.specs.Words.{command_of};
 
@@ -154,37 +154,29 @@ fn list_of(
 }
 
 // The command `ls` at these positions.
-fn list_at(
-    alloc: Global,
-    said: &SaidWords<'_>,
-    positions: &[&str],
-) -> Result<Command, WordsFail>
+fn list_at(alloc: Global, said: &SaidWords<'_>, positions: &[Text]) -> Result<Command, WordsFail>
     ensures { Gives (λ command. command) result
-        (spec.list_at (said_seen said.now) (texts_seen positions.now)) }
+        (spec.list_at (said_seen said.now) positions.now) }
 {
     match positions {
-        [file] => Ok(list_of(alloc, said, file, None)?),
-        [file, group] => Ok(list_of(alloc, said, file, Some(group))?),
+        [file] => Ok(list_of(alloc, said, file.as_str(), None)?),
+        [file, group] => Ok(list_of(alloc, said, file.as_str(), Some(group.as_str()))?),
         _ => Err(WordsFail::Wrong),
     }
 }
 
 // The command `show` at these positions.
-fn show_at(
-    alloc: Global,
-    said: &SaidWords<'_>,
-    positions: &[&str],
-) -> Result<Command, WordsFail>
+fn show_at(alloc: Global, said: &SaidWords<'_>, positions: &[Text]) -> Result<Command, WordsFail>
     ensures { Gives (λ command. command) result
-        (spec.show_at (said_seen said.now) (texts_seen positions.now)) }
+        (spec.show_at (said_seen said.now) positions.now) }
 {
     let [file, entry] = positions else {
         return Err(WordsFail::Wrong);
     };
     Ok(Command::Show {
         access: access_of(alloc, said)?,
-        file: Text::of(alloc, file)?,
-        entry: Text::of(alloc, entry)?,
+        file: Text::of(alloc, file.as_str())?,
+        entry: Text::of(alloc, entry.as_str())?,
         clear: is_given(said, CommandOption::Clear),
         all: is_given(said, CommandOption::All),
         attachments: is_given(said, CommandOption::Attachments),
@@ -193,59 +185,46 @@ fn show_at(
 }
 
 // The command `search` at these positions.
-fn search_at(
-    alloc: Global,
-    said: &SaidWords<'_>,
-    positions: &[&str],
-) -> Result<Command, WordsFail>
+fn search_at(alloc: Global, said: &SaidWords<'_>, positions: &[Text]) -> Result<Command, WordsFail>
     ensures { Gives (λ command. command) result
-        (spec.search_at (said_seen said.now) (texts_seen positions.now)) }
+        (spec.search_at (said_seen said.now) positions.now) }
 {
     let [file, term] = positions else {
         return Err(WordsFail::Wrong);
     };
     Ok(Command::Search {
         access: access_of(alloc, said)?,
-        file: Text::of(alloc, file)?,
-        term: Text::of(alloc, term)?,
+        file: Text::of(alloc, file.as_str())?,
+        term: Text::of(alloc, term.as_str())?,
     })
 }
 
 // The command `add` at these positions.
-fn add_at(
-    alloc: Global,
-    said: &SaidWords<'_>,
-    positions: &[&str],
-) -> Result<Command, WordsFail>
+fn add_at(alloc: Global, said: &SaidWords<'_>, positions: &[Text]) -> Result<Command, WordsFail>
     ensures { Gives (λ command. command) result
-        (spec.add_at (said_seen said.now) (texts_seen positions.now)) }
+        (spec.add_at (said_seen said.now) positions.now) }
 {
     let [file, entry] = positions else {
         return Err(WordsFail::Wrong);
     };
     Ok(Command::Add {
         access: access_of(alloc, said)?,
-        file: Text::of(alloc, file)?,
-        entry: Text::of(alloc, entry)?,
+        file: Text::of(alloc, file.as_str())?,
+        entry: Text::of(alloc, entry.as_str())?,
         asked: asked_of(alloc, said)?,
     })
 }
 
-// The command `edit` at these positions.
-fn edit_at(
+// The command `edit` of a file's entry.
+fn edit_of(
     alloc: Global,
     said: &SaidWords<'_>,
-    positions: &[&str],
-) -> Result<Command, WordsFail>
-    ensures { Gives (λ command. command) result
-        (spec.edit_at (said_seen said.now) (texts_seen positions.now)) }
+    file: &str,
+    entry: &str,
+) -> Result<Command, NoMemory>
+    ensures { IfOk result (λ command. command
+        ≡ spec.edit_of (said_seen said.now) file.now entry.now) }
 {
-    let [file, entry] = positions else {
-        return Err(WordsFail::Wrong);
-    };
-    if !has_change(said) {
-        return Err(WordsFail::Wrong);
-    }
     Ok(Command::Edit {
         access: access_of(alloc, said)?,
         file: Text::of(alloc, file)?,
@@ -254,42 +233,47 @@ fn edit_at(
     })
 }
 
-// The command `mv` at these positions.
-fn move_at(
-    alloc: Global,
-    said: &SaidWords<'_>,
-    positions: &[&str],
-) -> Result<Command, WordsFail>
+// The command `edit` at these positions.
+fn edit_at(alloc: Global, said: &SaidWords<'_>, positions: &[Text]) -> Result<Command, WordsFail>
     ensures { Gives (λ command. command) result
-        (spec.move_at (said_seen said.now) (texts_seen positions.now)) }
+        (spec.edit_at (said_seen said.now) positions.now) }
+{
+    match positions {
+        [file, entry] if has_change(said) => {
+            Ok(edit_of(alloc, said, file.as_str(), entry.as_str())?)
+        }
+        _ => Err(WordsFail::Wrong),
+    }
+}
+
+// The command `mv` at these positions.
+fn move_at(alloc: Global, said: &SaidWords<'_>, positions: &[Text]) -> Result<Command, WordsFail>
+    ensures { Gives (λ command. command) result
+        (spec.move_at (said_seen said.now) positions.now) }
 {
     let [file, node, group] = positions else {
         return Err(WordsFail::Wrong);
     };
     Ok(Command::Move {
         access: access_of(alloc, said)?,
-        file: Text::of(alloc, file)?,
-        node: Text::of(alloc, node)?,
-        group: Text::of(alloc, group)?,
+        file: Text::of(alloc, file.as_str())?,
+        node: Text::of(alloc, node.as_str())?,
+        group: Text::of(alloc, group.as_str())?,
     })
 }
 
 // The command `rm` at these positions.
-fn remove_at(
-    alloc: Global,
-    said: &SaidWords<'_>,
-    positions: &[&str],
-) -> Result<Command, WordsFail>
+fn remove_at(alloc: Global, said: &SaidWords<'_>, positions: &[Text]) -> Result<Command, WordsFail>
     ensures { Gives (λ command. command) result
-        (spec.remove_at (said_seen said.now) (texts_seen positions.now)) }
+        (spec.remove_at (said_seen said.now) positions.now) }
 {
     let [file, entry] = positions else {
         return Err(WordsFail::Wrong);
     };
     Ok(Command::Remove {
         access: access_of(alloc, said)?,
-        file: Text::of(alloc, file)?,
-        entry: Text::of(alloc, entry)?,
+        file: Text::of(alloc, file.as_str())?,
+        entry: Text::of(alloc, entry.as_str())?,
     })
 }
 
@@ -297,18 +281,18 @@ fn remove_at(
 fn make_group_at(
     alloc: Global,
     said: &SaidWords<'_>,
-    positions: &[&str],
+    positions: &[Text],
 ) -> Result<Command, WordsFail>
     ensures { Gives (λ command. command) result
-        (spec.make_group_at (said_seen said.now) (texts_seen positions.now)) }
+        (spec.make_group_at (said_seen said.now) positions.now) }
 {
     let [file, group] = positions else {
         return Err(WordsFail::Wrong);
     };
     Ok(Command::MakeGroup {
         access: access_of(alloc, said)?,
-        file: Text::of(alloc, file)?,
-        group: Text::of(alloc, group)?,
+        file: Text::of(alloc, file.as_str())?,
+        group: Text::of(alloc, group.as_str())?,
     })
 }
 
@@ -316,18 +300,18 @@ fn make_group_at(
 fn remove_group_at(
     alloc: Global,
     said: &SaidWords<'_>,
-    positions: &[&str],
+    positions: &[Text],
 ) -> Result<Command, WordsFail>
     ensures { Gives (λ command. command) result
-        (spec.remove_group_at (said_seen said.now) (texts_seen positions.now)) }
+        (spec.remove_group_at (said_seen said.now) positions.now) }
 {
     let [file, group] = positions else {
         return Err(WordsFail::Wrong);
     };
     Ok(Command::RemoveGroup {
         access: access_of(alloc, said)?,
-        file: Text::of(alloc, file)?,
-        group: Text::of(alloc, group)?,
+        file: Text::of(alloc, file.as_str())?,
+        group: Text::of(alloc, group.as_str())?,
     })
 }
 
@@ -336,10 +320,10 @@ fn merge_of(
     alloc: Global,
     said: &SaidWords<'_>,
     file: &str,
-    sources: &[&str],
+    sources: &[Text],
 ) -> Result<Command, NoMemory>
     ensures { IfOk result (λ command. command
-        ≡ spec.merge_of (said_seen said.now) file.now (texts_seen sources.now)) }
+        ≡ spec.merge_of (said_seen said.now) file.now sources.now) }
 {
     Ok(Command::Merge {
         access: access_of(alloc, said)?,
@@ -352,13 +336,9 @@ fn merge_of(
 }
 
 // The command `merge` at these positions.
-fn merge_at(
-    alloc: Global,
-    said: &SaidWords<'_>,
-    positions: &[&str],
-) -> Result<Command, WordsFail>
+fn merge_at(alloc: Global, said: &SaidWords<'_>, positions: &[Text]) -> Result<Command, WordsFail>
     ensures { Gives (λ command. command) result
-        (spec.merge_at (said_seen said.now) (texts_seen positions.now)) }
+        (spec.merge_at (said_seen said.now) positions.now) }
 {
     let [file, sources @ ..] = positions else {
         return Err(WordsFail::Wrong);
@@ -366,17 +346,13 @@ fn merge_at(
     if sources.is_empty() || sources.len() > SOURCES {
         return Err(WordsFail::Wrong);
     }
-    Ok(merge_of(alloc, said, file, sources)?)
+    Ok(merge_of(alloc, said, file.as_str(), sources)?)
 }
 
 // The command `export` at this position.
-fn export_at(
-    alloc: Global,
-    said: &SaidWords<'_>,
-    positions: &[&str],
-) -> Result<Command, WordsFail>
+fn export_at(alloc: Global, said: &SaidWords<'_>, positions: &[Text]) -> Result<Command, WordsFail>
     ensures { Gives (λ command. command) result
-        (spec.export_at (said_seen said.now) (texts_seen positions.now)) }
+        (spec.export_at (said_seen said.now) positions.now) }
 {
     let [file] = positions else {
         return Err(WordsFail::Wrong);
@@ -387,25 +363,21 @@ fn export_at(
     Ok(Command::Export {
         access: access_of(alloc, said)?,
         format,
-        file: Text::of(alloc, file)?,
+        file: Text::of(alloc, file.as_str())?,
     })
 }
 
 // The command `db-info` at this position.
-fn info_at(
-    alloc: Global,
-    said: &SaidWords<'_>,
-    positions: &[&str],
-) -> Result<Command, WordsFail>
+fn info_at(alloc: Global, said: &SaidWords<'_>, positions: &[Text]) -> Result<Command, WordsFail>
     ensures { Gives (λ command. command) result
-        (spec.info_at (said_seen said.now) (texts_seen positions.now)) }
+        (spec.info_at (said_seen said.now) positions.now) }
 {
     let [file] = positions else {
         return Err(WordsFail::Wrong);
     };
     Ok(Command::Info {
         access: access_of(alloc, said)?,
-        file: Text::of(alloc, file)?,
+        file: Text::of(alloc, file.as_str())?,
     })
 }
 
@@ -414,10 +386,10 @@ fn command_at(
     alloc: Global,
     command: CommandName,
     said: &SaidWords<'_>,
-    positions: &[&str],
+    positions: &[Text],
 ) -> Result<Command, WordsFail>
     ensures { Gives (λ command. command) result
-        (spec.command_at command (said_seen said.now) (texts_seen positions.now)) }
+        (spec.command_at command (said_seen said.now) positions.now) }
 {
     match command {
         CommandName::Ls => list_at(alloc, said, positions),
@@ -436,11 +408,7 @@ fn command_at(
 }
 
 // The command of this name with these words after it.
-fn command_by(
-    alloc: Global,
-    words: &[String],
-    command: CommandName,
-) -> Result<Command, WordsFail>
+fn command_by(alloc: Global, words: &[String], command: CommandName) -> Result<Command, WordsFail>
     ensures { Gives (λ command. command) result
         (spec.command_by (map string_bytes words.now) command) }
 {

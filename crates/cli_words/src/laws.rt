@@ -1,7 +1,8 @@
 //! What holds of the words of every call. The functions do nothing, and take no memory.
-ghost use Rattle.std.specs.Prelude.{◌≡◌, ◌++◌, ◌∷◌, ℕ, List, None, Some, codes, false, true};
+ghost use Rattle.std.specs.Prelude.{◌≡◌, ◌≢◌, ◌++◌, ◌∷◌, ℕ, List, None, Some, codes, false, true};
 ghost use Rattle.cli_options.specs.declared.names.CommandName.{CommandName};
-ghost use Rattle.cli_words.specs.Laws.{IsFlagWord, are_flag_letters, lack_end};
+ghost use Rattle.cli_options.specs.declared.forms.CommandOption.{CommandOption};
+ghost use Rattle.cli_words.specs.Laws.{IsFlagWord, SayOption, are_flag_letters, lack_end};
 ghost use Rattle.cli_options.specs.Options.{command_named};
 ghost use Rattle.cli_words.specs.Words.{Said, command_of, command_saying, nothing_said, or_wrong_words, with_words};
 
@@ -13,6 +14,16 @@ pub fn flags_have_no_order()
         → IsFlagWord command a → IsFlagWord command b
         → command_of (name ∷ before ++ a ∷ b ∷ after)
         ≡ command_of (name ∷ before ++ b ∷ a ∷ after) }
+{}
+
+/// The order of options does not matter: two different options beside each other, each with its
+/// value where it has one, may be exchanged wherever they are before `--`.
+pub fn options_have_no_order()
+    ensures { (name : List ℕ) (command : CommandName) (before after a b : List (List ℕ))
+        (f g : CommandOption) → command_named name ≡ Some command → lack_end before ≡ true
+        → SayOption command f a → SayOption command g b → f ≢ g
+        → command_of (name ∷ before ++ (a ++ (b ++ after)))
+        ≡ command_of (name ∷ before ++ (b ++ (a ++ after))) }
 {}
 
 /// Flags joined in one word are the same flags in two words.

@@ -1,6 +1,6 @@
 //! What the words of a call say.
 ghost use Rattle.std.specs.Prelude.{◌≡◌, [], ◌∷◌, ◌++◌, IfOk, Some, map};
-ghost use Rattle.cli_words.specs.SaidWords.{Gives, said_seen, text_seen, texts_seen};
+ghost use Rattle.cli_words.specs.SaidWords.{Gives, said_seen, text_seen};
 ghost use Rattle.cli_words.specs.Words as spec;
 ghost use Rattle.cli_words.specs.declared.said.WordsFail.TheVariants as fail;
 
@@ -31,13 +31,15 @@ pub(crate) struct SaidWords<'a> {
     /// The text of each option that was given, by its place; a flag's text is empty.
     given: [Option<&'a str>; OPTIONS],
     /// The texts of the option that may stand more than once.
-    pub names: List<&'a str>,
+    pub names: List<Text>,
     /// The option whose value is the next word.
     pub due: Option<CommandOption>,
     /// Whether `--` was there, after which no word is an option.
     pub ended: bool,
     /// The positions.
-    pub positions: List<&'a str>,
+    pub positions: List<Text>,
+    // The memory in which the lists grow.
+    alloc: Global,
 }
 
 /// What no words say.
@@ -50,6 +52,7 @@ pub(crate) fn nothing_said<'a>(alloc: Global) -> SaidWords<'a>
         due: None,
         ended: false,
         positions: List::new(alloc),
+        alloc,
     }
 }
 
@@ -60,14 +63,14 @@ pub(crate) fn text_of<'a>(said: &SaidWords<'a>, option: CommandOption) -> Option
     said.given[place_of(option)]
 }
 
-/// Reports whether an option was given.
+/// Reports whether an option that stands at most once was given.
 pub(crate) fn is_given(said: &SaidWords<'_>, option: CommandOption) -> bool
     ensures { result ≡ spec.is_given option (said_seen said.now) }
 {
     text_of(said, option).is_some()
 }
 
-// Reports whether an option must not be given once more.
+// Reports whether an option was given and must not be given once more.
 fn is_used(said: &SaidWords<'_>, option: CommandOption) -> bool
     ensures { result ≡ spec.is_used option (said_seen said.now) }
 {
@@ -89,11 +92,10 @@ fn with_text<'a>(
 }
 
 // A text more in a list.
-fn add_text<'a>(texts: &mut List<&'a str>, text: &'a str) -> Result<(), WordsFail>
-    ensures { Gives (λ done. texts_seen texts.new) result
-        (Some (texts_seen texts.old ++ text.now ∷ [])) }
+fn add_text(alloc: Global, texts: &mut List<Text>, text: &str) -> Result<(), WordsFail>
+    ensures { Gives (λ done. texts.new) result (Some (texts.old ++ text.now ∷ [])) }
 {
-    match texts.push(text) {
+    match texts.push(Text::of(alloc, text)?) {
         Ok(()) => Ok(()),
         Err(_text) => Err(WordsFail::NoMemory),
     }
@@ -112,7 +114,7 @@ pub(crate) fn add_given<'a>(
         return Err(WordsFail::Wrong);
     }
     if is_repeatable(option) {
-        return add_text(&mut said.names, text);
+        return add_text(said.alloc, &mut said.names, text);
     }
     said.given = with_text(said.given, option, text);
     Ok(())
@@ -131,20 +133,20 @@ pub(crate) fn add_due(said: &mut SaidWords<'_>, option: CommandOption) -> Result
 }
 
 /// A position more.
-pub(crate) fn add_position<'a>(said: &mut SaidWords<'a>, word: &'a str) -> Result<(), WordsFail>
+pub(crate) fn add_position(said: &mut SaidWords<'_>, word: &str) -> Result<(), WordsFail>
     ensures { Gives (λ done. said_seen said.new) result
         (Some (spec.with_position (said_seen said.old) word.now)) }
 {
-    add_text(&mut said.positions, word)
+    add_text(said.alloc, &mut said.positions, word)
 }
 
 /// Copies of texts.
-pub(crate) fn copies_of(alloc: Global, texts: &[&str]) -> Result<List<Text>, NoMemory>
-    ensures { IfOk result (λ copies. copies ≡ texts_seen texts.now) }
+pub(crate) fn copies_of(alloc: Global, texts: &[Text]) -> Result<List<Text>, NoMemory>
+    ensures { IfOk result (λ copies. copies ≡ texts.now) }
 {
     let mut copies = List::new(alloc);
     for text in texts {
-        let Ok(()) = copies.push(Text::of(alloc, text)?) else {
+        let Ok(()) = copies.push(Text::of(alloc, text.as_str())?) else {
             return Err(NoMemory);
         };
     }
