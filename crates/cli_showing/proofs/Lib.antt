@@ -1,3 +1,2 @@
 pub mod FoundIds
-pub mod Lines
 pub mod WalkedPaths

@@ -105,18 +105,19 @@ abbrev pub attachment_line : BareAttachment → List ℕ
 attachment_line a =
     codes "  " ++ a.name ++ codes " (" ++ decimal (length a.bytes) ++ codes " bytes)\n"
 
--- The lines of an entry's attachments, where they are asked for.
-abbrev pub attachments_shown : (attachments : Bool) → EntryRecord → List ℕ
-attachments_shown attachments e = if attachments
-    then codes "Attachments:\n" ++ flat_map attachment_line e.current.mark.content.attachments
-    else []
+-- A text after which an entry's attachments are put, where they are asked for.
+abbrev pub with_attachments : (attachments : Bool) → EntryRecord → List ℕ → List ℕ
+with_attachments attachments e text = if attachments
+    then (text ++ codes "Attachments:\n")
+    ++ flat_map attachment_line e.current.mark.content.attachments
+    else text
 
 -- What is shown of an entry.
 abbrev pub entry_text : BareDoc → (clear all attachments : Bool) → List (List ℕ)
     → NodeId × EntryRecord → Result (List ℕ) FindFail
 entry_text doc clear all attachments names e = do
   text ← values_shown doc clear all names e
-  Ok (text ++ attachments_shown attachments e.1)
+  Ok (with_attachments attachments e.1 text)
 
 -- ---- `show`
 

@@ -1,7 +1,6 @@
 //! The attachments of an entry, each on a line.
 ghost use Rattle.std.specs.Prelude.{◌≡◌, ◌++◌, OnOk, codes, flat_map, map};
 ghost use Rattle.vault_model.specs.Seen.{bare_attachment};
-ghost use Rattle.cli_showing.specs.Showing as spec;
 ghost use Rattle.cli_showing.specs.Showing.{attachment_line};
 
 use crate::texts::append;
@@ -27,19 +26,26 @@ fn append_attachment(
     append(alloc, text, b" bytes)\n")
 }
 
+// Puts a line for each attachment after a text.
+fn append_each(alloc: Global, text: &mut Secret, attachments: &[Attachment]) -> Result<(), NoMemory>
+    ensures { OnOk result (text.new.bytes ≡ text.old.bytes
+        ++ flat_map attachment_line (map bare_attachment attachments.now)) }
+{
+    for attachment in attachments {
+        append_attachment(alloc, text, attachment)?;
+    }
+    Ok(())
+}
+
 /// Puts the lines of attachments after a text.
 pub(crate) fn append_attachments(
     alloc: Global,
     text: &mut Secret,
     attachments: &[Attachment],
 ) -> Result<(), NoMemory>
-    ensures { OnOk result (text.new.bytes ≡ text.old.bytes
-        ++ (codes "Attachments:\n"
-        ++ flat_map attachment_line (map bare_attachment attachments.now))) }
+    ensures { OnOk result (text.new.bytes ≡ (text.old.bytes ++ codes "Attachments:\n")
+        ++ flat_map attachment_line (map bare_attachment attachments.now)) }
 {
     append(alloc, text, b"Attachments:\n")?;
-    for attachment in attachments {
-        append_attachment(alloc, text, attachment)?;
-    }
-    Ok(())
+    append_each(alloc, text, attachments)
 }

@@ -6,7 +6,7 @@ ghost use Rattle.vault_model.specs.SeenDoc.{doc_seen};
 ghost use Rattle.vault_model.specs.SeenNodes.{entry_row, tree_seen};
 ghost use Rattle.cli_showing.specs.Paths.{is_among, paths_found};
 ghost use Rattle.cli_showing.specs.inside.Walking as walking;
-ghost use Rattle.cli_showing.specs.inside.Walking.{entry_lines, tree_lines};
+ghost use Rattle.cli_showing.specs.inside.Walking.{entry_line, entry_lines, tree_lines};
 
 use crate::texts::append;
 use outside_core::NoMemory;
@@ -39,7 +39,26 @@ fn front_below(alloc: Global, front: &[u8], name: &[u8]) -> Result<Secret, NoMem
     Ok(below)
 }
 
-// Puts the paths of those entries of a group after a text whose ids are in a set.
+// Puts the path of an entry after a text, where its id is in a set.
+fn append_entry(
+    alloc: Global,
+    text: &mut Secret,
+    ids: &BTreeSet<Uuid>,
+    front: &[u8],
+    entry: &Entry,
+) -> Result<(), NoMemory>
+    ensures { OnOk result (text.new.bytes ≡ text.old.bytes
+        ++ entry_line (contains id_cmp ids.now) front.now (entry_row entry.now)) }
+{
+    if !ids.contains(&entry.id) {
+        return Ok(());
+    }
+    append(alloc, text, front)?;
+    append(alloc, text, title(entry))?;
+    append(alloc, text, b"\n")
+}
+
+// The same of the entries of a group.
 fn append_entries(
     alloc: Global,
     text: &mut Secret,
@@ -51,11 +70,7 @@ fn append_entries(
         ++ entry_lines (contains id_cmp ids.now) front.now (map entry_row entries.now)) }
 {
     for entry in entries {
-        if ids.contains(&entry.id) {
-            append(alloc, text, front)?;
-            append(alloc, text, title(entry))?;
-            append(alloc, text, b"\n")?;
-        }
+        append_entry(alloc, text, ids, front, entry)?;
     }
     Ok(())
 }

@@ -1,5 +1,4 @@
 //! What `show` and `search` refuse with.
-ghost use Rattle.std.specs.Prelude.{◌≡◌};
 ghost use Rattle.cli_answers.specs.Messages.{Refuses, refusal_of};
 ghost use Rattle.cli_answers.specs.Phases.{IsPlainStop};
 ghost use Rattle.cli_answers.specs.declared.answers.Reason.TheVariants as answer;

@@ -1,5 +1,5 @@
 //! `search` on a document.
-ghost use Rattle.std.specs.Prelude.{◌≡◌, IfErr};
+ghost use Rattle.std.specs.Prelude.{IfErr};
 ghost use Rattle.find_terms.specs.Results.{meaning_of};
 ghost use Rattle.outside_core.specs.Results as results;
 ghost use Rattle.vault_model.specs.SeenDoc.{doc_seen};

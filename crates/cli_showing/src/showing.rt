@@ -3,10 +3,10 @@ ghost use Rattle.std.specs.Prelude.{◌≡◌, ◌++◌, IfErr, OnOk, option_map
 ghost use Rattle.find_terms.specs.Results.{meaning_of};
 ghost use Rattle.outside_core.specs.Results as results;
 ghost use Rattle.vault_model.specs.SeenDoc.{doc_seen};
-ghost use Rattle.vault_model.specs.SeenNodes.{entry_record, entry_row};
+ghost use Rattle.vault_model.specs.SeenNodes.{entry_row};
 ghost use Rattle.cli_answers.specs.Phases.{IsPlainStop, Returns};
 ghost use Rattle.cli_showing.specs.Showing as spec;
-ghost use Rattle.cli_showing.specs.Showing.{attachments_shown, entry_shown, id_and_tags, values_shown, whole_entry};
+ghost use Rattle.cli_showing.specs.Showing.{entry_shown, id_and_tags};
 ghost use Rattle.cli_showing.specs.inside.Entries.{entry_sought};
 
 use crate::attachments::append_attachments;

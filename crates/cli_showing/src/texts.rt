@@ -1,5 +1,5 @@
 //! Texts that grow in memory that is wiped.
-ghost use Rattle.std.specs.Prelude.{◌≡◌, ◌+◌, ◌≤◌, ◌++◌, length, IfOk, OnOk};
+ghost use Rattle.std.specs.Prelude.{◌≡◌, ◌+◌, ◌≤◌, ◌++◌, IfOk, OnOk};
 
 use outside_core::NoMemory;
 use secret_core::Secret;

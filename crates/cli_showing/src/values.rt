@@ -1,8 +1,7 @@
 //! Values of an entry, each on a line.
-ghost use Rattle.std.specs.Prelude.{◌≡◌, ◌++◌, ◌&&◌, Ok, OnOk, codes, find, map, not, option_map};
-ghost use Rattle.std.specs.List.{filter, list_any};
-ghost use Rattle.std.specs.Str.{bytes_eq};
-ghost use Rattle.find_references.specs.Fields.{is_other, named_keys};
+ghost use Rattle.std.specs.Prelude.{◌≡◌, ◌&&◌, OnOk, find, map, option_map};
+ghost use Rattle.std.specs.List.{filter};
+ghost use Rattle.find_references.specs.Fields.{is_other};
 ghost use Rattle.find_terms.specs.Results.{meaning_of};
 ghost use Rattle.outside_core.specs.Results.{Returns};
 ghost use Rattle.vault_model.specs.Seen.{bare_field};

@@ -1,0 +1,15 @@
+use Rattle.std.proofs.Common.{◌++◌, ap, codes, ◌∙◌}
+use Rattle.std.specs.BTreeSet.{contains}
+use Rattle.vault_model.specs.Db.{id_cmp}
+use Rattle.vault_model.specs.SeenDoc.{doc_seen}
+use Rattle.vault_model.specs.SeenNodes.{tree_seen}
+use Rattle.cli_showing.specs.inside.Walking.{tree_lines}
+use Rattle.cli_showing.proofs.WalkedPaths.{paths_walked}
+use Rattle.cli_showing.proofs.paths.paths_of.Goals as goal
+
+pub returns : goal.returns
+returns c =
+    let is_found = contains id_cmp c.in_ok-set.set in
+    c.in_ok-append_group.ensures
+    ∙ ap (λ l. l ++ tree_lines is_found (codes "/") (tree_seen c.args.doc.now.root)) c.in_ok-text.ensures.bytes
+    ∙ paths_walked is_found c.args.ids.now (doc_seen c.args.doc.now) c.in_ok-set.ensures
