@@ -1,14 +1,15 @@
 -- Words that say flags and nothing else.
-use Rattle.std.proofs.Common.{◌≡◌, inl, inr, ℕ, Bool, true, false, not, ◌&&◌, ◌==◌, cond, List, [], ◌∷◌, ◌++◌, is_some, codes, bytes_eq, Option, Some, None, refl, sym, ap, subst, ◌∙◌}
+use Rattle.std.proofs.Common.{◌≡◌, inl, inr, ℕ, Bool, true, false, not, ◌&&◌, ◌==◌, cond, List, [], ◌∷◌, ◌++◌, codes, Option, Some, None, refl, sym, ap, subst, ◌∙◌}
 use Rattle.std.specs.List.{list_all}
 use Rattle.std.specs.Option.{option_and_then}
 use Rattle.std.proofs.lemmas.Bool.Decides.{Decides-eqb}
-use Rattle.std.proofs.lemmas.Slice.Eq.{bytes_eq-Decides}
-use Rattle.cli_words.specs.declared.options.CommandName.{CommandName}
-use Rattle.cli_words.specs.declared.options.CommandOption.{CommandOption}
-use Rattle.cli_words.specs.declared.options.CommandOption.TheVariants.{Recursive, Flat, Quiet, Plain, NoPassword, KeyFile, Title, User, Url, Notes, EntryPassword, SameCredentials, DryRun, KeyFileFrom, NoPasswordFrom}
+use Rattle.cli_options.specs.declared.names.CommandName.{CommandName}
+use Rattle.cli_options.specs.declared.forms.CommandOption.{CommandOption}
+use Rattle.cli_options.specs.declared.forms.CommandOption.TheVariants.{Recursive, Flat, Quiet, Plain, NoPassword, KeyFile, Title, User, Url, Notes, EntryPassword, SameCredentials, DryRun, KeyFileFrom, NoPasswordFrom, Clear, All, Attachments, Format, Attribute}
 use Rattle.cli_words.specs.Laws.{IsFlagWord, are_flag_letters, is_flag, is_flag_letter, lack_end}
-use Rattle.cli_words.specs.Options.{has_value, if_taken, letter_option, name_option, option_of_name}
+use Rattle.cli_options.specs.Options.{form_of, has_value, letter_option, name_option}
+use Rattle.cli_options.proofs.Letters.{no_dash}
+use Rattle.cli_options.proofs.Named.{named}
 use Rattle.cli_words.specs.Prefixes.{strip_prefix}
 use Rattle.cli_words.specs.Words.{Said, by_letter, is_option, nothing_said, with_due, with_flag, with_given, with_joined, with_letters, with_long, with_name, with_next, with_option, with_position, with_word, with_words}
 use Rattle.cli_words.proofs.Flags.{flags_appended, flags_exchanged, same_step, with_flags}
@@ -24,8 +25,8 @@ pub read_option : (command : CommandName) (said : Said) (word : List ℕ) → is
     → with_word command said word ≡ with_option command said (strip_prefix (codes "--") word) (strip_prefix (codes "-") word)
 read_option command said word o e d =
     ap (λ (due : Option CommandOption). with_next command said word due) d
-    ∙ ap (λ (b : Bool). cond (b && not said.ended) (with_option command said (strip_prefix (codes "--") word) (strip_prefix (codes "-") word)) (with_position said word)) o
-    ∙ ap (λ (b : Bool). cond (not b) (with_option command said (strip_prefix (codes "--") word) (strip_prefix (codes "-") word)) (with_position said word)) e
+    ∙ ap (λ (b : Bool). cond (b && not said.ended) (with_option command said (strip_prefix (codes "--") word) (strip_prefix (codes "-") word)) (Some (with_position said word))) o
+    ∙ ap (λ (b : Bool). cond (not b) (with_option command said (strip_prefix (codes "--") word) (strip_prefix (codes "-") word)) (Some (with_position said word))) e
 
 -- One flag is the list of it.
 one_flag : (flag : CommandOption) (said : Said) → with_given said flag [] ≡ with_flags (flag ∷ []) said
@@ -36,43 +37,31 @@ one_flag flag said = same (with_given said flag [])
     same (Some s) = refl
 
 -- A name that is not empty and has no `=` in it.
-abbrev IsWhole : List ℕ → Type 0
+abbrev pub IsWhole : List ℕ → Type 0
 IsWhole name = (command : CommandName) (said : Said) → with_name command said name ≡ with_long said (name_option command name) None
 
--- One name of the table, before the others.
-by_name : (name other : List ℕ) (option : CommandOption) (rest : Option CommandOption) → IsWhole other
-    → (is_some rest ≡ true → IsWhole name) → is_some (cond (bytes_eq name other) (Some option) rest) ≡ true → IsWhole name
-by_name name other option rest whole more h = by (bytes_eq name other) refl h
-  where
-    by : (b : Bool) → bytes_eq name other ≡ b → is_some (cond b (Some option) rest) ≡ true → IsWhole name
-    by true e g = subst IsWhole (sym ((bytes_eq-Decides name other).0 e)) whole
-    by false e g = more g
-
--- The names of options.
-names_whole : (name : List ℕ) → is_some (option_of_name name) ≡ true → IsWhole name
-names_whole name =
-    by_name name (codes "recursive") Recursive _ (λ c s. refl)
-    (by_name name (codes "flatten") Flat _ (λ c s. refl)
-    (by_name name (codes "quiet") Quiet _ (λ c s. refl)
-    (by_name name (codes "plain") Plain _ (λ c s. refl)
-    (by_name name (codes "no-password") NoPassword _ (λ c s. refl)
-    (by_name name (codes "key-file") KeyFile _ (λ c s. refl)
-    (by_name name (codes "title") Title _ (λ c s. refl)
-    (by_name name (codes "username") User _ (λ c s. refl)
-    (by_name name (codes "url") Url _ (λ c s. refl)
-    (by_name name (codes "notes") Notes _ (λ c s. refl)
-    (by_name name (codes "password-prompt") EntryPassword _ (λ c s. refl)
-    (by_name name (codes "same-credentials") SameCredentials _ (λ c s. refl)
-    (by_name name (codes "dry-run") DryRun _ (λ c s. refl)
-    (by_name name (codes "key-file-from") KeyFileFrom _ (λ c s. refl)
-    (by_name name (codes "no-password-from") NoPasswordFrom None (λ c s. refl)
-    (λ h. absurd (let no : false ≡ true → ⊥ = λ p. cc p in no h))))))))))))))))
-
--- A flag that a command takes is an option.
-taken_some : (command : CommandName) (option : Option CommandOption) → is_flag (option_and_then (if_taken command) option) ≡ true
-    → is_some option ≡ true
-taken_some command None h = h
-taken_some command (Some option) h = refl
+-- The name of an option.
+pub name_whole : (option : CommandOption) → IsWhole (form_of option).name
+name_whole Recursive = λ c s. refl
+name_whole Flat = λ c s. refl
+name_whole Quiet = λ c s. refl
+name_whole Plain = λ c s. refl
+name_whole NoPassword = λ c s. refl
+name_whole KeyFile = λ c s. refl
+name_whole Title = λ c s. refl
+name_whole User = λ c s. refl
+name_whole Url = λ c s. refl
+name_whole Notes = λ c s. refl
+name_whole EntryPassword = λ c s. refl
+name_whole SameCredentials = λ c s. refl
+name_whole DryRun = λ c s. refl
+name_whole KeyFileFrom = λ c s. refl
+name_whole NoPasswordFrom = λ c s. refl
+name_whole Clear = λ c s. refl
+name_whole All = λ c s. refl
+name_whole Attachments = λ c s. refl
+name_whole Format = λ c s. refl
+name_whole Attribute = λ c s. refl
 
 -- The word of a name.
 name_says : (command : CommandName) (name : List ℕ) → is_flag (name_option command name) ≡ true
@@ -88,7 +77,7 @@ name_says command name h = first (name_option command name) refl h
         option = refl;
         said = λ said n d.
             read_option command said (codes "--" ++ name) refl n d
-            ∙ names_whole name (taken_some command (option_of_name name) h) command said
+            ∙ subst IsWhole (named command name flag e) (name_whole flag) command said
             ∙ ap (λ (x : Option CommandOption). with_long said x None) e
             ∙ ap (λ (b : Bool). cond b (with_due said flag) (with_given said flag [])) (unmet (has_value flag) g)
             ∙ one_flag flag said;
@@ -153,7 +142,7 @@ letters_say command (letter ∷ letters) h = record {
   said = λ said e d.
       read_option command said (codes "-" ++ letter ∷ letters) refl e d
       ∙ ap (λ (b : Bool). with_option command said (cond b (Some letters) None) (Some (letter ∷ letters)))
-      (other_letter command letter 45 (parts _ _ h).0 refl)
+      (other_letter command letter 45 (parts _ _ h).0 (ap is_flag (no_dash command)))
       ∙ by_flag command said letter letters (letter_option command letter) (parts _ _ h).0
       ∙ letters_said command (letter ∷ letters) said h;
 }
@@ -204,7 +193,7 @@ flag_words_first command fs gs a b words said one two e d =
     regroup (Some s) = refl
 
 -- Where the value of an option is due another option is refused.
-due_refused : (command : CommandName) (word : List ℕ) (words : List (List ℕ)) (said : Said) (option : CommandOption)
+pub due_refused : (command : CommandName) (word : List ℕ) (words : List (List ℕ)) (said : Said) (option : CommandOption)
     → is_option word ≡ true → said.due ≡ Some option → with_words command (word ∷ words) said ≡ None
 due_refused command word words said option o d =
     ap (λ (due : Option CommandOption). option_and_then (with_words command words) (with_next command said word due)) d
@@ -251,7 +240,7 @@ separate_here command a b words h g said begun = by said.due refl
         ∙ sym (flag_words_first command (flags_of command a) (flags_of command b) (codes "-" ++ a) (codes "-" ++ b) words said one two begun d)
 
 -- Words that say the same after any others without `--`.
-same_after : (command : CommandName) (before one other : List (List ℕ)) → lack_end before ≡ true
+pub same_after : (command : CommandName) (before one other : List (List ℕ)) → lack_end before ≡ true
     → ((said : Said) → IsOpen said → with_words command one said ≡ with_words command other said)
     → with_words command (before ++ one) nothing_said ≡ with_words command (before ++ other) nothing_said
 same_after command before one other h same =

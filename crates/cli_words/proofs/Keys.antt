@@ -1,20 +1,20 @@
 -- A command opens its database with a key, unless that is a plain document.
-use Rattle.std.proofs.Common.{◌≡◌, refl, subst, ℕ, List, Bool, true, false, Option, Some, None, Result, Ok, Err}
-use Rattle.std.specs.Prelude.{IfOk, not, ◌&&◌, if◌then◌else◌}
-use Rattle.cli_answers.specs.declared.answers.Refusal.{Refusal}
-use Rattle.cli_answers.specs.declared.answers.Stop.{Stop}
-use Rattle.cli_answers.specs.Phases.{Returns}
+use Rattle.std.proofs.Common.{◌≡◌, refl, subst, ℕ, List, [], ◌∷◌, length, Bool, true, false, Option, Some, None}
+use Rattle.std.specs.Prelude.{IfSome, not, ◌&&◌, if◌then◌else◌}
+use Rattle.std.specs.Option.{option_and_then}
 use Rattle.cli_words.specs.declared.command.Access.{Access}
 use Rattle.cli_words.specs.declared.command.Command.{Command}
-use Rattle.cli_words.specs.declared.options.CommandName.{CommandName}
-use Rattle.cli_words.specs.declared.options.CommandName.TheVariants as name
-use Rattle.cli_words.specs.declared.options.CommandOption.TheVariants as option
+use Rattle.cli_options.specs.declared.names.CommandName.{CommandName}
+use Rattle.cli_options.specs.declared.names.CommandName.TheVariants as name
+use Rattle.cli_options.specs.declared.forms.CommandOption.TheVariants as option
 use Rattle.cli_words.specs.Needs.{HasKey, HasKeys, needs_of, without_sources}
-use Rattle.cli_words.specs.Words.{Said, access_from, access_of, add_at, command_at, command_by, command_saying, edit_at, edit_if, has_change, is_due, is_fit, is_fit_from, is_given, is_whole, list_at, make_group_at, merge_at, move_at, nothing_said, position_at, remove_at, remove_group_at, with_words, without_fourth, without_third, wrong_words}
+use Rattle.cli_options.specs.Options.{command_named}
+use Rattle.cli_words.specs.declared.command.ExportFormat.{ExportFormat}
+use Rattle.cli_words.specs.Words.{Said, access_from, access_of, add_at, command_at, command_by, command_in, command_saying, edit_at, export_as, export_at, format_asked, has_change, info_at, is_due, is_fit, is_fit_from, is_given, is_mergeable, is_whole, list_at, make_group_at, merge_at, merge_of, move_at, nothing_said, remove_at, remove_group_at, search_at, show_at, text_of, with_words}
 
--- The command, if the words are one, has a key.
-abbrev IfKey : Result Command Refusal → Type 0
-IfKey r = IfOk r (λ command. HasKeys (needs_of command))
+-- The command, if there is one, has a key.
+abbrev IfKey : Option Command → Type 0
+IfKey r = IfSome r (λ command. HasKeys (needs_of command))
 
 key_given : (plain no_password key : Bool) → is_fit plain no_password key ≡ true → plain ≡ false → no_password ≡ true → key ≡ true
 key_given true no_password key h p n = cc
@@ -65,80 +65,71 @@ whole_key said h = record {
 alone : (said : Said) → AreKeys said → (file : List ℕ) (has_line : Bool) → HasKeys (without_sources (access_of said) file has_line)
 alone said h file has_line = record { target = h.target; sources = h.target; same = λ e. refl }
 
-list_key : (said : Said) (first second : Option (List ℕ)) → AreKeys said → IfKey (list_at said first second)
-list_key said (Some file) group h = alone said h file false
-list_key said None group h = tt
+-- A command, if a test is met.
+if_key : (b : Bool) (r : Option Command) → IfKey r → IfKey (if b then r else None)
+if_key true r h = h
+if_key false r h = tt
 
-add_key : (said : Said) (first second : Option (List ℕ)) → AreKeys said → IfKey (add_at said first second)
-add_key said (Some file) (Some entry) h = alone said h file (is_given option.EntryPassword said)
-add_key said (Some file) None h = tt
-add_key said None entry h = tt
+-- A command by the number of its positions.
+by_positions : (at : List (List ℕ) → Option Command) → IfKey (at []) → ((a : List ℕ) → IfKey (at (a ∷ [])))
+    → ((a b : List ℕ) → IfKey (at (a ∷ b ∷ []))) → ((a b c : List ℕ) (rest : List (List ℕ)) → IfKey (at (a ∷ b ∷ c ∷ rest)))
+    → (positions : List (List ℕ)) → IfKey (at positions)
+by_positions at none one two more [] = none
+by_positions at none one two more (a ∷ []) = one a
+by_positions at none one two more (a ∷ b ∷ []) = two a b
+by_positions at none one two more (a ∷ b ∷ c ∷ rest) = more a b c rest
 
-edit_if_key : (changes : Bool) (said : Said) (file entry : List ℕ) → AreKeys said → IfKey (edit_if changes said file entry)
-edit_if_key true said file entry h = alone said h file (is_given option.EntryPassword said)
-edit_if_key false said file entry h = tt
+move_key : (said : Said) → AreKeys said → (a b c : List ℕ) (rest : List (List ℕ)) → IfKey (move_at said (a ∷ b ∷ c ∷ rest))
+move_key said h a b c [] = alone said h a false
+move_key said h a b c (d ∷ rest) = tt
 
-edit_key : (said : Said) (first second : Option (List ℕ)) → AreKeys said → IfKey (edit_at said first second)
-edit_key said (Some file) (Some entry) h = edit_if_key (has_change said) said file entry h
-edit_key said (Some file) None h = tt
-edit_key said None entry h = tt
+merge_key : (said : Said) → AreKeys said → (positions : List (List ℕ)) → IfKey (merge_at said positions)
+merge_key said h [] = tt
+merge_key said h (file ∷ sources) =
+    if_key (is_mergeable (length sources)) (Some (merge_of said file sources)) (record { target = h.target; sources = h.from; same = h.same })
 
-move_key : (said : Said) (first second third : Option (List ℕ)) → AreKeys said → IfKey (move_at said first second third)
-move_key said (Some file) (Some node) (Some group) h = alone said h file false
-move_key said (Some file) (Some node) None h = tt
-move_key said (Some file) None group h = tt
-move_key said None path group h = tt
+export_key : (said : Said) → AreKeys said → (file : List ℕ) (format : Option ExportFormat) → IfKey (export_as said file format)
+export_key said h file None = tt
+export_key said h file (Some format) = alone said h file false
 
-remove_key : (said : Said) (first second : Option (List ℕ)) → AreKeys said → IfKey (remove_at said first second)
-remove_key said (Some file) (Some entry) h = alone said h file false
-remove_key said (Some file) None h = tt
-remove_key said None entry h = tt
+command_key : (command : CommandName) (said : Said) → AreKeys said → (positions : List (List ℕ)) → IfKey (command_at command said positions)
+command_key name.Ls said h =
+    by_positions (list_at said) tt (λ a. alone said h a false) (λ a b. alone said h a false) (λ a b c r. tt)
+command_key name.Show said h = by_positions (show_at said) tt (λ a. tt) (λ a b. alone said h a false) (λ a b c r. tt)
+command_key name.Search said h = by_positions (search_at said) tt (λ a. tt) (λ a b. alone said h a false) (λ a b c r. tt)
+command_key name.Add said h =
+    by_positions (add_at said) tt (λ a. tt) (λ a b. alone said h a (is_given option.EntryPassword said)) (λ a b c r. tt)
+command_key name.Edit said h =
+    by_positions (edit_at said) tt (λ a. tt)
+    (λ a b. if_key (has_change said) _ (alone said h a (is_given option.EntryPassword said))) (λ a b c r. tt)
+command_key name.Move said h = by_positions (move_at said) tt (λ a. tt) (λ a b. tt) (move_key said h)
+command_key name.Remove said h = by_positions (remove_at said) tt (λ a. tt) (λ a b. alone said h a false) (λ a b c r. tt)
+command_key name.MakeGroup said h = by_positions (make_group_at said) tt (λ a. tt) (λ a b. alone said h a false) (λ a b c r. tt)
+command_key name.RemoveGroup said h = by_positions (remove_group_at said) tt (λ a. tt) (λ a b. alone said h a false) (λ a b c r. tt)
+command_key name.Merge said h = merge_key said h
+command_key name.Export said h =
+    by_positions (export_at said) tt (λ a. export_key said h a (format_asked (text_of option.Format said))) (λ a b. tt) (λ a b c r. tt)
+command_key name.Info said h = by_positions (info_at said) tt (λ a. alone said h a false) (λ a b. tt) (λ a b c r. tt)
 
-make_group_key : (said : Said) (first second : Option (List ℕ)) → AreKeys said → IfKey (make_group_at said first second)
-make_group_key said (Some file) (Some group) h = alone said h file false
-make_group_key said (Some file) None h = tt
-make_group_key said None group h = tt
+saying_key : (command : CommandName) (said : Said) → IfKey (command_saying command said)
+saying_key command said = by (is_whole said) refl
+  where
+    by : (b : Bool) → is_whole said ≡ b → IfKey (if b then command_at command said said.positions else None)
+    by true w = command_key command said (whole_key said w) said.positions
+    by false w = tt
 
-remove_group_key : (said : Said) (first second : Option (List ℕ)) → AreKeys said → IfKey (remove_group_at said first second)
-remove_group_key said (Some file) (Some group) h = alone said h file false
-remove_group_key said (Some file) None h = tt
-remove_group_key said None group h = tt
+-- A step more.
+then_key : {A : Type 0} (F : A → Option Command) → ((a : A) → IfKey (F a)) → (o : Option A) → IfKey (option_and_then F o)
+then_key F h None = tt
+then_key F h (Some a) = h a
 
-merge_key : (said : Said) (first second : Option (List ℕ)) → AreKeys said → IfKey (merge_at said first second)
-merge_key said (Some file) (Some source) h = record { target = h.target; sources = h.from; same = h.same }
-merge_key said (Some file) None h = tt
-merge_key said None source h = tt
+words_key : (words : List (List ℕ)) → IfKey (command_in words)
+words_key [] = tt
+words_key (word ∷ words) =
+    then_key (command_by words)
+    (λ command. then_key (command_saying command) (saying_key command) (with_words command words nothing_said))
+    (command_named word)
 
-two_key : (third : Option (List ℕ)) (r : Result Command Refusal) → IfKey r → IfKey (without_third third r)
-two_key None r h = h
-two_key (Some word) r h = tt
-
-three_key : (fourth : Option (List ℕ)) (r : Result Command Refusal) → IfKey r → IfKey (without_fourth fourth r)
-three_key None r h = h
-three_key (Some word) r h = tt
-
-command_key : (command : CommandName) (said : Said) (a b c d : Option (List ℕ)) → AreKeys said → IfKey (command_at command said a b c d)
-command_key name.Ls said a b c d h = two_key c _ (list_key said a b h)
-command_key name.Add said a b c d h = two_key c _ (add_key said a b h)
-command_key name.Edit said a b c d h = two_key c _ (edit_key said a b h)
-command_key name.Move said a b c d h = three_key d _ (move_key said a b c h)
-command_key name.Remove said a b c d h = two_key c _ (remove_key said a b h)
-command_key name.MakeGroup said a b c d h = two_key c _ (make_group_key said a b h)
-command_key name.RemoveGroup said a b c d h = two_key c _ (remove_group_key said a b h)
-command_key name.Merge said a b c d h = merge_key said a b h
-
-chosen_key : (whole : Bool) (r : Result Command Refusal) → (whole ≡ true → IfKey r) → IfKey (if whole then r else wrong_words)
-chosen_key true r h = h refl
-chosen_key false r h = tt
-
-saying_key : (command : CommandName) (said : Option Said) → IfKey (command_saying command said)
-saying_key command None = tt
-saying_key command (Some said) =
-    chosen_key (is_whole said) (command_at command said (position_at 0 said) (position_at 1 said) (position_at 2 said) (position_at 3 said))
-    (λ w. command_key command said (position_at 0 said) (position_at 1 said) (position_at 2 said) (position_at 3 said) (whole_key said w))
-
--- A command that was read has a key.
-pub has_key : (command : CommandName) (words : List (List ℕ)) (result : Result Command Stop) → Returns (λ command. command) result (command_by (Some command) words)
-    → IfOk result (λ command. HasKeys (needs_of command))
-has_key command words (Ok read) h = subst IfKey h (saying_key command (with_words command words nothing_said))
-has_key command words (Err stop) h = tt
+-- A command that words are has a key.
+pub has_key : (words : List (List ℕ)) (command : Command) → command_in words ≡ Some command → HasKeys (needs_of command)
+has_key words command h = subst IfKey h (words_key words)

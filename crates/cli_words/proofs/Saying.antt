@@ -1,15 +1,14 @@
 -- What words leave as it was.
 use Rattle.std.proofs.Common.{◌≡◌, ◌≢◌, ℕ, Bool, true, false, not, ◌&&◌, ◌==◌, cond, List, [], ◌∷◌, ◌++◌, codes, bytes_eq, Option, Some, None, refl, sym, ◌∙◌}
-use Rattle.std.specs.Prelude.{nat_lt}
 use Rattle.std.specs.Option.{option_and_then}
 use Rattle.std.proofs.lemmas.Bool.Decides.{Decides-eqb}
 use Rattle.std.proofs.lemmas.Slice.Eq.{bytes_eq-Decides}
-use Rattle.cli_words.specs.declared.options.CommandName.{CommandName}
-use Rattle.cli_words.specs.declared.options.CommandOption.{CommandOption}
+use Rattle.cli_options.specs.declared.names.CommandName.{CommandName}
+use Rattle.cli_options.specs.declared.forms.CommandOption.{CommandOption}
 use Rattle.cli_words.specs.Laws.{lack_end}
-use Rattle.cli_words.specs.Options.{has_value, letter_option, name_option}
+use Rattle.cli_options.specs.Options.{has_value, is_repeatable, letter_option, name_option}
 use Rattle.cli_words.specs.Prefixes.{after_sign, before_sign, strip_prefix}
-use Rattle.cli_words.specs.Words.{Said, by_letter, is_option, unless_given, with_due, with_flag, with_given, with_joined, with_letters, with_long, with_next, with_option, with_position, with_short, with_word, with_words, without_sign}
+use Rattle.cli_words.specs.Words.{Said, by_letter, is_option, unless_given, with_due, with_flag, with_given, with_joined, with_letters, with_long, with_next, with_option, with_option_text, with_position, with_short, with_text, with_word, with_words, without_sign}
 use Rattle.cli_words.proofs.Flags.{joined, same_step, with_flags}
 
 -- What is said, if anything is, has a property.
@@ -43,20 +42,30 @@ by_step P F h (Some s) p = h s p
 abbrev pub IsState : Bool → Option CommandOption → Said → Type 0
 IsState ended due said = (said.ended ≡ ended) × (said.due ≡ due)
 
+-- An option with its text changes neither.
+pub text_keeps : (ended : Bool) (due : Option CommandOption) (said : Said) (option : CommandOption) (text : List ℕ) → IsState ended due said
+    → IsState ended due (with_option_text said option text)
+text_keeps e d said option text p = by (is_repeatable option)
+  where
+    by : (b : Bool)
+        → IsState e d (cond b (record said { names = said.names ++ text ∷ [] }) (record said { given = with_text said.given option text }))
+    by true = p
+    by false = p
+
 -- Flags change neither.
 pub flags_keep : (ended : Bool) (due : Option CommandOption) (flags : List CommandOption) (said : Said)
     → IsState ended due said → IfSaid (IsState ended due) (with_flags flags said)
 flags_keep e d [] said p = p
 flags_keep e d (flag ∷ flags) said p =
     by_step (IsState e d) (with_flags flags) (flags_keep e d flags) (with_given said flag [])
-    (by_unless (IsState e d) _ _ p)
+    (by_unless (IsState e d) _ _ (text_keeps e d said flag [] p))
 
 -- `--` was not there.
 abbrev pub IsOpen : Said → Type 0
 IsOpen said = said.ended ≡ false
 
 given_opens : (said : Said) (option : CommandOption) (text : List ℕ) → IsOpen said → IfSaid IsOpen (with_given said option text)
-given_opens said option text p = by_unless IsOpen _ _ p
+given_opens said option text p = by_unless IsOpen _ _ (text_keeps false said.due said option text (p, refl)).0
 
 due_opens : (said : Said) (option : CommandOption) → IsOpen said → IfSaid IsOpen (with_due said option)
 due_opens said option p = by_unless IsOpen _ _ p
@@ -101,9 +110,6 @@ option_opens command said (Some (b ∷ bs)) letters h p =
 option_opens command said None (Some letters) h p = short_opens command said letters p
 option_opens command said None None h p = refl
 
-position_opens : (said : Said) (word : List ℕ) → IsOpen said → IfSaid IsOpen (with_position said word)
-position_opens said word p = by_test IsOpen (nat_lt said.count 17) _ None p refl
-
 -- Only the word `--` is `--` with nothing after it.
 only_end : (word : List ℕ) → bytes_eq word (codes "--") ≡ false → strip_prefix (codes "--") word ≢ Some []
 only_end word h is =
@@ -139,9 +145,8 @@ next_opens command word said (Some option) h p =
     by_test IsOpen (is_option word) None (with_given (record said { due = None }) option word) refl
     (given_opens (record said { due = None }) option word p)
 next_opens command word said None h p =
-    by_test IsOpen (is_option word && not said.ended) _ (with_position said word)
-    (option_opens command said (strip_prefix (codes "--") word) (strip_prefix (codes "-") word) (only_end word h) p)
-    (position_opens said word p)
+    by_test IsOpen (is_option word && not said.ended) _ (Some (with_position said word))
+    (option_opens command said (strip_prefix (codes "--") word) (strip_prefix (codes "-") word) (only_end word h) p) p
 
 -- The two parts of a test that is met.
 pub parts : (a b : Bool) → (a && b) ≡ true → (a ≡ true) × (b ≡ true)

@@ -1,5 +1,5 @@
 -- Texts that are kept by their places, and texts around `=`.
-use Rattle.std.proofs.Common.{Bor, ◌≡◌, ◌≢◌, ◌<◌, arith, ℕ, zero, suc, Bool, cond, List, [], ◌∷◌, ◌++◌, length, drop, get_or, map, take, slice_index_or, slice_set, Option, Some, None, refl, ap, ◌∙◌}
+use Rattle.std.proofs.Common.{Bor, ◌≡◌, ◌≢◌, ◌<◌, arith, ℕ, zero, suc, Bool, cond, List, [], ◌∷◌, ◌++◌, length, get_or, map, slice_index_or, slice_set, Option, Some, None, refl, ap, ◌∙◌}
 use Rattle.std.proofs.lemmas.Bool.{ne_eqb}
 use Rattle.cli_words.specs.Prefixes.{after_sign, before_sign}
 use Rattle.cli_words.specs.SaidWords.{text_seen}
@@ -17,19 +17,6 @@ pub text_put : (given : List (Option (Bor (List ℕ)))) (i : ℕ) (x : Option (B
 text_put [] i x = refl
 text_put (y ∷ ys) zero x = refl
 text_put (y ∷ ys) (suc i) x = ap (λ ts. text_seen y ∷ ts) (text_put ys i x)
-
--- Texts of which some are taken.
-texts_taken : (n : ℕ) (given : List (Option (Bor (List ℕ)))) → map text_seen (take n given) ≡ take n (map text_seen given)
-texts_taken zero [] = refl
-texts_taken zero (x ∷ xs) = refl
-texts_taken (suc n) [] = refl
-texts_taken (suc n) (x ∷ xs) = ap (λ ts. text_seen x ∷ ts) (texts_taken n xs)
-
--- Texts after the first, of which some are taken.
-pub texts_after_first : (n : ℕ) (given : List (Option (Bor (List ℕ))))
-    → map text_seen (take n (drop 1 given)) ≡ take n (drop 1 (map text_seen given))
-texts_after_first n [] = texts_taken n []
-texts_after_first n (x ∷ xs) = texts_taken n xs
 
 -- No byte is `=`.
 abbrev pub LacksSign : List ℕ → Type 0

@@ -1,6 +1,5 @@
 pub mod Laws
 pub mod Needs
-pub mod Options
 pub mod Prefixes
 pub mod SaidWords
 pub mod SeenNeeds

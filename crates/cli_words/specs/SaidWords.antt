@@ -1,19 +1,28 @@
--- What is seen of what words say in memory.
-use Rattle.std.specs.Prelude.{ℕ, List, Option, map, option_map}
+-- What is seen of what words say in memory, and of a word more.
+use Rattle.std.specs.Prelude.{◌≡◌, ℕ, List, Option, None, Some, Result, Ok, Err, map, option_map}
 use Rattle.std.specs.Borrow.{Bor}
-use Rattle.cli_words.specs.declared.words.SaidWords.{SaidWords}
+use Rattle.cli_words.specs.declared.said.SaidWords.{SaidWords}
+use Rattle.cli_words.specs.declared.said.WordsFail.{WordsFail}
+use Rattle.cli_words.specs.declared.said.WordsFail.TheVariants.{Wrong, NoMemory}
 use Rattle.cli_words.specs.Words.{Said}
 
 -- The bytes of a text, where there is one.
 abbrev pub text_seen : Option (Bor (List ℕ)) → Option (List ℕ)
 text_seen = option_map (λ text. text.now)
 
--- the same with the texts' bytes
+-- the same with the bytes of options' texts, and without the memory
 abbrev pub said_seen : SaidWords → Said
 said_seen said = record {
   given = map text_seen said.given;
+  names = said.names;
   due = said.due;
   ended = said.ended;
-  positions = map text_seen said.positions;
-  count = said.count;
+  positions = said.positions;
 }
+
+-- A function gives what is defined, as it is seen, or fails where nothing is defined, or memory ran
+-- out.
+abbrev pub Gives : {X Y : Type 0} → (X → Y) → Result X WordsFail → Option Y → Type 0
+Gives seen (Ok x) defined = defined ≡ Some (seen x)
+Gives seen (Err Wrong) defined = defined ≡ None
+Gives seen (Err NoMemory) defined = Unit {0}

@@ -1,5 +1,6 @@
 -- The words of a call: what they say, and which command they are.
-use Rattle.std.specs.Prelude.{ℕ, Bool, true, false, not, ◌&&◌, ◌||◌, ◌==◌, ◌+◌, nat_lt, if◌then◌else◌, is_some, drop, take, List, [], ◌∷◌, codes, replicate, Option, None, Some, Result, Ok, Err, option_and_then, slice_index_or, slice_set}
+use Rattle.std.specs.Prelude.{ℕ, Bool, true, false, not, ◌&&◌, ◌||◌, ◌==◌, nat_lt, if◌then◌else◌, is_some, length, List, [], ◌∷◌, ◌++◌, codes, replicate, Option, None, Some, Result, Ok, Err, option_and_then, slice_index_or, slice_set}
+use Rattle.std.specs.Str.{bytes_eq}
 use Rattle.cli_words.specs.Prefixes.{after_sign, before_sign, strip_prefix}
 use Rattle.cli_answers.specs.declared.answers.Reason.TheVariants.{WrongWords}
 use Rattle.cli_answers.specs.declared.answers.Refusal.{Refusal}
@@ -7,12 +8,14 @@ use Rattle.cli_answers.specs.Messages.{refusal_of}
 use Rattle.cli_words.specs.declared.command.Access.{Access}
 use Rattle.cli_words.specs.declared.command.Asked.{Asked}
 use Rattle.cli_words.specs.declared.command.Command.{Command}
-use Rattle.cli_words.specs.declared.command.Command.TheVariants.{Ls, Add, Edit, Move, Remove, MakeGroup, RemoveGroup, Merge}
-use Rattle.cli_words.specs.declared.options.CommandName.{CommandName}
-use Rattle.cli_words.specs.declared.options.CommandName.TheVariants as name
-use Rattle.cli_words.specs.declared.options.CommandOption.{CommandOption}
-use Rattle.cli_words.specs.declared.options.CommandOption.TheVariants as option
-use Rattle.cli_words.specs.Options.{command_named, has_value, letter_option, name_option, place_of}
+use Rattle.cli_words.specs.declared.command.Command.TheVariants.{Ls, Show, Search, Add, Edit, Move, Remove, MakeGroup, RemoveGroup, Merge, Export, Info}
+use Rattle.cli_words.specs.declared.command.ExportFormat.{ExportFormat}
+use Rattle.cli_words.specs.declared.command.ExportFormat.TheVariants as format
+use Rattle.cli_options.specs.declared.names.CommandName.{CommandName}
+use Rattle.cli_options.specs.declared.names.CommandName.TheVariants as name
+use Rattle.cli_options.specs.declared.forms.CommandOption.{CommandOption}
+use Rattle.cli_options.specs.declared.forms.CommandOption.TheVariants as option
+use Rattle.cli_options.specs.Options.{command_named, has_value, is_repeatable, letter_option, name_option, place_of}
 
 -- ---- what words say
 
@@ -23,33 +26,37 @@ is_option (b ∷ []) = false
 is_option (b ∷ c ∷ bs) = b == 45
 
 -- What the words after a command's name say: the text of each option that was given, a flag's being
--- empty; the option whose value is due in the next word; whether `--` was there, after which no
--- word is an option; and the text of each position by its place, and how many there are. No command
--- has more than 17.
+-- empty; the texts of the option that may stand more than once, in their order; the option whose
+-- value is due in the next word; whether `--` was there, after which no word is an option; and the
+-- positions.
 pub record Said : Type 0 where
   pub given : List (Option (List ℕ))
+  pub names : List (List ℕ)
   pub due : Option CommandOption
   pub ended : Bool
-  pub positions : List (Option (List ℕ))
-  pub count : ℕ
+  pub positions : List (List ℕ)
 
 -- What no words say.
 abbrev pub nothing_said : Said
 nothing_said = record {
-  given = replicate 15 None;
+  given = replicate 20 None;
+  names = [];
   due = None;
   ended = false;
-  positions = replicate 17 None;
-  count = 0;
+  positions = [];
 }
 
 -- The text of an option, where it was given.
 abbrev pub text_of : CommandOption → Said → Option (List ℕ)
 text_of option said = slice_index_or said.given (place_of option) None
 
--- An option was given.
+-- An option that stands at most once was given.
 abbrev pub is_given : CommandOption → Said → Bool
 is_given option said = is_some (text_of option said)
+
+-- An option was given and must not be given once more.
+abbrev pub is_used : CommandOption → Said → Bool
+is_used option said = not (is_repeatable option) && is_given option said
 
 -- The value of an option is still due.
 abbrev pub is_due : Said → Bool
@@ -66,14 +73,21 @@ unless_given false said = Some said
 abbrev pub with_text : List (Option (List ℕ)) → CommandOption → List ℕ → List (Option (List ℕ))
 with_text given option text = slice_set given (place_of option) (Some text)
 
--- An option with its text.
+-- An option with its text: after the texts before it where it may stand more than once, or else in
+-- its place.
+abbrev pub with_option_text : Said → CommandOption → List ℕ → Said
+with_option_text said option text = if is_repeatable option
+    then record said { names = said.names ++ text ∷ [] }
+    else record said { given = with_text said.given option text }
+
+-- An option with its text, unless it must not be given once more.
 abbrev pub with_given : Said → CommandOption → List ℕ → Option Said
 with_given said option text =
-    unless_given (is_given option said) (record said { given = with_text said.given option text })
+    unless_given (is_used option said) (with_option_text said option text)
 
 -- An option whose value is due in the next word.
 abbrev pub with_due : Said → CommandOption → Option Said
-with_due said option = unless_given (is_given option said) (record said { due = Some option })
+with_due said option = unless_given (is_used option said) (record said { due = Some option })
 
 -- A flag; an option that has a value is none.
 abbrev pub with_flag : Said → Option CommandOption → Option Said
@@ -128,13 +142,9 @@ with_option command said (Some name) letters = with_name command said name
 with_option command said None (Some letters) = with_short command said letters
 with_option command said None None = None
 
--- A position more, after those that are there, of which there are at most 17.
-abbrev pub with_position : Said → List ℕ → Option Said
-with_position said word = if nat_lt said.count 17 then Some
-    (record said {
-      positions = slice_set said.positions said.count (Some word);
-      count = said.count + 1;
-    }) else None
+-- A position more.
+abbrev pub with_position : Said → List ℕ → Said
+with_position said word = record said { positions = said.positions ++ word ∷ [] }
 
 -- A word where this option's value is due: the value, which is no option; or else an option or a
 -- position.
@@ -144,7 +154,7 @@ with_next command said word (Some option) =
 with_next command said word None =
     if is_option word && not said.ended
     then with_option command said (strip_prefix (codes "--") word) (strip_prefix (codes "-") word)
-    else with_position said word
+    else Some (with_position said word)
 
 -- A word more.
 abbrev pub with_word : CommandName → Said → List ℕ → Option Said
@@ -157,24 +167,6 @@ with_words command (word ∷ words) said =
     option_and_then (with_words command words) (with_word command said word)
 
 -- ---- the command
-
--- The words are no command.
-abbrev pub wrong_words : Result Command Refusal
-wrong_words = Err (refusal_of WrongWords (codes "words"))
-
--- The text of the position at a place, where there is one.
-abbrev pub position_at : ℕ → Said → Option (List ℕ)
-position_at place said = slice_index_or said.positions place None
-
--- The texts that are there.
-abbrev pub texts_there : List (Option (List ℕ)) → List (List ℕ)
-texts_there [] = []
-texts_there (None ∷ texts) = texts_there texts
-texts_there (Some text ∷ texts) = text ∷ texts_there texts
-
--- The texts of all positions after the first.
-abbrev pub positions_after_first : Said → List (List ℕ)
-positions_after_first said = texts_there (take 16 (drop 1 said.positions))
 
 -- How a database is opened.
 abbrev pub access_of : Said → Access
@@ -233,105 +225,143 @@ has_change said =
     is_given option.Title said || is_given option.User said || is_given option.Url said
     || is_given option.Notes said || is_given option.EntryPassword said
 
+-- The format of a name.
+abbrev pub format_named : List ℕ → Option ExportFormat
+format_named name =
+    if bytes_eq name (codes "xml") then Some format.Xml
+    else (if bytes_eq name (codes "csv") then Some format.Csv
+    else None)
+
+-- The format that is asked for: the plain document where none is named.
+abbrev pub format_asked : Option (List ℕ) → Option ExportFormat
+format_asked None = Some format.Xml
+format_asked (Some name) = format_named name
+
+-- The listing of a file's group, if one is named.
+abbrev pub list_of : Said → List ℕ → Option (List ℕ) → Command
+list_of said file group =
+    Ls (access_of said) file group (is_given option.Recursive said) (is_given option.Flat said)
+
 -- `ls DATABASE [GROUP]`
-abbrev pub list_at : Said → Option (List ℕ) → Option (List ℕ) → Result Command Refusal
-list_at said (Some file) group =
-    Ok (Ls (access_of said) file group (is_given option.Recursive said) (is_given option.Flat said))
-list_at said None group = wrong_words
+abbrev pub list_at : Said → List (List ℕ) → Option Command
+list_at said (file ∷ []) = Some (list_of said file None)
+list_at said (file ∷ group ∷ []) = Some (list_of said file (Some group))
+list_at said positions = None
+
+-- `show DATABASE ENTRY`
+abbrev pub show_at : Said → List (List ℕ) → Option Command
+show_at said (file ∷ entry ∷ []) = Some (Show (access_of said) file entry
+    (is_given option.Clear said) (is_given option.All said) (is_given option.Attachments said)
+    said.names)
+show_at said positions = None
+
+-- `search DATABASE TERM`
+abbrev pub search_at : Said → List (List ℕ) → Option Command
+search_at said (file ∷ term ∷ []) = Some (Search (access_of said) file term)
+search_at said positions = None
 
 -- `add DATABASE ENTRY`
-abbrev pub add_at : Said → Option (List ℕ) → Option (List ℕ) → Result Command Refusal
-add_at said (Some file) (Some entry) = Ok (Add (access_of said) file entry (asked_of said))
-add_at said (Some file) None = wrong_words
-add_at said None entry = wrong_words
+abbrev pub add_at : Said → List (List ℕ) → Option Command
+add_at said (file ∷ entry ∷ []) = Some (Add (access_of said) file entry (asked_of said))
+add_at said positions = None
 
--- An entry is edited, if a value is given.
-abbrev pub edit_if : Bool → Said → List ℕ → List ℕ → Result Command Refusal
-edit_if true said file entry = Ok (Edit (access_of said) file entry (asked_of said))
-edit_if false said file entry = wrong_words
+-- The change of a file's entry.
+abbrev pub edit_of : Said → List ℕ → List ℕ → Command
+edit_of said file entry = Edit (access_of said) file entry (asked_of said)
 
--- `edit DATABASE ENTRY`
-abbrev pub edit_at : Said → Option (List ℕ) → Option (List ℕ) → Result Command Refusal
-edit_at said (Some file) (Some entry) = edit_if (has_change said) said file entry
-edit_at said (Some file) None = wrong_words
-edit_at said None entry = wrong_words
+-- `edit DATABASE ENTRY`, if a value is given
+abbrev pub edit_at : Said → List (List ℕ) → Option Command
+edit_at said (file ∷ entry ∷ []) =
+    if has_change said then Some (edit_of said file entry) else None
+edit_at said positions = None
 
 -- `mv DATABASE NODE GROUP`
-abbrev pub move_at : Said → (first second third : Option (List ℕ)) → Result Command Refusal
-move_at said (Some file) (Some node) (Some group) = Ok (Move (access_of said) file node group)
-move_at said (Some file) (Some node) None = wrong_words
-move_at said (Some file) None group = wrong_words
-move_at said None path group = wrong_words
+abbrev pub move_at : Said → List (List ℕ) → Option Command
+move_at said (file ∷ node ∷ group ∷ []) = Some (Move (access_of said) file node group)
+move_at said positions = None
 
 -- `rm DATABASE ENTRY`
-abbrev pub remove_at : Said → Option (List ℕ) → Option (List ℕ) → Result Command Refusal
-remove_at said (Some file) (Some entry) = Ok (Remove (access_of said) file entry)
-remove_at said (Some file) None = wrong_words
-remove_at said None entry = wrong_words
+abbrev pub remove_at : Said → List (List ℕ) → Option Command
+remove_at said (file ∷ entry ∷ []) = Some (Remove (access_of said) file entry)
+remove_at said positions = None
 
 -- `mkdir DATABASE GROUP`
-abbrev pub make_group_at : Said → Option (List ℕ) → Option (List ℕ) → Result Command Refusal
-make_group_at said (Some file) (Some group) = Ok (MakeGroup (access_of said) file group)
-make_group_at said (Some file) None = wrong_words
-make_group_at said None group = wrong_words
+abbrev pub make_group_at : Said → List (List ℕ) → Option Command
+make_group_at said (file ∷ group ∷ []) = Some (MakeGroup (access_of said) file group)
+make_group_at said positions = None
 
 -- `rmdir DATABASE GROUP`
-abbrev pub remove_group_at : Said → Option (List ℕ) → Option (List ℕ) → Result Command Refusal
-remove_group_at said (Some file) (Some group) = Ok (RemoveGroup (access_of said) file group)
-remove_group_at said (Some file) None = wrong_words
-remove_group_at said None group = wrong_words
+abbrev pub remove_group_at : Said → List (List ℕ) → Option Command
+remove_group_at said (file ∷ group ∷ []) = Some (RemoveGroup (access_of said) file group)
+remove_group_at said positions = None
+
+-- A number of sources is one that a merge may have: 1 to 16.
+abbrev pub is_mergeable : ℕ → Bool
+is_mergeable count = not (count == 0) && not (nat_lt 16 count)
+
+-- The merge of sources into a file.
+abbrev pub merge_of : Said → List ℕ → List (List ℕ) → Command
+merge_of said file sources =
+    Merge (access_of said) file sources (access_from said) (is_given option.SameCredentials said)
+    (is_given option.DryRun said)
 
 -- `merge TARGET SOURCE...`
-abbrev pub merge_at : Said → (first second : Option (List ℕ)) → Result Command Refusal
-merge_at said (Some file) (Some source) =
-    Ok (Merge (access_of said) file (positions_after_first said) (access_from said)
-    (is_given option.SameCredentials said) (is_given option.DryRun said))
-merge_at said (Some file) None = wrong_words
-merge_at said None source = wrong_words
+abbrev pub merge_at : Said → List (List ℕ) → Option Command
+merge_at said (file ∷ sources) =
+    if is_mergeable (length sources) then Some (merge_of said file sources) else None
+merge_at said positions = None
 
--- A command of two positions, which must have no third.
-abbrev pub without_third : Option (List ℕ) → Result Command Refusal → Result Command Refusal
-without_third None command = command
-without_third (Some word) command = wrong_words
+-- A database is written in a format, if that is known.
+abbrev pub export_as : Said → List ℕ → Option ExportFormat → Option Command
+export_as said file (Some known) = Some (Export (access_of said) known file)
+export_as said file None = None
 
--- A command of three positions, which must have no fourth.
-abbrev pub without_fourth : Option (List ℕ) → Result Command Refusal → Result Command Refusal
-without_fourth None command = command
-without_fourth (Some word) command = wrong_words
+-- `export DATABASE`
+abbrev pub export_at : Said → List (List ℕ) → Option Command
+export_at said (file ∷ []) = export_as said file (format_asked (text_of option.Format said))
+export_at said positions = None
 
--- The command of this name with these positions.
-abbrev pub command_at : CommandName → Said → (first second third fourth : Option (List ℕ))
-    → Result Command Refusal
-command_at name.Ls said first second third fourth =
-    without_third third (list_at said first second)
-command_at name.Add said first second third fourth =
-    without_third third (add_at said first second)
-command_at name.Edit said first second third fourth =
-    without_third third (edit_at said first second)
-command_at name.Move said first second third fourth =
-    without_fourth fourth (move_at said first second third)
-command_at name.Remove said first second third fourth =
-    without_third third (remove_at said first second)
-command_at name.MakeGroup said first second third fourth =
-    without_third third (make_group_at said first second)
-command_at name.RemoveGroup said first second third fourth =
-    without_third third (remove_group_at said first second)
-command_at name.Merge said first second third fourth = merge_at said first second
+-- `db-info DATABASE`
+abbrev pub info_at : Said → List (List ℕ) → Option Command
+info_at said (file ∷ []) = Some (Info (access_of said) file)
+info_at said positions = None
+
+-- The command of this name with these positions, if it takes so many.
+abbrev pub command_at : CommandName → Said → List (List ℕ) → Option Command
+command_at name.Ls = list_at
+command_at name.Show = show_at
+command_at name.Search = search_at
+command_at name.Add = add_at
+command_at name.Edit = edit_at
+command_at name.Move = move_at
+command_at name.Remove = remove_at
+command_at name.MakeGroup = make_group_at
+command_at name.RemoveGroup = remove_group_at
+command_at name.Merge = merge_at
+command_at name.Export = export_at
+command_at name.Info = info_at
 
 -- The command of this name whose other words say this.
-abbrev pub command_saying : CommandName → Option Said → Result Command Refusal
-command_saying command None = wrong_words
-command_saying command (Some said) =
-    if is_whole said then command_at command said (position_at 0 said) (position_at 1 said)
-    (position_at 2 said) (position_at 3 said)
-    else wrong_words
+abbrev pub command_saying : CommandName → Said → Option Command
+command_saying command said =
+    if is_whole said then command_at command said said.positions else None
 
 -- The command of this name with these words after it.
-abbrev pub command_by : Option CommandName → List (List ℕ) → Result Command Refusal
-command_by None words = wrong_words
-command_by (Some command) words = command_saying command (with_words command words nothing_said)
+abbrev pub command_by : List (List ℕ) → CommandName → Option Command
+command_by words command =
+    option_and_then (command_saying command) (with_words command words nothing_said)
 
--- The command that the words are: its name, and then its options and its positions in any order.
+-- The command that the words are, if they are one: its name, and then its options and its positions
+-- in any order.
+abbrev pub command_in : List (List ℕ) → Option Command
+command_in [] = None
+command_in (word ∷ words) = option_and_then (command_by words) (command_named word)
+
+-- The command, or that the words are none.
+abbrev pub or_wrong_words : Option Command → Result Command Refusal
+or_wrong_words (Some command) = Ok command
+or_wrong_words None = Err (refusal_of WrongWords (codes "words"))
+
+-- The command that the words are.
 abbrev pub command_of : List (List ℕ) → Result Command Refusal
-command_of [] = wrong_words
-command_of (word ∷ words) = command_by (command_named word) words
+command_of words = or_wrong_words (command_in words)

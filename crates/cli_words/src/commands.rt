@@ -1,19 +1,21 @@
 //! The command that words are.
-ghost use Rattle.std.specs.Prelude.{◌≡◌, IfErr, IfOk, Ok, Some, map, string_bytes, true};
+ghost use Rattle.std.specs.Prelude.{◌≡◌, IfErr, IfOk, map, string_bytes};
 ghost use Rattle.cli_answers.specs.Phases.{IsWordsStop, Returns};
 ghost use Rattle.cli_words.specs.Needs.{HasKeys, needs_of};
-ghost use Rattle.cli_words.specs.SaidWords.{said_seen, text_seen};
+ghost use Rattle.cli_words.specs.SaidWords.{Gives, said_seen, text_seen};
 ghost use Rattle.cli_words.specs.Words as spec;
 ghost use Rattle.cli_words.specs.Words.{command_of};
 
-use crate::command::{Access, Asked, Command};
-use crate::options::{CommandName, CommandOption, command_named};
-use crate::words::{
-    SaidWords, is_due, is_given, position_at, positions_after_first, said_by, text_of,
-};
+use crate::command::{Access, Asked, Command, ExportFormat};
+use crate::said::{SaidWords, WordsFail, copies_of, is_given, text_of};
+use crate::words::said_by;
 use cli_answers::{Reason, Stop, refused};
+use cli_options::{CommandName, CommandOption, command_named};
 use outside_core::{NoMemory, Text};
 use std::alloc::Global;
+
+/// The most sources of a merge.
+const SOURCES: usize = 16;
 
 // Reports whether what opens a database fits it.
 fn is_fit(plain: bool, no_password: bool, has_key: bool) -> bool
@@ -47,7 +49,7 @@ fn is_whole(said: &SaidWords<'_>) -> bool
     let plain = is_given(said, CommandOption::Plain);
     let no_password = is_given(said, CommandOption::NoPassword);
     let has_key = is_given(said, CommandOption::KeyFile);
-    !is_due(said) && is_fit(plain, no_password, has_key) && is_fit_from(said)
+    said.due.is_none() && is_fit(plain, no_password, has_key) && is_fit_from(said)
 }
 
 // Reports whether at least one value of an entry is given.
@@ -111,15 +113,36 @@ fn asked_of(alloc: Global, said: &SaidWords<'_>) -> Result<Asked, NoMemory>
     })
 }
 
-// The command `ls` of a file.
-fn list_at(
+// The format of a name.
+fn format_named(name: &str) -> Option<ExportFormat>
+    ensures { result ≡ spec.format_named name.now }
+{
+    match name {
+        "xml" => Some(ExportFormat::Xml),
+        "csv" => Some(ExportFormat::Csv),
+        _ => None,
+    }
+}
+
+// The format that is asked for: the plain document where none is named.
+fn format_asked(name: Option<&str>) -> Option<ExportFormat>
+    ensures { result ≡ spec.format_asked (text_seen name.entry) }
+{
+    match name {
+        Some(name) => format_named(name),
+        None => Some(ExportFormat::Xml),
+    }
+}
+
+// The command `ls` of a file, and of a group where one is named.
+fn list_of(
     alloc: Global,
     said: &SaidWords<'_>,
     file: &str,
     group: Option<&str>,
 ) -> Result<Command, NoMemory>
-    ensures { IfOk result (λ command. Ok command ≡ spec.list_at (said_seen said.now)
-        (Some file.now) (text_seen group.entry)) }
+    ensures { IfOk result (λ command. command
+        ≡ spec.list_of (said_seen said.now) file.now (text_seen group.entry)) }
 {
     Ok(Command::Ls {
         access: access_of(alloc, said)?,
@@ -130,28 +153,77 @@ fn list_at(
     })
 }
 
-// The command `add` of an entry.
-fn add_at(alloc: Global, said: &SaidWords<'_>, file: &str, entry: &str) -> Result<Command, NoMemory>
-    ensures { IfOk result (λ command. Ok command ≡ spec.add_at (said_seen said.now)
-        (Some file.now) (Some entry.now)) }
+// The command `ls` at these positions.
+fn list_at(alloc: Global, said: &SaidWords<'_>, positions: &[Text]) -> Result<Command, WordsFail>
+    ensures { Gives (λ command. command) result
+        (spec.list_at (said_seen said.now) positions.now) }
 {
+    match positions {
+        [file] => Ok(list_of(alloc, said, file.as_str(), None)?),
+        [file, group] => Ok(list_of(alloc, said, file.as_str(), Some(group.as_str()))?),
+        _ => Err(WordsFail::Wrong),
+    }
+}
+
+// The command `show` at these positions.
+fn show_at(alloc: Global, said: &SaidWords<'_>, positions: &[Text]) -> Result<Command, WordsFail>
+    ensures { Gives (λ command. command) result
+        (spec.show_at (said_seen said.now) positions.now) }
+{
+    let [file, entry] = positions else {
+        return Err(WordsFail::Wrong);
+    };
+    Ok(Command::Show {
+        access: access_of(alloc, said)?,
+        file: Text::of(alloc, file.as_str())?,
+        entry: Text::of(alloc, entry.as_str())?,
+        clear: is_given(said, CommandOption::Clear),
+        all: is_given(said, CommandOption::All),
+        attachments: is_given(said, CommandOption::Attachments),
+        names: copies_of(alloc, said.names.as_slice())?,
+    })
+}
+
+// The command `search` at these positions.
+fn search_at(alloc: Global, said: &SaidWords<'_>, positions: &[Text]) -> Result<Command, WordsFail>
+    ensures { Gives (λ command. command) result
+        (spec.search_at (said_seen said.now) positions.now) }
+{
+    let [file, term] = positions else {
+        return Err(WordsFail::Wrong);
+    };
+    Ok(Command::Search {
+        access: access_of(alloc, said)?,
+        file: Text::of(alloc, file.as_str())?,
+        term: Text::of(alloc, term.as_str())?,
+    })
+}
+
+// The command `add` at these positions.
+fn add_at(alloc: Global, said: &SaidWords<'_>, positions: &[Text]) -> Result<Command, WordsFail>
+    ensures { Gives (λ command. command) result
+        (spec.add_at (said_seen said.now) positions.now) }
+{
+    let [file, entry] = positions else {
+        return Err(WordsFail::Wrong);
+    };
     Ok(Command::Add {
         access: access_of(alloc, said)?,
-        file: Text::of(alloc, file)?,
-        entry: Text::of(alloc, entry)?,
+        file: Text::of(alloc, file.as_str())?,
+        entry: Text::of(alloc, entry.as_str())?,
         asked: asked_of(alloc, said)?,
     })
 }
 
-// The command `edit` of an entry.
-fn edit_at(
+// The command `edit` of a file's entry.
+fn edit_of(
     alloc: Global,
     said: &SaidWords<'_>,
     file: &str,
     entry: &str,
 ) -> Result<Command, NoMemory>
-    ensures { IfOk result (λ command. Ok command
-        ≡ spec.edit_if true (said_seen said.now) file.now entry.now) }
+    ensures { IfOk result (λ command. command
+        ≡ spec.edit_of (said_seen said.now) file.now entry.now) }
 {
     Ok(Command::Edit {
         access: access_of(alloc, said)?,
@@ -161,284 +233,202 @@ fn edit_at(
     })
 }
 
-// The command `mv` of a node and a group.
-fn move_at(
-    alloc: Global,
-    said: &SaidWords<'_>,
-    file: &str,
-    node: &str,
-    group: &str,
-) -> Result<Command, NoMemory>
-    ensures { IfOk result (λ command. Ok command ≡ spec.move_at (said_seen said.now)
-        (Some file.now) (Some node.now) (Some group.now)) }
+// The command `edit` at these positions.
+fn edit_at(alloc: Global, said: &SaidWords<'_>, positions: &[Text]) -> Result<Command, WordsFail>
+    ensures { Gives (λ command. command) result
+        (spec.edit_at (said_seen said.now) positions.now) }
 {
+    match positions {
+        [file, entry] if has_change(said) => {
+            Ok(edit_of(alloc, said, file.as_str(), entry.as_str())?)
+        }
+        _ => Err(WordsFail::Wrong),
+    }
+}
+
+// The command `mv` at these positions.
+fn move_at(alloc: Global, said: &SaidWords<'_>, positions: &[Text]) -> Result<Command, WordsFail>
+    ensures { Gives (λ command. command) result
+        (spec.move_at (said_seen said.now) positions.now) }
+{
+    let [file, node, group] = positions else {
+        return Err(WordsFail::Wrong);
+    };
     Ok(Command::Move {
         access: access_of(alloc, said)?,
-        file: Text::of(alloc, file)?,
-        node: Text::of(alloc, node)?,
-        group: Text::of(alloc, group)?,
+        file: Text::of(alloc, file.as_str())?,
+        node: Text::of(alloc, node.as_str())?,
+        group: Text::of(alloc, group.as_str())?,
     })
 }
 
-// The command `rm` of an entry.
-fn remove_at(
-    alloc: Global,
-    said: &SaidWords<'_>,
-    file: &str,
-    entry: &str,
-) -> Result<Command, NoMemory>
-    ensures { IfOk result (λ command. Ok command ≡ spec.remove_at (said_seen said.now)
-        (Some file.now) (Some entry.now)) }
+// The command `rm` at these positions.
+fn remove_at(alloc: Global, said: &SaidWords<'_>, positions: &[Text]) -> Result<Command, WordsFail>
+    ensures { Gives (λ command. command) result
+        (spec.remove_at (said_seen said.now) positions.now) }
 {
+    let [file, entry] = positions else {
+        return Err(WordsFail::Wrong);
+    };
     Ok(Command::Remove {
         access: access_of(alloc, said)?,
-        file: Text::of(alloc, file)?,
-        entry: Text::of(alloc, entry)?,
+        file: Text::of(alloc, file.as_str())?,
+        entry: Text::of(alloc, entry.as_str())?,
     })
 }
 
-// The command `mkdir` of a group.
+// The command `mkdir` at these positions.
 fn make_group_at(
     alloc: Global,
     said: &SaidWords<'_>,
-    file: &str,
-    group: &str,
-) -> Result<Command, NoMemory>
-    ensures { IfOk result (λ command. Ok command ≡ spec.make_group_at (said_seen said.now)
-        (Some file.now) (Some group.now)) }
+    positions: &[Text],
+) -> Result<Command, WordsFail>
+    ensures { Gives (λ command. command) result
+        (spec.make_group_at (said_seen said.now) positions.now) }
 {
+    let [file, group] = positions else {
+        return Err(WordsFail::Wrong);
+    };
     Ok(Command::MakeGroup {
         access: access_of(alloc, said)?,
-        file: Text::of(alloc, file)?,
-        group: Text::of(alloc, group)?,
+        file: Text::of(alloc, file.as_str())?,
+        group: Text::of(alloc, group.as_str())?,
     })
 }
 
-// The command `rmdir` of a group.
+// The command `rmdir` at these positions.
 fn remove_group_at(
     alloc: Global,
     said: &SaidWords<'_>,
-    file: &str,
-    group: &str,
-) -> Result<Command, NoMemory>
-    ensures { IfOk result (λ command. Ok command ≡ spec.remove_group_at (said_seen said.now)
-        (Some file.now) (Some group.now)) }
+    positions: &[Text],
+) -> Result<Command, WordsFail>
+    ensures { Gives (λ command. command) result
+        (spec.remove_group_at (said_seen said.now) positions.now) }
 {
+    let [file, group] = positions else {
+        return Err(WordsFail::Wrong);
+    };
     Ok(Command::RemoveGroup {
         access: access_of(alloc, said)?,
-        file: Text::of(alloc, file)?,
-        group: Text::of(alloc, group)?,
+        file: Text::of(alloc, file.as_str())?,
+        group: Text::of(alloc, group.as_str())?,
     })
 }
 
-// The command `merge` of a target and the sources after it.
-fn merge_at(
+// The command `merge` of a target and its sources.
+fn merge_of(
     alloc: Global,
     said: &SaidWords<'_>,
     file: &str,
-    source: &str,
+    sources: &[Text],
 ) -> Result<Command, NoMemory>
-    ensures { IfOk result (λ command. Ok command ≡ spec.merge_at (said_seen said.now)
-        (Some file.now) (Some source.now)) }
+    ensures { IfOk result (λ command. command
+        ≡ spec.merge_of (said_seen said.now) file.now sources.now) }
 {
     Ok(Command::Merge {
         access: access_of(alloc, said)?,
         file: Text::of(alloc, file)?,
-        sources: positions_after_first(alloc, said)?,
+        sources: copies_of(alloc, sources)?,
         from: access_from(alloc, said)?,
         same: is_given(said, CommandOption::SameCredentials),
         dry: is_given(said, CommandOption::DryRun),
     })
 }
 
-// The first positions of a command.
-#[derive(Clone, Copy)]
-struct Positions<'a> {
-    first: Option<&'a str>,
-    second: Option<&'a str>,
-    third: Option<&'a str>,
-    fourth: Option<&'a str>,
-}
-
-// The command `ls` of these positions.
-fn ls_of(alloc: Global, said: &SaidWords<'_>, positions: Positions<'_>) -> Result<Command, Stop>
-    ensures told { Returns (λ command. command) result
-        (spec.without_third (text_seen positions.entry.third)
-        (spec.list_at (said_seen said.now)
-        (text_seen positions.entry.first)
-        (text_seen positions.entry.second))) }
-    ensures cause { IfErr result IsWordsStop }
+// The command `merge` at these positions.
+fn merge_at(alloc: Global, said: &SaidWords<'_>, positions: &[Text]) -> Result<Command, WordsFail>
+    ensures { Gives (λ command. command) result
+        (spec.merge_at (said_seen said.now) positions.now) }
 {
-    match (positions.first, positions.second, positions.third) {
-        (Some(file), group, None) => { Ok(list_at(alloc, said, file, group)?) }
-        _ => Err(refused(alloc, Reason::WrongWords, "words")),
+    let [file, sources @ ..] = positions else {
+        return Err(WordsFail::Wrong);
+    };
+    if sources.is_empty() || sources.len() > SOURCES {
+        return Err(WordsFail::Wrong);
     }
+    Ok(merge_of(alloc, said, file.as_str(), sources)?)
 }
 
-// The command `add` of these positions.
-fn add_of(alloc: Global, said: &SaidWords<'_>, positions: Positions<'_>) -> Result<Command, Stop>
-    ensures told { Returns (λ command. command) result
-        (spec.without_third (text_seen positions.entry.third)
-        (spec.add_at (said_seen said.now)
-        (text_seen positions.entry.first)
-        (text_seen positions.entry.second))) }
-    ensures cause { IfErr result IsWordsStop }
+// The command `export` at this position.
+fn export_at(alloc: Global, said: &SaidWords<'_>, positions: &[Text]) -> Result<Command, WordsFail>
+    ensures { Gives (λ command. command) result
+        (spec.export_at (said_seen said.now) positions.now) }
 {
-    match (positions.first, positions.second, positions.third) {
-        (Some(file), Some(entry), None) => { Ok(add_at(alloc, said, file, entry)?) }
-        _ => Err(refused(alloc, Reason::WrongWords, "words")),
-    }
+    let [file] = positions else {
+        return Err(WordsFail::Wrong);
+    };
+    let Some(format) = format_asked(text_of(said, CommandOption::Format)) else {
+        return Err(WordsFail::Wrong);
+    };
+    Ok(Command::Export {
+        access: access_of(alloc, said)?,
+        format,
+        file: Text::of(alloc, file.as_str())?,
+    })
 }
 
-// The command `edit` of these positions.
-fn edit_of(alloc: Global, said: &SaidWords<'_>, positions: Positions<'_>) -> Result<Command, Stop>
-    ensures told { Returns (λ command. command) result
-        (spec.without_third (text_seen positions.entry.third)
-        (spec.edit_at (said_seen said.now)
-        (text_seen positions.entry.first)
-        (text_seen positions.entry.second))) }
-    ensures cause { IfErr result IsWordsStop }
+// The command `db-info` at this position.
+fn info_at(alloc: Global, said: &SaidWords<'_>, positions: &[Text]) -> Result<Command, WordsFail>
+    ensures { Gives (λ command. command) result
+        (spec.info_at (said_seen said.now) positions.now) }
 {
-    match (positions.first, positions.second, positions.third) {
-        (Some(file), Some(entry), None) if has_change(said) => {
-            Ok(edit_at(alloc, said, file, entry)?)
-        }
-        _ => Err(refused(alloc, Reason::WrongWords, "words")),
-    }
+    let [file] = positions else {
+        return Err(WordsFail::Wrong);
+    };
+    Ok(Command::Info {
+        access: access_of(alloc, said)?,
+        file: Text::of(alloc, file.as_str())?,
+    })
 }
 
-// The command `mv` of these positions.
-fn mv_of(alloc: Global, said: &SaidWords<'_>, positions: Positions<'_>) -> Result<Command, Stop>
-    ensures told { Returns (λ command. command) result
-        (spec.without_fourth (text_seen positions.entry.fourth)
-        (spec.move_at (said_seen said.now)
-        (text_seen positions.entry.first)
-        (text_seen positions.entry.second)
-        (text_seen positions.entry.third))) }
-    ensures cause { IfErr result IsWordsStop }
-{
-    match (
-        positions.first,
-        positions.second,
-        positions.third,
-        positions.fourth,
-    ) {
-        (Some(file), Some(node), Some(group), None) => {
-            Ok(move_at(alloc, said, file, node, group)?)
-        }
-        _ => Err(refused(alloc, Reason::WrongWords, "words")),
-    }
-}
-
-// The command `rm` of these positions.
-fn rm_of(alloc: Global, said: &SaidWords<'_>, positions: Positions<'_>) -> Result<Command, Stop>
-    ensures told { Returns (λ command. command) result
-        (spec.without_third (text_seen positions.entry.third)
-        (spec.remove_at (said_seen said.now)
-        (text_seen positions.entry.first)
-        (text_seen positions.entry.second))) }
-    ensures cause { IfErr result IsWordsStop }
-{
-    match (positions.first, positions.second, positions.third) {
-        (Some(file), Some(entry), None) => { Ok(remove_at(alloc, said, file, entry)?) }
-        _ => Err(refused(alloc, Reason::WrongWords, "words")),
-    }
-}
-
-// The command `mkdir` of these positions.
-fn mkdir_of(alloc: Global, said: &SaidWords<'_>, positions: Positions<'_>) -> Result<Command, Stop>
-    ensures told { Returns (λ command. command) result
-        (spec.without_third (text_seen positions.entry.third)
-        (spec.make_group_at (said_seen said.now)
-        (text_seen positions.entry.first)
-        (text_seen positions.entry.second))) }
-    ensures cause { IfErr result IsWordsStop }
-{
-    match (positions.first, positions.second, positions.third) {
-        (Some(file), Some(group), None) => { Ok(make_group_at(alloc, said, file, group)?) }
-        _ => Err(refused(alloc, Reason::WrongWords, "words")),
-    }
-}
-
-// The command `rmdir` of these positions.
-fn rmdir_of(alloc: Global, said: &SaidWords<'_>, positions: Positions<'_>) -> Result<Command, Stop>
-    ensures told { Returns (λ command. command) result
-        (spec.without_third (text_seen positions.entry.third)
-        (spec.remove_group_at (said_seen said.now)
-        (text_seen positions.entry.first)
-        (text_seen positions.entry.second))) }
-    ensures cause { IfErr result IsWordsStop }
-{
-    match (positions.first, positions.second, positions.third) {
-        (Some(file), Some(group), None) => { Ok(remove_group_at(alloc, said, file, group)?) }
-        _ => Err(refused(alloc, Reason::WrongWords, "words")),
-    }
-}
-
-// The command `merge` of these positions.
-fn merge_of(alloc: Global, said: &SaidWords<'_>, positions: Positions<'_>) -> Result<Command, Stop>
-    ensures told { Returns (λ command. command) result
-        (spec.merge_at (said_seen said.now)
-        (text_seen positions.entry.first)
-        (text_seen positions.entry.second)) }
-    ensures cause { IfErr result IsWordsStop }
-{
-    match (positions.first, positions.second) {
-        (Some(file), Some(source)) => { Ok(merge_at(alloc, said, file, source)?) }
-        _ => Err(refused(alloc, Reason::WrongWords, "words")),
-    }
-}
-
-// The command of this name with these positions, and what its other words say, which are whole.
-fn command_by_positions(
+// The command of this name at these positions.
+fn command_at(
     alloc: Global,
     command: CommandName,
     said: &SaidWords<'_>,
-    positions: Positions<'_>,
-) -> Result<Command, Stop>
-    ensures told { Returns (λ command. command) result (spec.command_at command
-        (said_seen said.now) (text_seen positions.entry.first) (text_seen positions.entry.second)
-        (text_seen positions.entry.third) (text_seen positions.entry.fourth)) }
-    ensures cause { IfErr result IsWordsStop }
+    positions: &[Text],
+) -> Result<Command, WordsFail>
+    ensures { Gives (λ command. command) result
+        (spec.command_at command (said_seen said.now) positions.now) }
 {
     match command {
-        CommandName::Ls => ls_of(alloc, said, positions),
-        CommandName::Add => add_of(alloc, said, positions),
-        CommandName::Edit => edit_of(alloc, said, positions),
-        CommandName::Move => mv_of(alloc, said, positions),
-        CommandName::Remove => rm_of(alloc, said, positions),
-        CommandName::MakeGroup => mkdir_of(alloc, said, positions),
-        CommandName::RemoveGroup => rmdir_of(alloc, said, positions),
-        CommandName::Merge => merge_of(alloc, said, positions),
+        CommandName::Ls => list_at(alloc, said, positions),
+        CommandName::Show => show_at(alloc, said, positions),
+        CommandName::Search => search_at(alloc, said, positions),
+        CommandName::Add => add_at(alloc, said, positions),
+        CommandName::Edit => edit_at(alloc, said, positions),
+        CommandName::Move => move_at(alloc, said, positions),
+        CommandName::Remove => remove_at(alloc, said, positions),
+        CommandName::MakeGroup => make_group_at(alloc, said, positions),
+        CommandName::RemoveGroup => remove_group_at(alloc, said, positions),
+        CommandName::Merge => merge_at(alloc, said, positions),
+        CommandName::Export => export_at(alloc, said, positions),
+        CommandName::Info => info_at(alloc, said, positions),
     }
 }
 
-// The command of this name with what its other words say, which are whole.
-fn command_at(alloc: Global, command: CommandName, said: &SaidWords<'_>) -> Result<Command, Stop>
-    ensures told { Returns (λ command. command) result (spec.command_at command
-        (said_seen said.now) (spec.position_at 0 (said_seen said.now))
-        (spec.position_at 1 (said_seen said.now)) (spec.position_at 2 (said_seen said.now))
-        (spec.position_at 3 (said_seen said.now))) }
-    ensures cause { IfErr result IsWordsStop }
+// The command of this name with these words after it.
+fn command_by(alloc: Global, words: &[String], command: CommandName) -> Result<Command, WordsFail>
+    ensures { Gives (λ command. command) result
+        (spec.command_by (map string_bytes words.now) command) }
 {
-    let positions = Positions {
-        first: position_at(said, 0),
-        second: position_at(said, 1),
-        third: position_at(said, 2),
-        fourth: position_at(said, 3),
-    };
-    command_by_positions(alloc, command, said, positions)
+    let said = said_by(alloc, command, words)?;
+    if !is_whole(&said) {
+        return Err(WordsFail::Wrong);
+    }
+    command_at(alloc, command, &said, said.positions.as_slice())
 }
 
-// The command of this name with these words after it.
-fn command_by(alloc: Global, command: CommandName, words: &[String]) -> Result<Command, Stop>
-    ensures told { Returns (λ command. command) result
-        (spec.command_by (Some command) (map string_bytes words.now)) }
-    ensures cause { IfErr result IsWordsStop }
+// The command that the words are, if they are one.
+fn command_in(alloc: Global, words: &[String]) -> Result<Command, WordsFail>
+    ensures { Gives (λ command. command) result (spec.command_in (map string_bytes words.now)) }
 {
-    match said_by(command, words) {
-        Some(said) if is_whole(&said) => command_at(alloc, command, &said),
-        _ => Err(refused(alloc, Reason::WrongWords, "words")),
+    let [name, words @ ..] = words else {
+        return Err(WordsFail::Wrong);
+    };
+    match command_named(name.as_str()) {
+        Some(command) => command_by(alloc, words, command),
+        None => Err(WordsFail::Wrong),
     }
 }
 
@@ -449,11 +439,9 @@ pub fn read_words(alloc: Global, words: &[String]) -> Result<Command, Stop>
     ensures has_key { IfOk result (λ command. HasKeys (needs_of command)) }
     ensures cause { IfErr result IsWordsStop }
 {
-    let [name, words @ ..] = words else {
-        return Err(refused(alloc, Reason::WrongWords, "words"));
-    };
-    match command_named(name.as_str()) {
-        Some(command) => command_by(alloc, command, words),
-        None => Err(refused(alloc, Reason::WrongWords, "words")),
+    match command_in(alloc, words) {
+        Ok(command) => Ok(command),
+        Err(WordsFail::Wrong) => Err(refused(alloc, Reason::WrongWords, "words")),
+        Err(WordsFail::NoMemory) => Err(Stop::NoMemory),
     }
 }

@@ -5,7 +5,7 @@ mod command;
 mod commands;
 pub mod laws;
 mod needs;
-mod options;
+mod said;
 mod words;
 
 pub use command::{Access, Asked, Command, ExportFormat};

@@ -1,0 +1,179 @@
+-- The commands by their names, and the options that each of them takes.
+use Rattle.std.specs.Prelude.{ℕ, Bool, true, false, ◌==◌, if◌then◌else◌, List, [], ◌∷◌, codes, Option, None, Some}
+use Rattle.std.specs.Str.{bytes_eq}
+use Rattle.cli_options.specs.declared.names.CommandName.{CommandName}
+use Rattle.cli_options.specs.declared.names.CommandName.TheVariants as name
+use Rattle.cli_options.specs.declared.forms.CommandOption.{CommandOption}
+use Rattle.cli_options.specs.declared.forms.CommandOption.TheVariants.{Recursive, Flat, Quiet, Plain, NoPassword, KeyFile, Title, User, Url, Notes, EntryPassword, SameCredentials, DryRun, KeyFileFrom, NoPasswordFrom, Clear, All, Attachments, Format, Attribute}
+
+-- ---- commands
+
+-- The command of a name.
+abbrev pub command_named : List ℕ → Option CommandName
+command_named word =
+    if bytes_eq word (codes "ls") then Some name.Ls
+    else (if bytes_eq word (codes "show") then Some name.Show
+    else (if bytes_eq word (codes "search") then Some name.Search
+    else (if bytes_eq word (codes "add") then Some name.Add
+    else (if bytes_eq word (codes "edit") then Some name.Edit
+    else (if bytes_eq word (codes "mv") then Some name.Move
+    else (if bytes_eq word (codes "rm") then Some name.Remove
+    else (if bytes_eq word (codes "mkdir") then Some name.MakeGroup
+    else (if bytes_eq word (codes "rmdir") then Some name.RemoveGroup
+    else (if bytes_eq word (codes "merge") then Some name.Merge
+    else (if bytes_eq word (codes "export") then Some name.Export
+    else (if bytes_eq word (codes "db-info") then Some name.Info
+    else None)))))))))))
+
+-- ---- how options are written
+
+-- How an option is written: its name after `--`, its letter after `-` where it has one, whether it
+-- has a value, and whether it may stand more than once.
+pub record OptionForm : Type 0 where
+  pub name : List ℕ
+  pub letter : Option ℕ
+  pub has_value : Bool
+  pub is_repeatable : Bool
+
+-- The form of an option that has no value.
+abbrev pub flag : List ℕ → Option ℕ → OptionForm
+flag name letter = record {
+  name = name;
+  letter = letter;
+  has_value = false;
+  is_repeatable = false;
+}
+
+-- The form of an option that has a value.
+abbrev pub valued : List ℕ → Option ℕ → OptionForm
+valued name letter = record {
+  name = name;
+  letter = letter;
+  has_value = true;
+  is_repeatable = false;
+}
+
+-- The form of an option that has a value and may stand more than once.
+abbrev pub repeatable : List ℕ → Option ℕ → OptionForm
+repeatable name letter = record {
+  name = name;
+  letter = letter;
+  has_value = true;
+  is_repeatable = true;
+}
+
+-- The letter that a text is.
+abbrev pub the : List ℕ → Option ℕ
+the [] = None
+the (letter ∷ letters) = Some letter
+
+-- How each option is written.
+abbrev pub form_of : CommandOption → OptionForm
+form_of Recursive = flag (codes "recursive") (the (codes "R"))
+form_of Flat = flag (codes "flatten") (the (codes "f"))
+form_of Quiet = flag (codes "quiet") (the (codes "q"))
+form_of Plain = flag (codes "plain") None
+form_of NoPassword = flag (codes "no-password") None
+form_of KeyFile = valued (codes "key-file") (the (codes "k"))
+form_of Title = valued (codes "title") (the (codes "t"))
+form_of User = valued (codes "username") (the (codes "u"))
+form_of Url = valued (codes "url") None
+form_of Notes = valued (codes "notes") None
+form_of EntryPassword = flag (codes "password-prompt") (the (codes "p"))
+form_of SameCredentials = flag (codes "same-credentials") (the (codes "s"))
+form_of DryRun = flag (codes "dry-run") (the (codes "d"))
+form_of KeyFileFrom = valued (codes "key-file-from") None
+form_of NoPasswordFrom = flag (codes "no-password-from") None
+form_of Clear = flag (codes "show-protected") (the (codes "s"))
+form_of All = flag (codes "all") None
+form_of Attachments = flag (codes "show-attachments") None
+form_of Format = valued (codes "format") (the (codes "f"))
+form_of Attribute = repeatable (codes "attributes") (the (codes "a"))
+
+-- Whether an option has a value; the others are flags.
+abbrev pub has_value : CommandOption → Bool
+has_value option = (form_of option).has_value
+
+-- Whether an option may stand more than once.
+abbrev pub is_repeatable : CommandOption → Bool
+is_repeatable option = (form_of option).is_repeatable
+
+-- The place of an option among all of them.
+abbrev pub place_of : CommandOption → ℕ
+place_of Recursive = 0
+place_of Flat = 1
+place_of Quiet = 2
+place_of Plain = 3
+place_of NoPassword = 4
+place_of KeyFile = 5
+place_of Title = 6
+place_of User = 7
+place_of Url = 8
+place_of Notes = 9
+place_of EntryPassword = 10
+place_of SameCredentials = 11
+place_of DryRun = 12
+place_of KeyFileFrom = 13
+place_of NoPasswordFrom = 14
+place_of Clear = 15
+place_of All = 16
+place_of Attachments = 17
+place_of Format = 18
+place_of Attribute = 19
+
+-- ---- which options each command takes
+
+-- The options that a command takes beside those that all of them take.
+abbrev pub own_options : CommandName → List CommandOption
+own_options name.Ls = Recursive ∷ Flat ∷ []
+own_options name.Show = Clear ∷ All ∷ Attachments ∷ Attribute ∷ []
+own_options name.Search = []
+own_options name.Add = User ∷ Url ∷ Notes ∷ EntryPassword ∷ []
+own_options name.Edit = Title ∷ User ∷ Url ∷ Notes ∷ EntryPassword ∷ []
+own_options name.Move = []
+own_options name.Remove = []
+own_options name.MakeGroup = []
+own_options name.RemoveGroup = []
+own_options name.Merge = SameCredentials ∷ DryRun ∷ KeyFileFrom ∷ NoPasswordFrom ∷ []
+own_options name.Export = Format ∷ []
+own_options name.Info = []
+
+-- The options that all commands take.
+abbrev pub shared_options : List CommandOption
+shared_options = Quiet ∷ Plain ∷ NoPassword ∷ KeyFile ∷ []
+
+-- This letter is that of a form.
+abbrev pub is_letter : Option ℕ → ℕ → Bool
+is_letter None letter = false
+is_letter (Some own) letter = own == letter
+
+-- An option has this letter.
+abbrev pub has_letter : CommandOption → ℕ → Bool
+has_letter option letter = is_letter (form_of option).letter letter
+
+-- The first of these options that has this letter.
+abbrev pub with_letter : ℕ → List CommandOption → Option CommandOption
+with_letter letter [] = None
+with_letter letter (option ∷ options) =
+    if has_letter option letter then Some option else with_letter letter options
+
+-- The first of these options that has this name.
+abbrev pub with_name : List ℕ → List CommandOption → Option CommandOption
+with_name name [] = None
+with_name name (option ∷ options) =
+    if bytes_eq (form_of option).name name then Some option else with_name name options
+
+-- The one option, or else the other.
+abbrev pub first_of : Option CommandOption → Option CommandOption → Option CommandOption
+first_of (Some option) other = Some option
+first_of None other = other
+
+-- The option of a command that has this letter: one of its own, or one that all commands take.
+abbrev pub letter_option : CommandName → ℕ → Option CommandOption
+letter_option command letter =
+    first_of (with_letter letter (own_options command)) (with_letter letter shared_options)
+
+-- The option of a command that has this long name.
+abbrev pub name_option : CommandName → List ℕ → Option CommandOption
+name_option command name =
+    first_of (with_name name (own_options command)) (with_name name shared_options)

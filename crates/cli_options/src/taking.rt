@@ -1,0 +1,118 @@
+//! Which options each command takes.
+ghost use Rattle.std.specs.Prelude.{◌≡◌, ◌<◌, IfSome};
+ghost use Rattle.cli_options.specs.Options as spec;
+
+use crate::forms::{CommandOption, form_of};
+use crate::names::CommandName;
+
+// The options that a command takes beside those that all of them take.
+fn own_options(command: CommandName) -> &'static [CommandOption]
+    ensures { result.now ≡ spec.own_options command }
+{
+    match command {
+        CommandName::Ls => &[CommandOption::Recursive, CommandOption::Flat],
+        CommandName::Show => {
+            &[
+                CommandOption::Clear,
+                CommandOption::All,
+                CommandOption::Attachments,
+                CommandOption::Attribute,
+            ]
+        }
+        CommandName::Add => {
+            &[
+                CommandOption::User,
+                CommandOption::Url,
+                CommandOption::Notes,
+                CommandOption::EntryPassword,
+            ]
+        }
+        CommandName::Edit => {
+            &[
+                CommandOption::Title,
+                CommandOption::User,
+                CommandOption::Url,
+                CommandOption::Notes,
+                CommandOption::EntryPassword,
+            ]
+        }
+        CommandName::Merge => {
+            &[
+                CommandOption::SameCredentials,
+                CommandOption::DryRun,
+                CommandOption::KeyFileFrom,
+                CommandOption::NoPasswordFrom,
+            ]
+        }
+        CommandName::Export => &[CommandOption::Format],
+        _ => &[],
+    }
+}
+
+// The options that all commands take.
+fn shared_options() -> &'static [CommandOption]
+    ensures { result.now ≡ spec.shared_options }
+{
+    &[
+        CommandOption::Quiet,
+        CommandOption::Plain,
+        CommandOption::NoPassword,
+        CommandOption::KeyFile,
+    ]
+}
+
+// Reports whether an option has this letter.
+fn has_letter(option: CommandOption, letter: u8) -> bool
+    ensures { result ≡ spec.has_letter option letter }
+{
+    match form_of(option).letter {
+        Some(own) => own == letter,
+        None => false,
+    }
+}
+
+// The first of these options that has this letter.
+fn with_letter(letter: u8, options: &[CommandOption]) -> Option<CommandOption>
+    ensures { result ≡ spec.with_letter letter options.now }
+{
+    for option in options {
+        if has_letter(*option, letter) {
+            return Some(*option);
+        }
+    }
+    None
+}
+
+// The first of these options that has this name.
+fn with_name(name: &str, options: &[CommandOption]) -> Option<CommandOption>
+    ensures { result ≡ spec.with_name name.now options.now }
+{
+    for option in options {
+        if form_of(*option).name == name {
+            return Some(*option);
+        }
+    }
+    None
+}
+
+/// The option of a command that has this letter.
+#[tactic(auto, using(crate::proofs::Letters::ascii_letter))]
+pub fn letter_option(command: CommandName, letter: u8) -> Option<CommandOption>
+    ensures is { result ≡ spec.letter_option command letter }
+    ensures ascii { IfSome result (λ option. letter < 128) }
+{
+    match with_letter(letter, own_options(command)) {
+        Some(option) => Some(option),
+        None => with_letter(letter, shared_options()),
+    }
+}
+
+/// The option of a command that has this long name.
+pub fn name_option(command: CommandName, name: &str) -> Option<CommandOption>
+    ensures { result ≡ spec.name_option command name.now }
+{
+    match with_name(name, own_options(command)) {
+        Some(option) => Some(option),
+        None => with_name(name, shared_options()),
+    }
+}

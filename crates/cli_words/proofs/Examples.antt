@@ -1,0 +1,38 @@
+-- Words of calls, and which commands they are.
+use Rattle.std.proofs.Common.{◌≡◌, refl, [], ◌∷◌, codes, true, false, Some, None}
+use Rattle.cli_words.specs.declared.command.Access.{Access}
+use Rattle.cli_words.specs.declared.command.Command.TheVariants.{Ls, Show, Merge, Export}
+use Rattle.cli_words.specs.declared.command.ExportFormat.TheVariants.{Csv}
+use Rattle.cli_words.specs.Words.{command_in}
+
+-- A database is opened by its password alone.
+abbrev by_password : Access
+by_password = record { plain = false; quiet = false; key_file = None; no_password = false }
+
+-- Names of fields are kept in their order, and `-s` of `show` is a flag of its own.
+fields_in_order : command_in (codes "show" ∷ codes "-s" ∷ codes "-a" ∷ codes "UserName" ∷ codes "-a=Pass" ∷ codes "--all" ∷ codes "F" ∷ codes "E" ∷ [])
+    ≡ Some (Show by_password (codes "F") (codes "E") true true false (codes "UserName" ∷ codes "Pass" ∷ []))
+fields_in_order = refl
+
+joined_name : command_in (codes "show" ∷ codes "-aTitle" ∷ codes "F" ∷ codes "E" ∷ [])
+    ≡ Some (Show by_password (codes "F") (codes "E") false false false (codes "Title" ∷ []))
+joined_name = refl
+
+-- `-f` of `export` has a value, and `-f` of `ls` has none.
+format_of_table : command_in (codes "export" ∷ codes "-f" ∷ codes "csv" ∷ codes "F" ∷ []) ≡ Some (Export by_password Csv (codes "F"))
+format_of_table = refl
+
+unknown_format : command_in (codes "export" ∷ codes "-f" ∷ codes "yaml" ∷ codes "F" ∷ []) ≡ None
+unknown_format = refl
+
+flat_listing : command_in (codes "ls" ∷ codes "-f" ∷ codes "F" ∷ []) ≡ Some (Ls by_password (codes "F") None false true)
+flat_listing = refl
+
+-- Another option stands once.
+plain_twice : command_in (codes "ls" ∷ codes "--plain" ∷ codes "--plain" ∷ codes "F" ∷ []) ≡ None
+plain_twice = refl
+
+-- `-s` of `merge` is another flag than that of `show`.
+same_credentials : command_in (codes "merge" ∷ codes "-s" ∷ codes "F" ∷ codes "G" ∷ [])
+    ≡ Some (Merge by_password (codes "F") (codes "G" ∷ []) by_password true false)
+same_credentials = refl
