@@ -1,3 +1,3 @@
 mod Examples
+pub mod GroupRows
 pub mod Puts
-pub mod Sinks

@@ -1,5 +1,6 @@
 -- What is put piece by piece, and in loops.
 use Rattle.std.proofs.Common.{◌≡◌, ℕ, suc, ◌+◌, ◌<◌, ◌≤◌, List, [], ◌∷◌, ◌++◌, length, drop, get_or, ap, sym, ◌∙◌, add-one}
+use Rattle.std.specs.Prelude.{OnOk, Result, Ok, Err}
 use Rattle.std.proofs.Math.Seq.{drop-cons}
 use Rattle.std.proofs.lemmas.List.{drop_all}
 
@@ -17,21 +18,27 @@ before {s = s} {step = step} laws a b one more = more ∙ ap (λ x. step x b) on
 pub done : {S : Type 0} {s : S} {step : S → List ℕ → S} → Steps step → s ≡ step s []
 done {s = s} laws = sym (laws.nothing s)
 
+-- a piece, and then more by the last call
+pub last : {S T E : Type 0} {s t : S} {step : S → List ℕ → S} → Steps step → (a b : List ℕ) (r : Result T E) (u : S)
+    → t ≡ step s a → OnOk r (u ≡ step t b) → OnOk r (u ≡ step s (a ++ b))
+last laws a b (Ok x) u one more = before laws a b one more
+last laws a b (Err e) u one more = more
+
 -- one more item of a list is put, and the rest is as before
-pub put_more : {S A : Type 0} {s t last : S} {step : S → List ℕ → S} → Steps step → (all : List A → List ℕ) (one : A → List ℕ)
+pub put_more : {S A : Type 0} {s t whole : S} {step : S → List ℕ → S} → Steps step → (all : List A → List ℕ) (one : A → List ℕ)
     → ((x : A) (xs : List A) → all (x ∷ xs) ≡ one x ++ all xs)
     → (xs : List A) (i : ℕ) (x : A) → i < length xs → x ≡ get_or xs i x → t ≡ step s (one x)
-    → step s (all (drop i xs)) ≡ last → step t (all (drop (i + 1) xs)) ≡ last
-put_more {s = s} {step = step} laws all one cons xs i x below here now before =
-    let rest : List ℕ = all (drop (suc i) xs) in
-    ap (λ (n : ℕ). step _ (all (drop n xs))) (add-one i)
-    ∙ ap (λ u. step u rest) now
-    ∙ laws.joined s (one x) rest
-    ∙ ap (step s) (sym (cons x (drop (suc i) xs)) ∙ ap (λ (y : _). all (y ∷ drop (suc i) xs)) here ∙ ap all (sym (drop-cons xs i x below)))
+    → step s (all (drop i xs)) ≡ whole → step t (all (drop (i + 1) xs)) ≡ whole
+put_more {A = A} {s = s} {t = t} {step = step} laws all one cons xs i x below here now before =
+    let rest : List A = drop (suc i) xs in
+    ap (λ (n : ℕ). step t (all (drop n xs))) (add-one i)
+    ∙ ap (λ u. step u (all rest)) now
+    ∙ laws.joined s (one x) (all rest)
+    ∙ ap (step s) (sym (cons x rest) ∙ ap (λ (y : A). all (y ∷ rest)) here ∙ ap all (sym (drop-cons xs i x below)))
     ∙ before
 
 -- no item is left
-pub put_end : {S A : Type 0} {s last : S} {step : S → List ℕ → S} → Steps step → (all : List A → List ℕ) → all [] ≡ []
-    → (xs : List A) (i : ℕ) → length xs ≤ i → step s (all (drop i xs)) ≡ last → s ≡ last
+pub put_end : {S A : Type 0} {s whole : S} {step : S → List ℕ → S} → Steps step → (all : List A → List ℕ) → all [] ≡ []
+    → (xs : List A) (i : ℕ) → length xs ≤ i → step s (all (drop i xs)) ≡ whole → s ≡ whole
 put_end {s = s} {step = step} laws all none xs i past before =
     sym (laws.nothing s) ∙ ap (step s) (sym none ∙ ap all (sym (drop_all i xs past))) ∙ before

@@ -123,12 +123,34 @@ fn put_values<O: TableSink>(out: &mut O, entry: &Entry) -> Result<(), NoMemory>
     )
 }
 
+// Puts the path of a group: the names that lead to it from the root, as one field.
+fn put_path<O: TableSink>(out: &mut O, names: &[&[u8]]) -> Result<(), NoMemory>
+    ensures { OnOk result (O.state out.new ≡ O.step (O.state out.old)
+        (spec.quoted (slash_joined (map (λ n. n.now) names.now)))) }
+{
+    out.put(b"\"")?;
+    put_names(out, names)?;
+    out.put(b"\"")
+}
+
 /// Puts the row with the names of the columns.
 pub(crate) fn put_header<O: TableSink>(out: &mut O) -> Result<(), NoMemory>
     ensures { OnOk result (O.state out.new ≡ O.step (O.state out.old) (row_of header)) }
 {
-    out.put(b"\"Group\",\"Title\",\"Username\",\"Password\",")?;
-    out.put(b"\"URL\",\"Notes\",\"Last Modified\",\"Created\"\n")
+    put_quoted(out, b"Group")?;
+    put_after_commas(
+        out,
+        &[
+            b"Title",
+            b"Username",
+            b"Password",
+            b"URL",
+            b"Notes",
+            b"Last Modified",
+            b"Created",
+        ],
+    )?;
+    out.put(b"\n")
 }
 
 /// Puts the row of an entry in a group to which these names lead from the root.
@@ -140,9 +162,7 @@ pub(crate) fn put_entry<O: TableSink>(
     ensures { OnOk result (O.state out.new ≡ O.step (O.state out.old)
         (row_of (entry_fields (map (λ n. n.now) names.now) (entry_row entry.now)))) }
 {
-    out.put(b"\"")?;
-    put_names(out, names)?;
-    out.put(b"\"")?;
+    put_path(out, names)?;
     put_values(out, entry)?;
     out.put(b"\n")
 }

@@ -1,7 +1,8 @@
 //! What takes the text of a table: it is counted first, and then written into secret memory.
 
 ghost use Rattle.std.specs.Prelude.{◌≡◌, ◌+◌, ◌++◌, [], List, length, OnOk, ℕ};
-ghost use Rattle.table_core.proofs.Sinks.{count_joined, count_nothing, text_joined, text_nothing};
+ghost use Rattle.std.proofs.Common.{rules};
+ghost use Rattle.std.proofs.lemmas.Grind.{common_steps};
 
 use outside_core::NoMemory;
 use secret_core::Secret;
@@ -40,9 +41,9 @@ impl TableSink for Counter {
 
     ghost step = { λ len piece. len + length piece };
 
-    ghost nothing = { count_nothing };
+    ghost nothing = { Prim.search (rules, common_steps) };
 
-    ghost joined = { count_joined };
+    ghost joined = { Prim.search (rules, common_steps) };
 
     fn put(&mut self, piece: &[u8]) -> Result<(), NoMemory> {
         let Some(len) = self.len.checked_add(piece.len()) else {
@@ -60,9 +61,9 @@ impl TableSink for Secret {
 
     ghost step = { λ bytes piece. bytes ++ piece };
 
-    ghost nothing = { text_nothing };
+    ghost nothing = { Prim.search (rules, common_steps) };
 
-    ghost joined = { text_joined };
+    ghost joined = { Prim.search (rules, common_steps) };
 
     fn put(&mut self, piece: &[u8]) -> Result<(), NoMemory> {
         if piece.len() > self.spare() {
