@@ -71,6 +71,7 @@ shown_files() {
   compared 'shown by hand' "$showing/against" "$program" table
   compared 'references at their limits' "$showing/against" "$program" limits
   many_times "drawn documents, seed $seed" "$showing/against" "$program" random "$seed" 600
+  many_times "drawn documents by a second reading, seed $seed" "$showing/finding.py" "$program" 200 "$seed"
   show_refusals "$1"
   : >input.txt
   shown_where_nothing_can_be_written

@@ -5,7 +5,7 @@ use Rattle.std.specs.Borrow.{Bor}
 use Rattle.std.specs.Str.{is_utf8}
 use Rattle.outside_core.specs.Streams.{LosesPrefix}
 use Rattle.vault_model.specs.Db.{NodeId}
-use Rattle.vault_model.specs.Tree.{BareDoc}
+use Rattle.vault_model.specs.Tree.{BareDoc, Tree}
 use Rattle.tree_changes.specs.After.{needs_bin}
 use Rattle.tree_changes.specs.NewNodes.{lent_value}
 use Rattle.cli_answers.specs.declared.answers.Refusal.{Refusal}
@@ -16,9 +16,16 @@ use Rattle.cli_changes.specs.Ids.{new_id}
 use Rattle.cli_drawing.proofs.Drawn.{next_alone}
 use Rattle.cli_lines.specs.Lines.{IsTextLine}
 use Rattle.cli_words.specs.declared.command.Command.{Command}
-use Rattle.cli_words.specs.declared.command.Command.TheVariants.{Ls, Add, Edit, Move, Remove, MakeGroup, RemoveGroup, Merge}
+use Rattle.cli_words.specs.declared.command.Command.TheVariants.{Ls, Show, Search, Add, Edit, Move, Remove, MakeGroup, RemoveGroup, Merge, Export, Info}
 use Rattle.cli_commands.specs.declared.output.Change as declared
-use Rattle.cli_commands.specs.Commands.{Change, bin_id, drawn_id, draws_id, makes_node}
+use Rattle.cli_commands.specs.Commands.{Change, bin_id, change_of, change_with, drawn_id, draws_id, listing_of, makes_node, may_write, merged_change, printed_text}
+use Rattle.cli_exporting.specs.Exporting.{exported}
+use Rattle.cli_info.specs.Info.{info_shown}
+use Rattle.cli_listing.specs.Listing.{tree_listed}
+use Rattle.cli_merging.proofs.DryRuns.{dry_none}
+use Rattle.cli_merging.specs.Merging.{AfterMerge, after_merge}
+use Rattle.cli_showing.specs.Showing.{entries_shown, entry_shown}
+use Rattle.kdbx_frame.specs.declared.settings.Settings.{Settings}
 use Rattle.cli_commands.specs.SeenChange.{change_seen}
 
 -- A line that is lent.
@@ -45,6 +52,8 @@ loses_none (Some rest) = (0, refl)
 -- A command that makes a node draws an id.
 makes_drawn : (command : Command) (doc : BareDoc) → draws_id command ≡ false → makes_node command doc ≡ false
 makes_drawn (Ls access file group recursive flat) doc e = refl
+makes_drawn (Show access file entry clear all attachments names) doc e = refl
+makes_drawn (Search access file term) doc e = refl
 makes_drawn (Add access file entry asked) doc e = e
 makes_drawn (Edit access file entry asked) doc e = refl
 makes_drawn (Move access file node group) doc e = refl
@@ -52,6 +61,8 @@ makes_drawn (Remove access file entry) doc e = cc
 makes_drawn (MakeGroup access file group) doc e = e
 makes_drawn (RemoveGroup access file group) doc e = cc
 makes_drawn (Merge access file names from same dry) doc e = refl
+makes_drawn (Export access format file) doc e = refl
+makes_drawn (Info access file) doc e = refl
 
 pub none_made : (makes : Bool) (command : Command) (doc : BareDoc) → makes ≡ makes_node command doc → draws_id command ≡ false → makes ≡ false
 none_made makes command doc e h = e ∙ makes_drawn command doc h
@@ -104,3 +115,47 @@ id_drawn true drawn id m l e =
     ap (λ (b : List ℕ). (with_left {A = NodeId} (Ok (new_id b)) drawn).answer) (sym (next_alone 16 drawn l))
     ∙ ap (λ (i : NodeId). (with_left {A = NodeId} (Ok i) drawn).answer) (sym e)
 id_drawn false drawn id m l e = cc
+
+-- ---- what writes nothing
+
+listed_none : (file : List ℕ) (recursive flat : Bool) (tree : Option Tree) → IfOk (listing_of file recursive flat tree) (λ change. change.doc ≡ None)
+listed_none file recursive flat None = tt
+listed_none file recursive flat (Some tree) = refl
+
+printed_none : (text : Result (List ℕ) Refusal) → IfOk (printed_text text) (λ change. change.doc ≡ None)
+printed_none (Ok text) = refl
+printed_none (Err refusal) = tt
+
+merged_none : (made : Result AfterMerge Refusal) → IfOk made (λ after. after.doc ≡ None) → IfOk (merged_change made) (λ change. change.doc ≡ None)
+merged_none (Ok after) h = h
+merged_none (Err refusal) h = tt
+
+-- A command that may write nothing makes no document.
+none_with : (time : ℕ) (command : Command) (line : Option (List ℕ)) (sources : List BareDoc) (settings : Option Settings) (id : NodeId) (doc : BareDoc)
+    → may_write command ≡ false → IfOk (change_with time command line sources settings id doc) (λ change. change.doc ≡ None)
+none_with time (Ls access file group recursive flat) line sources settings id doc e = listed_none file recursive flat (tree_listed group doc)
+none_with time (Show access file entry clear all attachments names) line sources settings id doc e =
+    printed_none (entry_shown file clear all attachments names entry doc)
+none_with time (Search access file term) line sources settings id doc e = printed_none (entries_shown file term doc)
+none_with time (Add access file entry asked) line sources settings id doc e = cc
+none_with time (Edit access file entry asked) line sources settings id doc e = cc
+none_with time (Move access file node group) line sources settings id doc e = cc
+none_with time (Remove access file entry) line sources settings id doc e = cc
+none_with time (MakeGroup access file group) line sources settings id doc e = cc
+none_with time (RemoveGroup access file group) line sources settings id doc e = cc
+none_with time (Merge access file names from same false) line sources settings id doc e = cc
+none_with time (Merge access file names from same true) line sources settings id doc e =
+    merged_none (after_merge file access.quiet true names doc sources) (dry_none file access.quiet names doc sources)
+none_with time (Export access format file) line sources settings id doc e = printed_none (exported file format doc)
+none_with time (Info access file) line sources settings id doc e = printed_none (Ok (info_shown settings doc))
+
+none_after : (F : NodeId → Result Change Refusal) → ((id : NodeId) → IfOk (F id) (λ change. change.doc ≡ None)) → (answer : Result NodeId Refusal) (left : List ℕ)
+    → IfOk (after_left answer left (λ id left. with_left (F id) left)).answer (λ change. change.doc ≡ None)
+none_after F none (Ok id) left = none id
+none_after F none (Err refusal) left = tt
+
+pub none_changed : (time : ℕ) (command : Command) (line : Option (List ℕ)) (sources : List BareDoc) (settings : Option Settings) (doc : BareDoc) (dice : List ℕ)
+    → may_write command ≡ false → IfOk (change_of time command line sources settings doc dice).answer (λ change. change.doc ≡ None)
+none_changed time command line sources settings doc dice e =
+    none_after (λ id. change_with time command line sources settings id doc) (λ id. none_with time command line sources settings id doc e)
+    (drawn_id (makes_node command doc) dice).answer (drawn_id (makes_node command doc) dice).left

@@ -1,5 +1,6 @@
 -- What each command makes of its database.
 use Rattle.std.specs.Prelude.{ℕ, Bool, true, false, not, if◌then◌else◌, List, [], Option, None, Some, Result, Ok, Err}
+use Rattle.kdbx_frame.specs.declared.settings.Settings.{Settings}
 use Rattle.vault_model.specs.Db.{NodeId, nil_id}
 use Rattle.vault_model.specs.Tree.{BareDoc, Tree}
 use Rattle.tree_changes.specs.After.{needs_bin}
@@ -8,8 +9,11 @@ use Rattle.cli_answers.specs.declared.answers.Refusal.{Refusal}
 use Rattle.cli_answers.specs.Messages.{refusal_of}
 use Rattle.cli_answers.specs.Phases.{StreamAnswer, then_left, with_left}
 use Rattle.cli_words.specs.declared.command.Command.{Command}
-use Rattle.cli_words.specs.declared.command.Command.TheVariants.{Ls, Add, Edit, Move, Remove, MakeGroup, RemoveGroup, Merge}
+use Rattle.cli_words.specs.declared.command.Command.TheVariants.{Ls, Show, Search, Add, Edit, Move, Remove, MakeGroup, RemoveGroup, Merge, Export, Info}
 use Rattle.cli_listing.specs.Listing.{group_lines, tree_listed}
+use Rattle.cli_showing.specs.Showing.{entries_shown, entry_shown}
+use Rattle.cli_exporting.specs.Exporting.{exported}
+use Rattle.cli_info.specs.Info.{info_shown}
 use Rattle.cli_changes.specs.Entries.{AfterCommand, after_add_command, after_edit_command, values_of}
 use Rattle.cli_changes.specs.Ids.{new_id}
 use Rattle.cli_tree_changes.specs.Nodes.{after_mkdir, after_mv, after_rm, after_rmdir}
@@ -26,6 +30,8 @@ pub record Change : Type 0 where
 -- others wherever they are carried out.
 abbrev pub may_write : Command → Bool
 may_write (Ls access file group recursive flat) = false
+may_write (Show access file entry clear all attachments names) = false
+may_write (Search access file term) = false
 may_write (Add access file entry asked) = true
 may_write (Edit access file entry asked) = true
 may_write (Move access file node group) = true
@@ -33,10 +39,14 @@ may_write (Remove access file entry) = true
 may_write (MakeGroup access file group) = true
 may_write (RemoveGroup access file group) = true
 may_write (Merge access file names from same dry) = not dry
+may_write (Export access format file) = false
+may_write (Info access file) = false
 
 -- A command may make a node, whose id is drawn: an entry, a group, or the bin of a removal.
 abbrev pub draws_id : Command → Bool
 draws_id (Ls access file group recursive flat) = false
+draws_id (Show access file entry clear all attachments names) = false
+draws_id (Search access file term) = false
 draws_id (Add access file entry asked) = true
 draws_id (Edit access file entry asked) = false
 draws_id (Move access file node group) = false
@@ -44,10 +54,14 @@ draws_id (Remove access file entry) = true
 draws_id (MakeGroup access file group) = true
 draws_id (RemoveGroup access file group) = true
 draws_id (Merge access file names from same dry) = false
+draws_id (Export access format file) = false
+draws_id (Info access file) = false
 
 -- A command makes a node in this document; a removal does where it needs a bin.
 abbrev pub makes_node : Command → BareDoc → Bool
 makes_node (Ls access file group recursive flat) doc = false
+makes_node (Show access file entry clear all attachments names) doc = false
+makes_node (Search access file term) doc = false
 makes_node (Add access file entry asked) doc = true
 makes_node (Edit access file entry asked) doc = false
 makes_node (Move access file node group) doc = false
@@ -55,12 +69,19 @@ makes_node (Remove access file entry) doc = needs_bin doc
 makes_node (MakeGroup access file group) doc = true
 makes_node (RemoveGroup access file group) doc = needs_bin doc
 makes_node (Merge access file names from same dry) doc = false
+makes_node (Export access format file) doc = false
+makes_node (Info access file) doc = false
 
 -- The lines of the group that is listed, or that the path names none of the file's groups.
 abbrev pub listing_of : List ℕ → (recursive flat : Bool) → Option Tree → Result Change Refusal
 listing_of file recursive flat None = Err (refusal_of NoSuchPath file)
 listing_of file recursive flat (Some tree) = Ok
     (record { text = group_lines recursive flat [] tree; doc = None })
+
+-- What a command prints that writes nothing, or its refusal.
+abbrev pub printed_text : Result (List ℕ) Refusal → Result Change Refusal
+printed_text (Ok text) = Ok (record { text = text; doc = None })
+printed_text (Err refusal) = Err refusal
 
 -- The change of a command that leaves another document, or its refusal.
 abbrev pub new_document : Result AfterCommand Refusal → Result Change Refusal
@@ -76,26 +97,35 @@ merged_change (Err refusal) = Err refusal
 abbrev pub bin_id : NodeId → BareDoc → Option NodeId
 bin_id id doc = if needs_bin doc then Some id else None
 
--- What each command makes of its document at a moment, with the line that it asked for and the
--- documents of its sources; a node that it makes has this id.
-abbrev pub change_with : ℕ → Command → Option (List ℕ) → List BareDoc → NodeId → BareDoc
-    → Result Change Refusal
-change_with time (Ls access file group recursive flat) line sources id doc =
+-- What each command makes of its document at a moment, with the line that it asked for, the
+-- documents of its sources, and the settings of its database's file, which a plain document lacks;
+-- a node that it makes has this id.
+abbrev pub change_with : ℕ → Command → Option (List ℕ) → List BareDoc → Option Settings → NodeId
+    → BareDoc → Result Change Refusal
+change_with time (Ls access file group recursive flat) line sources settings id doc =
     listing_of file recursive flat (tree_listed group doc)
-change_with time (Add access file entry asked) line sources id doc = new_document
+change_with time (Show access file entry clear all attachments names) line sources settings id doc =
+    printed_text (entry_shown file clear all attachments names entry doc)
+change_with time (Search access file term) line sources settings id doc =
+    printed_text (entries_shown file term doc)
+change_with time (Add access file entry asked) line sources settings id doc = new_document
     (after_add_command file access.quiet entry id (values_of asked line) time doc)
-change_with time (Edit access file entry asked) line sources id doc = new_document
+change_with time (Edit access file entry asked) line sources settings id doc = new_document
     (after_edit_command file access.quiet entry (values_of asked line) time doc)
-change_with time (Move access file node group) line sources id doc = new_document
+change_with time (Move access file node group) line sources settings id doc = new_document
     (after_mv file access.quiet node group time doc)
-change_with time (Remove access file entry) line sources id doc = new_document
+change_with time (Remove access file entry) line sources settings id doc = new_document
     (after_rm file access.quiet entry (bin_id id doc) time doc)
-change_with time (MakeGroup access file group) line sources id doc = new_document
+change_with time (MakeGroup access file group) line sources settings id doc = new_document
     (after_mkdir file access.quiet group id time doc)
-change_with time (RemoveGroup access file group) line sources id doc = new_document
+change_with time (RemoveGroup access file group) line sources settings id doc = new_document
     (after_rmdir file access.quiet group (bin_id id doc) time doc)
-change_with time (Merge access file names from same dry) line sources id doc = merged_change
-    (after_merge file access.quiet dry names doc sources)
+change_with time (Merge access file names from same dry) line sources settings id doc =
+    merged_change (after_merge file access.quiet dry names doc sources)
+change_with time (Export access format file) line sources settings id doc =
+    printed_text (exported file format doc)
+change_with time (Info access file) line sources settings id doc =
+    printed_text (Ok (info_shown settings doc))
 
 -- The id of a node that is made: 16 bytes are drawn, which make it. Where none is made, nothing is
 -- drawn.
@@ -104,10 +134,10 @@ drawn_id true dice =
     then_left (draw_of 16 dice) (λ drawn left. with_left (Ok (new_id drawn)) left)
 drawn_id false dice = with_left (Ok nil_id) dice
 
--- What each command makes of its document at a moment, with the line that it asked for and the
--- documents of its sources, over the dice.
-abbrev pub change_of : ℕ → Command → Option (List ℕ) → List BareDoc → BareDoc → List ℕ
-    → StreamAnswer Change
-change_of time command line sources doc dice =
+-- What each command makes of its document at a moment, with the line that it asked for, the
+-- documents of its sources and the settings of its database's file, over the dice.
+abbrev pub change_of : ℕ → Command → Option (List ℕ) → List BareDoc → Option Settings → BareDoc
+    → List ℕ → StreamAnswer Change
+change_of time command line sources settings doc dice =
     then_left (drawn_id (makes_node command doc) dice) (λ id left.
-    with_left (change_with time command line sources id doc) left)
+    with_left (change_with time command line sources settings id doc) left)

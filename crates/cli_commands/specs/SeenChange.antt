@@ -1,5 +1,7 @@
 -- What is seen of a command's change in memory.
-use Rattle.std.specs.Prelude.{ℕ, Bool, true, false, List, Option, None, Some, Result, Ok, Err}
+use Rattle.std.specs.Prelude.{ℕ, Bool, true, false, List, Option, None, Some, Result, Ok, Err, option_map}
+use Rattle.std.specs.Borrow.{Bor}
+use Rattle.kdbx_frame.specs.declared.settings.Settings.{Settings}
 use Rattle.secret_core.specs.Secret.{SecretBuffer}
 use Rattle.vault_model.specs.Tree.{BareDoc}
 use Rattle.cli_answers.specs.declared.answers.Stop.{Stop}
@@ -34,3 +36,12 @@ merge_change (Err stop) = Err stop
 abbrev pub change_reported : Result SecretBuffer Stop → Result declared.Change Stop
 change_reported (Ok text) = Ok (record { output = Report text; is_written = true })
 change_reported (Err stop) = Err stop
+
+-- The change of a command that prints this, and whose document is not to be written.
+abbrev pub change_printed : Result SecretBuffer Stop → Result declared.Change Stop
+change_printed (Ok text) = Ok (record { output = Report text; is_written = false })
+change_printed (Err stop) = Err stop
+
+-- The settings of a file that are lent, if it has any.
+abbrev pub lent_settings : Option (Bor Settings) → Option Settings
+lent_settings settings = option_map (λ s. s.now) settings

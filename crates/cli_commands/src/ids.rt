@@ -20,6 +20,8 @@ pub(crate) fn makes_node(command: &Command, doc: &Doc) -> bool
 {
     match command {
         Command::Ls { .. } => false,
+        Command::Show { .. } => false,
+        Command::Search { .. } => false,
         Command::Add { .. } => true,
         Command::Edit { .. } => false,
         Command::Move { .. } => false,
@@ -27,6 +29,8 @@ pub(crate) fn makes_node(command: &Command, doc: &Doc) -> bool
         Command::MakeGroup { .. } => true,
         Command::RemoveGroup { .. } => needs_bin(doc),
         Command::Merge { .. } => false,
+        Command::Export { .. } => false,
+        Command::Info { .. } => false,
     }
 }
 

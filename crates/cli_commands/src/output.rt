@@ -12,7 +12,7 @@ use secret_core::Secret;
 pub enum Output {
     /// A listing.
     Listing(Bytes),
-    /// The report of a change, in memory that is wiped, since a title may be secret.
+    /// What is shown, or the report of a change, in memory that is wiped, since a title may be secret.
     Report(Secret),
 }
 
@@ -43,6 +43,19 @@ pub(crate) fn reported(report: Result<Secret, Stop>) -> Result<Change, Stop>
         Ok(text) => Ok(Change {
             output: Output::Report(text),
             is_written: true,
+        }),
+        Err(stop) => Err(stop),
+    }
+}
+
+/// The change of a command that prints this, and whose database is not to be written.
+pub(crate) fn printed(text: Result<Secret, Stop>) -> Result<Change, Stop>
+    ensures { result ≡ spec.change_printed text }
+{
+    match text {
+        Ok(text) => Ok(Change {
+            output: Output::Report(text),
+            is_written: false,
         }),
         Err(stop) => Err(stop),
     }

@@ -9,17 +9,23 @@ ghost use Rattle.cli_words.specs.Needs.{needs_of};
 ghost use Rattle.cli_listing.specs.Listing.{tree_listed};
 ghost use Rattle.cli_commands.specs.Commands as spec;
 ghost use Rattle.cli_commands.specs.Commands.{change_of, change_with, draws_id, listing_of};
-ghost use Rattle.cli_commands.specs.SeenChange.{change_seen};
+ghost use Rattle.cli_commands.specs.SeenChange.{change_seen, lent_settings};
+ghost use Rattle.cli_info.specs.Info.{info_shown};
 
 use crate::ids::{bin_id, draw_if, makes_node};
-use crate::output::{Change, Output, merge_change, reported};
+use crate::output::{Change, Output, merge_change, printed, reported};
 use cli_answers::{Reason, Stop, refused};
 use cli_changes::{Given, add_entry, edit_entry};
+use cli_exporting::export;
+use cli_info::info;
 use cli_listing::{Manner, add_group, group_listed};
 use cli_merging::{MergeGiven, merge_into};
+use cli_showing::{ShowGiven, search_entries, show_entry};
 use cli_tree_changes::{make_group_of, move_node, remove_entry_of, remove_group_of};
 use cli_words::Command;
+use kdbx_frame::Settings;
 use outside_core::{Bytes, Dice, NoMemory, Text};
+use secret_core::Secret;
 use std::alloc::Global;
 use uuid::Uuid;
 use vault_model::Doc;
@@ -30,6 +36,8 @@ pub fn may_write(command: &Command) -> bool
 {
     match command {
         Command::Ls { .. } => false,
+        Command::Show { .. } => false,
+        Command::Search { .. } => false,
         Command::Add { .. } => true,
         Command::Edit { .. } => true,
         Command::Move { .. } => true,
@@ -37,6 +45,8 @@ pub fn may_write(command: &Command) -> bool
         Command::MakeGroup { .. } => true,
         Command::RemoveGroup { .. } => true,
         Command::Merge { dry, .. } => !*dry,
+        Command::Export { .. } => false,
+        Command::Info { .. } => false,
     }
 }
 
@@ -74,6 +84,8 @@ pub struct CommandInput<'a> {
     pub line: Option<&'a [u8]>,
     /// The documents of its sources.
     pub sources: &'a [Doc],
+    /// The settings of its database's file; a plain document has none.
+    pub settings: Option<&'a Settings>,
     /// The moment, in seconds since the year 1.
     pub now: u64,
 }
@@ -102,6 +114,41 @@ fn manner_of(recursive: bool, flat: bool) -> Manner
     Manner { recursive, flat }
 }
 
+// How an entry is shown.
+fn show_given<'a>(
+    file: &'a str,
+    clear: bool,
+    all: bool,
+    attachments: bool,
+    names: &'a [Text],
+) -> ShowGiven<'a>
+    ensures file { result.file ≡ file.entry }
+    ensures clear { result.clear ≡ clear }
+    ensures all { result.all ≡ all }
+    ensures attachments { result.attachments ≡ attachments }
+    ensures names { result.names ≡ names.entry }
+{
+    ShowGiven {
+        file,
+        clear,
+        all,
+        attachments,
+        names,
+    }
+}
+
+// What a database is, of its document and the settings of its file.
+fn describe(alloc: Global, doc: &Doc, settings: Option<&Settings>) -> Result<Secret, Stop>
+    ensures told { Returns (λ text. text.bytes) result
+        (Ok (info_shown (lent_settings settings.entry) (doc_seen doc.now))) }
+    ensures cause { IfErr result IsPlainStop }
+{
+    match info(alloc, doc, settings) {
+        Ok(text) => Ok(text),
+        Err(_) => Err(Stop::NoMemory),
+    }
+}
+
 // What a merge is given beside its documents.
 fn merge_given<'a>(given: Given<'a>, sources: &'a [Text], dry: bool) -> MergeGiven<'a>
     ensures file { result.file ≡ given.entry.file }
@@ -128,7 +175,8 @@ fn change_document<'a>(
     requires { IsTextLine (lent_value input.line) }
     ensures told { Returns (λ change. change_seen change (doc_seen doc.new)) result
         (change_with input.entry.now command.now (lent_value input.entry.line)
-        (map doc_seen input.entry.sources.now) id (doc_seen doc.old)) }
+        (map doc_seen input.entry.sources.now) (lent_settings input.entry.settings) id
+        (doc_seen doc.old)) }
     ensures unwritten { spec.may_write command.now ≡ false
         → IfOk result (λ change. change.is_written ≡ false) }
     ensures unchanged { IfErr result (λ _. doc_seen doc.new ≡ doc_seen doc.old) }
@@ -142,6 +190,20 @@ fn change_document<'a>(
             flat,
             ..
         } => list(alloc, doc, group, manner_of(*recursive, *flat), given.file),
+        Command::Show {
+            entry,
+            clear,
+            all,
+            attachments,
+            names,
+            ..
+        } => {
+            let given = show_given(given.file, *clear, *all, *attachments, names.as_slice());
+            printed(show_entry(alloc, doc, entry.as_str(), given))
+        }
+        Command::Search { term, .. } => {
+            printed(search_entries(alloc, doc, term.as_str(), given.file))
+        }
         Command::Add { entry, asked, .. } => {
             reported(add_entry(alloc, doc, entry.as_str(), id, asked, given))
         }
@@ -166,6 +228,8 @@ fn change_document<'a>(
             let given = merge_given(given, sources.as_slice(), *dry);
             merge_change(merge_into(alloc, doc, input.sources, given))
         }
+        Command::Export { format, .. } => printed(export(alloc, doc, *format, given.file)),
+        Command::Info { .. } => printed(describe(alloc, doc, input.settings)),
     }
 }
 
@@ -183,10 +247,12 @@ pub fn perform<'a, D: Dice>(
         → ReturnsAskedStream (λ change. change_seen change (doc_seen doc.new)) result
         (D.stream dice.old) (D.stream dice.new)
         (change_of input.entry.now command.now (lent_value input.entry.line)
-        (map doc_seen input.entry.sources.now) (doc_seen doc.old) d) }
+        (map doc_seen input.entry.sources.now) (lent_settings input.entry.settings)
+        (doc_seen doc.old) d) }
     ensures some_dice { IfOk result (λ change. (d : List ℕ)
         × ((change_of input.entry.now command.now (lent_value input.entry.line)
-        (map doc_seen input.entry.sources.now) (doc_seen doc.old) d).answer
+        (map doc_seen input.entry.sources.now) (lent_settings input.entry.settings)
+        (doc_seen doc.old) d).answer
         ≡ Ok (change_seen change (doc_seen doc.new)))) }
     ensures unwritten { spec.may_write command.now ≡ false
         → IfOk result (λ change. change.is_written ≡ false) }

@@ -1,30 +1,29 @@
 -- How a task is carried out.
 use Rattle.std.proofs.Common.{◌≡◌, ◌≤◌, ◌+◌, ℕ, List, drop, refl, inl, sym, ◌∙◌, ap, subst, Bool, true, false, Option, Some, None, option_map, Result, Ok, Err}
-use Rattle.std.specs.Prelude.{IfErr, IfOk, IfSome, OnErr, OnOk, is_some, not}
+use Rattle.std.specs.Prelude.{◌&&◌, IfErr, IfOk, IfSome, OnErr, OnOk, is_some, not}
 use Rattle.std.proofs.lemmas.List.{drop-drop}
 use Rattle.outside_core.specs.Streams.{LosesPrefix}
-use Rattle.vault_model.specs.Tree.{BareDoc, Tree}
+use Rattle.vault_model.specs.Tree.{BareDoc}
 use Rattle.kdbx_frame.specs.Settings.{IsInOrder}
+use Rattle.kdbx_frame.specs.declared.settings.Settings.{Settings}
 use Rattle.cli_answers.specs.declared.answers.Refusal.{Refusal}
 use Rattle.cli_answers.specs.declared.answers.Stop.{Stop}
 use Rattle.cli_answers.specs.declared.answers.Stop.TheVariants.{Refused, FileFault, InputFault, NoMemory}
-use Rattle.cli_answers.specs.Phases.{IsCommandStop, IsLeft, IsStreamStop, RefusesAskedStream, StreamAnswer, TellsStream, then_left, with_left}
+use Rattle.cli_answers.specs.Phases.{IsCommandStop, IsLeft, IsStreamStop, RefusesAskedStream, StreamAnswer, TellsStream, after_left, then_left, with_left}
 use Rattle.kdbx_open.specs.declared.sealings.Sealing.{Sealing}
 use Rattle.cli_databases.proofs.Stops.{rose_before}
 use Rattle.cli_lines.proofs.Inputs.{left_alone, left_so}
 use Rattle.cli_lines.specs.Lines.{Lines}
 use Rattle.cli_sealing.specs.Sealing.{Seals}
 use Rattle.cli_words.specs.declared.command.Command.{Command}
-use Rattle.cli_words.specs.declared.command.Command.TheVariants.{Ls, Add, Edit, Move, Remove, MakeGroup, RemoveGroup, Merge}
+use Rattle.cli_words.specs.declared.command.Command.TheVariants.{Ls, Show, Search, Add, Edit, Move, Remove, MakeGroup, RemoveGroup, Merge, Export, Info}
 use Rattle.cli_words.specs.Needs.{needs_of}
-use Rattle.cli_merging.proofs.DryRuns.{dry_none}
-use Rattle.cli_merging.specs.Merging.{AfterMerge, after_merge}
 use Rattle.cli_writing.specs.Held.{IsWritten}
 use Rattle.cli_writing.specs.Writing.{IsWriteStop, KeepsDraft, KeepsFiles, NewFile, Store, Writes}
 use Rattle.cli_commands.specs.declared.output.Output.{Output}
-use Rattle.cli_listing.specs.Listing.{tree_listed}
-use Rattle.cli_commands.specs.Commands.{Change, change_of, draws_id, listing_of, may_write, merged_change}
-use Rattle.keepass_call.specs.Endings.{Ending, Ends, EndsRefused, EndsSo, EndsWith, HoldsNew, IsOfDice, IsOfSomeDice, ReadsBack, WritesNew, carried_out, ended_with, ending_with, ending_without, kept_sealing, new_file}
+use Rattle.cli_commands.specs.Commands.{Change, change_of, draws_id, may_write}
+use Rattle.cli_commands.proofs.Changes.{none_changed}
+use Rattle.keepass_call.specs.Endings.{Ending, Ends, EndsRefused, EndsSo, EndsWith, HoldsNew, IsOfDice, IsOfSomeDice, ReadsBack, WritesNew, carried_out, ended_with, ending_with, ending_without, new_file, settings_in}
 use Rattle.cli_commands.specs.SeenChange.{doc_if, output_text}
 use Rattle.keepass_call.specs.Tasks.{Task, draws, task_with}
 
@@ -129,6 +128,8 @@ left_after (Some x) mid new l m h g = g ∙ ap (option_map (λ (x : List ℕ). m
 pub tells_id : (command : Command) (dice : Option (List ℕ)) (d : List ℕ) → TellsStream (draws command) dice d → TellsStream (draws_id command) dice d
 tells_id command (Some x) d t = t
 tells_id (Ls access file group recursive flat) None d t = refl
+tells_id (Show access file entry clear all attachments names) None d t = refl
+tells_id (Search access file term) None d t = refl
 tells_id (Add access file entry asked) None d t = t
 tells_id (Edit access file entry asked) None d t = refl
 tells_id (Move access file node group) None d t = refl
@@ -136,6 +137,8 @@ tells_id (Remove access file entry) None d t = t
 tells_id (MakeGroup access file group) None d t = t
 tells_id (RemoveGroup access file group) None d t = t
 tells_id (Merge access file names from same dry) None d t = refl
+tells_id (Export access format file) None d t = refl
+tells_id (Info access file) None d t = refl
 
 -- What is left is reported, where a file is sealed.
 pub tells_after : (asked sealed : Bool) (old mid : Option (List ℕ)) (d l : List ℕ) → (asked ≡ false → sealed ≡ false) → TellsStream asked old d → IsLeft old mid l
@@ -145,6 +148,8 @@ tells_after asked sealed None mid d l none t h = subst (λ (m : Option (List ℕ
 
 pub no_id : (command : Command) → draws command ≡ false → draws_id command ≡ false
 no_id (Ls access file group recursive flat) e = refl
+no_id (Show access file entry clear all attachments names) e = refl
+no_id (Search access file term) e = refl
 no_id (Add access file entry asked) e = e
 no_id (Edit access file entry asked) e = refl
 no_id (Move access file node group) e = refl
@@ -152,202 +157,201 @@ no_id (Remove access file entry) e = e
 no_id (MakeGroup access file group) e = e
 no_id (RemoveGroup access file group) e = e
 no_id (Merge access file names from same dry) e = refl
+no_id (Export access format file) e = refl
+no_id (Info access file) e = refl
 
 -- ---- a task
 
 -- What a task is carried out to whose command makes this change.
-carried_by : (time : ℕ) (task : Task) (line : Option (List ℕ)) (dice : List ℕ) (change : Change) → line ≡ task.lines.more
-    → (change_of time task.command line task.sources task.opened.doc dice).answer ≡ Ok change
-    → carried_out time task dice ≡ ended_with (needs_of task.command).file task.opened.sealing change.text change.doc (change_of time task.command line task.sources task.opened.doc dice).left
+carried_by : (time : ℕ) (task : Task) (line : Option (List ℕ)) (settings : Option Settings) (dice : List ℕ) (change : Change) → line ≡ task.lines.more → settings ≡ settings_in task.opened.sealing
+    → (change_of time task.command line task.sources settings task.opened.doc dice).answer ≡ Ok change
+    → carried_out time task dice ≡ ended_with (needs_of task.command).file task.opened.sealing change.text change.doc (change_of time task.command line task.sources settings task.opened.doc dice).left
 unfolding carried_out
-carried_by time task line dice change e h =
-    ap (λ (l : Option (List ℕ)). then_left (change_of time task.command l task.sources task.opened.doc dice) (λ change left. ended_with (needs_of task.command).file task.opened.sealing change.text change.doc left)) (sym e)
-    ∙ ap (λ (r : Result Change Refusal). then_left (with_left r (change_of time task.command line task.sources task.opened.doc dice).left)
+carried_by time task line settings dice change e s h =
+    ap (λ (l : Option (List ℕ)). then_left (change_of time task.command l task.sources (settings_in task.opened.sealing) task.opened.doc dice) (λ change left. ended_with (needs_of task.command).file task.opened.sealing change.text change.doc left)) (sym e)
+    ∙ ap (λ (x : Option Settings). then_left (change_of time task.command line task.sources x task.opened.doc dice) (λ change left. ended_with (needs_of task.command).file task.opened.sealing change.text change.doc left)) (sym s)
+    ∙ ap (λ (r : Result Change Refusal). then_left (with_left r (change_of time task.command line task.sources settings task.opened.doc dice).left)
     (λ change left. ended_with (needs_of task.command).file task.opened.sealing change.text change.doc left)) h
 
-refused_by : (time : ℕ) (task : Task) (line : Option (List ℕ)) (dice : List ℕ) (refusal : Refusal) → line ≡ task.lines.more
-    → (change_of time task.command line task.sources task.opened.doc dice).answer ≡ Err refusal
-    → carried_out time task dice ≡ with_left (Err refusal) (change_of time task.command line task.sources task.opened.doc dice).left
+refused_by : (time : ℕ) (task : Task) (line : Option (List ℕ)) (settings : Option Settings) (dice : List ℕ) (refusal : Refusal) → line ≡ task.lines.more → settings ≡ settings_in task.opened.sealing
+    → (change_of time task.command line task.sources settings task.opened.doc dice).answer ≡ Err refusal
+    → carried_out time task dice ≡ with_left (Err refusal) (change_of time task.command line task.sources settings task.opened.doc dice).left
 unfolding carried_out
-refused_by time task line dice refusal e h =
-    ap (λ (l : Option (List ℕ)). then_left (change_of time task.command l task.sources task.opened.doc dice) (λ change left. ended_with (needs_of task.command).file task.opened.sealing change.text change.doc left)) (sym e)
-    ∙ ap (λ (r : Result Change Refusal). then_left (with_left r (change_of time task.command line task.sources task.opened.doc dice).left)
+refused_by time task line settings dice refusal e s h =
+    ap (λ (l : Option (List ℕ)). then_left (change_of time task.command l task.sources (settings_in task.opened.sealing) task.opened.doc dice) (λ change left. ended_with (needs_of task.command).file task.opened.sealing change.text change.doc left)) (sym e)
+    ∙ ap (λ (x : Option Settings). then_left (change_of time task.command line task.sources x task.opened.doc dice) (λ change left. ended_with (needs_of task.command).file task.opened.sealing change.text change.doc left)) (sym s)
+    ∙ ap (λ (r : Result Change Refusal). then_left (with_left r (change_of time task.command line task.sources settings task.opened.doc dice).left)
     (λ change left. ended_with (needs_of task.command).file task.opened.sealing change.text change.doc left)) h
 
 -- The change was made and the file written, if one is.
-pub ends_by : (time : ℕ) (task : Task) (line : Option (List ℕ)) (dice name : List ℕ) (change : Change) (before now : Store) (old mid new : Option (List ℕ))
-    → line ≡ task.lines.more → name ≡ (needs_of task.command).file
-    → (change_of time task.command line task.sources task.opened.doc dice).answer ≡ Ok change → IsLeft old mid (change_of time task.command line task.sources task.opened.doc dice).left
-    → EndsWith change.text (Ok tt) (ended_with name task.opened.sealing change.text change.doc (change_of time task.command line task.sources task.opened.doc dice).left) before now mid new
+pub ends_by : (time : ℕ) (task : Task) (line : Option (List ℕ)) (settings : Option Settings) (dice name : List ℕ) (change : Change) (before now : Store) (old mid new : Option (List ℕ))
+    → line ≡ task.lines.more → settings ≡ settings_in task.opened.sealing → name ≡ (needs_of task.command).file
+    → (change_of time task.command line task.sources settings task.opened.doc dice).answer ≡ Ok change → IsLeft old mid (change_of time task.command line task.sources settings task.opened.doc dice).left
+    → EndsWith change.text (Ok tt) (ended_with name task.opened.sealing change.text change.doc (change_of time task.command line task.sources settings task.opened.doc dice).left) before now mid new
     → EndsSo change.text (carried_out time task dice).answer before now × IsLeft old new (carried_out time task dice).left
-ends_by time task line dice name change before now old mid new e n h l w =
-    let made = (change_of time task.command line task.sources task.opened.doc dice).left in
+ends_by time task line settings dice name change before now old mid new e s n h l w =
+    let made = (change_of time task.command line task.sources settings task.opened.doc dice).left in
     let there = subst (λ (f : List ℕ). EndsWith change.text (Ok tt) (ended_with f task.opened.sealing change.text change.doc made) before now mid new) n w in
-    subst (λ (t : StreamAnswer Ending). EndsSo change.text t.answer before now × IsLeft old new t.left) (sym (carried_by time task line dice change e h))
+    subst (λ (t : StreamAnswer Ending). EndsSo change.text t.answer before now × IsLeft old new t.left) (sym (carried_by time task line settings dice change e s h))
     (there.0, left_after old mid new made (ended_with (needs_of task.command).file task.opened.sealing change.text change.doc made).left l there.1)
 
 -- The change was refused.
-pub change_refused : (stop : Stop) (time : ℕ) (task : Task) (line : Option (List ℕ)) (dice : List ℕ) (before : Store) (stream stream' : Option (List ℕ))
-    → line ≡ task.lines.more → RefusesAskedStream stop stream stream' (change_of time task.command line task.sources task.opened.doc dice)
+pub change_refused : (stop : Stop) (time : ℕ) (task : Task) (line : Option (List ℕ)) (settings : Option Settings) (dice : List ℕ) (before : Store) (stream stream' : Option (List ℕ))
+    → line ≡ task.lines.more → settings ≡ settings_in task.opened.sealing → RefusesAskedStream stop stream stream' (change_of time task.command line task.sources settings task.opened.doc dice)
     → Ends (Err stop) (carried_out time task dice) before before stream stream'
-change_refused (Refused refusal) time task line dice before stream stream' e h =
-    subst (λ (t : StreamAnswer Ending). EndsRefused refusal t.answer before before × IsLeft stream stream' t.left) (sym (refused_by time task line dice refusal e h.0))
+change_refused (Refused refusal) time task line settings dice before stream stream' e s h =
+    subst (λ (t : StreamAnswer Ending). EndsRefused refusal t.answer before before × IsLeft stream stream' t.left) (sym (refused_by time task line settings dice refusal e s h.0))
     (record { is = refl; same = record { files = refl; draft_name = refl; draft_bytes = refl } }, h.1)
-change_refused (FileFault name) time task line dice before stream stream' e h = tt
-change_refused InputFault time task line dice before stream stream' e h = tt
-change_refused NoMemory time task line dice before stream stream' e h = tt
+change_refused (FileFault name) time task line settings dice before stream stream' e s h = tt
+change_refused InputFault time task line settings dice before stream stream' e s h = tt
+change_refused NoMemory time task line settings dice before stream stream' e s h = tt
 
 -- The file was refused.
-pub file_refused : (stop : Stop) (time : ℕ) (task : Task) (line : Option (List ℕ)) (dice name : List ℕ) (change : Change) (before now : Store) (old mid new : Option (List ℕ))
-    → line ≡ task.lines.more → name ≡ (needs_of task.command).file
-    → (change_of time task.command line task.sources task.opened.doc dice).answer ≡ Ok change → IsLeft old mid (change_of time task.command line task.sources task.opened.doc dice).left
-    → EndsWith change.text (Err stop) (ended_with name task.opened.sealing change.text change.doc (change_of time task.command line task.sources task.opened.doc dice).left) before now mid new
+pub file_refused : (stop : Stop) (time : ℕ) (task : Task) (line : Option (List ℕ)) (settings : Option Settings) (dice name : List ℕ) (change : Change) (before now : Store) (old mid new : Option (List ℕ))
+    → line ≡ task.lines.more → settings ≡ settings_in task.opened.sealing → name ≡ (needs_of task.command).file
+    → (change_of time task.command line task.sources settings task.opened.doc dice).answer ≡ Ok change → IsLeft old mid (change_of time task.command line task.sources settings task.opened.doc dice).left
+    → EndsWith change.text (Err stop) (ended_with name task.opened.sealing change.text change.doc (change_of time task.command line task.sources settings task.opened.doc dice).left) before now mid new
     → Ends (Err stop) (carried_out time task dice) before now old new
-file_refused (Refused refusal) time task line dice name change before now old mid new e n h l w =
-    let made = (change_of time task.command line task.sources task.opened.doc dice).left in
+file_refused (Refused refusal) time task line settings dice name change before now old mid new e s n h l w =
+    let made = (change_of time task.command line task.sources settings task.opened.doc dice).left in
     let there = subst (λ (f : List ℕ). EndsWith change.text (Err (Refused refusal)) (ended_with f task.opened.sealing change.text change.doc made) before now mid new) n w in
-    subst (λ (t : StreamAnswer Ending). EndsRefused refusal t.answer before now × IsLeft old new t.left) (sym (carried_by time task line dice change e h))
+    subst (λ (t : StreamAnswer Ending). EndsRefused refusal t.answer before now × IsLeft old new t.left) (sym (carried_by time task line settings dice change e s h))
     (there.0, left_after old mid new made (ended_with (needs_of task.command).file task.opened.sealing change.text change.doc made).left l there.1)
-file_refused (FileFault given) time task line dice name change before now old mid new e n h l w = tt
-file_refused InputFault time task line dice name change before now old mid new e n h l w = tt
-file_refused NoMemory time task line dice name change before now old mid new e n h l w = tt
+file_refused (FileFault given) time task line settings dice name change before now old mid new e s n h l w = tt
+file_refused InputFault time task line settings dice name change before now old mid new e s n h l w = tt
+file_refused NoMemory time task line settings dice name change before now old mid new e s n h l w = tt
 
 -- What was printed and written is of the change.
-pub of_dice : (time : ℕ) (task : Task) (line : Option (List ℕ)) (dice name printed : List ℕ) (change : Change) (before now : Store)
-    → line ≡ task.lines.more → name ≡ (needs_of task.command).file → printed ≡ change.text
-    → (change_of time task.command line task.sources task.opened.doc dice).answer ≡ Ok change → ReadsBack name task.opened.sealing change.doc before now
+pub of_dice : (time : ℕ) (task : Task) (line : Option (List ℕ)) (settings : Option Settings) (dice name printed : List ℕ) (change : Change) (before now : Store)
+    → line ≡ task.lines.more → settings ≡ settings_in task.opened.sealing → name ≡ (needs_of task.command).file → printed ≡ change.text
+    → (change_of time task.command line task.sources settings task.opened.doc dice).answer ≡ Ok change → ReadsBack name task.opened.sealing change.doc before now
     → IsOfDice time task dice printed before now
-of_dice time task line dice name printed change before now e n p h r = record {
+of_dice time task line settings dice name printed change before now e s n p h r = record {
   change = change;
-  makes = subst (λ (l : Option (List ℕ)). (change_of time task.command l task.sources task.opened.doc dice).answer ≡ Ok change) e h;
+  makes = subst (λ (l : Option (List ℕ)). (change_of time task.command l task.sources (settings_in task.opened.sealing) task.opened.doc dice).answer ≡ Ok change) e
+      (subst (λ (x : Option Settings). (change_of time task.command line task.sources x task.opened.doc dice).answer ≡ Ok change) s h);
   text = p;
   reads_back = subst (λ (f : List ℕ). ReadsBack f task.opened.sealing change.doc before now) n r;
 }
 
--- ---- a key that is let go where nothing is written
+-- ---- a key that is cleared where nothing is written
 
--- A listing ends so whatever its database is sealed with.
-listed_so : (name file : List ℕ) (recursive flat : Bool) (tree : Option Tree) (one other : Option Sealing) (dice : List ℕ)
-    → then_left (with_left (listing_of file recursive flat tree) dice) (λ change left. ended_with name one change.text change.doc left)
-    ≡ then_left (with_left (listing_of file recursive flat tree) dice) (λ change left. ended_with name other change.text change.doc left)
-listed_so name file recursive flat None one other dice = refl
-listed_so name file recursive flat (Some tree) one other dice = refl
+-- A command that makes no document ends so whatever its database is sealed with.
+ends_so : (name : List ℕ) (answer : Result Change Refusal) (left : List ℕ) (one other : Option Sealing) → IfOk answer (λ change. change.doc ≡ None)
+    → after_left answer left (λ change left. ended_with name one change.text change.doc left)
+    ≡ after_left answer left (λ change left. ended_with name other change.text change.doc left)
+ends_so name (Ok change) left one other none =
+    ap (λ (x : Option BareDoc). ended_with name one change.text x left) none ∙ sym (ap (λ (x : Option BareDoc). ended_with name other change.text x left) none)
+ends_so name (Err refusal) left one other none = refl
 
--- A merge that makes no document ends so whatever its database is sealed with.
-merged_so : (name : List ℕ) (made : Result AfterMerge Refusal) → IfOk made (λ after. after.doc ≡ None) → (one other : Option Sealing) (dice : List ℕ)
-    → then_left (with_left (merged_change made) dice) (λ change left. ended_with name one change.text change.doc left)
-    ≡ then_left (with_left (merged_change made) dice) (λ change left. ended_with name other change.text change.doc left)
-merged_so name (Ok after) none one other dice =
-    ap (λ (x : Option BareDoc). ended_with name one after.text x dice) none ∙ sym (ap (λ (x : Option BareDoc). ended_with name other after.text x dice) none)
-merged_so name (Err refusal) none one other dice = refl
-
-pub carried_kept : (time : ℕ) (command : Command) (lines : Lines) (sources : List BareDoc) (doc : BareDoc) (sealing : Option Sealing) (dice : List ℕ)
-    → carried_out time (task_with command lines (record { target = record { doc = doc; sealing = kept_sealing (may_write command) sealing }; sources = sources })) dice
-    ≡ carried_out time (task_with command lines (record { target = record { doc = doc; sealing = sealing }; sources = sources })) dice
+carried_kept : (writes : Bool) (time : ℕ) (command : Command) (lines : Lines) (sources : List BareDoc) (doc : BareDoc) (one other : Option Sealing) (dice : List ℕ)
+    → may_write command ≡ writes → settings_in one ≡ settings_in other → (writes ≡ true → one ≡ other)
+    → carried_out time (task_with command lines (record { target = record { doc = doc; sealing = one }; sources = sources })) dice
+    ≡ carried_out time (task_with command lines (record { target = record { doc = doc; sealing = other }; sources = sources })) dice
 unfolding carried_out
-carried_kept time (Ls access file group recursive flat) lines sources doc sealing dice =
-    listed_so file file recursive flat (tree_listed group doc) None sealing dice
-carried_kept time (Add access file entry asked) lines sources doc sealing dice = refl
-carried_kept time (Edit access file entry asked) lines sources doc sealing dice = refl
-carried_kept time (Move access file node group) lines sources doc sealing dice = refl
-carried_kept time (Remove access file entry) lines sources doc sealing dice = refl
-carried_kept time (MakeGroup access file group) lines sources doc sealing dice = refl
-carried_kept time (RemoveGroup access file group) lines sources doc sealing dice = refl
-carried_kept time (Merge access file names from same false) lines sources doc sealing dice = refl
-carried_kept time (Merge access file names from same true) lines sources doc sealing dice =
-    merged_so file (after_merge file access.quiet true names doc sources) (dry_none file access.quiet names doc sources) None sealing dice
+carried_kept true time command lines sources doc one other dice w k same =
+    ap (λ (s : Option Sealing). carried_out time (task_with command lines (record { target = record { doc = doc; sealing = s }; sources = sources })) dice) (same refl)
+carried_kept false time command lines sources doc one other dice w k same =
+    ap (λ (x : Option Settings). then_left (change_of time command lines.more sources x doc dice) (λ change left. ended_with (needs_of command).file one change.text change.doc left)) k
+    ∙ ends_so (needs_of command).file (change_of time command lines.more sources (settings_in other) doc dice).answer (change_of time command lines.more sources (settings_in other) doc dice).left one other
+    (none_changed time command lines.more sources (settings_in other) doc dice w)
 
-pub ends_kept : (time : ℕ) (command : Command) (lines : Lines) (sources : List BareDoc) (doc : BareDoc) (sealing kept : Option Sealing) (d : List ℕ) (result : Result Output Stop) (before now : Store) (dice dice' : Option (List ℕ))
-    → kept ≡ kept_sealing (may_write command) sealing
-    → Ends result (carried_out time (task_with command lines (record { target = record { doc = doc; sealing = kept }; sources = sources })) d) before now dice dice'
-    → Ends result (carried_out time (task_with command lines (record { target = record { doc = doc; sealing = sealing }; sources = sources })) d) before now dice dice'
-ends_kept time command lines sources doc sealing kept d result before now dice dice' k h =
-    subst (λ (a : StreamAnswer Ending). Ends result a before now dice dice') (carried_kept time command lines sources doc sealing d)
-    (subst (λ (s : Option Sealing). Ends result (carried_out time (task_with command lines (record { target = record { doc = doc; sealing = s }; sources = sources })) d) before now dice dice') k h)
+pub ends_kept : (time : ℕ) (command : Command) (lines : Lines) (sources : List BareDoc) (doc : BareDoc) (one other : Option Sealing) (d : List ℕ) (result : Result Output Stop) (before now : Store) (dice dice' : Option (List ℕ))
+    → settings_in one ≡ settings_in other → (may_write command ≡ true → one ≡ other)
+    → Ends result (carried_out time (task_with command lines (record { target = record { doc = doc; sealing = one }; sources = sources })) d) before now dice dice'
+    → Ends result (carried_out time (task_with command lines (record { target = record { doc = doc; sealing = other }; sources = sources })) d) before now dice dice'
+ends_kept time command lines sources doc one other d result before now dice dice' k same h =
+    subst (λ (a : StreamAnswer Ending). Ends result a before now dice dice') (carried_kept (may_write command) time command lines sources doc one other d refl k same) h
 
--- It makes no document.
-listed_none : (file : List ℕ) (recursive flat : Bool) (tree : Option Tree) (change : Change) → listing_of file recursive flat tree ≡ Ok change → change.doc ≡ None
-listed_none file recursive flat None change h = cc
-listed_none file recursive flat (Some tree) change h = cc
+reads_kept : (writes : Bool) (name : List ℕ) (one other : Option Sealing) (doc : Option BareDoc) (before now : Store)
+    → (writes ≡ true → one ≡ other) → (writes ≡ false → doc ≡ None) → ReadsBack name one doc before now → ReadsBack name other doc before now
+reads_kept true name one other doc before now same none h = subst (λ (s : Option Sealing). ReadsBack name s doc before now) (same refl) h
+reads_kept false name one other doc before now same none h =
+    subst (λ (x : Option BareDoc). ReadsBack name other x before now) (sym (none refl))
+    (subst (λ (x : Option BareDoc). ReadsBack name one x before now) (none refl) h)
 
-merged_none : (made : Result AfterMerge Refusal) → IfOk made (λ after. after.doc ≡ None) → (change : Change) → merged_change made ≡ Ok change → change.doc ≡ None
-merged_none (Ok after) none change h = let is : after.doc ≡ change.doc = cc h in sym is ∙ none
-merged_none (Err refusal) none change h = cc
+-- A change that was made is so.
+if_made : (answer : Result Change Refusal) (change : Change) → answer ≡ Ok change → IfOk answer (λ change. change.doc ≡ None) → change.doc ≡ None
+if_made answer change e h = subst (λ (a : Result Change Refusal). IfOk a (λ change. change.doc ≡ None)) e h
 
-of_dice_kept : (time : ℕ) (command : Command) (lines : Lines) (sources : List BareDoc) (doc : BareDoc) (sealing : Option Sealing) (d printed : List ℕ) (before now : Store)
-    → IsOfDice time (task_with command lines (record { target = record { doc = doc; sealing = kept_sealing (may_write command) sealing }; sources = sources })) d printed before now
-    → IsOfDice time (task_with command lines (record { target = record { doc = doc; sealing = sealing }; sources = sources })) d printed before now
-of_dice_kept time (Ls access file group recursive flat) lines sources doc sealing d printed before now h = record {
+of_dice_kept : (time : ℕ) (command : Command) (lines : Lines) (sources : List BareDoc) (doc : BareDoc) (one other : Option Sealing) (d printed : List ℕ) (before now : Store)
+    → settings_in one ≡ settings_in other → (may_write command ≡ true → one ≡ other)
+    → IsOfDice time (task_with command lines (record { target = record { doc = doc; sealing = one }; sources = sources })) d printed before now
+    → IsOfDice time (task_with command lines (record { target = record { doc = doc; sealing = other }; sources = sources })) d printed before now
+of_dice_kept time command lines sources doc one other d printed before now k same h = record {
   change = h.change;
-  makes = h.makes;
+  makes = subst (λ (x : Option Settings). (change_of time command lines.more sources x doc d).answer ≡ Ok h.change) k h.makes;
   text = h.text;
   reads_back =
-      let none = listed_none file recursive flat (tree_listed group doc) h.change h.makes in
-      subst (λ (x : Option BareDoc). ReadsBack file sealing x before now) (sym none)
-      (subst (λ (x : Option BareDoc). ReadsBack file None x before now) none h.reads_back);
-}
-of_dice_kept time (Add access file entry asked) lines sources doc sealing d printed before now h = h
-of_dice_kept time (Edit access file entry asked) lines sources doc sealing d printed before now h = h
-of_dice_kept time (Move access file node group) lines sources doc sealing d printed before now h = h
-of_dice_kept time (Remove access file entry) lines sources doc sealing d printed before now h = h
-of_dice_kept time (MakeGroup access file group) lines sources doc sealing d printed before now h = h
-of_dice_kept time (RemoveGroup access file group) lines sources doc sealing d printed before now h = h
-of_dice_kept time (Merge access file names from same false) lines sources doc sealing d printed before now h = h
-of_dice_kept time (Merge access file names from same true) lines sources doc sealing d printed before now h = record {
-  change = h.change;
-  makes = h.makes;
-  text = h.text;
-  reads_back =
-      let none = merged_none (after_merge file access.quiet true names doc sources) (dry_none file access.quiet names doc sources) h.change h.makes in
-      subst (λ (x : Option BareDoc). ReadsBack file sealing x before now) (sym none)
-      (subst (λ (x : Option BareDoc). ReadsBack file None x before now) none h.reads_back);
+      reads_kept (may_write command) (needs_of command).file one other h.change.doc before now same
+          (λ w. if_made (change_of time command lines.more sources (settings_in one) doc d).answer h.change h.makes
+              (none_changed time command lines.more sources (settings_in one) doc d w)) h.reads_back;
 }
 
-pub all_kept : (time : ℕ) (command : Command) (lines : Lines) (sources : List BareDoc) (doc : BareDoc) (sealing kept : Option Sealing) (d : List ℕ) (result : Result Output Stop) (before now : Store)
-    → kept ≡ kept_sealing (may_write command) sealing
-    → IfOk result (λ output. IsOfDice time (task_with command lines (record { target = record { doc = doc; sealing = kept }; sources = sources })) d (output_text output) before now)
-    → IfOk result (λ output. IsOfDice time (task_with command lines (record { target = record { doc = doc; sealing = sealing }; sources = sources })) d (output_text output) before now)
-all_kept time command lines sources doc sealing kept d (Ok output) before now k h =
-    of_dice_kept time command lines sources doc sealing d (output_text output) before now
-    (subst (λ (s : Option Sealing). IsOfDice time (task_with command lines (record { target = record { doc = doc; sealing = s }; sources = sources })) d (output_text output) before now) k h)
-all_kept time command lines sources doc sealing kept d (Err stop) before now k h = tt
+pub all_kept : (time : ℕ) (command : Command) (lines : Lines) (sources : List BareDoc) (doc : BareDoc) (one other : Option Sealing) (d : List ℕ) (result : Result Output Stop) (before now : Store)
+    → settings_in one ≡ settings_in other → (may_write command ≡ true → one ≡ other)
+    → IfOk result (λ output. IsOfDice time (task_with command lines (record { target = record { doc = doc; sealing = one }; sources = sources })) d (output_text output) before now)
+    → IfOk result (λ output. IsOfDice time (task_with command lines (record { target = record { doc = doc; sealing = other }; sources = sources })) d (output_text output) before now)
+all_kept time command lines sources doc one other d (Ok output) before now k same h = of_dice_kept time command lines sources doc one other d (output_text output) before now k same h
+all_kept time command lines sources doc one other d (Err stop) before now k same h = tt
 
-pub some_kept : (time : ℕ) (command : Command) (lines : Lines) (sources : List BareDoc) (doc : BareDoc) (sealing kept : Option Sealing) (result : Result Output Stop) (before now : Store)
-    → kept ≡ kept_sealing (may_write command) sealing
-    → IfOk result (λ output. IsOfSomeDice time (task_with command lines (record { target = record { doc = doc; sealing = kept }; sources = sources })) (output_text output) before now)
-    → IfOk result (λ output. IsOfSomeDice time (task_with command lines (record { target = record { doc = doc; sealing = sealing }; sources = sources })) (output_text output) before now)
-some_kept time command lines sources doc sealing kept (Ok output) before now k h = (
-  h.0,
-  of_dice_kept time command lines sources doc sealing h.0 (output_text output) before now
-      (subst (λ (s : Option Sealing). IsOfDice time (task_with command lines (record { target = record { doc = doc; sealing = s }; sources = sources })) h.0 (output_text output) before now) k h.1),
-)
-some_kept time command lines sources doc sealing kept (Err stop) before now k h = tt
+pub some_kept : (time : ℕ) (command : Command) (lines : Lines) (sources : List BareDoc) (doc : BareDoc) (one other : Option Sealing) (result : Result Output Stop) (before now : Store)
+    → settings_in one ≡ settings_in other → (may_write command ≡ true → one ≡ other)
+    → IfOk result (λ output. IsOfSomeDice time (task_with command lines (record { target = record { doc = doc; sealing = one }; sources = sources })) (output_text output) before now)
+    → IfOk result (λ output. IsOfSomeDice time (task_with command lines (record { target = record { doc = doc; sealing = other }; sources = sources })) (output_text output) before now)
+some_kept time command lines sources doc one other (Ok output) before now k same h = (h.0, of_dice_kept time command lines sources doc one other h.0 (output_text output) before now k same h.1)
+some_kept time command lines sources doc one other (Err stop) before now k same h = tt
+
+-- ---- what is sealed
+
+and_none : (written sealed : Bool) → sealed ≡ false → (written && sealed) ≡ false
+and_none true sealed h = h
+and_none false sealed h = refl
+
+none_and : (written sealed : Bool) → written ≡ false → (written && sealed) ≡ false
+none_and written sealed h = ap (λ (w : Bool). w && sealed) h
 
 -- A command that draws nothing seals nothing.
-undrawn_unsealed : (command : Command) (sealing : Option Sealing) → is_some sealing ≡ not (needs_of command).access.plain → draws command ≡ false
-    → is_some (kept_sealing (may_write command) sealing) ≡ false
-undrawn_unsealed (Ls access file group recursive flat) sealing h e = refl
-undrawn_unsealed (Add access file entry asked) sealing h e = cc
-undrawn_unsealed (Edit access file entry asked) sealing h e = h ∙ e
-undrawn_unsealed (Move access file node group) sealing h e = h ∙ e
-undrawn_unsealed (Remove access file entry) sealing h e = cc
-undrawn_unsealed (MakeGroup access file group) sealing h e = cc
-undrawn_unsealed (RemoveGroup access file group) sealing h e = cc
-undrawn_unsealed (Merge access file names from same true) sealing h e = refl
-undrawn_unsealed (Merge access file names from same false) sealing h e = h ∙ e
+pub undrawn_unsealed : (command : Command) (sealed written : Bool) → (may_write command ≡ false → written ≡ false) → sealed ≡ not (needs_of command).access.plain
+    → draws command ≡ false → (written && sealed) ≡ false
+undrawn_unsealed (Ls access file group recursive flat) sealed written w h e = none_and written sealed (w refl)
+undrawn_unsealed (Show access file entry clear all attachments names) sealed written w h e = none_and written sealed (w refl)
+undrawn_unsealed (Search access file term) sealed written w h e = none_and written sealed (w refl)
+undrawn_unsealed (Add access file entry asked) sealed written w h e = cc
+undrawn_unsealed (Edit access file entry asked) sealed written w h e = and_none written sealed (h ∙ e)
+undrawn_unsealed (Move access file node group) sealed written w h e = and_none written sealed (h ∙ e)
+undrawn_unsealed (Remove access file entry) sealed written w h e = cc
+undrawn_unsealed (MakeGroup access file group) sealed written w h e = cc
+undrawn_unsealed (RemoveGroup access file group) sealed written w h e = cc
+undrawn_unsealed (Merge access file names from same true) sealed written w h e = none_and written sealed (w refl)
+undrawn_unsealed (Merge access file names from same false) sealed written w h e = and_none written sealed (h ∙ e)
+undrawn_unsealed (Export access format file) sealed written w h e = none_and written sealed (w refl)
+undrawn_unsealed (Info access file) sealed written w h e = none_and written sealed (w refl)
 
-pub unsealed_kept : (command : Command) (sealing kept : Option Sealing) → kept ≡ kept_sealing (may_write command) sealing
-    → is_some sealing ≡ not (needs_of command).access.plain → draws command ≡ false → is_some kept ≡ false
-unsealed_kept command sealing kept k h e = ap (λ (s : Option Sealing). is_some s) k ∙ undrawn_unsealed command sealing h e
+-- Where a document is written, its file is asked for.
+pub asked_written : (written sealed : Bool) (dice : Option (List ℕ)) (d : List ℕ) → written ≡ true → TellsStream (written && sealed) dice d → TellsStream sealed dice d
+asked_written written sealed dice d e t = subst (λ (w : Bool). TellsStream (w && sealed) dice d) e t
 
-in_order_if : (writes : Bool) (sealing : Option Sealing) → IfSome sealing (λ s. IsInOrder s.settings) → IfSome (kept_sealing writes sealing) (λ s. IsInOrder s.settings)
-in_order_if true sealing h = h
-in_order_if false sealing h = tt
+pub unsealed_written : (written sealed : Bool) → written ≡ true → (written && sealed) ≡ false → sealed ≡ false
+unsealed_written written sealed e h = sym (ap (λ (w : Bool). w && sealed) e) ∙ h
 
-pub in_order_kept : (writes : Bool) (sealing kept : Option Sealing) → kept ≡ kept_sealing writes sealing
-    → IfSome sealing (λ s. IsInOrder s.settings) → IfSome kept (λ s. IsInOrder s.settings)
-in_order_kept writes sealing kept k h =
-    subst (λ (x : Option Sealing). IfSome x (λ s. IsInOrder s.settings)) (sym k) (in_order_if writes sealing h)
+some_settings : (sealing : Option Sealing) → is_some (settings_in sealing) ≡ is_some sealing
+some_settings None = refl
+some_settings (Some s) = refl
+
+pub sealed_kept : (one other : Option Sealing) → settings_in one ≡ settings_in other → is_some one ≡ is_some other
+sealed_kept one other k = sym (some_settings one) ∙ ap (λ (x : Option Settings). is_some x) k ∙ some_settings other
+
+in_order_settings : (sealing : Option Sealing) → IfSome sealing (λ s. IsInOrder s.settings) → IfSome (settings_in sealing) IsInOrder
+in_order_settings None h = h
+in_order_settings (Some s) h = h
+
+settings_in_order : (sealing : Option Sealing) → IfSome (settings_in sealing) IsInOrder → IfSome sealing (λ s. IsInOrder s.settings)
+settings_in_order None h = h
+settings_in_order (Some s) h = h
+
+pub in_order_kept : (one other : Option Sealing) → settings_in one ≡ settings_in other → IfSome other (λ s. IsInOrder s.settings) → IfSome one (λ s. IsInOrder s.settings)
+in_order_kept one other k h = settings_in_order one (subst (λ (x : Option Settings). IfSome x IsInOrder) (sym k) (in_order_settings other h))
 
 -- ---- causes
 

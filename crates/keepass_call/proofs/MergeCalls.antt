@@ -35,7 +35,7 @@ use Rattle.cli_answers.specs.Phases.{IsLeft, StreamAnswer, TellsStream, after_le
 use Rattle.cli_answers.specs.declared.answers.Refusal.{Refusal}
 use Rattle.cli_words.specs.declared.command.Access.{Access}
 use Rattle.cli_words.specs.declared.command.Command.{Command}
-use Rattle.cli_words.specs.declared.command.Command.TheVariants.{Ls, Add, Edit, Move, Remove, MakeGroup, RemoveGroup, Merge}
+use Rattle.cli_words.specs.declared.command.Command.TheVariants.{Ls, Show, Search, Add, Edit, Move, Remove, MakeGroup, RemoveGroup, Merge, Export, Info}
 use Rattle.cli_words.specs.Needs.{files_named, needs_of}
 use Rattle.cli_words.specs.Words.{command_of}
 use Rattle.cli_lines.specs.Lines.{Lines}
@@ -216,6 +216,8 @@ record MergeWords (command : Command) : Type 0 where
 
 merge_words : (command : Command) → merges command ≡ true → MergeWords command
 merge_words (Ls access file group recursive flat) e = absurd (true≢false (sym e))
+merge_words (Show access file entry clear all attachments names) e = absurd (true≢false (sym e))
+merge_words (Search access file term) e = absurd (true≢false (sym e))
 merge_words (Add access file entry asked) e = absurd (true≢false (sym e))
 merge_words (Edit access file entry asked) e = absurd (true≢false (sym e))
 merge_words (Move access file node group) e = absurd (true≢false (sym e))
@@ -223,6 +225,8 @@ merge_words (Remove access file entry) e = absurd (true≢false (sym e))
 merge_words (MakeGroup access file group) e = absurd (true≢false (sym e))
 merge_words (RemoveGroup access file group) e = absurd (true≢false (sym e))
 merge_words (Merge access file names from same true) e = absurd (true≢false (sym e))
+merge_words (Export access format file) e = absurd (true≢false (sym e))
+merge_words (Info access file) e = absurd (true≢false (sym e))
 merge_words (Merge access file names from same false) e = record { access = access; file = file; names = names; from = from; same = same; is = refl }
 
 ok_is : {A : Type 0} (a b : A) → ◌≡◌ {A = Result A Refusal} (Ok a) (Ok b) → a ≡ b

@@ -1,11 +1,12 @@
 -- How a command ends: what is printed, the file that is written, and what is left of the dice.
-use Rattle.std.specs.Prelude.{◌≡◌, ℕ, Bool, true, false, List, Option, None, Some, Result, Ok, Err}
+use Rattle.std.specs.Prelude.{◌≡◌, ℕ, List, Option, None, Some, Result, Ok, Err, option_map}
 use Rattle.vault_model.specs.Tree.{BareDoc}
 use Rattle.cli_answers.specs.declared.answers.Refusal.{Refusal}
 use Rattle.cli_answers.specs.declared.answers.Stop.{Stop}
 use Rattle.cli_answers.specs.declared.answers.Stop.TheVariants.{Refused, FileFault, InputFault, NoMemory}
 use Rattle.cli_answers.specs.Phases.{IsLeft, StreamAnswer, then_left, with_left}
 use Rattle.cli_words.specs.Needs.{needs_of}
+use Rattle.kdbx_frame.specs.declared.settings.Settings.{Settings}
 use Rattle.kdbx_open.specs.declared.sealings.Sealing.{Sealing}
 use Rattle.cli_writing.specs.Held.{HoldsPlain, IsWritten}
 use Rattle.cli_writing.specs.Writing.{HasFile, IsSame, NewFile, RefusesFile, Store, WritesFile, plain_file}
@@ -45,11 +46,15 @@ ended_with name sealing text None dice = with_left (Ok (ending_without text)) di
 ended_with name sealing text (Some doc) dice = then_left (new_file name sealing doc dice)
     (λ file left. with_left (Ok (ending_with text file)) left)
 
--- What the command of a task makes of its document, with the line and the sources of the task, over
--- the dice.
+-- The settings of a database's file, which a plain document lacks.
+abbrev pub settings_in : Option Sealing → Option Settings
+settings_in sealing = option_map (λ s. s.settings) sealing
+
+-- What the command of a task makes of its document, with the line and the sources of the task and
+-- the settings of its file, over the dice.
 abbrev pub change_of_task : ℕ → Task → List ℕ → StreamAnswer Change
-change_of_task time task dice =
-    change_of time task.command task.lines.more task.sources task.opened.doc dice
+change_of_task time task dice = change_of time task.command task.lines.more task.sources
+    (settings_in task.opened.sealing) task.opened.doc dice
 
 -- What a task is carried out to at a moment: what the command makes of its document, over the dice,
 -- and then the file. What is left of the dice is defined after a refusal too.
@@ -57,11 +62,6 @@ unfoldable pub carried_out : ℕ → Task → List ℕ → StreamAnswer Ending
 carried_out time task dice =
     then_left (change_of_task time task dice) (λ change left.
     ended_with (needs_of task.command).file task.opened.sealing change.text change.doc left)
-
--- What a database is sealed with, if it may be written again.
-abbrev pub kept_sealing : Bool → Option Sealing → Option Sealing
-kept_sealing true sealing = sealing
-kept_sealing false sealing = None
 
 -- ---- what a written file holds
 

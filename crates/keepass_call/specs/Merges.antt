@@ -12,7 +12,7 @@ use Rattle.kdbx_open.specs.Opening.{FileContents}
 use Rattle.kdbx_open.specs.Sealed.{Sealed}
 use Rattle.kdbx_open.specs.declared.sealings.Sealing.{Sealing}
 use Rattle.cli_words.specs.declared.command.Command.{Command}
-use Rattle.cli_words.specs.declared.command.Command.TheVariants.{Ls, Add, Edit, Move, Remove, MakeGroup, RemoveGroup, Merge}
+use Rattle.cli_words.specs.declared.command.Command.TheVariants.{Ls, Show, Search, Add, Edit, Move, Remove, MakeGroup, RemoveGroup, Merge, Export, Info}
 use Rattle.cli_words.specs.Needs.{needs_of}
 use Rattle.cli_databases.specs.Databases.{plain_document}
 use Rattle.cli_writing.specs.Writing.{IsSame, Store}
@@ -23,6 +23,8 @@ use Rattle.keepass_call.specs.Tasks.{Task}
 -- A command is a merge, and no dry run.
 abbrev pub merges : Command → Bool
 merges (Ls access file group recursive flat) = false
+merges (Show access file entry clear all attachments names) = false
+merges (Search access file term) = false
 merges (Add access file entry asked) = false
 merges (Edit access file entry asked) = false
 merges (Move access file node group) = false
@@ -30,6 +32,8 @@ merges (Remove access file entry) = false
 merges (MakeGroup access file group) = false
 merges (RemoveGroup access file group) = false
 merges (Merge access file names from same dry) = not dry
+merges (Export access format file) = false
+merges (Info access file) = false
 
 -- ---- parts of an agreed set
 

@@ -6,7 +6,7 @@ use Rattle.outside_core.specs.Results.{◌>>=◌}
 use Rattle.vault_model.specs.Tree.{BareDoc}
 use Rattle.cli_answers.specs.declared.answers.Refusal.{Refusal}
 use Rattle.cli_words.specs.declared.command.Command.{Command}
-use Rattle.cli_words.specs.declared.command.Command.TheVariants.{Ls, Add, Edit, Move, Remove, MakeGroup, RemoveGroup, Merge}
+use Rattle.cli_words.specs.declared.command.Command.TheVariants.{Ls, Show, Search, Add, Edit, Move, Remove, MakeGroup, RemoveGroup, Merge, Export, Info}
 use Rattle.cli_words.specs.Needs.{asks_line, needs_of}
 use Rattle.cli_words.specs.Words.{command_of}
 use Rattle.cli_lines.specs.Lines.{HasLines, Lines, lines_of}
@@ -52,6 +52,8 @@ asked_by (Err refusal) = false
 -- A command draws: for the id of a node that it may make, and for a sealed file.
 abbrev pub draws : Command → Bool
 draws (Ls access file group recursive flat) = false
+draws (Show access file entry clear all attachments names) = false
+draws (Search access file term) = false
 draws (Add access file entry asked) = true
 draws (Edit access file entry asked) = not access.plain
 draws (Move access file node group) = not access.plain
@@ -59,6 +61,8 @@ draws (Remove access file entry) = true
 draws (MakeGroup access file group) = true
 draws (RemoveGroup access file group) = true
 draws (Merge access file names from same dry) = not dry && not access.plain
+draws (Export access format file) = false
+draws (Info access file) = false
 
 -- Whether words are a command that draws.
 abbrev pub draws_by : Result Command Refusal → Bool

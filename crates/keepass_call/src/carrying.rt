@@ -1,6 +1,7 @@
 //! Carrying a task out: what its command makes of its database, and the file that is written.
-ghost use Rattle.std.specs.Prelude.{◌≡◌, ℕ, List, IfErr, IfOk, IfSome, OnErr, OnOk, false, is_some, not};
+ghost use Rattle.std.specs.Prelude.{◌≡◌, ℕ, List, IfErr, IfOk, IfSome, OnErr, OnOk, ◌&&◌, false, is_some, not, true};
 ghost use Rattle.outside_core.specs.Streams.{LosesPrefix};
+ghost use Rattle.secret_core.specs.Secret.{AllZero};
 ghost use Rattle.vault_model.specs.SeenDoc.{doc_seen};
 ghost use Rattle.kdbx_frame.specs.Settings.{IsInOrder};
 ghost use Rattle.cli_answers.specs.Phases.{IsCommandStop, TellsStream};
@@ -10,8 +11,8 @@ ghost use Rattle.cli_words.specs.Needs.{needs_of};
 ghost use Rattle.cli_writing.specs.Held.{IsWritten};
 ghost use Rattle.cli_writing.specs.Writing.{IsSame, KeepsDraft, KeepsFiles, store};
 ghost use Rattle.cli_commands.specs.Commands.{may_write};
-ghost use Rattle.keepass_call.specs.Endings.{Ends, EndsWith, HoldsNew, IsOfDice, IsOfSomeDice, ReadsBack, WritesNew, carried_out, ended_with, kept_sealing, new_file};
-ghost use Rattle.cli_commands.specs.SeenChange.{doc_if, output_text};
+ghost use Rattle.keepass_call.specs.Endings.{Ends, EndsWith, HoldsNew, IsOfDice, IsOfSomeDice, ReadsBack, WritesNew, carried_out, ended_with, new_file, settings_in};
+ghost use Rattle.cli_commands.specs.SeenChange.{doc_if, lent_settings, output_text};
 ghost use Rattle.keepass_call.specs.SeenTask.{task_seen};
 ghost use Rattle.keepass_call.specs.Tasks.{draws};
 
@@ -22,6 +23,7 @@ use cli_databases::Opened;
 use cli_sealing::write_sealed;
 use cli_words::Command;
 use cli_writing::write_plain;
+use kdbx_frame::Settings;
 use kdbx_open::{Sealing, release_key};
 use outside_core::{Dice, FileStore};
 use std::alloc::Global;
@@ -34,13 +36,27 @@ fn file_of(command: &Command) -> &str
     cli_words::needs_of(command).file.as_str()
 }
 
-// What a database is sealed with is kept if it may be written again. Otherwise its composite key is
-// cleared and released.
-fn keep_if(may_write: bool, sealing: &mut Option<Sealing>)
-    ensures { sealing.new ≡ kept_sealing may_write sealing.old }
+// Clears the composite key of a database at once that is not written again. Its settings stay.
+fn clear_unless(may_write: bool, sealing: &mut Option<Sealing>)
+    ensures settings { settings_in sealing.new ≡ settings_in sealing.old }
+    ensures whole { may_write ≡ true → sealing.new ≡ sealing.old }
+    ensures cleared { may_write ≡ false → IfSome sealing.new (λ s. AllZero s.composite) }
 {
-    if !may_write {
-        release_key(sealing.take());
+    if may_write {
+        return;
+    }
+    if let Some(sealing) = sealing {
+        sealing.composite.clear();
+    }
+}
+
+// The settings of a database's file.
+fn settings_of(sealing: &Option<Sealing>) -> Option<&Settings>
+    ensures { lent_settings result ≡ settings_in sealing.now }
+{
+    match sealing {
+        Some(sealing) => Some(&sealing.settings),
+        None => None,
     }
 }
 
@@ -105,7 +121,7 @@ fn write_if<F: FileStore, D: Dice>(
 ) -> Result<(), Stop>
     requires { IfSome opened.old.sealing (λ s. IsInOrder s.settings) }
     ensures told { (printed d : List ℕ)
-        → TellsStream (is_some opened.old.sealing) (D.stream dice.old) d
+        → TellsStream (is_written && is_some opened.old.sealing) (D.stream dice.old) d
         → EndsWith printed result (ended_with name.now opened.old.sealing printed
         (doc_if is_written (doc_seen opened.old.doc)) d)
         (store (F.files files.old) (F.draft_name files.old) (F.draft_bytes files.old))
@@ -124,7 +140,7 @@ fn write_if<F: FileStore, D: Dice>(
     ensures unwritten { is_written ≡ false → IsSame
         (store (F.files files.old) (F.draft_name files.old) (F.draft_bytes files.old))
         (store (F.files files.new) (F.draft_name files.new) (F.draft_bytes files.new)) }
-    ensures undrawn { is_some opened.old.sealing ≡ false
+    ensures undrawn { (is_written && is_some opened.old.sealing) ≡ false
         → D.stream dice.new ≡ D.stream dice.old }
     ensures stream { LosesPrefix (D.stream dice.old) (D.stream dice.new) }
     ensures cause { IfErr result (IsCommandStop name.now (F.faults files.old) (F.faults files.new)
@@ -148,7 +164,8 @@ fn carry_out_on<F: FileStore, D: Dice>(
 ) -> Result<Output, Stop>
     requires text { IsTextLine (lines_seen task.old.lines).more }
     requires in_order { IfSome task.old.opened.sealing (λ s. IsInOrder s.settings) }
-    requires sealed { draws task.old.command ≡ false → is_some task.old.opened.sealing ≡ false }
+    requires sealed { is_some task.old.opened.sealing
+        ≡ not (needs_of task.old.command).access.plain }
     ensures told { (d : List ℕ) → TellsStream (draws task.old.command) (D.stream dice.old) d
         → Ends result (carried_out now (task_seen task.old) d)
         (store (F.files files.old) (F.draft_name files.old) (F.draft_bytes files.old))
@@ -181,6 +198,7 @@ fn carry_out_on<F: FileStore, D: Dice>(
     let input = CommandInput {
         line: bytes_in(&task.lines.more),
         sources: task.sources.as_slice(),
+        settings: settings_of(&task.opened.sealing),
         now,
     };
     let change = perform(alloc, dice, &task.command, input, &mut task.opened.doc)?;
@@ -198,8 +216,8 @@ fn carry_out_on<F: FileStore, D: Dice>(
 /// Carries a task out: what its command makes of the document, and then the file, if one is
 /// written. What is printed is composed before the file is written, and printed after it.
 ///
-/// Whatever the answer, the composite key of the database was cleared and released: at once, where
-/// the command may write none.
+/// Whatever the answer, the composite key of the database was cleared and released; where the
+/// command may write none, it was cleared before.
 pub fn carry_out<F: FileStore, D: Dice>(
     alloc: Global,
     files: &mut F,
@@ -237,7 +255,7 @@ pub fn carry_out<F: FileStore, D: Dice>(
     ensures cause { IfErr result (IsCommandStop (needs_of task.command).file
         (F.faults files.old) (F.faults files.new) (D.faults dice.old) (D.faults dice.new)) }
 {
-    keep_if(may_write(&task.command), &mut task.opened.sealing);
+    clear_unless(may_write(&task.command), &mut task.opened.sealing);
     let answer = carry_out_on(alloc, files, dice, &mut task, now);
     let_go(task);
     answer
