@@ -1,4 +1,5 @@
 mod BlockContents
 mod Macs
 pub mod SealedPayloads
+mod StartBytes
 pub mod Steps

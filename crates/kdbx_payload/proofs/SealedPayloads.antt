@@ -1,5 +1,5 @@
 -- The sealed files are those whose payload is given.
-use Rattle.std.proofs.Common.{◌≡◌, ℕ, ◌%◌, List, take, drop, [], length, refl, sym, ◌∙◌, ap, subst, Bool, true, false, Option, Some, None, Result, Ok, Err, cond, bytes_eq}
+use Rattle.std.proofs.Common.{◌≡◌, ℕ, ◌%◌, List, take, drop, length, refl, sym, ◌∙◌, ap, subst, Bool, true, false, Option, Some, None, Result, Ok, Err, cond, bytes_eq}
 use Rattle.std.specs.Prelude.{◌==◌}
 use Rattle.std.proofs.lemmas.Bool.{eq-eqb, eqb-true}
 use Rattle.std.proofs.lemmas.Slice.Eq.{bytes_eq-Decides}
@@ -13,12 +13,11 @@ use Rattle.kdbx_frame.specs.declared.settings.Cipher.{Cipher}
 use Rattle.kdbx_frame.specs.declared.settings.Cipher.TheVariants.{Aes, Twofish, ChaCha}
 use Rattle.vault_model.specs.declared.forms.FileVersion.{FileVersion}
 use Rattle.vault_model.specs.declared.forms.FileVersion.TheVariants.{V31, V40, V41}
-use Rattle.kdbx_frame.specs.Header.{header_of}
 use Rattle.kdbx_inner.specs.Inner.{InnerFields, inner_of}
 use Rattle.kdbx_parts.specs.declared.fail.FrameFail.{FrameFail}
 use Rattle.mac_core.specs.Blocks.{IsWhole, concat_contents}
 use Rattle.mac_core.specs.Contents.{contents_of}
-use Rattle.mac_core.specs.HashedBlocks.{AreHashed, hashed_contents_of}
+use Rattle.mac_core.specs.HashedBlocks.{hashed_contents_of}
 use Rattle.mac_core.specs.declared.fail.BlockFail.{BlockFail}
 use Rattle.mac_core.proofs.ContentSteps as contents
 use Rattle.mac_core.proofs.HashedBlocks.{AreHashed-contents_of, contents_of-AreHashed}

@@ -1,11 +1,9 @@
 //! The content of a file, the text that it hides, and what that text is in version 3.1.
 
-ghost use Rattle.std.specs.Prelude.{◌≡◌, ◌≤◌, ◌%◌, ◌^◌, IfOk, Ok, length, take};
+ghost use Rattle.std.specs.Prelude.{◌≡◌, ◌≤◌, ◌%◌, ◌^◌, IfOk, IsTrue, Ok, bytes_eq, length, take};
 ghost use Rattle.block_core.specs.Cbc.{cbc_deciphered};
 ghost use Rattle.block_core.specs.Padding.{unpadded};
-ghost use Rattle.std.specs.Prelude.{IsTrue, bytes_eq, drop};
 ghost use Rattle.mac_core.specs.Contents.{contents_of};
-ghost use Rattle.mac_core.specs.HashedBlocks.{hashed_contents_of};
 ghost use Rattle.stream_core.specs.ChaCha20.{chacha_byte};
 ghost use Rattle.stream_core.specs.Stream.{xor_stream};
 ghost use Rattle.kdbx_payload.specs.Ciphers.{cbc_text, deciphered_text};
