@@ -1,5 +1,5 @@
 mod Appended
-mod HashedPieces
+pub mod HashedPieces
 mod MadeFiles
 mod Padded
 mod Pieces

@@ -11,7 +11,7 @@ use Rattle.mac_core.specs.Hmac.{hmac}
 use Rattle.mac_core.specs.HashedBlocks.{AreHashed, hashed_block, hashed_blocks, hashed_contents_of}
 use Rattle.mac_core.proofs.ContentSteps as contents
 use Rattle.mac_core.proofs.HashedBlocks.{contents_of-AreHashed}
-use Rattle.stream_core.specs.InnerStream.{Keystream, keystream_of}
+use Rattle.stream_core.specs.InnerStream.{Keystream}
 use Rattle.vault_model.specs.declared.forms.FileVersion.{FileVersion}
 use Rattle.vault_model.specs.declared.forms.FileVersion.TheVariants.{V31, V40, V41}
 use Rattle.kdbx_frame.specs.declared.settings.Settings.{Settings}
@@ -21,15 +21,14 @@ use Rattle.kdbx_frame.specs.Settings.{IsInOrder}
 use Rattle.kdbx_inner.specs.Inner.{Binary}
 use Rattle.kdbx_payload.specs.Ciphers.{deciphered_text}
 use Rattle.kdbx_payload.specs.HeaderMacs.{base_of, header_mac, key_of}
-use Rattle.kdbx_payload.specs.Parts.{after_header, after_start, content_31, frame_or_refusal, header_check, known_stream, of_blocks, right_padding, stored_mac}
+use Rattle.kdbx_payload.specs.Parts.{after_header, after_start, frame_or_refusal, header_check, of_blocks, right_padding, stored_mac}
 use Rattle.kdbx_payload.specs.Payloads.{Payload, hidden_text_31, hidden_text_4, payload_in_31, payload_in_4, payload_of}
-use Rattle.kdbx_payload.specs.Sealed.{SealedPayload}
 use Rattle.kdbx_payload.specs.declared.fail.PayloadFail.TheVariants.{KeyOrHeader}
 use Rattle.kdbx_payload.proofs.SealedPayloads.{after_start_again, is_sealed}
 use Rattle.kdbx_payload.proofs.Steps.{each}
 use Rattle.kdbx_spelling.specs.declared.draws.Draws.{Draws}
 use Rattle.kdbx_spelling.specs.Draws.{AreDrawn}
-use Rattle.kdbx_spelling.specs.Header.{header_with, salsa20, settings_with, spelled_header, stream_key_31}
+use Rattle.kdbx_spelling.specs.Header.{header_with, settings_with, spelled_header}
 use Rattle.kdbx_spelling.specs.Inner.{FitsField, inner_with, spelled_inner}
 use Rattle.kdbx_spelling.proofs.HeaderReading.{header_again, header_again_31}
 use Rattle.kdbx_spelling.proofs.InnerReading.{inner_again}
@@ -178,7 +177,9 @@ unfolding payload_in_31
 payload_again_31 s d content text pool none =
     let header = spelled_header (in_31 s) d in
     let front = take_at header content (length header) refl in
-    each _ _ (written_keystream V31 d) (made_payload (in_31 s) d pool text) refl
+    let file = header ++ content in
+    each _ (λ (stream : Keystream). Ok (record { settings = settings_with (in_31 s) d; pool = []; stream = stream; header_hash = sha256 (take (length header) file); text = text }))
+    (written_keystream V31 d) (made_payload (in_31 s) d pool text) refl
     (λ i. Ok (record { settings = settings_with (in_31 s) d; pool = sym none i; stream = written_keystream V31 d; header_hash = sha256 (front i); text = text }))
 
 -- ---- the whole file

@@ -8,7 +8,7 @@ use outside_core::FileFail;
 /// Why a payload is not sealed.
 #[derive(Clone, Copy, Debug, PartialEq, Eq)]
 pub enum SealPayloadFail {
-    /// The header, with the 64 bytes after it, would end at this offset, past 65,536.
+    /// The header, in version 4 with the 64 bytes after it, would end at this offset, past 65,536.
     TooLarge(u64),
     /// The store could not write the file: its count of faults rose.
     FileFault,

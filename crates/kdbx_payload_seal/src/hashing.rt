@@ -1,6 +1,6 @@
 //! The text of a document in the hashed blocks of version 3.1.
 
-ghost use Rattle.std.specs.Prelude.{◌≡◌, ◌+◌, ◌*◌, ◌-◌, ◌≤◌, ◌<◌, ◌/◌, ◌^◌, ◌++◌, length};
+ghost use Rattle.std.specs.Prelude.{◌≡◌, ◌+◌, ◌-◌, ◌≤◌, ◌^◌, ◌++◌, length};
 ghost use Rattle.mac_core.specs.HashedBlocks.{hashed_block};
 ghost use Rattle.kdbx_payload_seal.specs.Made.{hashed_to_end, pieces};
 
@@ -11,12 +11,13 @@ use secret_core::Secret;
 /// The length of a hashed block's head in bytes.
 const HEAD: usize = 40;
 
-/// How many bytes a text of this length takes in hashed blocks, with the end block.
-pub fn hashed_len(len: usize) -> usize
-    requires { len ≤ 2 ^ 38 }
-    ensures { result ≡ len + 40 * ((len + 1048575) / 1048576) + 40 }
+/// How many bytes a text takes in hashed blocks, with the end block.
+pub fn hashed_len(text: &[u8]) -> usize
+    requires { length text.now ≤ 2 ^ 38 }
+    ensures { result ≡ length (hashed_to_end 0 (pieces text.now)) }
 {
-    len + HEAD * ((len + PIECE - 1) / PIECE) + HEAD
+    let count = (text.len() + PIECE - 1) / PIECE;
+    text.len() + HEAD * count + HEAD
 }
 
 // Puts the block of this index and content at the end.
@@ -33,9 +34,10 @@ fn put_block(out: &mut Secret, index: u32, piece: &[u8])
 /// Puts a text in hashed blocks and the end block at the end of a secret that has room for them.
 pub fn put_hashed(out: &mut Secret, text: &[u8])
     requires limit { length text.now ≤ 2 ^ 38 }
-    requires spare { length text.now + 40 * ((length text.now + 1048575) / 1048576) + 40
-        ≤ out.old.spare }
-    ensures { out.new.bytes ≡ out.old.bytes ++ hashed_to_end 0 (pieces text.now) }
+    requires spare { length (hashed_to_end 0 (pieces text.now)) ≤ out.old.spare }
+    ensures bytes { out.new.bytes ≡ out.old.bytes ++ hashed_to_end 0 (pieces text.now) }
+    ensures spare { out.new.spare
+        ≡ out.old.spare - length (hashed_to_end 0 (pieces text.now)) }
 {
     let mut index = 0;
     let mut left = text;
