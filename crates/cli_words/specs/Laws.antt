@@ -38,8 +38,8 @@ lack_end words = list_all (λ word. not (bytes_eq word (codes "--"))) words
 pub data IsNameOf (command : CommandName) (option : CommandOption) (word : List ℕ) : Type 0 where
   long : (name : List ℕ) → name_option command name ≡ Some option → word ≡ codes "--" ++ name
       → IsNameOf command option word
-  short : (letter : ℕ) → letter_option command letter ≡ Some option → word ≡ codes "-" ++ letter ∷ []
-      → IsNameOf command option word
+  short : (letter : ℕ) → letter_option command letter ≡ Some option
+      → word ≡ codes "-" ++ letter ∷ [] → IsNameOf command option word
 
 -- Words say an option of a command and nothing else: a flag; or an option with its value, in a word
 -- of its own, after `=`, or after the letter.

@@ -31,7 +31,8 @@ impl From<NoMemory> for TableFail {
 
 // Puts the table of a document.
 fn put_table<O: TableSink>(alloc: Global, out: &mut O, doc: &Doc) -> Result<(), NoMemory>
-    ensures { OnOk result (O.state out.new ≡ O.step (O.state out.old) (table_of (doc_seen doc.now))) }
+    ensures { OnOk result (O.state out.new
+        ≡ O.step (O.state out.old) (table_of (doc_seen doc.now))) }
 {
     put_header(out)?;
     let name = doc.root.state.content.name.as_str().as_bytes();
