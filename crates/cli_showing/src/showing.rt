@@ -62,8 +62,8 @@ fn append_id_and_tags(alloc: Global, text: &mut Secret, entry: &Entry) -> Result
     append(alloc, text, b"\n")
 }
 
-// Puts the lines of an entry's fields after a text: of those that every entry has, and of all others
-// where they are asked for.
+// Puts the lines of an entry's fields after a text: of those that every entry has, and of all
+// others where they are asked for.
 fn append_fields(
     alloc: Global,
     doc: &Doc,
