@@ -8,8 +8,8 @@ use Rattle.cli_answers.specs.declared.answers.Reason.TheVariants as answer
 use Rattle.cli_answers.specs.declared.answers.Refusal.{Refusal}
 use Rattle.cli_answers.specs.declared.answers.Stop.{Stop}
 
--- The refusal that comes of a search or of a value with references. A term without a text is a fault
--- of the words, and all else is about the file.
+-- The refusal that comes of a search or of a value with references. A term without a text is a
+-- fault of the words, and all else is about the file.
 abbrev pub find_refusal : List ℕ → FindFail → Refusal
 find_refusal file (fail.TooMuch count) = refusal_of answer.TooMuch file
 find_refusal file (fail.EmptyTerm place) = refusal_of (answer.EmptyTerm place) (codes "words")

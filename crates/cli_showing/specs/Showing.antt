@@ -81,17 +81,23 @@ abbrev pub id_and_tags : NodeId × EntryRecord → List ℕ
 id_and_tags e = codes "Uuid: {" ++ hyphenated_text lower e.0 ++ codes "}\nTags: "
     ++ e.1.current.mark.content.tags ++ codes "\n"
 
--- Those of an entry's fields that are shown beside title, user name, password, URL and notes. Their
+-- Those of an entry's fields that are shown after title, user name, password, URL and notes. Their
 -- keys rise in every document.
-abbrev pub others_shown : (all : Bool) → EntryRecord → List BareField
-others_shown all e = if all then filter is_other (fields_of e) else []
+abbrev pub others_shown : (all : Bool) → List BareField → List BareField
+others_shown all fields = if all then filter is_other fields else []
+
+-- A text after which the lines of an entry's fields are put.
+abbrev pub with_fields_shown : BareDoc → (clear all : Bool) → List BareField → List ℕ
+    → Result (List ℕ) FindFail
+with_fields_shown doc clear all fields text =
+    with_keys doc clear fields named_keys text
+    >>= with_fields doc clear (others_shown all fields)
 
 -- What is shown of an entry where no fields are named.
 abbrev pub whole_entry : BareDoc → (clear all : Bool) → NodeId × EntryRecord
     → Result (List ℕ) FindFail
 whole_entry doc clear all e = do
-  named ← with_keys doc clear (fields_of e.1) named_keys []
-  text ← with_fields doc clear (others_shown all e.1) named
+  text ← with_fields_shown doc clear all (fields_of e.1) []
   Ok (text ++ id_and_tags e)
 
 -- The values that are shown of an entry: all, or those of the fields that are named.

@@ -1,12 +1,13 @@
 //! `show` on a document.
-ghost use Rattle.std.specs.Prelude.{◌≡◌, ◌++◌, IfErr, OnOk, option_map};
+ghost use Rattle.std.specs.Prelude.{◌≡◌, ◌++◌, IfErr, OnOk, map, option_map};
 ghost use Rattle.find_terms.specs.Results.{meaning_of};
 ghost use Rattle.outside_core.specs.Results as results;
+ghost use Rattle.vault_model.specs.Seen.{bare_field};
 ghost use Rattle.vault_model.specs.SeenDoc.{doc_seen};
 ghost use Rattle.vault_model.specs.SeenNodes.{entry_row};
 ghost use Rattle.cli_answers.specs.Phases.{IsPlainStop, Returns};
 ghost use Rattle.cli_showing.specs.Showing as spec;
-ghost use Rattle.cli_showing.specs.Showing.{entry_shown, id_and_tags};
+ghost use Rattle.cli_showing.specs.Showing.{entry_shown, id_and_tags, with_fields_shown};
 ghost use Rattle.cli_showing.specs.inside.Entries.{entry_sought};
 
 use crate::attachments::append_attachments;
@@ -20,7 +21,7 @@ use secret_core::Secret;
 use std::alloc::Global;
 use tree_core::find_entry;
 use tree_steps::{entry_of, holder};
-use vault_model::{Doc, Entry};
+use vault_model::{Doc, Entry, Field};
 
 /// What `show` is given beside its document and the path of its entry.
 #[derive(Clone, Copy)]
@@ -61,6 +62,27 @@ fn append_id_and_tags(alloc: Global, text: &mut Secret, entry: &Entry) -> Result
     append(alloc, text, b"\n")
 }
 
+// Puts the lines of an entry's fields after a text: of those that every entry has, and of all
+// others where they are asked for.
+fn append_fields(
+    alloc: Global,
+    doc: &Doc,
+    clear: bool,
+    all: bool,
+    text: &mut Secret,
+    fields: &[Field],
+) -> Result<(), FindFail>
+    ensures { results.Returns meaning_of (λ _. text.new.bytes) result
+        (with_fields_shown (doc_seen doc.now) clear all (map bare_field fields.now)
+        text.old.bytes) }
+{
+    append_keys(alloc, doc, clear, text, fields, &NAMED_KEYS)?;
+    if all {
+        append_others(alloc, doc, clear, text, fields)?;
+    }
+    Ok(())
+}
+
 // What is shown of an entry where no fields are named.
 fn whole_entry(
     alloc: Global,
@@ -74,10 +96,7 @@ fn whole_entry(
 {
     let fields = entry.current.content.fields.as_slice();
     let mut text = Secret::with_room(alloc, 0)?;
-    append_keys(alloc, doc, clear, &mut text, fields, &NAMED_KEYS)?;
-    if all {
-        append_others(alloc, doc, clear, &mut text, fields)?;
-    }
+    append_fields(alloc, doc, clear, all, &mut text, fields)?;
     append_id_and_tags(alloc, &mut text, entry)?;
     Ok(text)
 }
