@@ -1,18 +1,17 @@
 -- What is printed of a small document, by itself and in files.
 use Rattle.std.proofs.Common.{◌≡◌, ℕ, List, [], ◌∷◌, codes, None, Some, refl, replicate}
 use Rattle.std.specs.Fmt.{digits}
-use Rattle.argon_core.specs.declared.argon.ArgonKind.TheVariants.{D, Id}
+use Rattle.argon_core.specs.declared.params.ArgonKind.TheVariants.{D}
 use Rattle.kdbx_frame.specs.declared.settings.Cipher.TheVariants as cipher
 use Rattle.kdbx_frame.specs.declared.settings.Settings.{Settings}
 use Rattle.key_core.specs.declared.kdf.Kdf.TheVariants as kdf
-use Rattle.vault_model.specs.Bare.{BareField}
 use Rattle.vault_model.specs.Db.{NodeId, nil_id}
 use Rattle.vault_model.specs.Empty.{new_group, new_meta}
 use Rattle.vault_model.specs.Shape.{BareVersion, EntryRecord}
 use Rattle.vault_model.specs.Tree.{BareDoc, node, none, beside}
-use Rattle.vault_model.specs.declared.forms.FileVersion.TheVariants.{V31, V40, V41}
+use Rattle.vault_model.specs.declared.forms.FileVersion.TheVariants.{V31, V41}
 use Rattle.doc_forms.specs.Entries.{no_content}
-use Rattle.cli_info.specs.Info.{file_lines, info_shown}
+use Rattle.cli_info.specs.Info.{file_lines, info_shown, line}
 
 abbrev id : ℕ → NodeId
 id b = replicate 16 b
@@ -37,7 +36,7 @@ two_entries = record {
 }
 
 plain_document : info_shown None two_entries ≡ codes "Name: \nDescription: \nVersion: plain\nCipher: none\nKDF: none\nGroups: 2\nEntries: 2\nRecycle bin: enabled\n"
-unfolding digits
+unfolding digits line
 plain_document = refl
 
 -- 64 MiB, and 1,023 bytes that are not used
@@ -50,7 +49,7 @@ argon_file = record {
 }
 
 argon_lines : file_lines (Some argon_file) ≡ codes "Version: 4.1\nCipher: ChaCha20\nKDF: Argon2d (10 passes, 65536 KiB, 2 lanes)\n"
-unfolding digits
+unfolding digits line
 argon_lines = refl
 
 abbrev aes_file : Settings
@@ -62,5 +61,5 @@ aes_file = record {
 }
 
 aes_lines : file_lines (Some aes_file) ≡ codes "Version: 3.1\nCipher: Twofish\nKDF: AES (6000 rounds)\n"
-unfolding digits
+unfolding digits line
 aes_lines = refl

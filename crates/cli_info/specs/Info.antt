@@ -1,8 +1,8 @@
 -- What `db-info` prints.
 use Rattle.std.specs.Prelude.{ℕ, ◌/◌, Bool, true, false, List, ◌++◌, codes, length, Option, None, Some}
 use Rattle.std.specs.Fmt.{decimal}
-use Rattle.argon_core.specs.declared.argon.ArgonKind.{ArgonKind}
-use Rattle.argon_core.specs.declared.argon.ArgonKind.TheVariants.{D, Id}
+use Rattle.argon_core.specs.declared.params.ArgonKind.{ArgonKind}
+use Rattle.argon_core.specs.declared.params.ArgonKind.TheVariants.{D, Id}
 use Rattle.kdbx_frame.specs.declared.settings.Cipher.{Cipher}
 use Rattle.kdbx_frame.specs.declared.settings.Cipher.TheVariants as cipher
 use Rattle.kdbx_frame.specs.declared.settings.Settings.{Settings}
@@ -13,7 +13,7 @@ use Rattle.vault_model.specs.declared.forms.FileVersion.{FileVersion}
 use Rattle.vault_model.specs.declared.forms.FileVersion.TheVariants.{V31, V40, V41}
 
 -- A line: what it is about, and a value.
-abbrev pub line : List ℕ → List ℕ → List ℕ
+unfoldable pub line : List ℕ → List ℕ → List ℕ
 line about value = about ++ value ++ codes "\n"
 
 -- ---- the file
@@ -35,25 +35,35 @@ abbrev pub kind_name : ArgonKind → List ℕ
 kind_name D = codes "Argon2d"
 kind_name Id = codes "Argon2id"
 
--- The key derivation of a file with its costs. Of the memory, which is kept in bytes, whole units of
--- 1,024 bytes are used.
-abbrev pub kdf_text : Kdf → List ℕ
-kdf_text (kdf.Aes rounds seed) = codes "AES (" ++ decimal rounds ++ codes " rounds)"
-kdf_text (kdf.Argon kind passes bytes lanes salt) = kind_name kind
+-- Argon2 with its costs. Of the memory, which is kept in bytes, whole units of 1,024 are used.
+abbrev pub argon_text : ArgonKind → (passes bytes lanes : ℕ) → List ℕ
+argon_text kind passes bytes lanes = kind_name kind
     ++ codes " (" ++ decimal passes
     ++ codes " passes, " ++ decimal (bytes / 1024)
     ++ codes " KiB, " ++ decimal lanes
     ++ codes " lanes)"
 
--- How a file keeps its document: its version, its cipher and its key derivation. A plain document
--- has no settings.
-abbrev pub file_lines : Option Settings → List ℕ
-file_lines None = line (codes "Version: ") (codes "plain")
-    ++ line (codes "Cipher: ") (codes "none")
-    ++ line (codes "KDF: ") (codes "none")
-file_lines (Some settings) = line (codes "Version: ") (version_name settings.version)
+-- The key derivation of a file with its costs.
+abbrev pub kdf_text : Kdf → List ℕ
+kdf_text (kdf.Aes rounds seed) = codes "AES (" ++ decimal rounds ++ codes " rounds)"
+kdf_text (kdf.Argon kind passes bytes lanes salt) = argon_text kind passes bytes lanes
+
+-- How a file keeps its document: its version, its cipher and its key derivation.
+abbrev pub settings_lines : Settings → List ℕ
+settings_lines settings = line (codes "Version: ") (version_name settings.version)
     ++ line (codes "Cipher: ") (cipher_name settings.cipher)
     ++ line (codes "KDF: ") (kdf_text settings.kdf)
+
+-- The same of a plain document.
+abbrev pub plain_lines : List ℕ
+plain_lines = line (codes "Version: ") (codes "plain")
+    ++ line (codes "Cipher: ") (codes "none")
+    ++ line (codes "KDF: ") (codes "none")
+
+-- The same of a file with these settings; a plain document has none.
+abbrev pub file_lines : Option Settings → List ℕ
+file_lines None = plain_lines
+file_lines (Some settings) = settings_lines settings
 
 -- ---- the document
 

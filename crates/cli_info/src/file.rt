@@ -2,7 +2,7 @@
 
 ghost use Rattle.std.specs.Prelude.{◌≡◌, ◌++◌, IfOk, OnOk, codes, option_map, string_bytes};
 ghost use Rattle.cli_info.specs.Info as spec;
-ghost use Rattle.cli_info.specs.Info.{file_lines, kdf_text, line};
+ghost use Rattle.cli_info.specs.Info.{file_lines, kdf_text, line, plain_lines, settings_lines};
 
 use argon_core::ArgonKind;
 use kdbx_frame::{Cipher, Settings};
@@ -43,6 +43,24 @@ fn kind_name(kind: ArgonKind) -> &'static str
     }
 }
 
+// Argon2 with its costs; the memory is in bytes.
+fn argon_text(
+    alloc: Global,
+    kind: ArgonKind,
+    passes: u64,
+    bytes: u64,
+    lanes: u32,
+) -> Result<String, AllocError>
+    ensures { IfOk result (λ text. string_bytes text ≡ spec.argon_text kind passes bytes lanes) }
+{
+    let kib = bytes / 1024;
+    let mut text = String::from_str(alloc, kind_name(kind))?;
+    text.push_str(format!(in alloc; " ({passes} passes, ")?.as_str())?;
+    text.push_str(format!(in alloc; "{kib} KiB, ")?.as_str())?;
+    text.push_str(format!(in alloc; "{lanes} lanes)")?.as_str())?;
+    Ok(text)
+}
+
 // The key derivation of a file with its costs.
 fn kdf_text(alloc: Global, kdf: &Kdf) -> Result<String, AllocError>
     ensures { IfOk result (λ text. string_bytes text ≡ kdf_text kdf.now) }
@@ -55,21 +73,37 @@ fn kdf_text(alloc: Global, kdf: &Kdf) -> Result<String, AllocError>
             bytes,
             lanes,
             ..
-        } => {
-            let kind = kind_name(*kind);
-            let kib = *bytes / 1024;
-            format!(in alloc; "{kind} ({passes} passes, {kib} KiB, {lanes} lanes)")
-        }
+        } => argon_text(alloc, *kind, *passes, *bytes, *lanes),
     }
 }
 
 /// Adds a line: what it is about, and a value.
+#[tactic(auto, unfolding(crate::specs::Info::line))]
 pub(crate) fn add_line(text: &mut Bytes, about: &[u8], value: &[u8]) -> Result<(), NoMemory>
     ensures { OnOk result (text.new ≡ text.old ++ line about.now value.now) }
 {
     text.add(about)?;
     text.add(value)?;
     text.add(b"\n")
+}
+
+// Adds how a file keeps its document.
+fn add_settings_lines(alloc: Global, text: &mut Bytes, settings: &Settings) -> Result<(), NoMemory>
+    ensures { OnOk result (text.new ≡ text.old ++ settings_lines settings.now) }
+{
+    let kdf = kdf_text(alloc, &settings.kdf)?;
+    add_line(text, b"Version: ", version_name(settings.version))?;
+    add_line(text, b"Cipher: ", cipher_name(settings.cipher))?;
+    add_line(text, b"KDF: ", kdf.as_str().as_bytes())
+}
+
+// Adds the same of a plain document.
+fn add_plain_lines(text: &mut Bytes) -> Result<(), NoMemory>
+    ensures { OnOk result (text.new ≡ text.old ++ plain_lines) }
+{
+    add_line(text, b"Version: ", b"plain")?;
+    add_line(text, b"Cipher: ", b"none")?;
+    add_line(text, b"KDF: ", b"none")
 }
 
 /// Adds how a file keeps its document: its version, its cipher and its key derivation; a plain
@@ -82,13 +116,8 @@ pub(crate) fn add_file_lines(
     ensures { OnOk result (text.new
         ≡ text.old ++ file_lines (option_map (λ s. s.now) settings.entry)) }
 {
-    let Some(settings) = settings else {
-        add_line(text, b"Version: ", b"plain")?;
-        add_line(text, b"Cipher: ", b"none")?;
-        return add_line(text, b"KDF: ", b"none");
-    };
-    let kdf = kdf_text(alloc, &settings.kdf)?;
-    add_line(text, b"Version: ", version_name(settings.version))?;
-    add_line(text, b"Cipher: ", cipher_name(settings.cipher))?;
-    add_line(text, b"KDF: ", kdf.as_str().as_bytes())
+    match settings {
+        Some(settings) => add_settings_lines(alloc, text, settings),
+        None => add_plain_lines(text),
+    }
 }

@@ -3,6 +3,6 @@
 
 mod counts;
 mod file;
-mod info;
+mod lines;
 
-pub use info::info;
+pub use lines::info;

@@ -1,3 +1,4 @@
+pub mod CsvRows
 mod Examples
 pub mod GroupRows
 pub mod Puts

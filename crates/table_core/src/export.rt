@@ -51,8 +51,8 @@ fn table_len(alloc: Global, doc: &Doc) -> Result<usize, NoMemory>
 /// The table of a document as CSV: a row of names, and one for each entry with its current version,
 /// in document order. Every field is in quotes, and each row ends with a line feed. The columns are
 /// the names that lead to the entry's group from the root, with a slash between each two, the
-/// values of its five fields of every entry as they are kept, references not replaced, and the
-/// times of its last change and of its creation.
+/// values of its title, user name, password, URL and notes as they are kept, references not
+/// replaced, and the times of its last change and of its creation.
 ///
 /// The text, which has passwords, is counted before memory for it is taken, once and no more than
 /// it needs.

@@ -3,6 +3,7 @@
 
 mod export;
 mod groups;
+pub mod laws;
 mod rows;
 mod sinks;
 
