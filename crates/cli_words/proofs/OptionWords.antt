@@ -126,9 +126,9 @@ one_word command option text word says read same = record {
 value_said : (command : CommandName) (option : CommandOption) (value : List ℕ) (more : List (List ℕ)) (said : Said) → is_option value ≡ false
     → said.due ≡ None
     → option_and_then (with_words command (value ∷ more)) (with_due said option) ≡ option_and_then (with_words command more) (with_given said option value)
-value_said command option value more said o d = by (is_used option said) refl
+value_said command option value more said o d = by (is_used option said.given) refl
   where
-    by : (b : Bool) → is_used option said ≡ b
+    by : (b : Bool) → is_used option said.given ≡ b
         → option_and_then (with_words command (value ∷ more)) (unless_given b (record said { due = Some option }))
         ≡ option_and_then (with_words command more) (unless_given b (with_option_text said option value))
     by true e = refl

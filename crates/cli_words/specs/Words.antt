@@ -46,17 +46,21 @@ nothing_said = record {
   positions = [];
 }
 
+-- The text of an option among these, by its place.
+abbrev pub text_in : CommandOption → List (Option (List ℕ)) → Option (List ℕ)
+text_in option texts = slice_index_or texts (place_of option) None
+
 -- The text of an option, where it was given.
 abbrev pub text_of : CommandOption → Said → Option (List ℕ)
-text_of option said = slice_index_or said.given (place_of option) None
+text_of option said = text_in option said.given
 
 -- An option that stands at most once was given.
 abbrev pub is_given : CommandOption → Said → Bool
 is_given option said = is_some (text_of option said)
 
--- An option was given and must not be given once more.
-abbrev pub is_used : CommandOption → Said → Bool
-is_used option said = not (is_repeatable option) && is_given option said
+-- An option is among these and must not be given once more.
+abbrev pub is_used : CommandOption → List (Option (List ℕ)) → Bool
+is_used option texts = not (is_repeatable option) && is_some (text_in option texts)
 
 -- The value of an option is still due.
 abbrev pub is_due : Said → Bool
@@ -83,11 +87,11 @@ with_option_text said option text = if is_repeatable option
 -- An option with its text, unless it must not be given once more.
 abbrev pub with_given : Said → CommandOption → List ℕ → Option Said
 with_given said option text =
-    unless_given (is_used option said) (with_option_text said option text)
+    unless_given (is_used option said.given) (with_option_text said option text)
 
 -- An option whose value is due in the next word.
 abbrev pub with_due : Said → CommandOption → Option Said
-with_due said option = unless_given (is_used option said) (record said { due = Some option })
+with_due said option = unless_given (is_used option said.given) (record said { due = Some option })
 
 -- A flag; an option that has a value is none.
 abbrev pub with_flag : Said → Option CommandOption → Option Said

@@ -7,8 +7,8 @@ ghost use Rattle.cli_words.specs.Words as spec;
 ghost use Rattle.cli_words.specs.Words.{command_of};
 
 use crate::command::{Access, Asked, Command, ExportFormat};
-use crate::said::{SaidWords, WordsFail, copies_of, is_given, text_of};
-use crate::words::said_by;
+use crate::said::{SaidWords, WordsFail, copies_of, empty_state, is_given, no_texts, text_of};
+use crate::words::add_words;
 use cli_answers::{Reason, Stop, refused};
 use cli_options::{CommandName, CommandOption, command_named};
 use outside_core::{NoMemory, Text};
@@ -29,7 +29,7 @@ fn is_fit(plain: bool, no_password: bool, has_key: bool) -> bool
 }
 
 // Reports whether what opens the sources of a merge fits them.
-fn is_fit_from(said: &SaidWords<'_>) -> bool
+fn is_fit_from(said: &SaidWords<'_, '_>) -> bool
     ensures { result ≡ spec.is_fit_from (said_seen said.now) }
 {
     let plain = is_given(said, CommandOption::Plain);
@@ -43,7 +43,7 @@ fn is_fit_from(said: &SaidWords<'_>) -> bool
 }
 
 // Reports whether nothing is due, and what opens each database fits it.
-fn is_whole(said: &SaidWords<'_>) -> bool
+fn is_whole(said: &SaidWords<'_, '_>) -> bool
     ensures { result ≡ spec.is_whole (said_seen said.now) }
 {
     let plain = is_given(said, CommandOption::Plain);
@@ -53,7 +53,7 @@ fn is_whole(said: &SaidWords<'_>) -> bool
 }
 
 // Reports whether at least one value of an entry is given.
-fn has_change(said: &SaidWords<'_>) -> bool
+fn has_change(said: &SaidWords<'_, '_>) -> bool
     ensures { result ≡ spec.has_change (said_seen said.now) }
 {
     is_given(said, CommandOption::Title)
@@ -74,7 +74,7 @@ fn owned(alloc: Global, text: Option<&str>) -> Result<Option<Text>, NoMemory>
 }
 
 // How a database is opened.
-fn access_of(alloc: Global, said: &SaidWords<'_>) -> Result<Access, NoMemory>
+fn access_of(alloc: Global, said: &SaidWords<'_, '_>) -> Result<Access, NoMemory>
     ensures { IfOk result (λ access. access ≡ spec.access_of (said_seen said.now)) }
 {
     Ok(Access {
@@ -86,7 +86,7 @@ fn access_of(alloc: Global, said: &SaidWords<'_>) -> Result<Access, NoMemory>
 }
 
 // How each source of a merge is opened.
-fn access_from(alloc: Global, said: &SaidWords<'_>) -> Result<Access, NoMemory>
+fn access_from(alloc: Global, said: &SaidWords<'_, '_>) -> Result<Access, NoMemory>
     ensures { IfOk result (λ access. access ≡ spec.access_from (said_seen said.now)) }
 {
     if is_given(said, CommandOption::SameCredentials) {
@@ -101,7 +101,7 @@ fn access_from(alloc: Global, said: &SaidWords<'_>) -> Result<Access, NoMemory>
 }
 
 // The values that an entry is to have.
-fn asked_of(alloc: Global, said: &SaidWords<'_>) -> Result<Asked, NoMemory>
+fn asked_of(alloc: Global, said: &SaidWords<'_, '_>) -> Result<Asked, NoMemory>
     ensures { IfOk result (λ asked. asked ≡ spec.asked_of (said_seen said.now)) }
 {
     Ok(Asked {
@@ -137,7 +137,7 @@ fn format_asked(name: Option<&str>) -> Option<ExportFormat>
 // The command `ls` of a file, and of a group where one is named.
 fn list_of(
     alloc: Global,
-    said: &SaidWords<'_>,
+    said: &SaidWords<'_, '_>,
     file: &str,
     group: Option<&str>,
 ) -> Result<Command, NoMemory>
@@ -154,11 +154,11 @@ fn list_of(
 }
 
 // The command `ls` at these positions.
-fn list_at(alloc: Global, said: &SaidWords<'_>, positions: &[Text]) -> Result<Command, WordsFail>
+fn list_at(alloc: Global, said: &SaidWords<'_, '_>) -> Result<Command, WordsFail>
     ensures { Gives (λ command. command) result
-        (spec.list_at (said_seen said.now) positions.now) }
+        (spec.list_at (said_seen said.now) said.now.positions.now) }
 {
-    match positions {
+    match said.positions {
         [file] => Ok(list_of(alloc, said, file.as_str(), None)?),
         [file, group] => Ok(list_of(alloc, said, file.as_str(), Some(group.as_str()))?),
         _ => Err(WordsFail::Wrong),
@@ -166,11 +166,11 @@ fn list_at(alloc: Global, said: &SaidWords<'_>, positions: &[Text]) -> Result<Co
 }
 
 // The command `show` at these positions.
-fn show_at(alloc: Global, said: &SaidWords<'_>, positions: &[Text]) -> Result<Command, WordsFail>
+fn show_at(alloc: Global, said: &SaidWords<'_, '_>) -> Result<Command, WordsFail>
     ensures { Gives (λ command. command) result
-        (spec.show_at (said_seen said.now) positions.now) }
+        (spec.show_at (said_seen said.now) said.now.positions.now) }
 {
-    let [file, entry] = positions else {
+    let [file, entry] = said.positions else {
         return Err(WordsFail::Wrong);
     };
     Ok(Command::Show {
@@ -180,16 +180,16 @@ fn show_at(alloc: Global, said: &SaidWords<'_>, positions: &[Text]) -> Result<Co
         clear: is_given(said, CommandOption::Clear),
         all: is_given(said, CommandOption::All),
         attachments: is_given(said, CommandOption::Attachments),
-        names: copies_of(alloc, said.names.as_slice())?,
+        names: copies_of(alloc, said.names)?,
     })
 }
 
 // The command `search` at these positions.
-fn search_at(alloc: Global, said: &SaidWords<'_>, positions: &[Text]) -> Result<Command, WordsFail>
+fn search_at(alloc: Global, said: &SaidWords<'_, '_>) -> Result<Command, WordsFail>
     ensures { Gives (λ command. command) result
-        (spec.search_at (said_seen said.now) positions.now) }
+        (spec.search_at (said_seen said.now) said.now.positions.now) }
 {
-    let [file, term] = positions else {
+    let [file, term] = said.positions else {
         return Err(WordsFail::Wrong);
     };
     Ok(Command::Search {
@@ -200,11 +200,11 @@ fn search_at(alloc: Global, said: &SaidWords<'_>, positions: &[Text]) -> Result<
 }
 
 // The command `add` at these positions.
-fn add_at(alloc: Global, said: &SaidWords<'_>, positions: &[Text]) -> Result<Command, WordsFail>
+fn add_at(alloc: Global, said: &SaidWords<'_, '_>) -> Result<Command, WordsFail>
     ensures { Gives (λ command. command) result
-        (spec.add_at (said_seen said.now) positions.now) }
+        (spec.add_at (said_seen said.now) said.now.positions.now) }
 {
-    let [file, entry] = positions else {
+    let [file, entry] = said.positions else {
         return Err(WordsFail::Wrong);
     };
     Ok(Command::Add {
@@ -218,7 +218,7 @@ fn add_at(alloc: Global, said: &SaidWords<'_>, positions: &[Text]) -> Result<Com
 // The command `edit` of a file's entry.
 fn edit_of(
     alloc: Global,
-    said: &SaidWords<'_>,
+    said: &SaidWords<'_, '_>,
     file: &str,
     entry: &str,
 ) -> Result<Command, NoMemory>
@@ -234,11 +234,11 @@ fn edit_of(
 }
 
 // The command `edit` at these positions.
-fn edit_at(alloc: Global, said: &SaidWords<'_>, positions: &[Text]) -> Result<Command, WordsFail>
+fn edit_at(alloc: Global, said: &SaidWords<'_, '_>) -> Result<Command, WordsFail>
     ensures { Gives (λ command. command) result
-        (spec.edit_at (said_seen said.now) positions.now) }
+        (spec.edit_at (said_seen said.now) said.now.positions.now) }
 {
-    match positions {
+    match said.positions {
         [file, entry] if has_change(said) => {
             Ok(edit_of(alloc, said, file.as_str(), entry.as_str())?)
         }
@@ -247,11 +247,11 @@ fn edit_at(alloc: Global, said: &SaidWords<'_>, positions: &[Text]) -> Result<Co
 }
 
 // The command `mv` at these positions.
-fn move_at(alloc: Global, said: &SaidWords<'_>, positions: &[Text]) -> Result<Command, WordsFail>
+fn move_at(alloc: Global, said: &SaidWords<'_, '_>) -> Result<Command, WordsFail>
     ensures { Gives (λ command. command) result
-        (spec.move_at (said_seen said.now) positions.now) }
+        (spec.move_at (said_seen said.now) said.now.positions.now) }
 {
-    let [file, node, group] = positions else {
+    let [file, node, group] = said.positions else {
         return Err(WordsFail::Wrong);
     };
     Ok(Command::Move {
@@ -263,11 +263,11 @@ fn move_at(alloc: Global, said: &SaidWords<'_>, positions: &[Text]) -> Result<Co
 }
 
 // The command `rm` at these positions.
-fn remove_at(alloc: Global, said: &SaidWords<'_>, positions: &[Text]) -> Result<Command, WordsFail>
+fn remove_at(alloc: Global, said: &SaidWords<'_, '_>) -> Result<Command, WordsFail>
     ensures { Gives (λ command. command) result
-        (spec.remove_at (said_seen said.now) positions.now) }
+        (spec.remove_at (said_seen said.now) said.now.positions.now) }
 {
-    let [file, entry] = positions else {
+    let [file, entry] = said.positions else {
         return Err(WordsFail::Wrong);
     };
     Ok(Command::Remove {
@@ -278,15 +278,11 @@ fn remove_at(alloc: Global, said: &SaidWords<'_>, positions: &[Text]) -> Result<
 }
 
 // The command `mkdir` at these positions.
-fn make_group_at(
-    alloc: Global,
-    said: &SaidWords<'_>,
-    positions: &[Text],
-) -> Result<Command, WordsFail>
+fn make_group_at(alloc: Global, said: &SaidWords<'_, '_>) -> Result<Command, WordsFail>
     ensures { Gives (λ command. command) result
-        (spec.make_group_at (said_seen said.now) positions.now) }
+        (spec.make_group_at (said_seen said.now) said.now.positions.now) }
 {
-    let [file, group] = positions else {
+    let [file, group] = said.positions else {
         return Err(WordsFail::Wrong);
     };
     Ok(Command::MakeGroup {
@@ -297,15 +293,11 @@ fn make_group_at(
 }
 
 // The command `rmdir` at these positions.
-fn remove_group_at(
-    alloc: Global,
-    said: &SaidWords<'_>,
-    positions: &[Text],
-) -> Result<Command, WordsFail>
+fn remove_group_at(alloc: Global, said: &SaidWords<'_, '_>) -> Result<Command, WordsFail>
     ensures { Gives (λ command. command) result
-        (spec.remove_group_at (said_seen said.now) positions.now) }
+        (spec.remove_group_at (said_seen said.now) said.now.positions.now) }
 {
-    let [file, group] = positions else {
+    let [file, group] = said.positions else {
         return Err(WordsFail::Wrong);
     };
     Ok(Command::RemoveGroup {
@@ -318,7 +310,7 @@ fn remove_group_at(
 // The command `merge` of a target and its sources.
 fn merge_of(
     alloc: Global,
-    said: &SaidWords<'_>,
+    said: &SaidWords<'_, '_>,
     file: &str,
     sources: &[Text],
 ) -> Result<Command, NoMemory>
@@ -336,11 +328,11 @@ fn merge_of(
 }
 
 // The command `merge` at these positions.
-fn merge_at(alloc: Global, said: &SaidWords<'_>, positions: &[Text]) -> Result<Command, WordsFail>
+fn merge_at(alloc: Global, said: &SaidWords<'_, '_>) -> Result<Command, WordsFail>
     ensures { Gives (λ command. command) result
-        (spec.merge_at (said_seen said.now) positions.now) }
+        (spec.merge_at (said_seen said.now) said.now.positions.now) }
 {
-    let [file, sources @ ..] = positions else {
+    let [file, sources @ ..] = said.positions else {
         return Err(WordsFail::Wrong);
     };
     if sources.is_empty() || sources.len() > SOURCES {
@@ -350,11 +342,11 @@ fn merge_at(alloc: Global, said: &SaidWords<'_>, positions: &[Text]) -> Result<C
 }
 
 // The command `export` at this position.
-fn export_at(alloc: Global, said: &SaidWords<'_>, positions: &[Text]) -> Result<Command, WordsFail>
+fn export_at(alloc: Global, said: &SaidWords<'_, '_>) -> Result<Command, WordsFail>
     ensures { Gives (λ command. command) result
-        (spec.export_at (said_seen said.now) positions.now) }
+        (spec.export_at (said_seen said.now) said.now.positions.now) }
 {
-    let [file] = positions else {
+    let [file] = said.positions else {
         return Err(WordsFail::Wrong);
     };
     let Some(format) = format_asked(text_of(said, CommandOption::Format)) else {
@@ -368,11 +360,11 @@ fn export_at(alloc: Global, said: &SaidWords<'_>, positions: &[Text]) -> Result<
 }
 
 // The command `db-info` at this position.
-fn info_at(alloc: Global, said: &SaidWords<'_>, positions: &[Text]) -> Result<Command, WordsFail>
+fn info_at(alloc: Global, said: &SaidWords<'_, '_>) -> Result<Command, WordsFail>
     ensures { Gives (λ command. command) result
-        (spec.info_at (said_seen said.now) positions.now) }
+        (spec.info_at (said_seen said.now) said.now.positions.now) }
 {
-    let [file] = positions else {
+    let [file] = said.positions else {
         return Err(WordsFail::Wrong);
     };
     Ok(Command::Info {
@@ -385,25 +377,41 @@ fn info_at(alloc: Global, said: &SaidWords<'_>, positions: &[Text]) -> Result<Co
 fn command_at(
     alloc: Global,
     command: CommandName,
-    said: &SaidWords<'_>,
-    positions: &[Text],
+    said: &SaidWords<'_, '_>,
 ) -> Result<Command, WordsFail>
     ensures { Gives (λ command. command) result
-        (spec.command_at command (said_seen said.now) positions.now) }
+        (spec.command_at command (said_seen said.now)
+        said.now.positions.now) }
 {
     match command {
-        CommandName::Ls => list_at(alloc, said, positions),
-        CommandName::Show => show_at(alloc, said, positions),
-        CommandName::Search => search_at(alloc, said, positions),
-        CommandName::Add => add_at(alloc, said, positions),
-        CommandName::Edit => edit_at(alloc, said, positions),
-        CommandName::Move => move_at(alloc, said, positions),
-        CommandName::Remove => remove_at(alloc, said, positions),
-        CommandName::MakeGroup => make_group_at(alloc, said, positions),
-        CommandName::RemoveGroup => remove_group_at(alloc, said, positions),
-        CommandName::Merge => merge_at(alloc, said, positions),
-        CommandName::Export => export_at(alloc, said, positions),
-        CommandName::Info => info_at(alloc, said, positions),
+        CommandName::Ls => list_at(alloc, said),
+        CommandName::Show => show_at(alloc, said),
+        CommandName::Search => search_at(alloc, said),
+        CommandName::Add => add_at(alloc, said),
+        CommandName::Edit => edit_at(alloc, said),
+        CommandName::Move => move_at(alloc, said),
+        CommandName::Remove => remove_at(alloc, said),
+        CommandName::MakeGroup => make_group_at(alloc, said),
+        CommandName::RemoveGroup => remove_group_at(alloc, said),
+        CommandName::Merge => merge_at(alloc, said),
+        CommandName::Export => export_at(alloc, said),
+        CommandName::Info => info_at(alloc, said),
+    }
+}
+
+// The command of this name whose other words say this.
+fn command_saying(
+    alloc: Global,
+    command: CommandName,
+    said: &SaidWords<'_, '_>,
+) -> Result<Command, WordsFail>
+    ensures { Gives (λ command. command) result
+        (spec.command_saying command (said_seen said.now)) }
+{
+    if is_whole(said) {
+        command_at(alloc, command, said)
+    } else {
+        Err(WordsFail::Wrong)
     }
 }
 
@@ -412,11 +420,17 @@ fn command_by(alloc: Global, words: &[String], command: CommandName) -> Result<C
     ensures { Gives (λ command. command) result
         (spec.command_by (map string_bytes words.now) command) }
 {
-    let said = said_by(alloc, command, words)?;
-    if !is_whole(&said) {
-        return Err(WordsFail::Wrong);
-    }
-    command_at(alloc, command, &said, said.positions.as_slice())
+    let mut given = no_texts();
+    let mut state = empty_state(alloc);
+    add_words(command, &mut given, &mut state, words)?;
+    let said = SaidWords {
+        given: given.texts,
+        names: state.names.as_slice(),
+        due: state.due,
+        ended: state.ended,
+        positions: state.positions.as_slice(),
+    };
+    command_saying(alloc, command, &said)
 }
 
 // The command that the words are, if they are one.

@@ -1,6 +1,6 @@
 //! What the words of a call say.
-ghost use Rattle.std.specs.Prelude.{◌≡◌, [], ◌∷◌, ◌++◌, IfOk, Some, map};
-ghost use Rattle.cli_words.specs.SaidWords.{Gives, said_seen, text_seen};
+ghost use Rattle.std.specs.Prelude.{◌≡◌, [], ◌∷◌, ◌++◌, false, IfOk, None, Some, map};
+ghost use Rattle.cli_words.specs.SaidWords.{Gives, reading_seen, said_seen, text_seen};
 ghost use Rattle.cli_words.specs.Words as spec;
 ghost use Rattle.cli_words.specs.declared.said.WordsFail.TheVariants as fail;
 
@@ -26,13 +26,33 @@ impl From<NoMemory> for WordsFail {
 }
 
 /// What the words after a command's name say.
-#[derive(Drop)]
-pub(crate) struct SaidWords<'a> {
+#[derive(Clone, Copy)]
+pub(crate) struct SaidWords<'a, 'b> {
     /// The text of each option that was given, by its place; a flag's text is empty.
-    given: [Option<&'a str>; OPTIONS],
+    pub given: [Option<&'a str>; OPTIONS],
+    /// The texts of the option that may stand more than once.
+    pub names: &'b [Text],
+    /// The option whose value is due in the next word.
+    pub due: Option<CommandOption>,
+    /// Whether `--` was there, after which no word is an option.
+    pub ended: bool,
+    /// The positions.
+    pub positions: &'b [Text],
+}
+
+/// The texts of options that were given, while words are read.
+#[derive(Clone, Copy)]
+pub(crate) struct GivenTexts<'a> {
+    /// The text of each option, by its place; a flag's text is empty.
+    pub texts: [Option<&'a str>; OPTIONS],
+}
+
+/// What else words say, while they are read.
+#[derive(Drop)]
+pub(crate) struct ReadingState {
     /// The texts of the option that may stand more than once.
     pub names: List<Text>,
-    /// The option whose value is the next word.
+    /// The option whose value is due in the next word.
     pub due: Option<CommandOption>,
     /// Whether `--` was there, after which no word is an option.
     pub ended: bool,
@@ -42,12 +62,23 @@ pub(crate) struct SaidWords<'a> {
     alloc: Global,
 }
 
-/// What no words say.
-pub(crate) fn nothing_said<'a>(alloc: Global) -> SaidWords<'a>
-    ensures { said_seen result ≡ spec.nothing_said }
+/// What no words say of options.
+pub(crate) fn no_texts<'a>() -> GivenTexts<'a>
+    ensures { map text_seen result.texts ≡ spec.nothing_said.given }
 {
-    SaidWords {
-        given: [None; OPTIONS],
+    GivenTexts {
+        texts: [None; OPTIONS],
+    }
+}
+
+/// What no words say beside options.
+pub(crate) fn empty_state(alloc: Global) -> ReadingState
+    ensures names { result.names ≡ [] }
+    ensures due { result.due ≡ None }
+    ensures ended { result.ended ≡ false }
+    ensures positions { result.positions ≡ [] }
+{
+    ReadingState {
         names: List::new(alloc),
         due: None,
         ended: false,
@@ -56,25 +87,32 @@ pub(crate) fn nothing_said<'a>(alloc: Global) -> SaidWords<'a>
     }
 }
 
+// The text of an option among these.
+fn text_in<'a>(texts: [Option<&'a str>; OPTIONS], option: CommandOption) -> Option<&'a str>
+    ensures { text_seen result ≡ spec.text_in option (map text_seen texts.entry) }
+{
+    texts[place_of(option)]
+}
+
 /// The text of an option, where it was given.
-pub(crate) fn text_of<'a>(said: &SaidWords<'a>, option: CommandOption) -> Option<&'a str>
+pub(crate) fn text_of<'a>(said: &SaidWords<'a, '_>, option: CommandOption) -> Option<&'a str>
     ensures { text_seen result ≡ spec.text_of option (said_seen said.now) }
 {
-    said.given[place_of(option)]
+    text_in(said.given, option)
 }
 
 /// Reports whether an option that stands at most once was given.
-pub(crate) fn is_given(said: &SaidWords<'_>, option: CommandOption) -> bool
+pub(crate) fn is_given(said: &SaidWords<'_, '_>, option: CommandOption) -> bool
     ensures { result ≡ spec.is_given option (said_seen said.now) }
 {
     text_of(said, option).is_some()
 }
 
-// Reports whether an option was given and must not be given once more.
-fn is_used(said: &SaidWords<'_>, option: CommandOption) -> bool
-    ensures { result ≡ spec.is_used option (said_seen said.now) }
+// Reports whether an option is among these and must not be given once more.
+fn is_used(texts: [Option<&str>; OPTIONS], option: CommandOption) -> bool
+    ensures { result ≡ spec.is_used option (map text_seen texts.entry) }
 {
-    !is_repeatable(option) && is_given(said, option)
+    !is_repeatable(option) && text_in(texts, option).is_some()
 }
 
 // The texts of options with one more, or another.
@@ -103,41 +141,51 @@ fn add_text(alloc: Global, texts: &mut List<Text>, text: &str) -> Result<(), Wor
 
 /// An option with its text, unless it must not be given once more.
 pub(crate) fn add_given<'a>(
-    said: &mut SaidWords<'a>,
+    given: &mut GivenTexts<'a>,
+    state: &mut ReadingState,
     option: CommandOption,
     text: &'a str,
 ) -> Result<(), WordsFail>
-    ensures { Gives (λ done. said_seen said.new) result
-        (spec.with_given (said_seen said.old) option text.now) }
+    ensures { Gives (λ done. reading_seen given.new state.new) result
+        (spec.with_given (reading_seen given.old state.old) option text.now) }
 {
-    if is_used(said, option) {
+    let texts = given.texts;
+    if is_used(texts, option) {
         return Err(WordsFail::Wrong);
     }
     if is_repeatable(option) {
-        return add_text(said.alloc, &mut said.names, text);
+        return add_text(state.alloc, &mut state.names, text);
     }
-    said.given = with_text(said.given, option, text);
+    given.texts = with_text(texts, option, text);
     Ok(())
 }
 
 /// An option whose value is the next word, unless it must not be given once more.
-pub(crate) fn add_due(said: &mut SaidWords<'_>, option: CommandOption) -> Result<(), WordsFail>
-    ensures { Gives (λ done. said_seen said.new) result
-        (spec.with_due (said_seen said.old) option) }
+pub(crate) fn add_due(
+    given: GivenTexts<'_>,
+    state: &mut ReadingState,
+    option: CommandOption,
+) -> Result<(), WordsFail>
+    ensures { Gives (λ done. reading_seen given.entry state.new) result
+        (spec.with_due (reading_seen given.entry state.old) option) }
 {
-    if is_used(said, option) {
+    if is_used(given.texts, option) {
         return Err(WordsFail::Wrong);
     }
-    said.due = Some(option);
+    state.due = Some(option);
     Ok(())
 }
 
 /// A position more.
-pub(crate) fn add_position(said: &mut SaidWords<'_>, word: &str) -> Result<(), WordsFail>
-    ensures { Gives (λ done. said_seen said.new) result
-        (Some (spec.with_position (said_seen said.old) word.now)) }
+pub(crate) fn add_position(
+    given: GivenTexts<'_>,
+    state: &mut ReadingState,
+    word: &str,
+) -> Result<(), WordsFail>
+    ensures { Gives (λ done. reading_seen given.entry state.new) result
+        (Some (spec.with_position (reading_seen given.entry state.old) word.now)) }
 {
-    add_text(said.alloc, &mut said.positions, word)
+    add_text(state.alloc, &mut state.positions, word)
 }
 
 /// Copies of texts.

@@ -2,13 +2,12 @@
 ghost use Rattle.std.specs.Prelude.{◌≡◌, codes, map, string_bytes};
 ghost use Rattle.cli_words.specs.Prefixes as prefixes;
 ghost use Rattle.cli_words.specs.Prefixes.{after_sign, before_sign};
-ghost use Rattle.cli_words.specs.SaidWords.{Gives, said_seen, text_seen};
+ghost use Rattle.cli_words.specs.SaidWords.{Gives, reading_seen, text_seen};
 ghost use Rattle.cli_words.specs.Words as spec;
 ghost use Rattle.cli_words.specs.Words.{with_words};
 
-use crate::said::{SaidWords, WordsFail, add_due, add_given, add_position, nothing_said};
+use crate::said::{GivenTexts, ReadingState, WordsFail, add_due, add_given, add_position};
 use cli_options::{CommandName, CommandOption, has_value, letter_option, name_option};
-use std::alloc::Global;
 
 // Reports whether a word is an option: two or more bytes, of which the first is `-`.
 fn is_option(word: &str) -> bool
@@ -37,13 +36,17 @@ fn split_at_sign<'a>(text: &'a str) -> (&'a str, Option<&'a str>)
 }
 
 // A flag more; an option that has a value is none.
-fn add_flag(said: &mut SaidWords<'_>, option: Option<CommandOption>) -> Result<(), WordsFail>
-    ensures { Gives (λ done. said_seen said.new) result
-        (spec.with_flag (said_seen said.old) option) }
+fn add_flag(
+    given: &mut GivenTexts<'_>,
+    state: &mut ReadingState,
+    option: Option<CommandOption>,
+) -> Result<(), WordsFail>
+    ensures { Gives (λ done. reading_seen given.new state.new) result
+        (spec.with_flag (reading_seen given.old state.old) option) }
 {
     match option {
         Some(option) if has_value(option) => Err(WordsFail::Wrong),
-        Some(option) => add_given(said, option, ""),
+        Some(option) => add_given(given, state, option, ""),
         None => Err(WordsFail::Wrong),
     }
 }
@@ -51,14 +54,15 @@ fn add_flag(said: &mut SaidWords<'_>, option: Option<CommandOption>) -> Result<(
 // Flags joined in one word.
 fn add_letters(
     command: CommandName,
-    said: &mut SaidWords<'_>,
+    given: &mut GivenTexts<'_>,
+    state: &mut ReadingState,
     letters: &[u8],
 ) -> Result<(), WordsFail>
-    ensures { Gives (λ done. said_seen said.new) result
-        (spec.with_letters command letters.now (said_seen said.old)) }
+    ensures { Gives (λ done. reading_seen given.new state.new) result
+        (spec.with_letters command letters.now (reading_seen given.old state.old)) }
 {
     for letter in letters {
-        add_flag(said, letter_option(command, *letter))?;
+        add_flag(given, state, letter_option(command, *letter))?;
     }
     Ok(())
 }
@@ -75,91 +79,96 @@ fn without_sign<'a>(joined: &'a str) -> &'a str
 
 // An option with its value after it in the same word, or else in the next one.
 fn add_joined<'a>(
-    said: &mut SaidWords<'a>,
+    given: &mut GivenTexts<'a>,
+    state: &mut ReadingState,
     option: CommandOption,
     joined: &'a str,
 ) -> Result<(), WordsFail>
-    ensures { Gives (λ done. said_seen said.new) result
-        (spec.with_joined (said_seen said.old) option joined.now) }
+    ensures { Gives (λ done. reading_seen given.new state.new) result
+        (spec.with_joined (reading_seen given.old state.old) option joined.now) }
 {
     if joined.is_empty() {
-        add_due(said, option)
+        add_due(*given, state, option)
     } else {
-        add_given(said, option, without_sign(joined))
+        add_given(given, state, option, without_sign(joined))
     }
 }
 
 // An option of one `-`: of a letter with its value after it, or of joined letters.
 fn add_short<'a>(
     command: CommandName,
-    said: &mut SaidWords<'a>,
+    given: &mut GivenTexts<'a>,
+    state: &mut ReadingState,
     letters: &'a str,
 ) -> Result<(), WordsFail>
-    ensures { Gives (λ done. said_seen said.new) result
-        (spec.with_short command (said_seen said.old) letters.now) }
+    ensures { Gives (λ done. reading_seen given.new state.new) result
+        (spec.with_short command (reading_seen given.old state.old) letters.now) }
 {
     let [letter, ..] = letters.as_bytes() else {
         return Ok(());
     };
     match letter_option(command, *letter) {
-        Some(option) if has_value(option) => add_joined(said, option, &letters[1..]),
-        _ => add_letters(command, said, letters.as_bytes()),
+        Some(option) if has_value(option) => add_joined(given, state, option, &letters[1..]),
+        _ => add_letters(command, given, state, letters.as_bytes()),
     }
 }
 
 // An option by its long name: with its value after `=`, or in the next word; or a flag.
 fn add_long<'a>(
-    said: &mut SaidWords<'a>,
+    given: &mut GivenTexts<'a>,
+    state: &mut ReadingState,
     option: Option<CommandOption>,
     value: Option<&'a str>,
 ) -> Result<(), WordsFail>
-    ensures { Gives (λ done. said_seen said.new) result
-        (spec.with_long (said_seen said.old) option (text_seen value.entry)) }
+    ensures { Gives (λ done. reading_seen given.new state.new) result
+        (spec.with_long (reading_seen given.old state.old) option (text_seen value.entry)) }
 {
     let Some(option) = option else {
         return Err(WordsFail::Wrong);
     };
     match (has_value(option), value) {
-        (true, Some(value)) => add_given(said, option, value),
-        (true, None) => add_due(said, option),
+        (true, Some(value)) => add_given(given, state, option, value),
+        (true, None) => add_due(*given, state, option),
         (false, Some(_)) => Err(WordsFail::Wrong),
-        (false, None) => add_given(said, option, ""),
+        (false, None) => add_given(given, state, option, ""),
     }
 }
 
 // The word `--`, or an option of two `-` and what comes after them.
 fn add_name<'a>(
     command: CommandName,
-    said: &mut SaidWords<'a>,
+    given: &mut GivenTexts<'a>,
+    state: &mut ReadingState,
     name: &'a str,
 ) -> Result<(), WordsFail>
-    ensures { Gives (λ done. said_seen said.new) result
-        (spec.with_name command (said_seen said.old) name.now) }
+    ensures { Gives (λ done. reading_seen given.new state.new) result
+        (spec.with_name command (reading_seen given.old state.old) name.now) }
 {
     if name.is_empty() {
-        said.ended = true;
+        state.ended = true;
         return Ok(());
     }
     let (name, value) = split_at_sign(name);
-    add_long(said, name_option(command, name), value)
+    add_long(given, state, name_option(command, name), value)
 }
 
 // An option more.
 fn add_option<'a>(
     command: CommandName,
-    said: &mut SaidWords<'a>,
+    given: &mut GivenTexts<'a>,
+    state: &mut ReadingState,
     word: &'a str,
 ) -> Result<(), WordsFail>
-    ensures { Gives (λ done. said_seen said.new) result
-        (spec.with_option command (said_seen said.old)
+    ensures { Gives (λ done. reading_seen given.new state.new) result
+        (spec.with_option command (reading_seen given.old state.old)
         (prefixes.strip_prefix (codes "--") word.now)
         (prefixes.strip_prefix (codes "-") word.now)) }
 {
     if let Some(name) = strip_prefix("--", word) {
-        return add_name(command, said, name);
+        return add_name(command, given, state, name);
     }
     match strip_prefix("-", word) {
-        Some(letters) => add_short(command, said, letters),
+        Some(letters) => add_short(command, given, state, letters),
         None => Err(WordsFail::Wrong),
     }
 }
@@ -167,35 +176,36 @@ fn add_option<'a>(
 // A word more.
 fn add_word<'a>(
     command: CommandName,
-    said: &mut SaidWords<'a>,
+    given: &mut GivenTexts<'a>,
+    state: &mut ReadingState,
     word: &'a str,
 ) -> Result<(), WordsFail>
-    ensures { Gives (λ done. said_seen said.new) result
-        (spec.with_word command (said_seen said.old) word.now) }
+    ensures { Gives (λ done. reading_seen given.new state.new) result
+        (spec.with_word command (reading_seen given.old state.old) word.now) }
 {
-    match said.due {
+    match state.due {
         Some(_) if is_option(word) => Err(WordsFail::Wrong),
         Some(option) => {
-            said.due = None;
-            add_given(said, option, word)
+            state.due = None;
+            add_given(given, state, option, word)
         }
-        None if is_option(word) && !said.ended => add_option(command, said, word),
-        None => add_position(said, word),
+        None if is_option(word) && !state.ended => add_option(command, given, state, word),
+        None => add_position(*given, state, word),
     }
 }
 
-/// What all words after a command's name say.
-pub(crate) fn said_by<'a>(
-    alloc: Global,
+/// Reads all words after a command's name.
+pub(crate) fn add_words<'a>(
     command: CommandName,
+    given: &mut GivenTexts<'a>,
+    state: &mut ReadingState,
     words: &'a [String],
-) -> Result<SaidWords<'a>, WordsFail>
-    ensures { Gives said_seen result
-        (with_words command (map string_bytes words.now) spec.nothing_said) }
+) -> Result<(), WordsFail>
+    ensures { Gives (λ done. reading_seen given.new state.new) result
+        (with_words command (map string_bytes words.now) (reading_seen given.old state.old)) }
 {
-    let mut said = nothing_said(alloc);
     for word in words {
-        add_word(command, &mut said, word.as_str())?;
+        add_word(command, given, state, word.as_str())?;
     }
-    Ok(said)
+    Ok(())
 }
