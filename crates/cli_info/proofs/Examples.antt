@@ -1,5 +1,5 @@
 -- What is printed of a small document, by itself and in files.
-use Rattle.std.proofs.Common.{◌≡◌, ℕ, List, [], ◌∷◌, codes, None, Some, refl, replicate}
+use Rattle.std.proofs.Common.{◌≡◌, ℕ, [], ◌∷◌, codes, None, Some, refl, replicate}
 use Rattle.std.specs.Fmt.{digits}
 use Rattle.argon_core.specs.declared.params.ArgonKind.TheVariants.{D}
 use Rattle.kdbx_frame.specs.declared.settings.Cipher.TheVariants as cipher

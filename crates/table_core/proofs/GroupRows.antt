@@ -1,5 +1,5 @@
 -- The rows of a group: those of its entries, and then those of its groups.
-use Rattle.std.proofs.Common.{◌≡◌, ℕ, List, [], ◌∷◌, ◌++◌, map, sym, ap, subst, ◌∙◌}
+use Rattle.std.proofs.Common.{◌≡◌, ℕ, List, ◌++◌, map, sym, ap, ◌∙◌}
 use Rattle.std.proofs.lemmas.Grind.{flat_map-append}
 use Rattle.vault_model.proofs.SeenGroups.{seen_group}
 use Rattle.vault_model.specs.SeenNodes.{entry_row, tree_seen}
