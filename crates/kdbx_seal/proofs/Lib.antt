@@ -1,2 +1,3 @@
+mod HashedDocs
 mod Refusals
 mod WrittenDocs

@@ -1,5 +1,5 @@
 -- A document that was written: its text, its attached files, and what has room for them.
-use Rattle.std.proofs.Common.{◌≡◌, ℕ, ◌+◌, ◌<◌, ◌≤◌, ◌^◌, List, [], ◌∷◌, ◌++◌, length, map, None, Result, Ok, Err, refl, sym, ◌∙◌, ap, subst, arith, length-append}
+use Rattle.std.proofs.Common.{◌≡◌, ◌⊎◌, inl, inr, ℕ, ◌+◌, ◌<◌, ◌≤◌, ◌^◌, List, [], ◌∷◌, ◌++◌, length, map, None, Result, Ok, Err, refl, sym, ◌∙◌, ap, subst, arith, length-append}
 use Rattle.std.specs.Int.{w32, to_le_bytes}
 use Rattle.std.specs.List.{AllByRecursion, flat_map}
 use Rattle.secret_core.specs.Secret.{SecretBuffer}
@@ -112,6 +112,12 @@ module _ (draws : Draws) (d : BareDoc) (size : length draws.stream ≡ 64) (key 
       }
 
 -- ---- by the version
+
+pub version_4 : (v : FileVersion) → (v ≡ V40) ⊎ (v ≡ V41) → IsVersion4 v
+version_4 V31 (inl h) = cc
+version_4 V31 (inr h) = cc
+version_4 V40 h = tt
+version_4 V41 h = tt
 
 -- What was written in version 4 was written for settings of such a version.
 in_version_4 : (v : FileVersion) (s : Settings) (draws : Draws) (d : BareDoc) (content : SecretBuffer) → IsVersion4 v → IsWritten4 draws d content

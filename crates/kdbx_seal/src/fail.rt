@@ -11,8 +11,8 @@ use kdbx_payload_seal::SealPayloadFail;
 pub enum SealFail {
     /// It has more than 262,144 groups, entries and history items: so many.
     TooMany(u64),
-    /// Its text with its pool would have more than 134,086,656 bytes: so many. Or the header, with
-    /// the 64 bytes after it, would end at this offset, past 65,536.
+    /// Its text, in version 4 with its pool, would have more than 134,086,656 bytes: so many. Or the
+    /// header, in version 4 with the 64 bytes after it, would end at this offset, past 65,536.
     TooLarge(u64),
     /// The store could not write the file: its count of faults rose.
     FileFault,

@@ -1,5 +1,5 @@
-//! Sealing a document: from the document, settings, draws and a composite key to a file of KDBX 4.0
-//! or 4.1 under a name.
+//! Sealing a document: from the document, settings, draws and a composite key to a file of KDBX 3.1,
+//! 4.0 or 4.1 under a name.
 #![tactic(auto)]
 
 mod fail;

@@ -94,10 +94,11 @@ fn write_content_31(
     let hash = Sha256::digest(header.as_slice());
     let mut stream = salsa_of(draws.stream.bytes());
     let text = write_doc(alloc, doc, DocForm::V3, Some(&hash), &mut stream)?;
-    let room = START + hashed_len(text.len()) + PADDING;
+    let document = text.lend(0, text.len());
+    let room = START + hashed_len(document) + PADDING;
     let mut content = Secret::with_room(alloc, room)?;
     content.extend(draws.start.bytes());
-    put_hashed(&mut content, text.lend(0, text.len()));
+    put_hashed(&mut content, document);
     Ok(content)
 }
 
