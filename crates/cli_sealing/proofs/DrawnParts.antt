@@ -1,5 +1,5 @@
 -- What is drawn for a file, as the next bytes of the dice.
-use Rattle.std.proofs.Common.{◌≡◌, ◌≤◌, ◌-◌, ℕ, List, ◌++◌, Option, None, Some, option_map, length, take, drop, replicate, refl, sym, ap, ◌∙◌, arith, append_assoc, take-append-drop}
+use Rattle.std.proofs.Common.{◌≡◌, ◌≤◌, ◌-◌, ℕ, List, ◌++◌, Option, None, Some, option_map, length, take, drop, replicate, sym, ap, ◌∙◌, arith, append_assoc, take-append-drop}
 use Rattle.std.proofs.lemmas.List.{drop-append-le, drop_all, length-append, length-take-le, take-append-le, take_all}
 use Rattle.vault_model.specs.declared.forms.FileVersion.{FileVersion}
 use Rattle.vault_model.specs.declared.forms.FileVersion.TheVariants.{V31, V40, V41}

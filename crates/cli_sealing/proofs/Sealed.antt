@@ -1,6 +1,5 @@
 -- How a document was sealed, or was not.
-use Rattle.std.proofs.Common.{◌≡◌, ℕ, List, refl, inl, inr, sym, ◌∙◌, ap, subst, Option, None, Some, Result, Ok, Err}
-use Rattle.std.specs.Prelude.{◌⊎◌}
+use Rattle.std.proofs.Common.{◌≡◌, ℕ, List, refl, inl, inr, sym, ◌∙◌, ap, subst, Option, None, Some, Err}
 use Rattle.outside_core.specs.Counts.{Increased}
 use Rattle.vault_making.specs.NeededVersion.{later, needed_version}
 use Rattle.vault_model.specs.Tree.{BareDoc}
@@ -16,13 +15,13 @@ use Rattle.kdbx_seal.specs.Made.{made_file}
 use Rattle.kdbx_seal.specs.declared.fail.SealFail.{SealFail}
 use Rattle.kdbx_seal.specs.declared.fail.SealFail.TheVariants as fail
 use Rattle.cli_answers.specs.Messages.{refusal_of}
-use Rattle.cli_answers.specs.Phases.{IsCommandStop, StreamAnswer}
+use Rattle.cli_answers.specs.Phases.{IsCommandStop}
 use Rattle.cli_answers.specs.declared.answers.Reason.{Reason}
 use Rattle.cli_answers.specs.declared.answers.Reason.TheVariants as answer
 use Rattle.cli_answers.specs.declared.answers.Refusal.{Refusal}
 use Rattle.cli_answers.specs.declared.answers.Stop.{Stop}
 use Rattle.cli_answers.specs.declared.answers.Stop.TheVariants.{Refused, FileFault, InputFault, NoMemory}
-use Rattle.cli_writing.specs.Writing.{HasFile, IsSame, KeepsDraft, NewFile, RefusesFile, Store, WritesFile}
+use Rattle.cli_writing.specs.Writing.{HasFile, IsSame, KeepsDraft, RefusesFile, Store, WritesFile}
 use Rattle.cli_sealing.specs.Draws.{after_draws, draws_of}
 use Rattle.cli_sealing.specs.Sealing.{IsUnsealed, Seals, file_by, file_unless, seal_answer, settings_for}
 

@@ -1,5 +1,4 @@
-use Rattle.std.proofs.Common.{sym, subst}
-use Rattle.vault_making.specs.NeededVersion.{later, needed_version}
+use Rattle.vault_making.specs.NeededVersion.{needed_version}
 use Rattle.vault_model.specs.SeenDoc.{doc_seen}
 use Rattle.cli_sealing.proofs.Sealed.{in_order, is_late}
 use Rattle.cli_sealing.proofs.sealing.write_sealed.Goals as goal
