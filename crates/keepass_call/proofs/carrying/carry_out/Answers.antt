@@ -1,4 +1,4 @@
-use Rattle.std.proofs.Common.{◌∙◌, map, sym}
+use Rattle.std.proofs.Common.{◌∙◌, map}
 use Rattle.vault_model.specs.SeenDoc.{doc_seen}
 use Rattle.cli_lines.specs.SeenLines.{lines_seen}
 use Rattle.keepass_call.proofs.Carried.{all_kept, ends_kept, in_order_kept, sealed_kept, some_kept}
