@@ -2,15 +2,16 @@
 ghost use Rattle.std.specs.Prelude.{◌≡◌, IfErr, IfOk, map, string_bytes};
 ghost use Rattle.cli_answers.specs.Phases.{IsWordsStop, Returns};
 ghost use Rattle.cli_words.specs.Needs.{HasKeys, needs_of};
-ghost use Rattle.cli_words.specs.SaidWords.{Gives, said_seen, text_seen};
+ghost use Rattle.cli_saying.specs.SaidWords.{Gives, said_seen, text_seen};
 ghost use Rattle.cli_words.specs.Words as spec;
 ghost use Rattle.cli_words.specs.Words.{command_of};
 
 use crate::command::{Access, Asked, Command, ExportFormat};
-use crate::said::{SaidWords, WordsFail, copies_of, empty_state, is_given, no_texts, text_of};
-use crate::words::add_words;
 use cli_answers::{Reason, Stop, refused};
 use cli_options::{CommandName, CommandOption, command_named};
+use cli_saying::{
+    SaidWords, WordsFail, add_words, copies_of, empty_state, is_given, no_texts, text_of,
+};
 use outside_core::{NoMemory, Text};
 use std::alloc::Global;
 
