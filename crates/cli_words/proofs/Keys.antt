@@ -10,7 +10,8 @@ use Rattle.cli_options.specs.declared.forms.CommandOption.TheVariants as option
 use Rattle.cli_words.specs.Needs.{HasKey, HasKeys, needs_of, without_sources}
 use Rattle.cli_options.specs.Options.{command_named}
 use Rattle.cli_words.specs.declared.command.ExportFormat.{ExportFormat}
-use Rattle.cli_words.specs.Words.{Said, access_from, access_of, add_at, command_at, command_by, command_in, command_saying, edit_at, export_as, export_at, format_asked, has_change, info_at, is_due, is_fit, is_fit_from, is_given, is_mergeable, is_whole, list_at, make_group_at, merge_at, merge_of, move_at, nothing_said, remove_at, remove_group_at, search_at, show_at, text_of, with_words}
+use Rattle.cli_saying.specs.Said.{Said, is_due, is_given, nothing_said, text_of, with_words}
+use Rattle.cli_words.specs.Words.{access_from, access_of, add_at, command_at, command_by, command_in, command_saying, edit_at, export_as, export_at, format_asked, has_change, info_at, is_fit, is_fit_from, is_mergeable, is_whole, list_at, make_group_at, merge_at, merge_of, move_at, remove_at, remove_group_at, search_at, show_at}
 
 -- The command, if there is one, has a key.
 abbrev IfKey : Option Command → Type 0

@@ -1,11 +1,2 @@
-pub mod Flags
 pub mod Examples
-pub mod FlagWords
 pub mod Keys
-pub mod LongNames
-pub mod OptionWords
-pub mod Positions
-pub mod PrefixCases
-pub mod Saying
-pub mod Stripping
-pub mod Texts

@@ -2,15 +2,16 @@
 ghost use Rattle.std.specs.Prelude.{◌≡◌, IfErr, IfOk, map, string_bytes};
 ghost use Rattle.cli_answers.specs.Phases.{IsWordsStop, Returns};
 ghost use Rattle.cli_words.specs.Needs.{HasKeys, needs_of};
-ghost use Rattle.cli_words.specs.SaidWords.{Gives, said_seen, text_seen};
+ghost use Rattle.cli_saying.specs.SaidWords.{Gives, said_seen, text_seen};
 ghost use Rattle.cli_words.specs.Words as spec;
 ghost use Rattle.cli_words.specs.Words.{command_of};
 
 use crate::command::{Access, Asked, Command, ExportFormat};
-use crate::said::{SaidWords, WordsFail, copies_of, empty_state, is_given, no_texts, text_of};
-use crate::words::add_words;
 use cli_answers::{Reason, Stop, refused};
 use cli_options::{CommandName, CommandOption, command_named};
+use cli_saying::{
+    SaidWords, WordsFail, add_words, copies_of, empty_state, is_given, no_texts, text_of,
+};
 use outside_core::{NoMemory, Text};
 use std::alloc::Global;
 
@@ -134,19 +135,65 @@ fn format_asked(name: Option<&str>) -> Option<ExportFormat>
     }
 }
 
+// How a database is opened, and its file.
+#[derive(Drop)]
+struct Base {
+    access: Access,
+    file: Text,
+}
+
+// How a database is opened, and its file.
+fn base_of(alloc: Global, said: &SaidWords<'_, '_>, file: &Text) -> Result<Base, NoMemory>
+    ensures access { IfOk result (λ base. base.access ≡ spec.access_of (said_seen said.now)) }
+    ensures file { IfOk result (λ base. base.file ≡ file.now) }
+{
+    Ok(Base {
+        access: access_of(alloc, said)?,
+        file: Text::of(alloc, file.as_str())?,
+    })
+}
+
+// The same, and what a command names in the database.
+#[derive(Drop)]
+struct BaseAndPath {
+    access: Access,
+    file: Text,
+    path: Text,
+}
+
+// The same, and what a command names in the database.
+fn base_and_path(
+    alloc: Global,
+    said: &SaidWords<'_, '_>,
+    file: &Text,
+    path: &Text,
+) -> Result<BaseAndPath, NoMemory>
+    ensures access { IfOk result (λ both. both.access ≡ spec.access_of (said_seen said.now)) }
+    ensures file { IfOk result (λ both. both.file ≡ file.now) }
+    ensures path { IfOk result (λ both. both.path ≡ path.now) }
+{
+    let base = base_of(alloc, said, file)?;
+    Ok(BaseAndPath {
+        access: base.access,
+        file: base.file,
+        path: Text::of(alloc, path.as_str())?,
+    })
+}
+
 // The command `ls` of a file, and of a group where one is named.
 fn list_of(
     alloc: Global,
     said: &SaidWords<'_, '_>,
-    file: &str,
+    file: &Text,
     group: Option<&str>,
 ) -> Result<Command, NoMemory>
     ensures { IfOk result (λ command. command
         ≡ spec.list_of (said_seen said.now) file.now (text_seen group.entry)) }
 {
+    let base = base_of(alloc, said, file)?;
     Ok(Command::Ls {
-        access: access_of(alloc, said)?,
-        file: Text::of(alloc, file)?,
+        access: base.access,
+        file: base.file,
         group: owned(alloc, group)?,
         recursive: is_given(said, CommandOption::Recursive),
         flat: is_given(said, CommandOption::Flat),
@@ -159,8 +206,8 @@ fn list_at(alloc: Global, said: &SaidWords<'_, '_>) -> Result<Command, WordsFail
         (spec.list_at (said_seen said.now) said.now.positions.now) }
 {
     match said.positions {
-        [file] => Ok(list_of(alloc, said, file.as_str(), None)?),
-        [file, group] => Ok(list_of(alloc, said, file.as_str(), Some(group.as_str()))?),
+        [file] => Ok(list_of(alloc, said, file, None)?),
+        [file, group] => Ok(list_of(alloc, said, file, Some(group.as_str()))?),
         _ => Err(WordsFail::Wrong),
     }
 }
@@ -173,10 +220,11 @@ fn show_at(alloc: Global, said: &SaidWords<'_, '_>) -> Result<Command, WordsFail
     let [file, entry] = said.positions else {
         return Err(WordsFail::Wrong);
     };
+    let both = base_and_path(alloc, said, file, entry)?;
     Ok(Command::Show {
-        access: access_of(alloc, said)?,
-        file: Text::of(alloc, file.as_str())?,
-        entry: Text::of(alloc, entry.as_str())?,
+        access: both.access,
+        file: both.file,
+        entry: both.path,
         clear: is_given(said, CommandOption::Clear),
         all: is_given(said, CommandOption::All),
         attachments: is_given(said, CommandOption::Attachments),
@@ -192,10 +240,11 @@ fn search_at(alloc: Global, said: &SaidWords<'_, '_>) -> Result<Command, WordsFa
     let [file, term] = said.positions else {
         return Err(WordsFail::Wrong);
     };
+    let both = base_and_path(alloc, said, file, term)?;
     Ok(Command::Search {
-        access: access_of(alloc, said)?,
-        file: Text::of(alloc, file.as_str())?,
-        term: Text::of(alloc, term.as_str())?,
+        access: both.access,
+        file: both.file,
+        term: both.path,
     })
 }
 
@@ -207,10 +256,11 @@ fn add_at(alloc: Global, said: &SaidWords<'_, '_>) -> Result<Command, WordsFail>
     let [file, entry] = said.positions else {
         return Err(WordsFail::Wrong);
     };
+    let both = base_and_path(alloc, said, file, entry)?;
     Ok(Command::Add {
-        access: access_of(alloc, said)?,
-        file: Text::of(alloc, file.as_str())?,
-        entry: Text::of(alloc, entry.as_str())?,
+        access: both.access,
+        file: both.file,
+        entry: both.path,
         asked: asked_of(alloc, said)?,
     })
 }
@@ -219,16 +269,17 @@ fn add_at(alloc: Global, said: &SaidWords<'_, '_>) -> Result<Command, WordsFail>
 fn edit_of(
     alloc: Global,
     said: &SaidWords<'_, '_>,
-    file: &str,
-    entry: &str,
+    file: &Text,
+    entry: &Text,
 ) -> Result<Command, NoMemory>
     ensures { IfOk result (λ command. command
         ≡ spec.edit_of (said_seen said.now) file.now entry.now) }
 {
+    let both = base_and_path(alloc, said, file, entry)?;
     Ok(Command::Edit {
-        access: access_of(alloc, said)?,
-        file: Text::of(alloc, file)?,
-        entry: Text::of(alloc, entry)?,
+        access: both.access,
+        file: both.file,
+        entry: both.path,
         asked: asked_of(alloc, said)?,
     })
 }
@@ -239,9 +290,7 @@ fn edit_at(alloc: Global, said: &SaidWords<'_, '_>) -> Result<Command, WordsFail
         (spec.edit_at (said_seen said.now) said.now.positions.now) }
 {
     match said.positions {
-        [file, entry] if has_change(said) => {
-            Ok(edit_of(alloc, said, file.as_str(), entry.as_str())?)
-        }
+        [file, entry] if has_change(said) => { Ok(edit_of(alloc, said, file, entry)?) }
         _ => Err(WordsFail::Wrong),
     }
 }
@@ -254,10 +303,11 @@ fn move_at(alloc: Global, said: &SaidWords<'_, '_>) -> Result<Command, WordsFail
     let [file, node, group] = said.positions else {
         return Err(WordsFail::Wrong);
     };
+    let both = base_and_path(alloc, said, file, node)?;
     Ok(Command::Move {
-        access: access_of(alloc, said)?,
-        file: Text::of(alloc, file.as_str())?,
-        node: Text::of(alloc, node.as_str())?,
+        access: both.access,
+        file: both.file,
+        node: both.path,
         group: Text::of(alloc, group.as_str())?,
     })
 }
@@ -270,10 +320,11 @@ fn remove_at(alloc: Global, said: &SaidWords<'_, '_>) -> Result<Command, WordsFa
     let [file, entry] = said.positions else {
         return Err(WordsFail::Wrong);
     };
+    let both = base_and_path(alloc, said, file, entry)?;
     Ok(Command::Remove {
-        access: access_of(alloc, said)?,
-        file: Text::of(alloc, file.as_str())?,
-        entry: Text::of(alloc, entry.as_str())?,
+        access: both.access,
+        file: both.file,
+        entry: both.path,
     })
 }
 
@@ -285,10 +336,11 @@ fn make_group_at(alloc: Global, said: &SaidWords<'_, '_>) -> Result<Command, Wor
     let [file, group] = said.positions else {
         return Err(WordsFail::Wrong);
     };
+    let both = base_and_path(alloc, said, file, group)?;
     Ok(Command::MakeGroup {
-        access: access_of(alloc, said)?,
-        file: Text::of(alloc, file.as_str())?,
-        group: Text::of(alloc, group.as_str())?,
+        access: both.access,
+        file: both.file,
+        group: both.path,
     })
 }
 
@@ -300,10 +352,11 @@ fn remove_group_at(alloc: Global, said: &SaidWords<'_, '_>) -> Result<Command, W
     let [file, group] = said.positions else {
         return Err(WordsFail::Wrong);
     };
+    let both = base_and_path(alloc, said, file, group)?;
     Ok(Command::RemoveGroup {
-        access: access_of(alloc, said)?,
-        file: Text::of(alloc, file.as_str())?,
-        group: Text::of(alloc, group.as_str())?,
+        access: both.access,
+        file: both.file,
+        group: both.path,
     })
 }
 
@@ -311,15 +364,16 @@ fn remove_group_at(alloc: Global, said: &SaidWords<'_, '_>) -> Result<Command, W
 fn merge_of(
     alloc: Global,
     said: &SaidWords<'_, '_>,
-    file: &str,
+    file: &Text,
     sources: &[Text],
 ) -> Result<Command, NoMemory>
     ensures { IfOk result (λ command. command
         ≡ spec.merge_of (said_seen said.now) file.now sources.now) }
 {
+    let base = base_of(alloc, said, file)?;
     Ok(Command::Merge {
-        access: access_of(alloc, said)?,
-        file: Text::of(alloc, file)?,
+        access: base.access,
+        file: base.file,
         sources: copies_of(alloc, sources)?,
         from: access_from(alloc, said)?,
         same: is_given(said, CommandOption::SameCredentials),
@@ -338,7 +392,7 @@ fn merge_at(alloc: Global, said: &SaidWords<'_, '_>) -> Result<Command, WordsFai
     if sources.is_empty() || sources.len() > SOURCES {
         return Err(WordsFail::Wrong);
     }
-    Ok(merge_of(alloc, said, file.as_str(), sources)?)
+    Ok(merge_of(alloc, said, file, sources)?)
 }
 
 // The command `export` at this position.

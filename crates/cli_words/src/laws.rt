@@ -2,9 +2,10 @@
 ghost use Rattle.std.specs.Prelude.{◌≡◌, ◌≢◌, ◌++◌, ◌∷◌, ℕ, List, None, Some, codes, false, true};
 ghost use Rattle.cli_options.specs.declared.names.CommandName.{CommandName};
 ghost use Rattle.cli_options.specs.declared.forms.CommandOption.{CommandOption};
-ghost use Rattle.cli_words.specs.Laws.{IsFlagWord, SayOption, are_flag_letters, lack_end};
+ghost use Rattle.cli_saying.specs.Laws.{IsFlagWord, SayOption, are_flag_letters, lack_end};
 ghost use Rattle.cli_options.specs.Options.{command_named};
-ghost use Rattle.cli_words.specs.Words.{Said, command_of, command_saying, nothing_said, or_wrong_words, with_words};
+ghost use Rattle.cli_saying.specs.Said.{Said, nothing_said, with_words};
+ghost use Rattle.cli_words.specs.Words.{command_of, command_saying, or_wrong_words};
 
 /// The order of flags does not matter: two flags beside each other, wherever they are before
 /// `--`, may be exchanged.

@@ -5,8 +5,6 @@ mod command;
 mod commands;
 pub mod laws;
 mod needs;
-mod said;
-mod words;
 
 pub use command::{Access, Asked, Command, ExportFormat};
 pub use commands::read_words;

@@ -2,7 +2,7 @@
 use Rattle.std.proofs.Common.{◌∷◌, ◌++◌, ◌∙◌, ap, codes, sym}
 use Rattle.std.specs.Option.{option_and_then}
 use Rattle.cli_words.specs.Words.{command_by, command_saying, or_wrong_words}
-use Rattle.cli_words.proofs.FlagWords.{separate}
+use Rattle.cli_saying.proofs.FlagWords.{separate}
 use Rattle.cli_words.proofs.laws.joined_flags_are_separate_flags.Goals as goal
 
 pub returns : goal.returns

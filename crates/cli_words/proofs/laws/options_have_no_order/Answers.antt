@@ -2,7 +2,7 @@
 use Rattle.std.proofs.Common.{◌++◌, ◌∙◌, ap, sym}
 use Rattle.std.specs.Option.{option_and_then}
 use Rattle.cli_words.specs.Words.{command_by, command_saying, or_wrong_words}
-use Rattle.cli_words.proofs.OptionWords.{options_exchanged}
+use Rattle.cli_saying.proofs.OptionWords.{options_exchanged}
 use Rattle.cli_words.proofs.laws.options_have_no_order.Goals as goal
 
 pub returns : goal.returns

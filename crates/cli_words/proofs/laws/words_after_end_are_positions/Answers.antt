@@ -2,7 +2,7 @@
 use Rattle.std.proofs.Common.{◌∷◌, ◌++◌, ◌∙◌, ap, codes}
 use Rattle.std.specs.Option.{option_and_then}
 use Rattle.cli_words.specs.Words.{command_by, command_saying, or_wrong_words}
-use Rattle.cli_words.proofs.Positions.{end_said}
+use Rattle.cli_saying.proofs.Positions.{end_said}
 use Rattle.cli_words.proofs.laws.words_after_end_are_positions.Goals as goal
 
 pub returns : goal.returns

@@ -1,0 +1,9 @@
+pub mod FlagWords
+pub mod Flags
+pub mod LongNames
+pub mod OptionWords
+pub mod Positions
+pub mod PrefixCases
+pub mod Saying
+pub mod Stripping
+pub mod Texts

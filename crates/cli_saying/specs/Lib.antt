@@ -1,0 +1,4 @@
+pub mod Laws
+pub mod Prefixes
+pub mod Said
+pub mod SaidWords

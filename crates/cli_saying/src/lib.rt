@@ -1,0 +1,11 @@
+//! What the words of a call say: its options with their values, and its positions.
+#![tactic(auto)]
+
+mod said;
+mod words;
+
+pub use said::{
+    GivenTexts, ReadingState, SaidWords, WordsFail, copies_of, empty_state, is_given, no_texts,
+    text_of,
+};
+pub use words::add_words;
