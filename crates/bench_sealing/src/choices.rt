@@ -1,9 +1,9 @@
 //! What is chosen for a file, as words write it.
 
-ghost use Rattle.std.specs.Prelude.{◌≡◌, ◌≤◌, IfOk, IfSome, length};
+ghost use Rattle.std.specs.Prelude.{◌≡◌, ◌≤◌, IfOk, IfSome, IsTrue, length};
 ghost use Rattle.key_core.specs.Kdf.{IsChecked};
 ghost use Rattle.kdbx_frame.specs.Fields.{header_limit};
-ghost use Rattle.kdbx_frame.specs.Settings.{IsInOrder, IsVersion4};
+ghost use Rattle.kdbx_frame.specs.Settings.{IsInOrder, IsOfVersion};
 
 use crate::fault::Fault;
 use kdbx_frame::{Cipher, FileVersion, HEADER_LIMIT, Settings};
@@ -38,10 +38,9 @@ pub fn short_number_of(word: &str) -> Result<u32, Fault> {
 }
 
 // The version of a word.
-fn version_of(word: &str) -> Result<FileVersion, Fault>
-    ensures { IfOk result IsVersion4 }
-{
+fn version_of(word: &str) -> Result<FileVersion, Fault> {
     match word {
+        "3.1" => Ok(FileVersion::V31),
         "4.0" => Ok(FileVersion::V40),
         "4.1" => Ok(FileVersion::V41),
         _ => Err(Fault::BadWord),
@@ -146,22 +145,36 @@ fn public_of(alloc: Global, word: &str) -> Result<Option<Bytes>, Fault>
     }
 }
 
+// Whether a file of a version can have these: one of version 3.1 has AES as its key derivation, and
+// no public data.
+fn is_of_version(version: FileVersion, kdf: &Kdf, public: &Option<Bytes>) -> bool
+    ensures { IsTrue result → IsOfVersion version kdf.now public.now }
+{
+    match version {
+        FileVersion::V31 => match (kdf, public) {
+            (Kdf::Aes { .. }, None) => true,
+            _ => false,
+        },
+        FileVersion::V40 | FileVersion::V41 => true,
+    }
+}
+
 /// The settings that are chosen.
-#[tactic(auto, using(kdbx_frame::proofs::Versions::any_of_version))]
 pub fn settings_of(alloc: Global, choices: &Choices<'_>) -> Result<Settings, Fault>
-    ensures in_order { IfOk result IsInOrder }
-    ensures version { IfOk result (λ settings. IsVersion4 settings.version) }
+    ensures { IfOk result IsInOrder }
 {
     let version = version_of(choices.version)?;
     let cipher = cipher_of(choices.cipher)?;
     let kdf = kdf_of(alloc, choices.kdf)?;
-    match public_of(alloc, choices.public) {
-        Ok(public) => Ok(Settings {
+    let public = public_of(alloc, choices.public)?;
+    if is_of_version(version, &kdf, &public) {
+        Ok(Settings {
             version,
             cipher,
             kdf,
             public,
-        }),
-        Err(fault) => Err(fault),
+        })
+    } else {
+        Err(Fault::BadWord)
     }
 }

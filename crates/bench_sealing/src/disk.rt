@@ -1,7 +1,7 @@
 //! Files on the disk.
 
 ghost use Rattle.std.specs.Prelude.{◌≡◌};
-ghost use Rattle.kdbx_frame.specs.Settings.{IsInOrder, IsVersion4};
+ghost use Rattle.kdbx_frame.specs.Settings.{IsInOrder};
 
 use crate::fault::Fault;
 use crate::sealing::{Target, open, seal};
@@ -21,8 +21,7 @@ pub fn seal_often(
     target: &Target<'_>,
     times: u32,
 ) -> Result<(), Fault>
-    requires in_order { IsInOrder settings.now }
-    requires version { IsVersion4 settings.now.version }
+    requires { IsInOrder settings.now }
 {
     let mut files = HostFiles::new(rt, rt.alloc());
     let mut dice = HostDice::new(rt);

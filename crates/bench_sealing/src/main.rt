@@ -1,4 +1,4 @@
-//! Seals plain documents as files of KDBX 4, for tests and for measurements.
+//! Seals plain documents as files of KDBX 3.1, 4.0 and 4.1, for tests and for measurements.
 //!
 //! Without words it answers the rows of standard input: what is to be sealed in memory, and after
 //! ` = ` what comes of it. For each a line is printed, which ends in `ok` or says what came of it.

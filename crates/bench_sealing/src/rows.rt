@@ -2,7 +2,7 @@
 //! memory over dice that count.
 
 ghost use Rattle.std.specs.Prelude.{◌≡◌};
-ghost use Rattle.kdbx_frame.specs.Settings.{IsInOrder, IsVersion4};
+ghost use Rattle.kdbx_frame.specs.Settings.{IsInOrder};
 
 use crate::choices::{Choices, settings_of};
 use crate::documents::{put_another, read};
@@ -121,8 +121,7 @@ fn seal_counted(
     target: &Target<'_>,
     files: &mut MemoryFiles,
 ) -> Result<(), Fault>
-    requires in_order { IsInOrder settings.now }
-    requires version { IsVersion4 settings.now.version }
+    requires { IsInOrder settings.now }
 {
     let mut dice = CountingDice::new(alloc);
     seal(alloc, doc, settings, target, files, &mut dice)
@@ -136,8 +135,7 @@ fn seal_opened(
     target: &Target<'_>,
     files: &mut MemoryFiles,
 ) -> Result<(), Fault>
-    requires in_order { IsInOrder settings.now }
-    requires version { IsVersion4 settings.now.version }
+    requires { IsInOrder settings.now }
 {
     match opened {
         Ok(doc) => seal_counted(alloc, doc, settings, target, files),
@@ -152,8 +150,7 @@ fn seal_again(
     target: &Target<'_>,
     files: &mut MemoryFiles,
 ) -> Result<(), Fault>
-    requires in_order { IsInOrder settings.now }
-    requires version { IsVersion4 settings.now.version }
+    requires { IsInOrder settings.now }
 {
     let opened = open(alloc, target, files);
     let result = seal_opened(alloc, &opened, settings, target, files);
@@ -168,8 +165,7 @@ fn sealed_sum(
     target: &Target<'_>,
     files: &mut MemoryFiles,
 ) -> Result<Sum, Fault>
-    requires in_order { IsInOrder settings.now }
-    requires version { IsVersion4 settings.now.version }
+    requires { IsInOrder settings.now }
 {
     let sum = sum_of(files)?;
     seal_again(alloc, settings, target, files)?;
@@ -187,8 +183,7 @@ fn sealed_text(
     target: &Target<'_>,
     files: &mut MemoryFiles,
 ) -> Result<String, Fault>
-    requires in_order { IsInOrder settings.now }
-    requires version { IsVersion4 settings.now.version }
+    requires { IsInOrder settings.now }
 {
     match sealed_sum(alloc, settings, target, files) {
         Ok(sum) => text_of(alloc, &sum),
@@ -213,8 +208,7 @@ fn answer_in(
     target: &Target<'_>,
     files: &mut MemoryFiles,
 ) -> Result<String, Fault>
-    requires in_order { IsInOrder settings.now }
-    requires version { IsVersion4 settings.now.version }
+    requires { IsInOrder settings.now }
 {
     match seal_counted(alloc, doc, settings, target, files) {
         Ok(()) => sealed_text(alloc, settings, target, files),
@@ -229,8 +223,7 @@ fn answer_with(
     settings: &Settings,
     doc: &Doc,
 ) -> Result<String, Fault>
-    requires in_order { IsInOrder settings.now }
-    requires version { IsVersion4 settings.now.version }
+    requires { IsInOrder settings.now }
 {
     let mut files = MemoryFiles::new(alloc);
     match row.prepare(&mut files) {
@@ -252,8 +245,7 @@ fn answer_of_document(
     settings: &Settings,
     doc: &mut Doc,
 ) -> Result<String, Fault>
-    requires in_order { IsInOrder settings.now }
-    requires version { IsVersion4 settings.now.version }
+    requires { IsInOrder settings.now }
 {
     row.extend(alloc, doc)?;
     answer_with(alloc, row, settings, doc)
@@ -266,8 +258,7 @@ fn answer_of_read(
     settings: &Settings,
     doc: &mut Result<Doc, Fault>,
 ) -> Result<String, Fault>
-    requires in_order { IsInOrder settings.now }
-    requires version { IsVersion4 settings.now.version }
+    requires { IsInOrder settings.now }
 {
     match doc {
         Ok(doc) => answer_of_document(alloc, row, settings, doc),
@@ -282,8 +273,7 @@ fn answer_of_text(
     settings: &Settings,
     text: &str,
 ) -> Result<String, Fault>
-    requires in_order { IsInOrder settings.now }
-    requires version { IsVersion4 settings.now.version }
+    requires { IsInOrder settings.now }
 {
     let mut doc = document_of(alloc, text);
     let result = answer_of_read(alloc, row, settings, &mut doc);

@@ -1,7 +1,7 @@
 //! Sealing a document, and opening its file.
 
 ghost use Rattle.std.specs.Prelude.{◌≡◌, OnOk};
-ghost use Rattle.kdbx_frame.specs.Settings.{IsInOrder, IsVersion4};
+ghost use Rattle.kdbx_frame.specs.Settings.{IsInOrder};
 ghost use Rattle.vault_making.specs.NeededVersion.{later, needed_version};
 ghost use Rattle.vault_model.specs.SeenDoc.{doc_seen};
 
@@ -64,8 +64,7 @@ pub fn seal<F: FileStore, D: Dice>(
     files: &mut F,
     dice: &mut D,
 ) -> Result<(), Fault>
-    requires in_order { IsInOrder settings.now }
-    requires version { IsVersion4 settings.now.version }
+    requires { IsInOrder settings.now }
 {
     check_document(doc, settings.version)?;
     let Ok(draws) = draw(settings, dice) else {
