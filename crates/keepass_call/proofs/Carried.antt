@@ -284,8 +284,8 @@ of_dice_kept time command lines sources doc one other d printed before now k sam
   text = h.text;
   reads_back =
       reads_kept (may_write command) (needs_of command).file one other h.change.doc before now same
-          (λ w. if_made (change_of time command lines.more sources (settings_in one) doc d).answer h.change h.makes
-              (none_changed time command lines.more sources (settings_in one) doc d w)) h.reads_back;
+      (λ w. if_made (change_of time command lines.more sources (settings_in one) doc d).answer h.change h.makes
+      (none_changed time command lines.more sources (settings_in one) doc d w)) h.reads_back;
 }
 
 pub all_kept : (time : ℕ) (command : Command) (lines : Lines) (sources : List BareDoc) (doc : BareDoc) (one other : Option Sealing) (d : List ℕ) (result : Result Output Stop) (before now : Store)
