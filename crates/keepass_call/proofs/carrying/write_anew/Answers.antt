@@ -21,3 +21,6 @@ pub returns-in-Some-clause-told : goal.returns-in-Some-clause-told
 returns-in-Some-clause-told g c = λ d t.
     let tells = told_by true _ d refl (rw c.in-Some.is at t) in
     rw c.in-Some.is (sealed_written c.write_sealed.result _ _ _ _ _ d tells (c.write_sealed.ensures.told d tells))
+
+pub returns-in-Some-clause-held : goal.returns-in-Some-clause-held
+returns-in-Some-clause-held g c = rw c.in-Some.is c.write_sealed.ensures.held
