@@ -5,7 +5,7 @@ use Rattle.std.proofs.Math.Seq.{take-length}
 use Rattle.outside_core.specs.Counts.{Increased}
 use Rattle.outside_core.specs.Streams.{GainsPrefix, LosesPrefix}
 use Rattle.cli_answers.specs.declared.answers.Reason.{Reason}
-use Rattle.cli_answers.specs.declared.answers.Reason.TheVariants.{WrongWords, NoSuchPath, NameTaken, AlreadyThere, RootFixed, IntoItself, IdTaken, DamagedOrWrongKey, DamagedBlock, WrongKeyOrDamaged, KeyFileHash, NotKdbx, EndsEarly, BadHeaderField, BadDictionary, Form, MissingElement, BadValue, NilId, DuplicateId, BinaryRef, BadKeyFile, LineForm, Version, UnknownId, StreamUnknown, Compressed, Variant, Clash, MoveCycle, NoSuchFile, TooLarge, Depth, TooDeep, TooMany, KdfLimit, StampLimit, LineLimit, OutOfMemory, InputEnded}
+use Rattle.cli_answers.specs.declared.answers.Reason.TheVariants.{WrongWords, NoSuchPath, NameTaken, AlreadyThere, RootFixed, IntoItself, IdTaken, DamagedOrWrongKey, DamagedBlock, WrongKeyOrDamaged, KeyFileHash, NotKdbx, EndsEarly, BadHeaderField, BadDictionary, Form, MissingElement, BadValue, NilId, DuplicateId, BinaryRef, BadKeyFile, LineForm, Version, UnknownId, StreamUnknown, Compressed, Variant, Clash, MoveCycle, NoSuchFile, TooLarge, Depth, TooDeep, TooMany, KdfLimit, StampLimit, LineLimit, OutOfMemory, InputEnded, EmptyTerm, NoAttribute, NoResult, TooMuch}
 use Rattle.cli_answers.specs.declared.answers.Refusal.{Refusal}
 use Rattle.cli_answers.specs.declared.answers.Stop.{Stop}
 use Rattle.cli_answers.specs.declared.answers.Stop.TheVariants.{Refused, FileFault, InputFault, NoMemory}
@@ -84,6 +84,10 @@ seven_missing StampLimit h = absurd (omega arith)
 seven_missing LineLimit h = absurd (omega arith)
 seven_missing OutOfMemory h = absurd (omega arith)
 seven_missing (InputEnded number) h = absurd (omega arith)
+seven_missing (EmptyTerm place) h = absurd (omega arith)
+seven_missing (NoAttribute name) h = absurd (omega arith)
+seven_missing NoResult h = absurd (omega arith)
+seven_missing TooMuch h = absurd (omega arith)
 
 -- No reason has status 0, 10 or 11.
 pub record IsOwn (status : ℕ) : Type 0 where
@@ -132,6 +136,10 @@ own StampLimit = record { zero = λ h. omega arith; ten = λ h. omega arith; ele
 own LineLimit = record { zero = λ h. omega arith; ten = λ h. omega arith; eleven = λ h. omega arith }
 own OutOfMemory = record { zero = λ h. omega arith; ten = λ h. omega arith; eleven = λ h. omega arith }
 own (InputEnded number) = record { zero = λ h. omega arith; ten = λ h. omega arith; eleven = λ h. omega arith }
+own (EmptyTerm place) = record { zero = λ h. omega arith; ten = λ h. omega arith; eleven = λ h. omega arith }
+own (NoAttribute name) = record { zero = λ h. omega arith; ten = λ h. omega arith; eleven = λ h. omega arith }
+own NoResult = record { zero = λ h. omega arith; ten = λ h. omega arith; eleven = λ h. omega arith }
+own TooMuch = record { zero = λ h. omega arith; ten = λ h. omega arith; eleven = λ h. omega arith }
 
 -- ---- a call that printed
 

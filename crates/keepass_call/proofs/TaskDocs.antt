@@ -3,11 +3,12 @@ use Rattle.std.proofs.Common.{◌≡◌, ℕ, Bool, true, false, inl, inr, List,
 use Rattle.outside_core.specs.Files.{FileMap}
 use Rattle.stream_core.specs.InnerStream.{NoKeystream}
 use Rattle.vault_model.specs.Tree.{BareDoc, IsDoc}
-use Rattle.vault_model.specs.declared.forms.DocForm.TheVariants.{Plain, V4}
+use Rattle.vault_model.specs.declared.forms.DocForm.TheVariants.{Plain}
 use Rattle.doc_forms.specs.Documents.{DocumentAndHash, document}
 use Rattle.doc_forms.specs.ElementTexts.{Setting}
 use Rattle.doc_forms.specs.declared.fails.DocFail.{DocFail}
 use Rattle.read_laws.proofs.ReadDocuments.{read_is_doc}
+use Rattle.kdbx_frame.specs.Forms.{form_of}
 use Rattle.kdbx_open.specs.Documents.{attachment, document_or_refusal}
 use Rattle.kdbx_open.specs.Opening.{FileContents}
 use Rattle.kdbx_open.specs.Sealed.{Sealed}
@@ -25,19 +26,20 @@ plain_is_doc : (bytes : List ℕ) (read : DocumentAndHash) → plain_document by
 unfolding plain_document
 plain_is_doc bytes read h = read_is_doc (record { form = Plain; keystream = NoKeystream }) [] bytes read h
 
-abbrev doc_in : BareDoc → Result BareDoc OpenFail → BareDoc
-doc_in other (Ok doc) = doc
-doc_in other (Err fail) = other
+abbrev read_in : DocumentAndHash → Result DocumentAndHash OpenFail → DocumentAndHash
+read_in other (Ok read) = read
+read_in other (Err fail) = other
 
-of_read : (doc : BareDoc) (r : Result DocumentAndHash DocFail) → ((read : DocumentAndHash) → r ≡ Ok read → IsDoc read.0) → document_or_refusal r ≡ Ok doc → IsDoc doc
-of_read doc (Ok read) is h = subst IsDoc (ap (doc_in doc) h) (is read refl)
-of_read doc (Err fail) is h = cc h
+of_read : (result : DocumentAndHash) (r : Result DocumentAndHash DocFail) → ((read : DocumentAndHash) → r ≡ Ok read → IsDoc read.0)
+    → document_or_refusal r ≡ Ok result → IsDoc result.0
+of_read result (Ok read) is h = subst (λ (one : DocumentAndHash). IsDoc one.0) (ap (read_in result) h) (is read refl)
+of_read result (Err fail) is h = cc h
 
 vault_is_doc : (bytes composite : List ℕ) (vault : FileContents) → Sealed bytes composite vault → IsDoc vault.doc
 vault_is_doc bytes composite vault s =
-    let setting : Setting = record { form = V4; keystream = s.payload.stream } in
-    of_read vault.doc (document setting (map attachment s.payload.pool) s.payload.text)
-    (λ read e. read_is_doc setting (map attachment s.payload.pool) s.payload.text read e) s.document
+    let setting : Setting = record { form = form_of s.payload.settings.version; keystream = s.payload.stream } in
+    subst IsDoc s.doc (of_read s.read (document setting (map attachment s.payload.pool) s.payload.text)
+    (λ read e. read_is_doc setting (map attachment s.payload.pool) s.payload.text read e) s.document)
 
 held_is_doc : (plain : Bool) (key_file : Option (List ℕ)) (file : List ℕ) (password : Option (List ℕ)) (files : FileMap) (opened : Opened)
     → HoldsBy plain key_file file password files opened → IsDoc opened.doc
