@@ -1,0 +1,5 @@
+pub mod Fields
+pub mod Imported
+pub mod Outcome
+pub mod Records
+pub mod SafeFiles
