@@ -4,7 +4,7 @@ use Rattle.std.specs.Fmt.{decimal}
 use Rattle.hex.specs.Hex.{encode_lower}
 use Rattle.uuid.specs.Text.{hyphenated_text, lower}
 use Rattle.cli_answers.specs.declared.answers.Reason.{Reason}
-use Rattle.cli_answers.specs.declared.answers.Reason.TheVariants.{WrongWords, EmptyTerm, NoSuchPath, NameTaken, AlreadyThere, RootFixed, IntoItself, IdTaken, NoAttribute, NoResult, DamagedOrWrongKey, DamagedBlock, WrongKeyOrDamaged, KeyFileHash, NotKdbx, EndsEarly, BadHeaderField, BadDictionary, Form, MissingElement, BadValue, NilId, DuplicateId, BinaryRef, BadKeyFile, LineForm, Version, UnknownId, StreamUnknown, Compressed, Variant, Clash, MoveCycle, NoSuchFile, TooLarge, Depth, TooDeep, TooMany, KdfLimit, StampLimit, LineLimit, TooMuch, OutOfMemory, InputEnded}
+use Rattle.cli_answers.specs.declared.answers.Reason.TheVariants.{WrongWords, EmptyTerm, NoSuchPath, NameTaken, AlreadyThere, RootFixed, IntoItself, IdTaken, NoAttribute, NoResult, FileExists, DamagedOrWrongKey, DamagedBlock, WrongKeyOrDamaged, WrongPassword, KeyFileHash, NotKdbx, NotPsafe, EndsEarly, BadHeaderField, BadDictionary, Form, MissingElement, BadValue, NilId, NilRecord, DuplicateId, BinaryRef, BadKeyFile, BadField, NotUtf8, NoTitleColumn, BadRow, LineForm, Version, UnknownId, StreamUnknown, Compressed, Variant, Clash, MoveCycle, NoSuchFile, TooLarge, Depth, TooDeep, TooMany, KdfLimit, IterLimit, StampLimit, LineLimit, TooMuch, OutOfMemory, InputEnded}
 use Rattle.cli_answers.specs.declared.answers.Refusal.{Refusal}
 use Rattle.cli_answers.specs.declared.answers.Stop.{Stop}
 use Rattle.cli_answers.specs.declared.answers.Stop.TheVariants.{Refused, FileFault, InputFault, NoMemory}
@@ -21,11 +21,14 @@ status_of (IntoItself id) = 2
 status_of (IdTaken id) = 2
 status_of (NoAttribute name) = 2
 status_of NoResult = 2
+status_of FileExists = 2
 status_of (DamagedOrWrongKey kept found) = 3
 status_of (DamagedBlock number) = 3
 status_of WrongKeyOrDamaged = 3
+status_of WrongPassword = 3
 status_of (KeyFileHash kept found) = 3
 status_of NotKdbx = 4
+status_of NotPsafe = 4
 status_of (EndsEarly place) = 4
 status_of (BadHeaderField id) = 4
 status_of (BadDictionary place) = 4
@@ -33,9 +36,14 @@ status_of (Form place) = 4
 status_of (MissingElement place) = 4
 status_of (BadValue place) = 4
 status_of (NilId place) = 4
+status_of (NilRecord number) = 4
 status_of (DuplicateId id) = 4
 status_of (BinaryRef number) = 4
 status_of (BadKeyFile place) = 4
+status_of (BadField place) = 4
+status_of (NotUtf8 place) = 4
+status_of NoTitleColumn = 4
+status_of (BadRow number) = 4
 status_of (LineForm number) = 4
 status_of (Version number) = 5
 status_of (UnknownId id) = 5
@@ -50,6 +58,7 @@ status_of Depth = 8
 status_of TooDeep = 8
 status_of TooMany = 8
 status_of KdfLimit = 8
+status_of IterLimit = 8
 status_of StampLimit = 8
 status_of LineLimit = 8
 status_of TooMuch = 8
@@ -74,13 +83,16 @@ reason_text (IntoItself id) = hyphenated_text lower id ++ codes " into itself"
 reason_text (IdTaken id) = codes "id taken " ++ hyphenated_text lower id
 reason_text (NoAttribute name) = codes "no attribute " ++ name
 reason_text NoResult = codes "no results"
+reason_text FileExists = codes "file exists"
 reason_text (DamagedOrWrongKey kept found) = codes "damaged or wrong key: kept "
     ++ encode_lower kept ++ codes " found " ++ encode_lower found
 reason_text (DamagedBlock number) = codes "damaged block " ++ decimal number
 reason_text WrongKeyOrDamaged = codes "wrong key or damaged"
+reason_text WrongPassword = codes "wrong password"
 reason_text (KeyFileHash kept found) = codes "key file: kept " ++ encode_lower kept
     ++ codes " found " ++ encode_lower found
 reason_text NotKdbx = codes "not a KDBX file"
+reason_text NotPsafe = codes "not a psafe3 file"
 reason_text (EndsEarly place) = codes "ends early at " ++ decimal place
 reason_text (BadHeaderField id) = codes "bad header field " ++ decimal id
 reason_text (BadDictionary place) = codes "bad dictionary at " ++ decimal place
@@ -88,9 +100,14 @@ reason_text (Form place) = codes "malformed text at " ++ decimal place
 reason_text (MissingElement place) = codes "missing element at " ++ decimal place
 reason_text (BadValue place) = codes "bad value at " ++ decimal place
 reason_text (NilId place) = codes "nil id at " ++ decimal place
+reason_text (NilRecord number) = codes "nil id at " ++ decimal number
 reason_text (DuplicateId id) = codes "duplicate id " ++ hyphenated_text lower id
 reason_text (BinaryRef number) = codes "no binary " ++ decimal number
 reason_text (BadKeyFile place) = codes "bad key file at " ++ decimal place
+reason_text (BadField place) = codes "bad field at " ++ decimal place
+reason_text (NotUtf8 place) = codes "not UTF-8 at " ++ decimal place
+reason_text NoTitleColumn = codes "no Title column"
+reason_text (BadRow number) = codes "bad row " ++ decimal number
 reason_text (LineForm number) = codes "line " ++ decimal number ++ codes " is not UTF-8"
 reason_text (Version number) = codes "version " ++ decimal number
 reason_text (UnknownId id) = codes "unknown " ++ hyphenated_text lower id
@@ -105,6 +122,7 @@ reason_text Depth = codes "limit passed"
 reason_text TooDeep = codes "limit passed"
 reason_text TooMany = codes "limit passed"
 reason_text KdfLimit = codes "limit passed"
+reason_text IterLimit = codes "limit passed"
 reason_text StampLimit = codes "limit passed"
 reason_text LineLimit = codes "limit passed"
 reason_text TooMuch = codes "limit passed"

@@ -32,16 +32,22 @@ pub enum Reason {
     NoAttribute(Text),
     /// No entry matches the terms of a search.
     NoResult,
+    /// There is a file of the name already, and an import makes a new one.
+    FileExists,
     /// The file keeps another hash or MAC of its header than the header has under the key.
     DamagedOrWrongKey { kept: [u8; 32], found: [u8; 32] },
     /// The block of this number is not the one that was written.
     DamagedBlock(u64),
     /// The deciphered text does not end as every text does.
     WrongKeyOrDamaged,
+    /// The file of Password Safe has another password.
+    WrongPassword,
     /// The key file keeps another hash than its key has.
     KeyFileHash { kept: [u8; 4], found: [u8; 4] },
     /// The file is not a KDBX file.
     NotKdbx,
+    /// The file is not one of Password Safe V3.
+    NotPsafe,
     /// The file, or its deciphered text, ends before a part of it does, at the place.
     EndsEarly(u64),
     /// The field of this number is missing, occurs twice or has a wrong length.
@@ -57,12 +63,23 @@ pub enum Reason {
     BadValue(usize),
     /// The group or the entry at the place has the nil id.
     NilId(usize),
+    /// The record of this number has the nil id.
+    NilRecord(u64),
     /// Two nodes of the document have this id.
     DuplicateId(Uuid),
     /// An attachment refers to the binary of this number, and there is none.
     BinaryRef(u64),
     /// The key file is a key document that is malformed at the place.
     BadKeyFile(usize),
+    /// The field at the place in the deciphered records is malformed or passes their end, or the
+    /// records end at the place before the last of them does.
+    BadField(u64),
+    /// The table is UTF-8 up to the place alone.
+    NotUtf8(u64),
+    /// The table has no column for titles.
+    NoTitleColumn,
+    /// The row of this number has another width than the first, or a malformed time.
+    BadRow(u64),
     /// The line of this number is not UTF-8.
     LineForm(u64),
     /// Files of this version are not read.
@@ -92,6 +109,8 @@ pub enum Reason {
     TooMany,
     /// The file asks for more work to derive its key than is done.
     KdfLimit,
+    /// The file of Password Safe asks for more hashes of its key than are made.
+    IterLimit,
     /// A time that is to be set is after the year 9999.
     StampLimit,
     /// A line of the input is too long.
@@ -151,11 +170,14 @@ pub fn status(reason: &Reason) -> u8
         Reason::IdTaken(_) => 2,
         Reason::NoAttribute(_) => 2,
         Reason::NoResult => 2,
+        Reason::FileExists => 2,
         Reason::DamagedOrWrongKey { .. } => 3,
         Reason::DamagedBlock(_) => 3,
         Reason::WrongKeyOrDamaged => 3,
+        Reason::WrongPassword => 3,
         Reason::KeyFileHash { .. } => 3,
         Reason::NotKdbx => 4,
+        Reason::NotPsafe => 4,
         Reason::EndsEarly(_) => 4,
         Reason::BadHeaderField(_) => 4,
         Reason::BadDictionary(_) => 4,
@@ -163,9 +185,14 @@ pub fn status(reason: &Reason) -> u8
         Reason::MissingElement(_) => 4,
         Reason::BadValue(_) => 4,
         Reason::NilId(_) => 4,
+        Reason::NilRecord(_) => 4,
         Reason::DuplicateId(_) => 4,
         Reason::BinaryRef(_) => 4,
         Reason::BadKeyFile(_) => 4,
+        Reason::BadField(_) => 4,
+        Reason::NotUtf8(_) => 4,
+        Reason::NoTitleColumn => 4,
+        Reason::BadRow(_) => 4,
         Reason::LineForm(_) => 4,
         Reason::Version(_) => 5,
         Reason::UnknownId(_) => 5,
@@ -180,6 +207,7 @@ pub fn status(reason: &Reason) -> u8
         Reason::TooDeep => 8,
         Reason::TooMany => 8,
         Reason::KdfLimit => 8,
+        Reason::IterLimit => 8,
         Reason::StampLimit => 8,
         Reason::LineLimit => 8,
         Reason::TooMuch => 8,
@@ -251,13 +279,16 @@ pub fn text_of_reason(alloc: Global, reason: &Reason) -> Result<String, AllocErr
         Reason::IdTaken(id) => format!(in alloc; "id taken {id}"),
         Reason::NoAttribute(name) => no_attribute(alloc, name.as_str()),
         Reason::NoResult => String::from_str(alloc, "no results"),
+        Reason::FileExists => String::from_str(alloc, "file exists"),
         Reason::DamagedOrWrongKey { kept, found } => {
             compared(alloc, "damaged or wrong key: kept ", *kept, *found)
         }
         Reason::DamagedBlock(number) => format!(in alloc; "damaged block {number}"),
         Reason::WrongKeyOrDamaged => String::from_str(alloc, "wrong key or damaged"),
+        Reason::WrongPassword => String::from_str(alloc, "wrong password"),
         Reason::KeyFileHash { kept, found } => { compared(alloc, "key file: kept ", *kept, *found) }
         Reason::NotKdbx => String::from_str(alloc, "not a KDBX file"),
+        Reason::NotPsafe => String::from_str(alloc, "not a psafe3 file"),
         Reason::EndsEarly(at) => format!(in alloc; "ends early at {at}"),
         Reason::BadHeaderField(id) => format!(in alloc; "bad header field {id}"),
         Reason::BadDictionary(at) => format!(in alloc; "bad dictionary at {at}"),
@@ -265,9 +296,14 @@ pub fn text_of_reason(alloc: Global, reason: &Reason) -> Result<String, AllocErr
         Reason::MissingElement(at) => format!(in alloc; "missing element at {at}"),
         Reason::BadValue(at) => format!(in alloc; "bad value at {at}"),
         Reason::NilId(at) => format!(in alloc; "nil id at {at}"),
+        Reason::NilRecord(number) => format!(in alloc; "nil id at {number}"),
         Reason::DuplicateId(id) => format!(in alloc; "duplicate id {id}"),
         Reason::BinaryRef(number) => format!(in alloc; "no binary {number}"),
         Reason::BadKeyFile(at) => format!(in alloc; "bad key file at {at}"),
+        Reason::BadField(at) => format!(in alloc; "bad field at {at}"),
+        Reason::NotUtf8(at) => format!(in alloc; "not UTF-8 at {at}"),
+        Reason::NoTitleColumn => String::from_str(alloc, "no Title column"),
+        Reason::BadRow(number) => format!(in alloc; "bad row {number}"),
         Reason::LineForm(number) => line_is(alloc, *number, " is not UTF-8"),
         Reason::Version(number) => format!(in alloc; "version {number}"),
         Reason::UnknownId(id) => format!(in alloc; "unknown {id}"),
@@ -282,6 +318,7 @@ pub fn text_of_reason(alloc: Global, reason: &Reason) -> Result<String, AllocErr
         Reason::TooDeep => String::from_str(alloc, "limit passed"),
         Reason::TooMany => String::from_str(alloc, "limit passed"),
         Reason::KdfLimit => String::from_str(alloc, "limit passed"),
+        Reason::IterLimit => String::from_str(alloc, "limit passed"),
         Reason::StampLimit => String::from_str(alloc, "limit passed"),
         Reason::LineLimit => String::from_str(alloc, "limit passed"),
         Reason::TooMuch => String::from_str(alloc, "limit passed"),
