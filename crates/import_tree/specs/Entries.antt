@@ -1,0 +1,78 @@
+-- The entries of an imported file, with the groups that they are in.
+use Rattle.std.specs.Prelude.{ℕ, Bool, true, false, Option, None, Some, List, [], ◌∷◌, ◌++◌, codes, take}
+use Rattle.std.specs.Fmt.{decimal}
+use Rattle.doc_forms.specs.Entries.{no_content}
+use Rattle.sha1.specs.Sha1.{sha1}
+use Rattle.uuid.specs.Parts.{with_variant, with_version}
+use Rattle.uuid.specs.declared.Variant.TheVariants.{RFC4122}
+use Rattle.uuid.specs.declared.Version.TheVariants.{Sha1}
+use Rattle.vault_model.specs.Bare.{BareField}
+use Rattle.vault_model.specs.Db.{NodeId, nil_id}
+use Rattle.vault_model.specs.Shape.{EntryRecord}
+
+-- What the ids of entries without an id are made in.
+abbrev pub entry_space : NodeId
+entry_space = 0x2f ∷ 0x0c ∷ 0x7a ∷ 0x54 ∷ 0x31 ∷ 0xb8 ∷ 0x4e ∷ 0x6d
+    ∷ 0x9a ∷ 0x02 ∷ 0xc4 ∷ 0x7d ∷ 0x5e ∷ 0x81 ∷ 0x90 ∷ 0xab ∷ []
+
+-- A name-based id of version 5 (RFC 9562, section 5.5).
+abbrev pub named_id : NodeId → List ℕ → NodeId
+named_id space name = with_version (with_variant (take 16 (sha1 (space ++ name))) RFC4122) Sha1
+
+-- The id of the entry of this number, which the file gives none.
+abbrev pub numbered_id : ℕ → NodeId
+numbered_id number = named_id entry_space (decimal number)
+
+-- An entry of an imported file: the names of the groups that it is in, from below the root; its id;
+-- its texts; the passwords that it had before, in the form in which the file keeps them, if it does;
+-- and when it was made and changed.
+pub record ImportedEntry : Type 0 where
+  pub groups : List (List ℕ)
+  pub id : NodeId
+  pub title : List ℕ
+  pub user : List ℕ
+  pub password : List ℕ
+  pub url : List ℕ
+  pub notes : List ℕ
+  pub history : Option (List ℕ)
+  pub created : ℕ
+  pub modified : ℕ
+
+-- A field of an entry.
+abbrev pub field : List ℕ → List ℕ → Bool → BareField
+field key value hidden = record { key = key; value = value; hidden = hidden }
+
+-- The passwords before, as a hidden field, where there are some.
+abbrev pub history_field : Option (List ℕ) → List BareField
+history_field None = []
+history_field (Some text) = field (codes "PasswordHistory") text true ∷ []
+
+-- The fields of an entry, by their keys.
+abbrev pub fields_of : ImportedEntry → List BareField
+fields_of entry =
+    field (codes "Notes") entry.notes false
+    ∷ field (codes "Password") entry.password true
+    ∷ (history_field entry.history
+    ++ field (codes "Title") entry.title false
+    ∷ field (codes "URL") entry.url false
+    ∷ field (codes "UserName") entry.user false
+    ∷ [])
+
+-- The entry that is made of it at a moment, which every time is that the file does not give.
+abbrev pub entry_at : ℕ → ImportedEntry → EntryRecord
+entry_at now entry = record {
+  placed = now;
+  previous = nil_id;
+  current = record {
+    mark = record {
+      modified = entry.modified;
+      content = record no_content {
+        created = entry.created;
+        expiry = now;
+        fields = fields_of entry;
+      };
+    };
+    stats = record { accessed = now; usage = 0 };
+  };
+  history = [];
+}

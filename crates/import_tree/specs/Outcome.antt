@@ -1,0 +1,47 @@
+-- What imported entries give, or the first reason why they are not taken.
+use Rattle.std.specs.Prelude.{ℕ, zero, suc, Option, None, Some, List, [], ◌∷◌, ◌++◌, Result, Ok, Err}
+use Rattle.doc_forms.specs.Ids.{least_duplicate, lesser_id}
+use Rattle.import_tree.specs.Entries.{ImportedEntry}
+use Rattle.import_tree.specs.Trees.{document_of}
+use Rattle.import_tree.specs.declared.fails.TreeFail.{TreeFail}
+use Rattle.import_tree.specs.declared.fails.TreeFail.TheVariants as fail
+use Rattle.outside_core.specs.Results.{◌>>=◌}
+use Rattle.vault_model.specs.Db.{NodeId}
+use Rattle.vault_model.specs.Tree.{BareDoc, LEVELS, Tree, Trees, beside, node, node_ids, none}
+
+-- The ids of the groups of a tree that are below so many levels, its own group's level among them.
+abbrev mutual
+  pub groups_below : ℕ → Tree → List NodeId
+  groups_below zero (node id group entries groups) = id ∷ groups_below_among zero groups
+  groups_below (suc n) (node id group entries groups) = groups_below_among n groups
+
+  -- the same of groups side by side
+  pub groups_below_among : ℕ → Trees → List NodeId
+  groups_below_among n none = []
+  groups_below_among n (beside tree trees) = groups_below n tree ++ groups_below_among n trees
+
+-- The least of some ids, if there is one.
+abbrev pub least_id : List NodeId → Option NodeId
+least_id [] = None
+least_id (u ∷ us) = Some (lesser_id u (least_id us))
+
+-- No two nodes have one id; else the least id that two have.
+abbrev pub refuse_duplicate : Option NodeId → Result (Unit {0}) TreeFail
+refuse_duplicate None = Ok tt
+refuse_duplicate (Some id) = Err (fail.DuplicateId id)
+
+-- No group is below the last level; else the least id of one that is.
+abbrev pub refuse_depth : Option NodeId → Result (Unit {0}) TreeFail
+refuse_depth None = Ok tt
+refuse_depth (Some id) = Err (fail.TooDeep id)
+
+-- A document whose ids differ and whose groups are not too deep.
+abbrev pub checked : BareDoc → Result BareDoc TreeFail
+checked doc = do
+  _ ← refuse_duplicate (least_duplicate (node_ids doc.tree))
+  _ ← refuse_depth (least_id (groups_below LEVELS doc.tree))
+  Ok doc
+
+-- The document of imported entries at a moment, or why there is none.
+unfoldable pub imported_document : ℕ → List ImportedEntry → Result BareDoc TreeFail
+imported_document now entries = checked (document_of now entries)

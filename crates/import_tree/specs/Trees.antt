@@ -1,0 +1,57 @@
+-- The tree of imported entries: groups by their names.
+use Rattle.std.specs.Prelude.{ℕ, if◌then◌else◌, List, [], ◌∷◌, ◌++◌, bytes_eq}
+use Rattle.import_tree.specs.Entries.{ImportedEntry, entry_at, named_id}
+use Rattle.vault_model.specs.Db.{NodeId}
+use Rattle.vault_model.specs.Empty.{empty_tree, new_group, new_meta}
+use Rattle.vault_model.specs.Shape.{EntryRecord}
+use Rattle.vault_model.specs.Tree.{BareDoc, Tree, Trees, beside, node, none}
+use Rattle.vault_model.specs.Walk.{name_of}
+
+-- The id of the root of every imported database.
+abbrev pub root_id : NodeId
+root_id = 0x6b ∷ 0x5f ∷ 0x0f ∷ 0x1e ∷ 0x9d ∷ 0x1c ∷ 0x4c ∷ 0x3a
+    ∷ 0x8f ∷ 0x57 ∷ 0x0d ∷ 0x2c ∷ 0x1e ∷ 0x4a ∷ 0x7b ∷ 0x90 ∷ []
+
+-- A new group of a name in the group of this id: an entry is in it, or in the group to which more
+-- names lead from it.
+abbrev pub new_groups : ℕ → NodeId → List ℕ → List (List ℕ) → NodeId × EntryRecord → Tree
+new_groups now parent name [] entry =
+    node (named_id parent name) (new_group name now) (entry ∷ []) none
+new_groups now parent name (next ∷ names) entry =
+    node (named_id parent name) (new_group name now) []
+    (beside (new_groups now (named_id parent name) next names entry) none)
+
+-- A tree with an entry more in the group to which names lead, the last in it. A group that is not
+-- there is made, as the last in its group.
+abbrev mutual
+  pub with_entry : ℕ → List (List ℕ) → NodeId × EntryRecord → Tree → Tree
+  with_entry now [] entry (node id group entries groups) =
+      node id group (entries ++ entry ∷ []) groups
+  with_entry now (name ∷ names) entry (node id group entries groups) =
+      node id group entries (with_entry_among now id name names entry groups)
+
+  -- the same of groups side by side in the group of this id
+  pub with_entry_among : ℕ → NodeId → List ℕ → List (List ℕ) → NodeId × EntryRecord → Trees → Trees
+  with_entry_among now parent name names entry none =
+      beside (new_groups now parent name names entry) none
+  with_entry_among now parent name names entry (beside tree trees) =
+      if bytes_eq (name_of tree) name then beside (with_entry now names entry tree) trees
+      else beside tree (with_entry_among now parent name names entry trees)
+
+-- A tree with an imported entry more.
+abbrev pub with_imported : ℕ → ImportedEntry → Tree → Tree
+with_imported now entry tree = with_entry now entry.groups (entry.id, entry_at now entry) tree
+
+-- A tree with imported entries more, one after another.
+abbrev pub with_entries : ℕ → List ImportedEntry → Tree → Tree
+with_entries now [] tree = tree
+with_entries now (entry ∷ entries) tree =
+    with_entries now entries (with_imported now entry tree)
+
+-- The document of imported entries at a moment.
+abbrev pub document_of : ℕ → List ImportedEntry → BareDoc
+document_of now entries = record {
+  tree = with_entries now entries (empty_tree root_id now);
+  tombs = [];
+  meta = new_meta;
+}
