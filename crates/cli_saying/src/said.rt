@@ -188,6 +188,16 @@ pub fn add_position(
     add_text(state.alloc, &mut state.positions, word)
 }
 
+/// A copy of a text, where there is one.
+pub fn copy_of(alloc: Global, text: Option<&str>) -> Result<Option<Text>, NoMemory>
+    ensures { IfOk result (λ copy. copy ≡ text_seen text.entry) }
+{
+    match text {
+        Some(text) => Ok(Some(Text::of(alloc, text)?)),
+        None => Ok(None),
+    }
+}
+
 /// Copies of texts.
 pub fn copies_of(alloc: Global, texts: &[Text]) -> Result<List<Text>, NoMemory>
     ensures { IfOk result (λ copies. copies ≡ texts.now) }
