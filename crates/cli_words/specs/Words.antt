@@ -85,20 +85,20 @@ import_format_named name =
     else None))
 
 -- The format of what is imported: the plain document where none is named.
-abbrev pub import_format : Option (List ℕ) → Option ImportFormat
-import_format None = Some Xml
-import_format (Some name) = import_format_named name
+abbrev pub import_format_asked : Option (List ℕ) → Option ImportFormat
+import_format_asked None = Some Xml
+import_format_asked (Some name) = import_format_named name
 
 -- A file of this format has no password.
-abbrev pub is_open : ImportFormat → Bool
-is_open Xml = true
-is_open Psafe = false
-is_open Csv = true
+abbrev pub lacks_password : ImportFormat → Bool
+lacks_password Xml = true
+lacks_password Psafe = false
+lacks_password Csv = true
 
 -- How the source of an import is opened: by a password alone, if it has one.
 abbrev pub access_source : Said → ImportFormat → Access
 access_source said format = record {
-  plain = is_open format;
+  plain = lacks_password format;
   quiet = is_given option.Quiet said;
   key_file = None;
   no_password = false;
@@ -192,7 +192,7 @@ import_as said source file None = None
 -- `import SOURCE DATABASE`
 abbrev pub import_at : Said → List (List ℕ) → Option Command
 import_at said (source ∷ file ∷ []) =
-    import_as said source file (import_format (text_of option.ImportFormat said))
+    import_as said source file (import_format_asked (text_of option.ImportFormat said))
 import_at said positions = None
 
 -- A database is written in a format, if that is known.

@@ -129,8 +129,8 @@ fn import_format_named(name: &str) -> Option<ImportFormat>
 }
 
 // The format of what is imported: the plain document where none is named.
-fn import_format(name: Option<&str>) -> Option<ImportFormat>
-    ensures { result ≡ spec.import_format (text_seen name.entry) }
+fn import_format_asked(name: Option<&str>) -> Option<ImportFormat>
+    ensures { result ≡ spec.import_format_asked (text_seen name.entry) }
 {
     match name {
         Some(name) => import_format_named(name),
@@ -426,7 +426,7 @@ fn import_at(alloc: Global, said: &SaidWords<'_, '_>) -> Result<Command, WordsFa
     let [source, file] = said.positions else {
         return Err(WordsFail::Wrong);
     };
-    match import_format(text_of(said, CommandOption::ImportFormat)) {
+    match import_format_asked(text_of(said, CommandOption::ImportFormat)) {
         Some(format) if is_fit_new(said) => Ok(import_from(alloc, said, format, source, file)?),
         _ => Err(WordsFail::Wrong),
     }
