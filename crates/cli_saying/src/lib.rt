@@ -1,6 +1,7 @@
 //! What the words of a call say: its options with their values, and its positions.
 #![tactic(auto)]
 
+pub mod laws;
 mod said;
 mod words;
 
