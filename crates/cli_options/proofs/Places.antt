@@ -58,6 +58,6 @@ last Attachments h = cc
 last Format h = cc
 last Attribute h = refl
 
--- Only one option may stand more than once.
+-- Only one option may occur more than once.
 pub one_repeatable : (f g : CommandOption) → is_repeatable f ≡ true → is_repeatable g ≡ true → place_of f ≡ place_of g
 one_repeatable f g h i = last f h ∙ sym (last g i)
