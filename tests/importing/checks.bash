@@ -129,14 +129,27 @@ psafe3 gorilla.psafe3 correct_horse pw
 psafe3 gorilla.psafe3 correct_horse correct_horse key-64.key
 ROWS
   )
-  # A key file alone, as KeePassXC opens it.
+  # A key file alone, as KeePassXC opens it; and a table that it exports.
   if [ -n "$(command -v keepassxc-cli)" ]; then
+    echo family | QT_QPA_PLATFORM=offscreen keepassxc-cli export -q -f csv "$top/examples/family.kdbx" >table.csv
+    compared 'a table of KeePassXC' "$importing/against" "$program" file csv table.csv
     rm -f FILE
     printf 'correct horse\n' | "$program" import -q --format psafe3 --set-key-file key-2.keyx gorilla.psafe3 FILE
     QT_QPA_PLATFORM=offscreen keepassxc-cli ls -q -R -f --no-password -k key-2.keyx FILE 2>report.txt | grep -qx 'Home/Internet/Router'
     judged 'gorilla.psafe3 under a key file alone, in KeePassXC' $?
   fi
   rm -f FILE wanted.xml table.csv
+}
+
+# exported_again: a table that is imported and exported is, imported and exported again, the same.
+exported_again() {
+  rm -f FILE AGAIN
+  {
+    "$program" import -q --plain --format csv many.csv FILE && "$program" export -f csv --plain FILE >again.csv &&
+      "$program" import -q --plain --format csv again.csv AGAIN && "$program" export -f csv --plain AGAIN | cmp - again.csv
+  } >report.txt 2>&1
+  judged 'a table that is exported and imported again' $?
+  rm -f FILE AGAIN again.csv
 }
 
 # imported_files DATA: all of it.
@@ -154,6 +167,7 @@ imported_files() {
   "$importing/make" rows 5000 many.csv
   "$importing/make" records 300 many.psafe3 pw
   compared 'many rows' "$importing/against" "$program" file csv many.csv
+  exported_again
   compared 'many records' "$importing/against" "$program" file psafe3 many.psafe3 pw
   : >input.txt
   imported_where_no_file_can_be many.csv --plain --format csv
