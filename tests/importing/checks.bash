@@ -176,7 +176,7 @@ imported_files() {
   printf 'pw\npw\n' >input.txt
   imported_where_no_file_can_be many.psafe3 -p --format psafe3
   imported_on_a_full_disk many.csv -p --format csv
-  many_times 'import -p killed' "$importing/killed" "$program" csv many.csv pw 30
+  many_times 'import -p killed' "$importing/killed" "$program" csv many.csv pw 10
   if [ -n "$with_pykeepass" ]; then sealed_imports "$1"; else echo 'skipped: imports into databases; pykeepass is not installed'; fi
   rm -rf many.csv many.psafe3 before.txt after.txt report.txt FILE SOURCE
 }
