@@ -77,6 +77,14 @@ imported_where_no_file_can_be() {
   judged "$name: a report that cannot be printed" $?
   rm work/FILE
   works "$name: quietly" '' "$program" "${words[@]:0:1}" -q "${words[@]:1}" work/FILE
+  rm work/FILE
+  case " $* " in
+    *' -p '*)
+      "$program" "${words[@]}" work/FILE >out.txt 2>err.txt <&-
+      [ $? = 11 ] && [ ! -s out.txt ] && [ "$(cat err.txt)" = 'keepass: input: fault' ] && [ -z "$(ls work)" ]
+      judged "$name: standard input closed" $?
+      ;;
+  esac
   rm -rf work program
 }
 
