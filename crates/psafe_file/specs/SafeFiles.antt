@@ -1,4 +1,4 @@
--- A file of Password Safe V3 by its parts (formatV3.txt, section 3): what is before its blocks, the
+-- A file of Password Safe V3 by its parts (formatV3.txt, section 2): what is before its blocks, the
 -- blocks up to the mark of their end, and the MAC.
 use Rattle.std.specs.Prelude.{ℕ, ◌+◌, ◌*◌, ◌/◌, nat_le, if◌then◌else◌, Option, None, Some, List, codes, length, take, drop, slice_range, bytes_eq, Result, Ok, Err}
 use Rattle.std.specs.Int.{from_le_bytes, w32}
