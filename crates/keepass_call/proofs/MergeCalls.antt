@@ -1,4 +1,4 @@
--- What calls come to that merge parts of an agreed set.
+-- What calls result in that merge parts of an agreed set.
 use Rattle.std.proofs.Common.{◌≡◌, ◌≢◌, ℕ, Bool, true, false, not, cond, ◌&&◌, inl, inr, List, ◌∷◌, Option, Some, None, Result, Ok, Err, map, refl, sym, ap, subst, ◌∙◌, arith, true≢false}
 use Rattle.std.specs.Prelude.{if◌then◌else◌, option_map}
 use Rattle.std.specs.FinMap.{get, get-insert}
@@ -46,7 +46,7 @@ use Rattle.cli_sealing.specs.Draws.{draws_of}
 use Rattle.cli_sealing.specs.Held.{contents_with}
 use Rattle.cli_sealing.specs.Sealing.{file_by, file_unless, seal_answer, settings_for}
 use Rattle.cli_merging.specs.Merging.{AfterMerge, after_merge, after_merged, changes_between, merged_or_refusal}
-use Rattle.cli_merging.specs.Reports.{merge_report}
+use Rattle.merge_reports.specs.Reports.{merge_report}
 use Rattle.cli_commands.specs.Commands.{Change, merged_change}
 use Rattle.keepass_call.specs.Endings.{Ending, HoldsNew, ReadsBack, carried_out, change_of_task, ended_with, ending_with, new_file}
 use Rattle.keepass_call.specs.Held.{IsAuthentic, IsTask}
