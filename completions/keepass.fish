@@ -1,5 +1,7 @@
 # Made by docs/make-words from docs/commands.toml.
 complete -c keepass -n __fish_use_subcommand -f
+complete -c keepass -n __fish_use_subcommand -l help -d 'Prints how the program is called.'
+complete -c keepass -n __fish_use_subcommand -l version -d 'Prints the version of the program.'
 complete -c keepass -n __fish_use_subcommand -a ls -d 'Lists the titles of a group\'s entries and the names of its groups; the root group where none is named.'
 complete -c keepass -n '__fish_seen_subcommand_from ls' -l recursive -s R -d 'The groups inside are listed too, each indented by two spaces more.'
 complete -c keepass -n '__fish_seen_subcommand_from ls' -l flatten -s f -d 'With --recursive: each line begins with its path in place of spaces.'

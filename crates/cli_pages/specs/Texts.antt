@@ -120,7 +120,7 @@ help =
     ++ codes "        The database has no password: no line is read for it. Needs a key file.\n"
     ++ codes "\n"
     ++ codes "keepass --help\n"
-    ++ codes "    Prints this page.\n"
+    ++ codes "    Prints how the program is called.\n"
     ++ codes "keepass --version\n"
     ++ codes "    Prints the version of the program.\n"
     ++ codes "\n"

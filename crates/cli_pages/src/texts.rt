@@ -122,7 +122,7 @@ Options of every command but import:
         The database has no password: no line is read for it. Needs a key file.
 
 keepass --help
-    Prints this page.
+    Prints how the program is called.
 keepass --version
     Prints the version of the program.
 
