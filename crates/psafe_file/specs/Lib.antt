@@ -3,4 +3,5 @@ pub mod Macs
 pub mod Opened
 pub mod Results
 pub mod SafeFiles
+pub mod SafeForms
 pub mod Seen

@@ -5,6 +5,7 @@
 
 mod fails;
 mod keys;
+pub mod laws;
 mod macs;
 mod opened;
 mod parts;

@@ -10,7 +10,7 @@ ghost use Rattle.sha2.specs.Sha256.{sha256};
 
 use crate::PsafeFail;
 use crate::keys::{deciphered_key, stretched_key};
-use crate::parts::{Preamble, SafeFile, read_file};
+use crate::parts::{Preamble, SafeFile, safe_file};
 use block_core::{Twofish256, cbc_decrypt};
 use mac_core::Hmac256;
 use secret_core::{Key, Secret};
@@ -104,7 +104,7 @@ pub fn open_safe(alloc: Global, bytes: &[u8], password: &[u8]) -> Result<OpenedS
     ensures computed { IfOk result
         (λ s. HasAbsorbed s.computed (file_mac_key bytes.now password.now) []) }
 {
-    let file = read_file(bytes)?;
+    let file = safe_file(bytes)?;
     let iterations = file.preamble.iterations;
     if iterations > MAX_ITERATIONS {
         return Err(PsafeFail::IterLimit(iterations));

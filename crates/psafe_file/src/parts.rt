@@ -136,7 +136,7 @@ fn has_tag(bytes: &[u8]) -> bool
 ///
 /// NotPsafe where the file has not the tag, else Truncated where it has not all parts.
 #[tactic(auto, unfolding(crate::specs::SafeFiles::safe_file))]
-pub(crate) fn read_file(bytes: &[u8]) -> Result<SafeFile<'_>, PsafeFail>
+pub(crate) fn safe_file(bytes: &[u8]) -> Result<SafeFile<'_>, PsafeFail>
     ensures gives { Returns file_seen result (safe_file bytes.now) }
     ensures preamble { IfOk result (λ f. preamble_seen f.preamble ≡ preamble_of bytes.now) }
     ensures whole { IfOk result (λ f. length f.blocks.now % 16 ≡ 0) }
