@@ -1,6 +1,7 @@
 -- The entries of an imported file, with the groups that they are in.
-use Rattle.std.specs.Prelude.{ℕ, Bool, true, false, Option, None, Some, List, [], ◌∷◌, ◌++◌, codes, take}
+use Rattle.std.specs.Prelude.{ℕ, Bool, true, false, ◌&&◌, Option, None, Some, List, [], ◌∷◌, ◌++◌, codes, take}
 use Rattle.std.specs.Fmt.{decimal}
+use Rattle.std.specs.List.{list_all}
 use Rattle.doc_forms.specs.Entries.{no_content}
 use Rattle.sha1.specs.Sha1.{sha1}
 use Rattle.uuid.specs.Parts.{with_variant, with_version}
@@ -8,6 +9,7 @@ use Rattle.uuid.specs.declared.Variant.TheVariants.{RFC4122}
 use Rattle.uuid.specs.declared.Version.TheVariants.{Sha1}
 use Rattle.vault_model.specs.Bare.{BareField}
 use Rattle.vault_model.specs.Db.{NodeId, nil_id}
+use Rattle.vault_model.specs.Proper.{is_text_field}
 use Rattle.vault_model.specs.Shape.{EntryRecord}
 
 -- What the ids of entries without an id are made in.
@@ -57,6 +59,10 @@ fields_of entry =
     ∷ field (codes "URL") entry.url false
     ∷ field (codes "UserName") entry.user false
     ∷ [])
+
+-- all texts of the entry are in UTF-8
+abbrev pub are_texts : ImportedEntry → Bool
+are_texts entry = list_all is_text_field (fields_of entry)
 
 -- The entry that is made of it at a moment, which every time is that the file does not give.
 abbrev pub entry_at : ℕ → ImportedEntry → EntryRecord

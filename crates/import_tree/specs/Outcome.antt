@@ -5,7 +5,8 @@ use Rattle.import_tree.specs.Entries.{ImportedEntry}
 use Rattle.import_tree.specs.Trees.{document_of}
 use Rattle.import_tree.specs.declared.fails.TreeFail.{TreeFail}
 use Rattle.import_tree.specs.declared.fails.TreeFail.TheVariants as fail
-use Rattle.outside_core.specs.Results.{◌>>=◌}
+use Rattle.outside_core.specs.Results as results
+use Rattle.outside_core.specs.Results.{◌>>=◌, Meaning, exact, free}
 use Rattle.vault_model.specs.Db.{NodeId}
 use Rattle.vault_model.specs.Tree.{BareDoc, LEVELS, Tree, Trees, beside, node, node_ids, none}
 
@@ -45,3 +46,13 @@ checked doc = do
 -- The document of imported entries at a moment, or why there is none.
 unfoldable pub imported_document : ℕ → List ImportedEntry → Result BareDoc TreeFail
 imported_document now entries = checked (document_of now entries)
+
+-- What a refusal says of what is defined: that this is its refusal, but running out of memory says
+-- nothing.
+abbrev pub meaning_of : TreeFail → Meaning TreeFail
+meaning_of fail.NoMemory = free
+meaning_of refusal = exact refusal
+
+-- what a call returns is what is defined, seen without memory
+abbrev pub Returns : {X Y : Type 0} → (X → Y) → Result X TreeFail → Result Y TreeFail → Type 0
+Returns view result defined = results.Returns meaning_of view result defined
