@@ -1,0 +1,6 @@
+pub mod Keys
+pub mod Macs
+pub mod Opened
+pub mod Results
+pub mod SafeFiles
+pub mod Seen
