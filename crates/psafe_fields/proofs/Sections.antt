@@ -1,6 +1,6 @@
 -- Records, one after another.
 use Rattle.std.proofs.Common.{◌≡◌, ℕ, ◌+◌, ◌<◌, true, false, List, [], ◌∷◌, ◌++◌, length, take, drop, refl, ap, sym, ◌∙◌, get_or, append_assoc, subst}
-use Rattle.std.proofs.lemmas.List.{append-nil, drop_more, take_more}
+use Rattle.std.proofs.lemmas.List.{append-nil, drop-drop, drop_more, take_more}
 use Rattle.psafe_fields.specs.Ends.{EndsFirst}
 use Rattle.psafe_fields.specs.Fields.{SafeField, after_header, in_first, is_end, records_in}
 
@@ -52,3 +52,14 @@ module _ (fields : List SafeField) (at : ℕ) (within : at < length fields) (d :
       let e = drop_more fields at d within in
       let after : after_header (get_or fields at d ∷ drop (at + 1) fields) ≡ after_header fields = subst (λ (l : List SafeField). after_header l ≡ after_header fields) e later in
       simp goes_on at after
+
+-- A record more, of what is left from a place on.
+pub record_more : (all : List SafeField) (start len : ℕ) (done : List (List SafeField)) (record_fields : List SafeField) (total : List (List SafeField))
+    → EndsFirst (drop start all) len → record_fields ≡ take len (drop start all) → done ++ records_in (drop start all) ≡ total
+    → (done ++ record_fields ∷ []) ++ records_in (drop (start + (len + 1)) all) ≡ total
+record_more all start len done record_fields total ends is so_far =
+    let next : record_fields ∷ records_in (drop (start + (len + 1)) all) ≡ records_in (drop start all) =
+    ap (λ (r : List SafeField). r ∷ records_in (drop (start + (len + 1)) all)) is
+    ∙ ap (λ (l : List SafeField). take len (drop start all) ∷ records_in l) (sym (drop-drop (len + 1) start all))
+    ∙ sym ends.records in
+    append_assoc done (record_fields ∷ []) (records_in (drop (start + (len + 1)) all)) ∙ ap (λ (l : List (List SafeField)). done ++ l) next ∙ so_far

@@ -1,6 +1,6 @@
 -- The types of the fields of a record that are read (formatV3.txt, section 3.3), and what their
 -- contents are.
-use Rattle.std.specs.Prelude.{ℕ, ◌+◌, ◌==◌, ◌||◌, ◌&&◌, nat_lt, nat_le, Bool, not, if◌then◌else◌, List, length}
+use Rattle.std.specs.Prelude.{ℕ, ◌+◌, ◌==◌, ◌||◌, ◌&&◌, nat_lt, nat_le, Bool, not, if◌then◌else◌, Option, None, Some, List, length}
 use Rattle.std.specs.Str.{is_utf8}
 use Rattle.std.specs.Int.{from_le_bytes, w64}
 use Rattle.time_core.specs.Times.{last_stamp}
@@ -61,6 +61,12 @@ has_time content = (length content == 4) || (length content == 5) || (length con
 -- 1970-01-01T00:00:00Z, the least byte first; the bytes that a shorter one lacks are 0.
 abbrev pub seconds_of : List ℕ → ℕ
 seconds_of content = 62135596800 + from_le_bytes w64 content
+
+-- The moment that the content of a field is, where it is one of the years up to 9999.
+abbrev pub moment_of : List ℕ → Option ℕ
+moment_of content =
+    if has_time content && nat_le (seconds_of content) last_stamp then Some (seconds_of content)
+    else None
 
 -- A time after the year 9999.
 abbrev pub is_late : List ℕ → Bool

@@ -1,5 +1,6 @@
 -- What is seen of fields in memory, which lend their contents: the bytes.
 use Rattle.std.specs.Prelude.{ℕ, List, map}
+use Rattle.std.specs.Borrow.{Bor}
 use Rattle.outside_core.specs.Results.{Meaning, exact, free}
 use Rattle.psafe_fields.specs.Fields as fields
 use Rattle.psafe_fields.specs.declared.fields.FieldTable.{FieldTable}
@@ -14,6 +15,10 @@ field_seen f = record { offset = f.offset; kind = f.kind; content = f.content.no
 -- Fields one after another.
 abbrev pub fields_seen : List SafeField → List fields.SafeField
 fields_seen fs = map field_seen fs
+
+-- Records: the fields of each.
+abbrev pub records_seen : List (Bor (List SafeField)) → List (List fields.SafeField)
+records_seen rs = map (λ r. fields_seen r.now) rs
 
 -- All fields, and the place of one that passes the end.
 abbrev pub table_seen : FieldTable → fields.FieldList

@@ -4,7 +4,7 @@ ghost use Rattle.std.specs.Option.{MatchOption};
 ghost use Rattle.std.specs.Int.{from_le_bytes, w64};
 ghost use Rattle.time_core.specs.Times.{last_stamp};
 ghost use Rattle.std.specs.Str.{is_utf8};
-ghost use Rattle.psafe_fields.specs.Kinds.{has_time, is_faulty, is_late, is_text_kind, is_time_kind, seconds_of};
+ghost use Rattle.psafe_fields.specs.Kinds.{has_time, is_faulty, is_late, is_text_kind, is_time_kind, moment_of};
 
 use std::str;
 use time_core::Stamp;
@@ -51,13 +51,21 @@ fn unix_seconds(content: &[u8]) -> Option<u64>
 /// The moment that the content of a field is; `None` where it has another length than a time, which
 /// is 4, 5 or 8 bytes, or where the moment is after the year 9999.
 pub fn moment_of(content: &[u8]) -> Option<Stamp>
-    ensures { MatchOption result
-        ((has_time content.now ≡ true) → (last_stamp < seconds_of content.now))
-        (λ stamp. (has_time content.now ≡ true) × (seconds_of content.now ≤ last_stamp)
-        × (stamp ≡ seconds_of content.now)) }
+    ensures { result ≡ moment_of content.now }
 {
     let seconds = unix_seconds(content)?;
     Stamp::of(seconds.checked_add(62_135_596_800)?)
+}
+
+/// The text that the content of a field is; `None` where it is not UTF-8.
+pub fn text_of(content: &[u8]) -> Option<&str>
+    ensures { MatchOption result (is_utf8 content.now ≡ false)
+        (λ text. (is_utf8 content.now ≡ true) × (text.now ≡ content.now)) }
+{
+    match str::from_utf8(content) {
+        Ok(text) => Some(text),
+        Err(_) => None,
+    }
 }
 
 // A type of fields whose content is a text.
@@ -77,16 +85,6 @@ fn is_time_kind(kind: u8) -> bool
     kind == kind::CREATED || kind == kind::MODIFIED
 }
 
-// Reports whether bytes are a text in UTF-8.
-fn is_utf8(bytes: &[u8]) -> bool
-    ensures { result ≡ is_utf8 bytes.now }
-{
-    match str::from_utf8(bytes) {
-        Ok(_) => true,
-        Err(_) => false,
-    }
-}
-
 // Reports whether the content of a field is a time after the year 9999.
 fn is_late(content: &[u8]) -> bool
     ensures { result ≡ is_late content.now }
@@ -102,7 +100,7 @@ pub(crate) fn is_faulty(kind: u8, content: &[u8]) -> bool
     ensures { result ≡ is_faulty kind content.now }
 {
     if is_text_kind(kind) {
-        !is_utf8(content)
+        text_of(content).is_none()
     } else if kind == kind::ID {
         content.len() != 16
     } else {

@@ -7,7 +7,7 @@ mod faults;
 mod fields;
 mod records;
 
-pub use contents::{kind, moment_of};
+pub use contents::{kind, moment_of, text_of};
 pub use faults::{FieldsFail, read_fields};
 pub use fields::SafeField;
-pub use records::{after_header, next_record};
+pub use records::records_of;

@@ -1,12 +1,14 @@
 //! The header and the records that fields make up.
-ghost use Rattle.std.specs.Prelude.{◌≡◌, ◌∷◌, ◌<◌, [], IfSome, length};
+ghost use Rattle.std.specs.Prelude.{◌≡◌, ◌≤◌, [], ◌∷◌, ◌++◌, IfOk, OnOk, drop, length};
 ghost use Rattle.std.specs.Option.{MatchOption};
-ghost use Rattle.psafe_fields.specs.Fields.{after_header, records_in};
-ghost use Rattle.psafe_fields.specs.Seen.{fields_seen};
+ghost use Rattle.psafe_fields.specs.Fields.{after_header, records_of};
+ghost use Rattle.psafe_fields.specs.Seen.{fields_seen, records_seen};
 ghost use Rattle.psafe_fields.specs.Ends.{AreUnended, EndsFirst};
 
 use crate::contents::kind;
 use crate::fields::SafeField;
+use outside_core::{List, NoMemory};
+use std::alloc::Global;
 
 // The index of the first field that ends the header or a record.
 fn first_end(fields: &[SafeField]) -> Option<usize>
@@ -21,27 +23,51 @@ fn first_end(fields: &[SafeField]) -> Option<usize>
     None
 }
 
-/// The first record that fields make up, and the fields after the one that ends it; `None` where no
-/// field ends a record.
-pub fn next_record<'a, 'b>(
-    fields: &'b [SafeField<'a>],
-) -> Option<(&'b [SafeField<'a>], &'b [SafeField<'a>])>
-    ensures records { MatchOption result (records_in (fields_seen fields.now) ≡ [])
-        (λ x. records_in (fields_seen fields.now)
-        ≡ fields_seen x.0.now ∷ records_in (fields_seen x.1.now)) }
-    ensures shorter { IfSome result (λ x. length x.1.now < length fields.now) }
+// How many fields the header takes, with the one that ends it.
+fn header_len(fields: &[SafeField]) -> usize
+    ensures after { after_header (fields_seen fields.now) ≡ drop result (fields_seen fields.now) }
+    ensures within { result ≤ length fields.now }
 {
-    let end = first_end(fields)?;
-    Some((&fields[..end], &fields[end + 1..]))
+    match first_end(fields) {
+        Some(end) => end + 1,
+        None => fields.len(),
+    }
 }
 
 /// The fields after the header, which make up the records.
-pub fn after_header<'a, 'b>(fields: &'b [SafeField<'a>]) -> &'b [SafeField<'a>]
+pub(crate) fn after_header<'a, 'b>(fields: &'b [SafeField<'a>]) -> &'b [SafeField<'a>]
     ensures { fields_seen result.now ≡ after_header (fields_seen fields.now) }
 {
-    let start = match first_end(fields) {
-        Some(end) => end + 1,
-        None => fields.len(),
-    };
-    &fields[start..]
+    &fields[header_len(fields)..]
+}
+
+// Puts a record after others.
+fn add_record<'a, 'b>(
+    records: &mut List<&'b [SafeField<'a>]>,
+    record_fields: &'b [SafeField<'a>],
+) -> Result<(), NoMemory>
+    ensures { OnOk result (records_seen records.new
+        ≡ records_seen records.old ++ fields_seen record_fields.now ∷ []) }
+{
+    match records.push(record_fields) {
+        Ok(()) => Ok(()),
+        Err(_) => Err(NoMemory),
+    }
+}
+
+/// The records of all fields: the fields of each, without the one that ends it. The only refusal is
+/// that memory ran out.
+pub fn records_of<'a, 'b>(
+    alloc: Global,
+    fields: &'b [SafeField<'a>],
+) -> Result<List<&'b [SafeField<'a>]>, NoMemory>
+    ensures { IfOk result (λ records. records_seen records ≡ records_of (fields_seen fields.now)) }
+{
+    let mut records = List::new(alloc);
+    let mut start = header_len(fields);
+    while let Some(len) = first_end(&fields[start..]) {
+        add_record(&mut records, &fields[start..start + len])?;
+        start += len + 1;
+    }
+    Ok(records)
 }
