@@ -1,5 +1,4 @@
--- The keys of a file of Password Safe V3, which a password gives (formatV3.txt, sections 3.4 to
--- 3.6).
+-- The keys of a file of Password Safe V3, which a password gives (formatV3.txt, section 2).
 use Rattle.std.specs.Prelude.{ℕ, List, ◌++◌, take, drop}
 use Rattle.std.specs.Fn.{iterate}
 use Rattle.block_core.specs.Twofish.{twofish256_decipher}

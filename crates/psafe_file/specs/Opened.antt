@@ -5,7 +5,7 @@ use Rattle.block_core.specs.Twofish.{twofish256_decipher}
 use Rattle.outside_core.specs.Results.{◌>>=◌}
 use Rattle.sha2.specs.Sha256.{sha256}
 use Rattle.psafe_file.specs.Keys.{block_key, mac_key, max_iterations, stretched_key}
-use Rattle.psafe_file.specs.SafeFiles.{Preamble, SafeFile, preamble_of, safe_file}
+use Rattle.psafe_file.specs.SafeFiles.{SafeFile, preamble_of, safe_file}
 use Rattle.psafe_file.specs.declared.fails.PsafeFail.{PsafeFail}
 use Rattle.psafe_file.specs.declared.fails.PsafeFail.TheVariants as fail
 use Rattle.psafe_file.specs.declared.opened.OpenedSafe.{OpenedSafe}

@@ -1,6 +1,6 @@
--- A file of Password Safe V3 by its parts (formatV3.txt, section 3): what is before its blocks, the
+-- A file of Password Safe V3 by its parts (formatV3.txt, section 2): what is before its blocks, the
 -- blocks up to the mark of their end, and the MAC.
-use Rattle.std.specs.Prelude.{ℕ, ◌+◌, ◌*◌, ◌/◌, ◌-◌, nat_le, if◌then◌else◌, Option, None, Some, List, codes, length, take, drop, slice_range, bytes_eq, Result, Ok, Err}
+use Rattle.std.specs.Prelude.{ℕ, ◌+◌, ◌*◌, ◌/◌, nat_le, if◌then◌else◌, Option, None, Some, List, codes, length, take, drop, slice_range, bytes_eq, Result, Ok, Err}
 use Rattle.std.specs.Int.{from_le_bytes, w32}
 use Rattle.std.specs.List.{position}
 use Rattle.block_core.specs.Cbc.{blocks}
@@ -54,11 +54,13 @@ blocks_before_mark bytes =
 
 -- The parts of a file with so many blocks before the mark.
 abbrev pub parts_of : List ℕ → ℕ → SafeFile
-parts_of bytes count = record {
-  preamble = preamble_of bytes;
-  blocks = slice_range bytes preamble_len (preamble_len + 16 * count);
-  mac = slice_range bytes (preamble_len + 16 * count + 16) (preamble_len + 16 * count + 48);
-}
+parts_of bytes count =
+    let end = preamble_len + 16 * count in
+    record {
+      preamble = preamble_of bytes;
+      blocks = slice_range bytes preamble_len end;
+      mac = slice_range bytes (end + 16) (end + 16 + 32);
+    }
 
 -- The parts of a file whose blocks are marked after so many, if they are: the MAC, which follows
 -- the mark, is whole. Bytes after the MAC are passed over.

@@ -1,9 +1,10 @@
 //! The parts of a file.
 
-ghost use Rattle.std.specs.Prelude.{◌≡◌, ◌+◌, ◌*◌, ◌≤◌, ◌%◌, IfOk, IfSome, length, slice_range};
+ghost use Rattle.std.specs.Prelude.{◌≡◌, ◌+◌, ◌*◌, ◌≤◌, ◌%◌, IfOk, IfSome, bytes_eq, length, slice_range, take};
 ghost use Rattle.std.specs.Int.{w32, from_le_bytes};
+ghost use Rattle.std.specs.List.{position};
 ghost use Rattle.psafe_file.specs.Results.{Returns};
-ghost use Rattle.psafe_file.specs.SafeFiles.{blocks_before_mark, parts_of, preamble_of, safe_file};
+ghost use Rattle.psafe_file.specs.SafeFiles.{blocks_before_mark, end_mark, marked_file, preamble_of, safe_file, tag};
 ghost use Rattle.psafe_file.specs.Seen.{file_seen, preamble_seen};
 
 use crate::PsafeFail;
@@ -76,13 +77,57 @@ fn preamble_of(bytes: &[u8]) -> Preamble<'_>
     }
 }
 
+// Whether a block marks the end of the blocks.
+fn is_end_mark(block: &[u8; 16]) -> bool
+    ensures { result ≡ bytes_eq block.now end_mark }
+{
+    *block == END_MARK
+}
+
+// The place of the first block that marks the end.
+fn end_mark_in(blocks: &[[u8; 16]]) -> Option<usize>
+    ensures { result ≡ position (λ block. bytes_eq block end_mark) blocks.now }
+{
+    blocks.iter().position(|block| is_end_mark(block))
+}
+
 // How many blocks are before the first that is the mark.
 fn blocks_before_mark(bytes: &[u8]) -> Option<usize>
     ensures is { result ≡ blocks_before_mark bytes.now }
     ensures within { IfSome result (λ n. 16 * n + 16 ≤ length bytes.now) }
 {
     let (blocks, _part) = bytes.as_chunks::<BLOCK>();
-    blocks.iter().position(|block| *block == END_MARK)
+    end_mark_in(blocks)
+}
+
+// The parts of a file whose blocks are marked after so many, if they are.
+fn marked_file(bytes: &[u8], count: Option<usize>) -> Result<SafeFile<'_>, PsafeFail>
+    requires preamble { 152 ≤ length bytes.now }
+    requires mark { IfSome count (λ n. 152 + 16 * n + 16 ≤ length bytes.now) }
+    ensures gives { Returns file_seen result (marked_file bytes.now count) }
+    ensures preamble { IfOk result (λ f. preamble_seen f.preamble ≡ preamble_of bytes.now) }
+    ensures whole { IfOk result (λ f. length f.blocks.now % 16 ≡ 0) }
+{
+    let size = bytes.len();
+    let Some(count) = count else {
+        return Err(PsafeFail::Truncated(size as u64));
+    };
+    let end = PREAMBLE + BLOCK * count;
+    if size < end + MARK_AND_MAC {
+        return Err(PsafeFail::Truncated(size as u64));
+    }
+    Ok(SafeFile {
+        preamble: preamble_of(bytes),
+        blocks: &bytes[PREAMBLE..end],
+        mac: array_at(bytes, end + BLOCK),
+    })
+}
+
+// Whether a file begins with the tag.
+fn has_tag(bytes: &[u8]) -> bool
+    ensures { result ≡ bytes_eq (take 4 bytes.now) tag }
+{
+    bytes.starts_with(&TAG)
 }
 
 /// The parts of a file, of which the bytes after the MAC are none.
@@ -93,28 +138,15 @@ fn blocks_before_mark(bytes: &[u8]) -> Option<usize>
 #[tactic(auto, unfolding(crate::specs::SafeFiles::safe_file))]
 pub(crate) fn read_file(bytes: &[u8]) -> Result<SafeFile<'_>, PsafeFail>
     ensures gives { Returns file_seen result (safe_file bytes.now) }
-    ensures whole { IfOk result (λ f. length f.blocks.now % 16 ≡ 0) }
-    ensures within { IfOk result (λ f. length f.blocks.now ≤ length bytes.now) }
     ensures preamble { IfOk result (λ f. preamble_seen f.preamble ≡ preamble_of bytes.now) }
+    ensures whole { IfOk result (λ f. length f.blocks.now % 16 ≡ 0) }
 {
-    if !bytes.starts_with(&TAG) {
+    if !has_tag(bytes) {
         return Err(PsafeFail::NotPsafe);
     }
-    let truncated = PsafeFail::Truncated(bytes.len() as u64);
     if bytes.len() < PREAMBLE {
-        return Err(truncated);
+        return Err(PsafeFail::Truncated(bytes.len() as u64));
     }
-    let rest = &bytes[PREAMBLE..];
-    let Some(count) = blocks_before_mark(rest) else {
-        return Err(truncated);
-    };
-    let size = BLOCK * count;
-    if rest.len() < size + MARK_AND_MAC {
-        return Err(truncated);
-    }
-    Ok(SafeFile {
-        preamble: preamble_of(bytes),
-        blocks: &rest[..size],
-        mac: array_at(rest, size + BLOCK),
-    })
+    let (_preamble, rest) = bytes.split_at(PREAMBLE);
+    marked_file(bytes, blocks_before_mark(rest))
 }
