@@ -1,0 +1,5 @@
+pub mod Lasts
+pub mod Names
+pub mod Records
+pub mod Texts
+pub mod Whole

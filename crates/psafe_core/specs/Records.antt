@@ -37,7 +37,7 @@ abbrev pub time_of : ℕ → ℕ → List SafeField → ℕ
 time_of kind now fields = unwrap_or (last_of (moment_in kind) fields) now
 
 -- The id of the entry of the record of this number, from 1.
-abbrev pub id_of : ℕ → List SafeField → NodeId
+unfoldable pub id_of : ℕ → List SafeField → NodeId
 id_of number fields = unwrap_or (last_of id_in fields) (numbered_id number)
 
 -- A byte more at the start of the first name.

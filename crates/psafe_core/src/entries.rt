@@ -2,7 +2,7 @@
 ghost use Rattle.std.specs.Prelude.{◌≡◌, [], ◌∷◌, ◌++◌, IfOk, OnOk};
 ghost use Rattle.std.specs.List.{filter};
 ghost use Rattle.std.specs.Option.{option_map};
-ghost use Rattle.import_tree.specs.SeenDrafts.{imported_seen};
+ghost use Rattle.import_tree.specs.SeenEntries.{imported_seen};
 ghost use Rattle.psafe_core.specs.Records as spec;
 ghost use Rattle.psafe_core.specs.Records.{group_names, imported_record, is_named, last_of, text_in};
 ghost use Rattle.psafe_fields.specs.Kinds as spec_kinds;

@@ -3,7 +3,7 @@ ghost use Rattle.std.specs.Prelude.{◌≡◌, ◌≢◌, ◌∷◌, [], ◌++�
 ghost use Rattle.import_tree.specs.Outcome.{checked};
 ghost use Rattle.import_tree.specs.SeenDrafts.{draft_seen};
 ghost use Rattle.mac_core.specs.Hmac256.{HasAbsorbed};
-ghost use Rattle.psafe_core.specs.Outcome.{content_outcome, nil_record, or_field_form, or_tree_fail, psafe_outcome, records_outcome};
+ghost use Rattle.psafe_core.specs.Outcome.{content_outcome, nil_record, of_tree, or_field_form, or_tree_fail, psafe_outcome, records_outcome};
 ghost use Rattle.psafe_core.specs.Records as spec;
 ghost use Rattle.psafe_core.specs.Records.{imported_record, imported_records};
 ghost use Rattle.psafe_core.specs.Seen.{with_more};
@@ -94,15 +94,24 @@ fn add_records(
     Ok(())
 }
 
+// A refusal of imported entries, as one of the file.
+fn of_tree(refusal: TreeFail) -> PsafeFail
+    ensures { result ≡ of_tree refusal }
+{
+    match refusal {
+        TreeFail::DuplicateId(id) => PsafeFail::DuplicateId(id),
+        TreeFail::TooDeep(id) => PsafeFail::TooDeep(id),
+        TreeFail::NoMemory => PsafeFail::NoMemory,
+    }
+}
+
 // The document of a draft.
 fn finished(alloc: Global, draft: ImportDraft) -> Result<Doc, PsafeFail>
     ensures { Returns doc_seen result (or_tree_fail (checked (draft_seen draft))) }
 {
     match finish_import(alloc, draft) {
         Ok(doc) => Ok(doc),
-        Err(TreeFail::DuplicateId(id)) => Err(PsafeFail::DuplicateId(id)),
-        Err(TreeFail::TooDeep(id)) => Err(PsafeFail::TooDeep(id)),
-        Err(TreeFail::NoMemory) => Err(PsafeFail::NoMemory),
+        Err(refusal) => Err(of_tree(refusal)),
     }
 }
 

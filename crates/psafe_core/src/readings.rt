@@ -85,6 +85,7 @@ pub(crate) fn time_of(kind: u8, now: Stamp, record_fields: &[SafeField]) -> Stam
 
 /// The id of the entry of the record of this number, from 1: its own, or else one that is made of
 /// the number.
+#[tactic(auto, unfolding(crate::specs::Records::id_of))]
 pub(crate) fn id_of(number: u64, record_fields: &[SafeField]) -> Uuid
     ensures { result ≡ spec.id_of number (fields_seen record_fields.now) }
 {
