@@ -1,3 +1,4 @@
+mod Examples
 pub mod Lasts
 pub mod Names
 pub mod Records

@@ -37,15 +37,14 @@ fn fields_of(alloc: Global, bytes: &[u8]) -> Result<List<SafeField>, PsafeFail>
     }
 }
 
-// The MAC of what was given to it before and of the contents of fields.
-fn fed(mut computed: Hmac256, fields: &[SafeField]) -> Hmac256
-    ensures { (key message : List ℕ) → HasAbsorbed computed key message
-        → HasAbsorbed result key (message ++ contents_of (fields_seen fields.now)) }
+// Gives the contents of fields to a MAC.
+fn absorb_fields(computed: &mut Hmac256, fields: &[SafeField])
+    ensures { (key message : List ℕ) → HasAbsorbed computed.old key message
+        → HasAbsorbed computed.new key (message ++ contents_of (fields_seen fields.now)) }
 {
     for field in fields {
         computed.update(field.content);
     }
-    computed
 }
 
 // The number of the first record whose entry has the nil id, if one has it.
@@ -106,7 +105,7 @@ fn of_tree(refusal: TreeFail) -> PsafeFail
 }
 
 // The document of a draft.
-fn finished(alloc: Global, draft: ImportDraft) -> Result<Doc, PsafeFail>
+fn finish(alloc: Global, draft: ImportDraft) -> Result<Doc, PsafeFail>
     ensures { Returns doc_seen result (or_tree_fail (checked (draft_seen draft))) }
 {
     match finish_import(alloc, draft) {
@@ -125,7 +124,7 @@ fn document_of(alloc: Global, now: Stamp, records: &[&[SafeField]]) -> Result<Do
     }
     let mut draft = start_import(alloc, now)?;
     add_records(alloc, &mut draft, now, records)?;
-    finished(alloc, draft)
+    finish(alloc, draft)
 }
 
 // The document of what a password opened; the MAC was given nothing yet.
@@ -137,10 +136,11 @@ fn read_content(alloc: Global, now: Stamp, safe: OpenedSafe) -> Result<Doc, Psaf
     let OpenedSafe {
         bytes,
         mac,
-        computed,
+        mut computed,
     } = safe;
     let fields = fields_of(alloc, bytes.lend(0, bytes.len()))?;
-    check_mac(&mac, fed(computed, fields.as_slice()))?;
+    absorb_fields(&mut computed, fields.as_slice());
+    check_mac(&mac, computed)?;
     let records = records_of(alloc, fields.as_slice())?;
     document_of(alloc, now, records.as_slice())
 }

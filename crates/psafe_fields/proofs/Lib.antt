@@ -1,2 +1,3 @@
+mod Examples
 pub mod Cuts
 pub mod Sections
