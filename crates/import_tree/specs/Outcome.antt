@@ -36,12 +36,15 @@ abbrev pub refuse_depth : Option NodeId → Result (Unit {0}) TreeFail
 refuse_depth None = Ok tt
 refuse_depth (Some id) = Err (fail.TooDeep id)
 
+-- A tree's ids differ and its groups are not too deep.
+abbrev pub checked_tree : Tree → Result (Unit {0}) TreeFail
+checked_tree tree = do
+  _ ← refuse_duplicate (least_duplicate (node_ids tree))
+  refuse_depth (least_id (groups_below LEVELS tree))
+
 -- A document whose ids differ and whose groups are not too deep.
 abbrev pub checked : BareDoc → Result BareDoc TreeFail
-checked doc = do
-  _ ← refuse_duplicate (least_duplicate (node_ids doc.tree))
-  _ ← refuse_depth (least_id (groups_below LEVELS doc.tree))
-  Ok doc
+checked doc = checked_tree doc.tree >>= λ _. Ok doc
 
 -- The document of imported entries at a moment, or why there is none.
 unfoldable pub imported_document : ℕ → List ImportedEntry → Result BareDoc TreeFail

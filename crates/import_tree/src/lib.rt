@@ -5,8 +5,12 @@ mod drafts;
 mod entries;
 mod fails;
 mod ids;
+mod importing;
+mod outcome;
+mod putting;
 
-pub use drafts::{ImportDraft, add_imported, finish_import, start_import};
+pub use drafts::ImportDraft;
 pub use entries::ImportedEntry;
 pub use fails::TreeFail;
 pub use ids::numbered_id;
+pub use importing::{add_imported, finish_import, start_import};
