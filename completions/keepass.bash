@@ -3,13 +3,15 @@ _keepass() {
   local word=${COMP_WORDS[COMP_CWORD]} before=${COMP_WORDS[COMP_CWORD - 1]} command=${COMP_WORDS[1]} options
   COMPREPLY=()
   if [ "$COMP_CWORD" -eq 1 ]; then
-    COMPREPLY=($(compgen -W 'ls show search add edit mv rm mkdir rmdir merge export db-info' -- "$word"))
+    COMPREPLY=($(compgen -W 'ls show search add edit mv rm mkdir rmdir merge import export db-info' -- "$word"))
     return
   fi
+  case "$command $before" in
+    'import --format') COMPREPLY=($(compgen -W 'xml psafe3 csv' -- "$word")); return ;;
+    'export -f' | 'export --format') COMPREPLY=($(compgen -W 'xml csv' -- "$word")); return ;;
+  esac
   case $before in
-    --format) COMPREPLY=($(compgen -W 'xml csv' -- "$word")); return ;;
-    -f) if [ "$command" = export ]; then COMPREPLY=($(compgen -W 'xml csv' -- "$word")); return; fi ;;
-    --key-file | --key-file-from | -k) compopt -o filenames; COMPREPLY=($(compgen -f -- "$word")); return ;;
+    --key-file | --key-file-from | --set-key-file | -k) compopt -o filenames; COMPREPLY=($(compgen -f -- "$word")); return ;;
     --attributes | --notes | --title | --url | --username | -a | -t | -u) return ;;
   esac
   case $command in
@@ -23,6 +25,7 @@ _keepass() {
     mkdir) options='-k --key-file --no-password --plain -q --quiet' ;;
     rmdir) options='-k --key-file --no-password --plain -q --quiet' ;;
     merge) options='-s --same-credentials -d --dry-run --key-file-from --no-password-from -k --key-file --no-password --plain -q --quiet' ;;
+    import) options='--format -p --set-password --set-key-file --plain -q --quiet' ;;
     export) options='-f --format -k --key-file --no-password --plain -q --quiet' ;;
     db-info) options='-k --key-file --no-password --plain -q --quiet' ;;
     *) return ;;

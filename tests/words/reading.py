@@ -8,7 +8,8 @@ import os, tomllib
 top = os.path.dirname(os.path.dirname(os.path.dirname(os.path.abspath(__file__))))
 table = tomllib.load(open(f"{top}/docs/commands.toml", "rb"))
 OPTIONS = table["options"]
-EVERYWHERE = ["key-file", "no-password", "plain", "quiet"]
+CREDENTIALS = ["key-file", "no-password"]
+EVERYWHERE = ["plain", "quiet"]
 COMMANDS = {command["name"]: command for command in table["commands"]}
 CHANGES = ("title", "username", "url", "notes", "password-prompt")
 
@@ -18,7 +19,14 @@ class Wrong(Exception):
 
 
 def taken_by(command):
-    return COMMANDS[command]["options"] + EVERYWHERE
+    return COMMANDS[command]["options"] + (CREDENTIALS if COMMANDS[command].get("credentials", True) else []) + EVERYWHERE
+
+
+def of_name(command, long_name):
+    for name in taken_by(command):
+        if OPTIONS[name].get("name", name) == long_name:
+            return name
+    raise Wrong
 
 
 def of_letter(command, letter):
@@ -50,8 +58,7 @@ def options_and_positions(command, words):
             continue
         if word.startswith("--"):
             name, sign, value = word[2:].partition("=")
-            if name not in taken_by(command):
-                raise Wrong
+            name = of_name(command, name)
             if "value" not in OPTIONS[name]:
                 if sign:
                     raise Wrong
@@ -104,11 +111,18 @@ def command_of(words):
     least, most = counts(COMMANDS[command]["positions"])
     if not least <= len(positions) <= most:
         raise Wrong
-    if "format" in given and given["format"] not in OPTIONS["format"]["choices"]:
-        raise Wrong
+    for name, value in given.items():
+        if "choices" in OPTIONS[name] and value not in OPTIONS[name]["choices"]:
+            raise Wrong
     if command == "edit" and not any(name in given for name in CHANGES):
         raise Wrong
     plain, same = "plain" in given, "same-credentials" in given
+    if command == "import":
+        set_password = "set-password" in given
+        if plain == (set_password or "set-key-file" in given):
+            raise Wrong
+        lines = (1 if given.get("import-format") == "psafe3" else 0) + (1 if set_password else 0)
+        return {"command": command, "given": given, "positions": positions, "lines": lines}
     if not opens(plain, "no-password" in given, "key-file" in given):
         raise Wrong
     from_given = "no-password-from" in given, "key-file-from" in given

@@ -5,8 +5,8 @@ use Rattle.std.proofs.lemmas.Bool.Decides.{Decides-eqb}
 use Rattle.cli_options.specs.declared.names.CommandName.{CommandName}
 use Rattle.cli_options.specs.declared.names.CommandName.TheVariants as name
 use Rattle.cli_options.specs.declared.forms.CommandOption.{CommandOption}
-use Rattle.cli_options.specs.declared.forms.CommandOption.TheVariants.{Recursive, Flat, Quiet, Plain, NoPassword, KeyFile, Title, User, Url, Notes, EntryPassword, SameCredentials, DryRun, KeyFileFrom, NoPasswordFrom, Clear, All, Attachments, Format, Attribute}
-use Rattle.cli_options.specs.Options.{first_of, form_of, has_letter, is_letter, letter_option, own_options, shared_options, with_letter}
+use Rattle.cli_options.specs.declared.forms.CommandOption.TheVariants.{Recursive, Flat, Quiet, Plain, NoPassword, KeyFile, Title, User, Url, Notes, EntryPassword, SameCredentials, DryRun, KeyFileFrom, NoPasswordFrom, Clear, All, Attachments, Format, Attribute, SetPassword, SetKeyFile, ImportFormat}
+use Rattle.cli_options.specs.Options.{form_of, has_letter, is_letter, letter_option, options_of, with_letter}
 
 -- A letter is one of ASCII, where there is one.
 abbrev IsLow : Option ℕ → Type 0
@@ -33,12 +33,16 @@ low All = tt
 low Attachments = tt
 low Format = omega arith
 low Attribute = omega arith
+low SetPassword = omega arith
+low SetKeyFile = tt
+low ImportFormat = tt
 
 low_letter : (own : Option ℕ) (letter : ℕ) → IsLow own → is_letter own letter ≡ true → letter < 128
 low_letter None letter h e = absurd (let no : false ≡ true → ⊥ = λ p. cc p in no e)
 low_letter (Some own) letter h e = subst (λ n. n < 128) ((Decides-eqb own letter).0 e) h
 
-found_low : (letter : ℕ) (options : List CommandOption) → IfSome (with_letter letter options) (λ option. letter < 128)
+-- The letter of an option among these is one of ASCII.
+pub found_low : (letter : ℕ) (options : List CommandOption) → IfSome (with_letter letter options) (λ option. letter < 128)
 found_low letter [] = tt
 found_low letter (option ∷ options) = by (has_letter option letter) refl (found_low letter options)
   where
@@ -47,16 +51,9 @@ found_low letter (option ∷ options) = by (has_letter option letter) refl (foun
     by true e h = low_letter (form_of option).letter letter (low option) e
     by false e h = h
 
-either_low : (letter : ℕ) (one other : Option CommandOption) → IfSome one (λ option. letter < 128) → IfSome other (λ option. letter < 128)
-    → IfSome (first_of one other) (λ option. letter < 128)
-either_low letter (Some option) other p q = p
-either_low letter None other p q = q
-
 -- The letter of an option is one of ASCII.
 pub ascii_letter : (command : CommandName) (letter : ℕ) → IfSome (letter_option command letter) (λ option. letter < 128)
-ascii_letter command letter =
-    either_low letter (with_letter letter (own_options command)) (with_letter letter shared_options)
-    (found_low letter (own_options command)) (found_low letter shared_options)
+ascii_letter command letter = found_low letter (options_of command)
 
 -- The sign `-` is the letter of no option.
 pub no_dash : (command : CommandName) → letter_option command 45 ≡ None
@@ -70,5 +67,6 @@ no_dash name.Remove = refl
 no_dash name.MakeGroup = refl
 no_dash name.RemoveGroup = refl
 no_dash name.Merge = refl
+no_dash name.Import = refl
 no_dash name.Export = refl
 no_dash name.Info = refl

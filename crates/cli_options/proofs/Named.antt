@@ -3,7 +3,7 @@ use Rattle.std.proofs.Common.{◌≡◌, ℕ, Bool, true, false, cond, List, [],
 use Rattle.std.proofs.lemmas.Slice.Eq.{bytes_eq-Decides}
 use Rattle.cli_options.specs.declared.names.CommandName.{CommandName}
 use Rattle.cli_options.specs.declared.forms.CommandOption.{CommandOption}
-use Rattle.cli_options.specs.Options.{first_of, form_of, name_option, own_options, shared_options, with_name}
+use Rattle.cli_options.specs.Options.{form_of, name_option, options_of, with_name}
 
 -- An option, if there is one, has this name.
 abbrev IsNamed : List ℕ → Option CommandOption → Type 0
@@ -19,14 +19,8 @@ found_named name (option ∷ options) = by (bytes_eq (form_of option).name name)
     by true e h = (bytes_eq-Decides (form_of option).name name).0 e
     by false e h = h
 
-either_named : (name : List ℕ) (one other : Option CommandOption) → IsNamed name one → IsNamed name other → IsNamed name (first_of one other)
-either_named name (Some option) other p q = p
-either_named name None other p q = q
-
 -- The option of a name has that name.
 pub named : (command : CommandName) (name : List ℕ) (option : CommandOption) → name_option command name ≡ Some option
     → (form_of option).name ≡ name
 named command name option e =
-    subst (IsNamed name) e
-    (either_named name (with_name name (own_options command)) (with_name name shared_options)
-    (found_named name (own_options command)) (found_named name shared_options))
+    subst (IsNamed name) e (found_named name (options_of command))

@@ -1,14 +1,15 @@
 -- The places of options.
 use Rattle.std.proofs.Common.{◌≡◌, ◌∙◌, ap, sym, refl, ℕ, true, [], ◌∷◌, get_or}
 use Rattle.cli_options.specs.declared.forms.CommandOption.{CommandOption}
-use Rattle.cli_options.specs.declared.forms.CommandOption.TheVariants.{Recursive, Flat, Quiet, Plain, NoPassword, KeyFile, Title, User, Url, Notes, EntryPassword, SameCredentials, DryRun, KeyFileFrom, NoPasswordFrom, Clear, All, Attachments, Format, Attribute}
+use Rattle.cli_options.specs.declared.forms.CommandOption.TheVariants.{Recursive, Flat, Quiet, Plain, NoPassword, KeyFile, Title, User, Url, Notes, EntryPassword, SameCredentials, DryRun, KeyFileFrom, NoPasswordFrom, Clear, All, Attachments, Format, Attribute, SetPassword, SetKeyFile, ImportFormat}
 use Rattle.cli_options.specs.Options.{is_repeatable, place_of}
 
 -- The option at a place.
 abbrev option_at : ℕ → CommandOption
 option_at place = get_or
     (Recursive ∷ Flat ∷ Quiet ∷ Plain ∷ NoPassword ∷ KeyFile ∷ Title ∷ User ∷ Url ∷ Notes ∷ EntryPassword ∷ SameCredentials
-    ∷ DryRun ∷ KeyFileFrom ∷ NoPasswordFrom ∷ Clear ∷ All ∷ Attachments ∷ Format ∷ Attribute ∷ []) place Recursive
+    ∷ DryRun ∷ KeyFileFrom ∷ NoPasswordFrom ∷ Clear ∷ All ∷ Attachments ∷ Format ∷ Attribute ∷ SetPassword
+    ∷ SetKeyFile ∷ ImportFormat ∷ []) place Recursive
 
 back : (option : CommandOption) → option_at (place_of option) ≡ option
 back Recursive = refl
@@ -31,6 +32,9 @@ back All = refl
 back Attachments = refl
 back Format = refl
 back Attribute = refl
+back SetPassword = refl
+back SetKeyFile = refl
+back ImportFormat = refl
 
 -- Options at one place are one option.
 pub same_option : (f g : CommandOption) → place_of f ≡ place_of g → f ≡ g
@@ -57,6 +61,9 @@ last All h = cc
 last Attachments h = cc
 last Format h = cc
 last Attribute h = refl
+last SetPassword h = cc
+last SetKeyFile h = cc
+last ImportFormat h = cc
 
 -- Only one option may stand more than once.
 pub one_repeatable : (f g : CommandOption) → is_repeatable f ≡ true → is_repeatable g ≡ true → place_of f ≡ place_of g

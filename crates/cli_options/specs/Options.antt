@@ -1,10 +1,11 @@
 -- The commands by their names, and the options that each of them takes.
-use Rattle.std.specs.Prelude.{ℕ, Bool, true, false, ◌==◌, if◌then◌else◌, List, [], ◌∷◌, codes, Option, None, Some}
+use Rattle.std.specs.Prelude.{ℕ, Bool, true, false, ◌==◌, if◌then◌else◌, List, [], ◌∷◌, ◌++◌, codes, Option, None, Some}
+use Rattle.std.specs.List.{find}
 use Rattle.std.specs.Str.{bytes_eq}
 use Rattle.cli_options.specs.declared.names.CommandName.{CommandName}
 use Rattle.cli_options.specs.declared.names.CommandName.TheVariants as name
 use Rattle.cli_options.specs.declared.forms.CommandOption.{CommandOption}
-use Rattle.cli_options.specs.declared.forms.CommandOption.TheVariants.{Recursive, Flat, Quiet, Plain, NoPassword, KeyFile, Title, User, Url, Notes, EntryPassword, SameCredentials, DryRun, KeyFileFrom, NoPasswordFrom, Clear, All, Attachments, Format, Attribute}
+use Rattle.cli_options.specs.declared.forms.CommandOption.TheVariants.{Recursive, Flat, Quiet, Plain, NoPassword, KeyFile, Title, User, Url, Notes, EntryPassword, SameCredentials, DryRun, KeyFileFrom, NoPasswordFrom, Clear, All, Attachments, Format, Attribute, SetPassword, SetKeyFile, ImportFormat}
 
 -- ---- commands
 
@@ -21,9 +22,10 @@ command_named word =
     else (if bytes_eq word (codes "mkdir") then Some name.MakeGroup
     else (if bytes_eq word (codes "rmdir") then Some name.RemoveGroup
     else (if bytes_eq word (codes "merge") then Some name.Merge
+    else (if bytes_eq word (codes "import") then Some name.Import
     else (if bytes_eq word (codes "export") then Some name.Export
     else (if bytes_eq word (codes "db-info") then Some name.Info
-    else None)))))))))))
+    else None))))))))))))
 
 -- ---- how options are written
 
@@ -89,6 +91,9 @@ form_of All = flag (codes "all") None
 form_of Attachments = flag (codes "show-attachments") None
 form_of Format = valued (codes "format") (the (codes "f"))
 form_of Attribute = repeatable (codes "attributes") (the (codes "a"))
+form_of SetPassword = flag (codes "set-password") (the (codes "p"))
+form_of SetKeyFile = valued (codes "set-key-file") None
+form_of ImportFormat = valued (codes "format") None
 
 -- Whether an option has a value; the others are flags.
 abbrev pub has_value : CommandOption → Bool
@@ -120,10 +125,13 @@ place_of All = 16
 place_of Attachments = 17
 place_of Format = 18
 place_of Attribute = 19
+place_of SetPassword = 20
+place_of SetKeyFile = 21
+place_of ImportFormat = 22
 
 -- ---- which options each command takes
 
--- The options that a command takes beside those that all of them take.
+-- The options that a command takes beside those that others take too.
 abbrev pub own_options : CommandName → List CommandOption
 own_options name.Ls = Recursive ∷ Flat ∷ []
 own_options name.Show = Clear ∷ All ∷ Attachments ∷ Attribute ∷ []
@@ -135,12 +143,19 @@ own_options name.Remove = []
 own_options name.MakeGroup = []
 own_options name.RemoveGroup = []
 own_options name.Merge = SameCredentials ∷ DryRun ∷ KeyFileFrom ∷ NoPasswordFrom ∷ []
+own_options name.Import = SetPassword ∷ SetKeyFile ∷ ImportFormat ∷ []
 own_options name.Export = Format ∷ []
 own_options name.Info = []
 
--- The options that all commands take.
-abbrev pub shared_options : List CommandOption
-shared_options = Quiet ∷ Plain ∷ NoPassword ∷ KeyFile ∷ []
+-- The options that a command shares with others: all take those of what is printed and of plain
+-- documents, and all but `import`, which makes its database, those of what opens a database.
+abbrev pub shared_options : CommandName → List CommandOption
+shared_options name.Import = Quiet ∷ Plain ∷ []
+shared_options command = Quiet ∷ Plain ∷ NoPassword ∷ KeyFile ∷ []
+
+-- All options that a command takes.
+abbrev pub options_of : CommandName → List CommandOption
+options_of command = own_options command ++ shared_options command
 
 -- This letter is that of a form.
 abbrev pub is_letter : Option ℕ → ℕ → Bool
@@ -153,27 +168,16 @@ has_letter option letter = is_letter (form_of option).letter letter
 
 -- The first of these options that has this letter.
 abbrev pub with_letter : ℕ → List CommandOption → Option CommandOption
-with_letter letter [] = None
-with_letter letter (option ∷ options) =
-    if has_letter option letter then Some option else with_letter letter options
+with_letter letter = find (λ option. has_letter option letter)
 
 -- The first of these options that has this name.
 abbrev pub with_name : List ℕ → List CommandOption → Option CommandOption
-with_name name [] = None
-with_name name (option ∷ options) =
-    if bytes_eq (form_of option).name name then Some option else with_name name options
+with_name name = find (λ option. bytes_eq (form_of option).name name)
 
--- The one option, or else the other.
-abbrev pub first_of : Option CommandOption → Option CommandOption → Option CommandOption
-first_of (Some option) other = Some option
-first_of None other = other
-
--- The option of a command that has this letter: one of its own, or one that all commands take.
+-- The option of a command that has this letter.
 abbrev pub letter_option : CommandName → ℕ → Option CommandOption
-letter_option command letter =
-    first_of (with_letter letter (own_options command)) (with_letter letter shared_options)
+letter_option command letter = with_letter letter (options_of command)
 
 -- The option of a command that has this long name.
 abbrev pub name_option : CommandName → List ℕ → Option CommandOption
-name_option command name =
-    first_of (with_name name (own_options command)) (with_name name shared_options)
+name_option command name = with_name name (options_of command)

@@ -42,14 +42,20 @@ pub enum CommandOption {
     All,
     /// `--show-attachments`
     Attachments,
-    /// `--format FORMAT`, `-f FORMAT`
+    /// `--format FORMAT`, `-f FORMAT` of an export
     Format,
     /// `--attributes NAME`, `-a NAME`
     Attribute,
+    /// `--set-password`, `-p`
+    SetPassword,
+    /// `--set-key-file FILE`
+    SetKeyFile,
+    /// `--format FORMAT` of an import
+    ImportFormat,
 }
 
 /// How many options there are.
-pub const OPTIONS: usize = 20;
+pub const OPTIONS: usize = 23;
 
 /// How an option is written.
 #[derive(Clone, Copy)]
@@ -125,6 +131,9 @@ pub(crate) fn form_of(option: CommandOption) -> OptionForm
         CommandOption::Attachments => flag("show-attachments", None),
         CommandOption::Format => valued("format", Some(b'f')),
         CommandOption::Attribute => repeatable("attributes", Some(b'a')),
+        CommandOption::SetPassword => flag("set-password", Some(b'p')),
+        CommandOption::SetKeyFile => valued("set-key-file", None),
+        CommandOption::ImportFormat => valued("format", None),
     }
 }
 
@@ -145,7 +154,7 @@ pub fn is_repeatable(option: CommandOption) -> bool
 /// The place of an option among all of them.
 pub fn place_of(option: CommandOption) -> usize
     ensures is { result ≡ spec.place_of option }
-    ensures most { result < 20 }
+    ensures most { result < 23 }
 {
     match option {
         CommandOption::Recursive => 0,
@@ -168,5 +177,8 @@ pub fn place_of(option: CommandOption) -> usize
         CommandOption::Attachments => 17,
         CommandOption::Format => 18,
         CommandOption::Attribute => 19,
+        CommandOption::SetPassword => 20,
+        CommandOption::SetKeyFile => 21,
+        CommandOption::ImportFormat => 22,
     }
 }

@@ -25,6 +25,8 @@ pub enum CommandName {
     RemoveGroup,
     /// `merge`
     Merge,
+    /// `import`
+    Import,
     /// `export`
     Export,
     /// `db-info`
@@ -46,6 +48,7 @@ pub fn command_named(name: &str) -> Option<CommandName>
         "mkdir" => Some(CommandName::MakeGroup),
         "rmdir" => Some(CommandName::RemoveGroup),
         "merge" => Some(CommandName::Merge),
+        "import" => Some(CommandName::Import),
         "export" => Some(CommandName::Export),
         "db-info" => Some(CommandName::Info),
         _ => None,

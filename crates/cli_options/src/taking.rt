@@ -5,7 +5,7 @@ ghost use Rattle.cli_options.specs.Options as spec;
 use crate::forms::{CommandOption, form_of};
 use crate::names::CommandName;
 
-// The options that a command takes beside those that all of them take.
+// The options that a command takes beside those that others take too.
 fn own_options(command: CommandName) -> &'static [CommandOption]
     ensures { result.now ≡ spec.own_options command }
 {
@@ -44,21 +44,34 @@ fn own_options(command: CommandName) -> &'static [CommandOption]
                 CommandOption::NoPasswordFrom,
             ]
         }
+        CommandName::Import => {
+            &[
+                CommandOption::SetPassword,
+                CommandOption::SetKeyFile,
+                CommandOption::ImportFormat,
+            ]
+        }
         CommandName::Export => &[CommandOption::Format],
         _ => &[],
     }
 }
 
-// The options that all commands take.
-fn shared_options() -> &'static [CommandOption]
-    ensures { result.now ≡ spec.shared_options }
+// The options that a command shares with others: all take those of what is printed and of plain
+// documents, and all but `import`, which makes its database, those of what opens a database.
+fn shared_options(command: CommandName) -> &'static [CommandOption]
+    ensures { result.now ≡ spec.shared_options command }
 {
-    &[
-        CommandOption::Quiet,
-        CommandOption::Plain,
-        CommandOption::NoPassword,
-        CommandOption::KeyFile,
-    ]
+    match command {
+        CommandName::Import => &[CommandOption::Quiet, CommandOption::Plain],
+        _ => {
+            &[
+                CommandOption::Quiet,
+                CommandOption::Plain,
+                CommandOption::NoPassword,
+                CommandOption::KeyFile,
+            ]
+        }
+    }
 }
 
 // Reports whether an option has this letter.
@@ -96,23 +109,24 @@ fn with_name(name: &str, options: &[CommandOption]) -> Option<CommandOption>
 }
 
 /// The option of a command that has this letter.
-#[tactic(auto, using(crate::proofs::Letters::ascii_letter))]
+#[tactic(auto, using(crate::proofs::Letters::ascii_letter, crate::proofs::Found::letter_found))]
 pub fn letter_option(command: CommandName, letter: u8) -> Option<CommandOption>
     ensures is { result ≡ spec.letter_option command letter }
     ensures ascii { IfSome result (λ option. letter < 128) }
 {
     match with_letter(letter, own_options(command)) {
         Some(option) => Some(option),
-        None => with_letter(letter, shared_options()),
+        None => with_letter(letter, shared_options(command)),
     }
 }
 
 /// The option of a command that has this long name.
+#[tactic(auto, using(crate::proofs::Found::name_found))]
 pub fn name_option(command: CommandName, name: &str) -> Option<CommandOption>
     ensures { result ≡ spec.name_option command name.now }
 {
     match with_name(name, own_options(command)) {
         Some(option) => Some(option),
-        None => with_name(name, shared_options()),
+        None => with_name(name, shared_options(command)),
     }
 }

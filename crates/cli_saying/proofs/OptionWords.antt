@@ -5,7 +5,7 @@ use Rattle.std.proofs.lemmas.Bool.Decides.{Decides-eqb}
 use Rattle.std.proofs.lemmas.List.{append_assoc}
 use Rattle.cli_options.specs.declared.names.CommandName.{CommandName}
 use Rattle.cli_options.specs.declared.forms.CommandOption.{CommandOption}
-use Rattle.cli_options.specs.declared.forms.CommandOption.TheVariants.{Recursive, Flat, Quiet, Plain, NoPassword, KeyFile, Title, User, Url, Notes, EntryPassword, SameCredentials, DryRun, KeyFileFrom, NoPasswordFrom, Clear, All, Attachments, Format, Attribute}
+use Rattle.cli_options.specs.declared.forms.CommandOption.TheVariants.{Recursive, Flat, Quiet, Plain, NoPassword, KeyFile, Title, User, Url, Notes, EntryPassword, SameCredentials, DryRun, KeyFileFrom, NoPasswordFrom, Clear, All, Attachments, Format, Attribute, SetPassword, SetKeyFile, ImportFormat}
 use Rattle.cli_options.specs.Options.{form_of, has_value, letter_option, name_option}
 use Rattle.cli_options.proofs.Letters.{no_dash}
 use Rattle.cli_options.proofs.Named.{named}
@@ -41,6 +41,9 @@ name_valued All = λ c s v. refl
 name_valued Attachments = λ c s v. refl
 name_valued Format = λ c s v. refl
 name_valued Attribute = λ c s v. refl
+name_valued SetPassword = λ c s v. refl
+name_valued SetKeyFile = λ c s v. refl
+name_valued ImportFormat = λ c s v. refl
 
 -- The letter of an option is not `-`.
 no_sign : (command : CommandName) (letter : ℕ) (option : CommandOption) → letter_option command letter ≡ Some option → (letter == 45) ≡ false

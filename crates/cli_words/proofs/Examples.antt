@@ -1,8 +1,9 @@
 -- Words of calls, and which commands they are.
 use Rattle.std.proofs.Common.{◌≡◌, refl, [], ◌∷◌, codes, true, false, Some, None}
 use Rattle.cli_words.specs.declared.command.Access.{Access}
-use Rattle.cli_words.specs.declared.command.Command.TheVariants.{Ls, Show, Merge, Export}
+use Rattle.cli_words.specs.declared.command.Command.TheVariants.{Ls, Show, Merge, Import, Export}
 use Rattle.cli_words.specs.declared.command.ExportFormat.TheVariants.{Csv}
+use Rattle.cli_words.specs.declared.command.ImportFormat.TheVariants as import_format
 use Rattle.cli_words.specs.Words.{command_in}
 
 -- A database is opened by its password alone.
@@ -36,3 +37,20 @@ plain_twice = refl
 same_credentials : command_in (codes "merge" ∷ codes "-s" ∷ codes "F" ∷ codes "G" ∷ [])
     ≡ Some (Merge by_password (codes "F") (codes "G" ∷ []) by_password true false)
 same_credentials = refl
+
+-- A source in a format of its own; the new database has a password, or a key file, or none of them where it is a plain document.
+set_password : command_in (codes "import" ∷ codes "--format" ∷ codes "psafe3" ∷ codes "-p" ∷ codes "S" ∷ codes "F" ∷ [])
+    ≡ Some (Import by_password import_format.Psafe (codes "S") by_password (codes "F"))
+set_password = refl
+
+no_credential : command_in (codes "import" ∷ codes "S" ∷ codes "F" ∷ []) ≡ None
+no_credential = refl
+
+plain_with_credential : command_in (codes "import" ∷ codes "--plain" ∷ codes "-p" ∷ codes "S" ∷ codes "F" ∷ []) ≡ None
+plain_with_credential = refl
+
+key_file_of_others : command_in (codes "import" ∷ codes "-p" ∷ codes "-k" ∷ codes "K" ∷ codes "S" ∷ codes "F" ∷ []) ≡ None
+key_file_of_others = refl
+
+format_without_letter : command_in (codes "import" ∷ codes "-p" ∷ codes "-f" ∷ codes "csv" ∷ codes "S" ∷ codes "F" ∷ []) ≡ None
+format_without_letter = refl

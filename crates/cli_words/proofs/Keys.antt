@@ -1,21 +1,27 @@
 -- A command opens its database with a key, unless that is a plain document.
 use Rattle.std.proofs.Common.{◌≡◌, refl, subst, ℕ, List, [], ◌∷◌, length, Bool, true, false, Option, Some, None}
-use Rattle.std.specs.Prelude.{IfSome, not, ◌&&◌, if◌then◌else◌}
+use Rattle.std.specs.Prelude.{IfSome, not, ◌&&◌, ◌||◌, if◌then◌else◌}
 use Rattle.std.specs.Option.{option_and_then}
 use Rattle.cli_words.specs.declared.command.Access.{Access}
 use Rattle.cli_words.specs.declared.command.Command.{Command}
 use Rattle.cli_options.specs.declared.names.CommandName.{CommandName}
 use Rattle.cli_options.specs.declared.names.CommandName.TheVariants as name
 use Rattle.cli_options.specs.declared.forms.CommandOption.TheVariants as option
-use Rattle.cli_words.specs.Needs.{HasKey, HasKeys, needs_of, without_sources}
+use Rattle.cli_words.specs.Needs.{HasKey, HasKeys, asks_password, needs_of, target_access, without_sources}
 use Rattle.cli_options.specs.Options.{command_named}
 use Rattle.cli_words.specs.declared.command.ExportFormat.{ExportFormat}
+use Rattle.cli_words.specs.declared.command.ImportFormat.{ImportFormat}
+use Rattle.cli_words.specs.declared.command.ImportFormat.TheVariants.{Xml, Psafe, Csv}
 use Rattle.cli_saying.specs.Said.{Said, is_due, is_given, nothing_said, text_of, with_words}
-use Rattle.cli_words.specs.Words.{access_from, access_of, add_at, command_at, command_by, command_in, command_saying, edit_at, export_as, export_at, format_asked, has_change, info_at, is_fit, is_fit_from, is_mergeable, is_whole, list_at, make_group_at, merge_at, merge_of, move_at, remove_at, remove_group_at, search_at, show_at}
+use Rattle.cli_words.specs.Words.{access_from, access_new, access_of, access_source, add_at, command_at, command_by, command_in, command_saying, edit_at, export_as, export_at, format_asked, has_change, import_as, import_at, import_format, import_from, info_at, is_fit, is_fit_from, is_fit_new, is_mergeable, is_whole, list_at, make_group_at, merge_at, merge_of, move_at, remove_at, remove_group_at, search_at, show_at}
 
--- The command, if there is one, has a key.
+-- What a command opens has keys, and so has what it shows or writes.
+abbrev IsKeyed : Command → Type 0
+IsKeyed command = HasKeys (needs_of command) × HasKey (target_access command)
+
+-- The command, if there is one, has keys.
 abbrev IfKey : Option Command → Type 0
-IfKey r = IfSome r (λ command. HasKeys (needs_of command))
+IfKey r = IfSome r IsKeyed
 
 key_given : (plain no_password key : Bool) → is_fit plain no_password key ≡ true → plain ≡ false → no_password ≡ true → key ≡ true
 key_given true no_password key h p n = cc
@@ -62,9 +68,14 @@ whole_key said h = record {
   same = from_same (is_given option.SameCredentials said) (access_of said) _;
 }
 
--- A command without sources.
-alone : (said : Said) → AreKeys said → (file : List ℕ) (has_line : Bool) → HasKeys (without_sources (access_of said) file has_line)
-alone said h file has_line = record { target = h.target; sources = h.target; same = λ e. refl }
+-- A command without sources that opens a database in this way.
+opened : (access : Access) → HasKey access → (file : List ℕ) (has_line : Bool) → HasKeys (without_sources access file has_line)
+opened access h file has_line = record { target = h; sources = h; same = λ e. refl }
+
+-- The same of what is said.
+alone : (said : Said) → AreKeys said → (file : List ℕ) (has_line : Bool)
+    → HasKeys (without_sources (access_of said) file has_line) × HasKey (access_of said)
+alone said h file has_line = (opened (access_of said) h.target file has_line, h.target)
 
 -- A command, if a test is met.
 if_key : (b : Bool) (r : Option Command) → IfKey r → IfKey (if b then r else None)
@@ -87,11 +98,33 @@ move_key said h a b c (d ∷ rest) = tt
 merge_key : (said : Said) → AreKeys said → (positions : List (List ℕ)) → IfKey (merge_at said positions)
 merge_key said h [] = tt
 merge_key said h (file ∷ sources) =
-    if_key (is_mergeable (length sources)) (Some (merge_of said file sources)) (record { target = h.target; sources = h.from; same = h.same })
+    if_key (is_mergeable (length sources)) (Some (merge_of said file sources)) (record { target = h.target; sources = h.from; same = h.same }, h.target)
 
 export_key : (said : Said) → AreKeys said → (file : List ℕ) (format : Option ExportFormat) → IfKey (export_as said file format)
 export_key said h file None = tt
 export_key said h file (Some format) = alone said h file false
+
+-- What a new database has: a key file where it is no plain document and has no password.
+new_key : (plain password key : Bool) → (if plain then not (password || key) else (password || key)) ≡ true
+    → plain ≡ false → not (plain || password) ≡ true → key ≡ true
+new_key true password key h p n = cc
+new_key false true key h p n = cc
+new_key false false key h p n = h
+
+-- A source has no key file, and needs none.
+source_key : (said : Said) (format : ImportFormat) → HasKey (access_source said format)
+source_key said format p n = cc
+
+import_key : (said : Said) (source file : List ℕ) (format : Option ImportFormat) → IfKey (import_as said source file format)
+import_key said source file None = tt
+import_key said source file (Some format) = by (is_fit_new said) refl
+  where
+    by : (b : Bool) → is_fit_new said ≡ b → IfKey (if b then Some (import_from said source file format) else None)
+    by false e = tt
+    by true e = (
+      opened (access_source said format) (source_key said format) source (asks_password (access_new said)),
+      λ p n. new_key (is_given option.Plain said) (is_given option.SetPassword said) (is_given option.SetKeyFile said) e p n,
+    )
 
 command_key : (command : CommandName) (said : Said) → AreKeys said → (positions : List (List ℕ)) → IfKey (command_at command said positions)
 command_key name.Ls said h =
@@ -108,6 +141,9 @@ command_key name.Remove said h = by_positions (remove_at said) tt (λ a. tt) (λ
 command_key name.MakeGroup said h = by_positions (make_group_at said) tt (λ a. tt) (λ a b. alone said h a false) (λ a b c r. tt)
 command_key name.RemoveGroup said h = by_positions (remove_group_at said) tt (λ a. tt) (λ a b. alone said h a false) (λ a b c r. tt)
 command_key name.Merge said h = merge_key said h
+command_key name.Import said h =
+    by_positions (import_at said) tt (λ a. tt) (λ a b. import_key said a b (import_format (text_of option.ImportFormat said)))
+    (λ a b c r. tt)
 command_key name.Export said h =
     by_positions (export_at said) tt (λ a. export_key said h a (format_asked (text_of option.Format said))) (λ a b. tt) (λ a b c r. tt)
 command_key name.Info said h = by_positions (info_at said) tt (λ a. alone said h a false) (λ a b. tt) (λ a b c r. tt)
@@ -131,6 +167,10 @@ words_key (word ∷ words) =
     (λ command. then_key (command_saying command) (saying_key command) (with_words command words nothing_said))
     (command_named word)
 
--- A command that words are has a key.
+-- A command that words are opens what has keys.
 pub has_key : (words : List (List ℕ)) (command : Command) → command_in words ≡ Some command → HasKeys (needs_of command)
-has_key words command h = subst IfKey h (words_key words)
+has_key words command h = (subst IfKey h (words_key words)).0
+
+-- What it shows or writes has a key too.
+pub has_target_key : (words : List (List ℕ)) (command : Command) → command_in words ≡ Some command → HasKey (target_access command)
+has_target_key words command h = (subst IfKey h (words_key words)).1

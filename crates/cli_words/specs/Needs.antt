@@ -3,7 +3,8 @@ use Rattle.std.specs.Prelude.{◌≡◌, ℕ, Bool, false, true, IsSome, ◌&&�
 use Rattle.cli_answers.specs.declared.answers.Refusal.{Refusal}
 use Rattle.cli_words.specs.declared.command.Access.{Access}
 use Rattle.cli_words.specs.declared.command.Command.{Command}
-use Rattle.cli_words.specs.declared.command.Command.TheVariants.{Ls, Show, Search, Add, Edit, Move, Remove, MakeGroup, RemoveGroup, Merge, Export, Info}
+use Rattle.cli_words.specs.declared.command.Command.TheVariants.{Ls, Show, Search, Add, Edit, Move, Remove, MakeGroup, RemoveGroup, Merge, Import, Export, Info}
+use Rattle.cli_words.specs.declared.command.ImportFormat.{ImportFormat}
 
 -- What a command asks for: the file of its database and how it is opened; the files of its sources,
 -- how each is opened, and whether each has the password of the database; and whether a line of the
@@ -27,7 +28,12 @@ without_sources access file has_line = record {
   has_line = has_line;
 }
 
--- What each command asks for.
+-- A database asks for a line: its password, unless it is a plain document or has none.
+abbrev pub asks_password : Access → Bool
+asks_password access = not (access.plain || access.no_password)
+
+-- What each command asks for. The database that an import opens is its source, and the line after
+-- the source's is the password of the new database.
 abbrev pub needs_of : Command → Needs
 needs_of (Ls access file group recursive flat) = without_sources access file false
 needs_of (Show access file entry clear all attachments names) = without_sources access file false
@@ -46,12 +52,46 @@ needs_of (Merge access file sources from same dry) = record {
   sources = sources;
   has_line = false;
 }
+needs_of (Import access format source from file) = without_sources from source (asks_password access)
 needs_of (Export access format file) = without_sources access file false
 needs_of (Info access file) = without_sources access file false
 
--- A database asks for a line: its password, unless it is a plain document or has none.
-abbrev pub asks_password : Access → Bool
-asks_password access = not (access.plain || access.no_password)
+-- What an import asks for beside what its source is opened by: the format and the file of the
+-- source, and the file of the new database and how that is opened afterwards.
+pub record ImportNeeds : Type 0 where
+  pub format : ImportFormat
+  pub source : List ℕ
+  pub access : Access
+  pub file : List ℕ
+
+-- What an import asks for; other commands are none.
+abbrev pub import_of : Command → Option ImportNeeds
+import_of (Import access format source from file) = Some (record {
+  format = format;
+  source = source;
+  access = access;
+  file = file;
+})
+import_of command = None
+
+-- The file of what an import makes, or else the other.
+abbrev pub file_made : Option ImportNeeds → List ℕ → List ℕ
+file_made (Some import) file = import.file
+file_made None file = file
+
+-- The file that a command shows or writes: that of the new database of an import, or else that of
+-- the database that it opens.
+abbrev pub target_of : Command → List ℕ
+target_of command = file_made (import_of command) (needs_of command).file
+
+-- How what an import makes is opened, or else as the other.
+abbrev pub access_made : Option ImportNeeds → Access → Access
+access_made (Some import) access = import.access
+access_made None access = access
+
+-- How the database in that file is opened.
+abbrev pub target_access : Command → Access
+target_access command = access_made (import_of command) (needs_of command).access
 
 -- A database that is no plain document has a password or a key file.
 abbrev pub HasKey : Access → Type 0
@@ -92,7 +132,13 @@ source_files from (name ∷ names) = database_files from name ++ source_files fr
 abbrev pub files_of : Needs → List (List ℕ)
 files_of needs = database_files needs.access needs.file ++ source_files needs.from needs.sources
 
+-- The files of an import: its source, the new database, and the key file of that; or else those of
+-- what a command asks for.
+abbrev pub files_by : Option ImportNeeds → Needs → List (List ℕ)
+files_by (Some import) needs = import.source ∷ import.file ∷ key_files import.access.key_file
+files_by None needs = files_of needs
+
 -- The files that the words name.
 abbrev pub files_named : Result Command Refusal → List (List ℕ)
-files_named (Ok command) = files_of (needs_of command)
+files_named (Ok command) = files_by (import_of command) (needs_of command)
 files_named (Err refusal) = []

@@ -1,6 +1,8 @@
 -- What is seen of what a command asks for.
+use Rattle.std.specs.Prelude.{Option, option_map}
 use Rattle.cli_words.specs.declared.needs.Needs as declared
-use Rattle.cli_words.specs.Needs.{Needs}
+use Rattle.cli_words.specs.declared.needs.ImportNeeds as lent
+use Rattle.cli_words.specs.Needs.{ImportNeeds, Needs}
 
 -- the same without the loans
 abbrev pub needs_seen : declared.Needs → Needs
@@ -12,3 +14,16 @@ needs_seen needs = record {
   sources = needs.sources.now;
   has_line = needs.has_line;
 }
+
+-- what an import asks for without the loans
+abbrev pub import_seen : lent.ImportNeeds → ImportNeeds
+import_seen needs = record {
+  format = needs.format;
+  source = needs.source.now;
+  access = needs.access.now;
+  file = needs.file.now;
+}
+
+-- the same where there is an import
+abbrev pub imports_seen : Option lent.ImportNeeds → Option ImportNeeds
+imports_seen = option_map import_seen

@@ -1,5 +1,5 @@
 -- Which command the words of a call are.
-use Rattle.std.specs.Prelude.{ℕ, Bool, not, ◌&&◌, ◌||◌, ◌==◌, nat_lt, if◌then◌else◌, length, List, [], ◌∷◌, codes, Option, None, Some, Result, Ok, Err, option_and_then}
+use Rattle.std.specs.Prelude.{ℕ, Bool, true, false, not, ◌&&◌, ◌||◌, ◌==◌, nat_lt, if◌then◌else◌, length, List, [], ◌∷◌, codes, Option, None, Some, Result, Ok, Err, option_and_then}
 use Rattle.std.specs.Str.{bytes_eq}
 use Rattle.cli_answers.specs.declared.answers.Reason.TheVariants.{WrongWords}
 use Rattle.cli_answers.specs.declared.answers.Refusal.{Refusal}
@@ -7,9 +7,11 @@ use Rattle.cli_answers.specs.Messages.{refusal_of}
 use Rattle.cli_words.specs.declared.command.Access.{Access}
 use Rattle.cli_words.specs.declared.command.Asked.{Asked}
 use Rattle.cli_words.specs.declared.command.Command.{Command}
-use Rattle.cli_words.specs.declared.command.Command.TheVariants.{Ls, Show, Search, Add, Edit, Move, Remove, MakeGroup, RemoveGroup, Merge, Export, Info}
+use Rattle.cli_words.specs.declared.command.Command.TheVariants.{Ls, Show, Search, Add, Edit, Move, Remove, MakeGroup, RemoveGroup, Merge, Import, Export, Info}
 use Rattle.cli_words.specs.declared.command.ExportFormat.{ExportFormat}
 use Rattle.cli_words.specs.declared.command.ExportFormat.TheVariants as format
+use Rattle.cli_words.specs.declared.command.ImportFormat.{ImportFormat}
+use Rattle.cli_words.specs.declared.command.ImportFormat.TheVariants.{Xml, Psafe, Csv}
 use Rattle.cli_options.specs.declared.names.CommandName.{CommandName}
 use Rattle.cli_options.specs.declared.names.CommandName.TheVariants as name
 use Rattle.cli_options.specs.declared.forms.CommandOption.TheVariants as option
@@ -57,6 +59,21 @@ is_whole said =
     && (is_fit (is_given option.Plain said) (is_given option.NoPassword said)
     (is_given option.KeyFile said) && is_fit_from said)
 
+-- How a new database is opened: by the password and the key file that it is to have.
+abbrev pub access_new : Said → Access
+access_new said = record {
+  plain = is_given option.Plain said;
+  quiet = is_given option.Quiet said;
+  key_file = text_of option.SetKeyFile said;
+  no_password = not (is_given option.Plain said || is_given option.SetPassword said);
+}
+
+-- What opens a new database fits it: nothing at a plain document, else a password or a key file.
+abbrev pub is_fit_new : Said → Bool
+is_fit_new said = if is_given option.Plain said
+    then not (is_given option.SetPassword said || is_given option.SetKeyFile said)
+    else (is_given option.SetPassword said || is_given option.SetKeyFile said)
+
 -- The values that an entry is to have.
 abbrev pub asked_of : Said → Asked
 asked_of said = record {
@@ -84,6 +101,34 @@ format_named name =
 abbrev pub format_asked : Option (List ℕ) → Option ExportFormat
 format_asked None = Some format.Xml
 format_asked (Some name) = format_named name
+
+-- The format of this name in which something is imported.
+abbrev pub import_format_named : List ℕ → Option ImportFormat
+import_format_named name =
+    if bytes_eq name (codes "xml") then Some Xml
+    else (if bytes_eq name (codes "psafe3") then Some Psafe
+    else (if bytes_eq name (codes "csv") then Some Csv
+    else None))
+
+-- The format of what is imported: the plain document where none is named.
+abbrev pub import_format : Option (List ℕ) → Option ImportFormat
+import_format None = Some Xml
+import_format (Some name) = import_format_named name
+
+-- A file of this format has no password.
+abbrev pub is_open : ImportFormat → Bool
+is_open Xml = true
+is_open Psafe = false
+is_open Csv = true
+
+-- How the source of an import is opened: by a password alone, if it has one.
+abbrev pub access_source : Said → ImportFormat → Access
+access_source said format = record {
+  plain = is_open format;
+  quiet = is_given option.Quiet said;
+  key_file = None;
+  no_password = false;
+}
 
 -- The listing of a file's group, if one is named.
 abbrev pub list_of : Said → List ℕ → Option (List ℕ) → Command
@@ -159,6 +204,23 @@ merge_at said (file ∷ sources) =
     if is_mergeable (length sources) then Some (merge_of said file sources) else None
 merge_at said positions = None
 
+-- The import of a source in this format into a new file.
+abbrev pub import_from : Said → List ℕ → List ℕ → ImportFormat → Command
+import_from said source file format =
+    Import (access_new said) format source (access_source said format) file
+
+-- The same, if the format is known and what opens the new file fits it.
+abbrev pub import_as : Said → List ℕ → List ℕ → Option ImportFormat → Option Command
+import_as said source file (Some format) =
+    if is_fit_new said then Some (import_from said source file format) else None
+import_as said source file None = None
+
+-- `import SOURCE DATABASE`
+abbrev pub import_at : Said → List (List ℕ) → Option Command
+import_at said (source ∷ file ∷ []) =
+    import_as said source file (import_format (text_of option.ImportFormat said))
+import_at said positions = None
+
 -- A database is written in a format, if that is known.
 abbrev pub export_as : Said → List ℕ → Option ExportFormat → Option Command
 export_as said file (Some known) = Some (Export (access_of said) known file)
@@ -186,6 +248,7 @@ command_at name.Remove = remove_at
 command_at name.MakeGroup = make_group_at
 command_at name.RemoveGroup = remove_group_at
 command_at name.Merge = merge_at
+command_at name.Import = import_at
 command_at name.Export = export_at
 command_at name.Info = info_at
 

@@ -39,6 +39,17 @@ pub enum ExportFormat {
     Csv,
 }
 
+/// The format of what is imported.
+#[derive(Clone, Copy)]
+pub enum ImportFormat {
+    /// The plain document.
+    Xml,
+    /// A file of Password Safe, version 3.
+    Psafe,
+    /// A table of entries.
+    Csv,
+}
+
 /// What the program is asked to do.
 #[derive(Drop)]
 pub enum Command {
@@ -155,6 +166,19 @@ pub enum Command {
         same: bool,
         /// Whether no file is written.
         dry: bool,
+    },
+    /// Makes a database of what another program has written.
+    Import {
+        /// How the new database is opened afterwards.
+        access: Access,
+        /// The format of the source.
+        format: ImportFormat,
+        /// The file of the source.
+        source: Text,
+        /// How the source is opened.
+        from: Access,
+        /// The file of the new database.
+        file: Text,
     },
     /// Writes a database in another format.
     Export {

@@ -1,12 +1,12 @@
 //! The command that words are.
 ghost use Rattle.std.specs.Prelude.{◌≡◌, IfErr, IfOk, map, string_bytes};
 ghost use Rattle.cli_answers.specs.Phases.{IsWordsStop, Returns};
-ghost use Rattle.cli_words.specs.Needs.{HasKeys, needs_of};
+ghost use Rattle.cli_words.specs.Needs.{HasKey, HasKeys, needs_of, target_access};
 ghost use Rattle.cli_saying.specs.SaidWords.{Gives, said_seen, text_seen};
 ghost use Rattle.cli_words.specs.Words as spec;
 ghost use Rattle.cli_words.specs.Words.{command_of};
 
-use crate::command::{Access, Asked, Command, ExportFormat};
+use crate::command::{Access, Asked, Command, ExportFormat, ImportFormat};
 use cli_answers::{Reason, Stop, refused};
 use cli_options::{CommandName, CommandOption, command_named};
 use cli_saying::{
@@ -40,6 +40,19 @@ fn is_fit_from(said: &SaidWords<'_, '_>) -> bool
         !(plain || no_password || has_key)
     } else {
         is_fit(plain, no_password, has_key)
+    }
+}
+
+// Reports whether what opens a new database fits it.
+fn is_fit_new(said: &SaidWords<'_, '_>) -> bool
+    ensures { result ≡ spec.is_fit_new (said_seen said.now) }
+{
+    let has_password = is_given(said, CommandOption::SetPassword);
+    let has_key = is_given(said, CommandOption::SetKeyFile);
+    if is_given(said, CommandOption::Plain) {
+        !(has_password || has_key)
+    } else {
+        has_password || has_key
     }
 }
 
@@ -101,6 +114,31 @@ fn access_from(alloc: Global, said: &SaidWords<'_, '_>) -> Result<Access, NoMemo
     })
 }
 
+// How a new database is opened.
+fn access_new(alloc: Global, said: &SaidWords<'_, '_>) -> Result<Access, NoMemory>
+    ensures { IfOk result (λ access. access ≡ spec.access_new (said_seen said.now)) }
+{
+    let plain = is_given(said, CommandOption::Plain);
+    Ok(Access {
+        plain,
+        quiet: is_given(said, CommandOption::Quiet),
+        key_file: owned(alloc, text_of(said, CommandOption::SetKeyFile))?,
+        no_password: !(plain || is_given(said, CommandOption::SetPassword)),
+    })
+}
+
+// How the source of an import is opened.
+fn access_source(said: &SaidWords<'_, '_>, format: ImportFormat) -> Access
+    ensures { result ≡ spec.access_source (said_seen said.now) format }
+{
+    Access {
+        plain: !matches!(&format, ImportFormat::Psafe),
+        quiet: is_given(said, CommandOption::Quiet),
+        key_file: None,
+        no_password: false,
+    }
+}
+
 // The values that an entry is to have.
 fn asked_of(alloc: Global, said: &SaidWords<'_, '_>) -> Result<Asked, NoMemory>
     ensures { IfOk result (λ asked. asked ≡ spec.asked_of (said_seen said.now)) }
@@ -132,6 +170,28 @@ fn format_asked(name: Option<&str>) -> Option<ExportFormat>
     match name {
         Some(name) => format_named(name),
         None => Some(ExportFormat::Xml),
+    }
+}
+
+// The format of this name in which something is imported.
+fn import_format_named(name: &str) -> Option<ImportFormat>
+    ensures { result ≡ spec.import_format_named name.now }
+{
+    match name {
+        "xml" => Some(ImportFormat::Xml),
+        "psafe3" => Some(ImportFormat::Psafe),
+        "csv" => Some(ImportFormat::Csv),
+        _ => None,
+    }
+}
+
+// The format of what is imported: the plain document where none is named.
+fn import_format(name: Option<&str>) -> Option<ImportFormat>
+    ensures { result ≡ spec.import_format (text_seen name.entry) }
+{
+    match name {
+        Some(name) => import_format_named(name),
+        None => Some(ImportFormat::Xml),
     }
 }
 
@@ -395,6 +455,40 @@ fn merge_at(alloc: Global, said: &SaidWords<'_, '_>) -> Result<Command, WordsFai
     Ok(merge_of(alloc, said, file, sources)?)
 }
 
+// The command `import` of a source in this format, and of a new file.
+fn import_from(
+    alloc: Global,
+    said: &SaidWords<'_, '_>,
+    format: ImportFormat,
+    source: &Text,
+    file: &Text,
+) -> Result<Command, NoMemory>
+    ensures { IfOk result (λ command. command
+        ≡ spec.import_from (said_seen said.now) source.now file.now format) }
+{
+    Ok(Command::Import {
+        access: access_new(alloc, said)?,
+        format,
+        source: Text::of(alloc, source.as_str())?,
+        from: access_source(said, format),
+        file: Text::of(alloc, file.as_str())?,
+    })
+}
+
+// The command `import` at these positions.
+fn import_at(alloc: Global, said: &SaidWords<'_, '_>) -> Result<Command, WordsFail>
+    ensures { Gives (λ command. command) result
+        (spec.import_at (said_seen said.now) said.now.positions.now) }
+{
+    let [source, file] = said.positions else {
+        return Err(WordsFail::Wrong);
+    };
+    match import_format(text_of(said, CommandOption::ImportFormat)) {
+        Some(format) if is_fit_new(said) => Ok(import_from(alloc, said, format, source, file)?),
+        _ => Err(WordsFail::Wrong),
+    }
+}
+
 // The command `export` at this position.
 fn export_at(alloc: Global, said: &SaidWords<'_, '_>) -> Result<Command, WordsFail>
     ensures { Gives (λ command. command) result
@@ -448,6 +542,7 @@ fn command_at(
         CommandName::MakeGroup => make_group_at(alloc, said),
         CommandName::RemoveGroup => remove_group_at(alloc, said),
         CommandName::Merge => merge_at(alloc, said),
+        CommandName::Import => import_at(alloc, said),
         CommandName::Export => export_at(alloc, said),
         CommandName::Info => info_at(alloc, said),
     }
@@ -501,10 +596,11 @@ fn command_in(alloc: Global, words: &[String]) -> Result<Command, WordsFail>
 }
 
 /// The command that the words are.
-#[tactic(auto, using(crate::proofs::Keys::has_key))]
+#[tactic(auto, using(crate::proofs::Keys::has_key, crate::proofs::Keys::has_target_key))]
 pub fn read_words(alloc: Global, words: &[String]) -> Result<Command, Stop>
     ensures told { Returns (λ command. command) result (command_of (map string_bytes words.now)) }
     ensures has_key { IfOk result (λ command. HasKeys (needs_of command)) }
+    ensures has_target_key { IfOk result (λ command. HasKey (target_access command)) }
     ensures cause { IfErr result IsWordsStop }
 {
     match command_in(alloc, words) {

@@ -6,6 +6,9 @@ mod commands;
 pub mod laws;
 mod needs;
 
-pub use command::{Access, Asked, Command, ExportFormat};
+pub use command::{Access, Asked, Command, ExportFormat, ImportFormat};
 pub use commands::read_words;
-pub use needs::{Needs, asks_password, asks_passwords_from, needs_of};
+pub use needs::{
+    ImportNeeds, Needs, asks_password, asks_passwords_from, import_of, needs_of, target_access,
+    target_of,
+};

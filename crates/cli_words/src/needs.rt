@@ -1,9 +1,9 @@
 //! What a command asks for.
 ghost use Rattle.std.specs.Prelude.{◌≡◌};
 ghost use Rattle.cli_words.specs.Needs as spec;
-ghost use Rattle.cli_words.specs.SeenNeeds.{needs_seen};
+ghost use Rattle.cli_words.specs.SeenNeeds.{import_seen, imports_seen, needs_seen};
 
-use crate::command::{Access, Command};
+use crate::command::{Access, Command, ImportFormat};
 use outside_core::Text;
 
 /// What a command asks for: the file of its database and how it is opened, the files of its sources
@@ -77,6 +77,12 @@ pub fn needs_of(command: &Command) -> Needs<'_>
             sources: sources.as_slice(),
             has_line: false,
         },
+        Command::Import {
+            access,
+            source,
+            from,
+            ..
+        } => without_sources(from, source, asks_password(access)),
         Command::Export { access, file, .. } => without_sources(access, file, false),
         Command::Info { access, file, .. } => without_sources(access, file, false),
     }
@@ -88,6 +94,63 @@ pub fn asks_password(access: &Access) -> bool
     ensures { result ≡ spec.asks_password access.now }
 {
     !(access.plain || access.no_password)
+}
+
+/// What an import asks for beside what its source is opened by.
+#[derive(Clone, Copy)]
+pub struct ImportNeeds<'a> {
+    /// The format of the source.
+    pub format: ImportFormat,
+    /// The file of the source.
+    pub source: &'a Text,
+    /// How the new database is opened afterwards.
+    pub access: &'a Access,
+    /// The file of the new database.
+    pub file: &'a Text,
+}
+
+/// What an import asks for; other commands are none.
+pub fn import_of(command: &Command) -> Option<ImportNeeds<'_>>
+    ensures { imports_seen result ≡ spec.import_of command.now }
+{
+    match command {
+        Command::Import {
+            access,
+            format,
+            source,
+            file,
+            ..
+        } => {
+            Some(ImportNeeds {
+                format: *format,
+                source,
+                access,
+                file,
+            })
+        }
+        _ => None,
+    }
+}
+
+/// The file that a command shows or writes: that of the new database of an import, or else that of
+/// the database that it opens.
+pub fn target_of(command: &Command) -> &Text
+    ensures { result.now ≡ spec.target_of command.now }
+{
+    match command {
+        Command::Import { file, .. } => file,
+        _ => needs_of(command).file,
+    }
+}
+
+/// How the database in that file is opened.
+pub fn target_access(command: &Command) -> &Access
+    ensures { result.now ≡ spec.target_access command.now }
+{
+    match command {
+        Command::Import { access, .. } => access,
+        _ => needs_of(command).access,
+    }
 }
 
 /// Reports whether each source asks for a line: a password of its own, unless it has the password
