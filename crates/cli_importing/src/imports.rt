@@ -68,6 +68,8 @@ fn new_settings(alloc: Global) -> Result<Settings, NoMemory>
     ensures is { IfOk result (λ settings. settings ≡ spec.new_settings) }
     ensures in_order { IfOk result IsInOrder }
 {
+    let mut salt = Bytes::new(alloc);
+    salt.add(&[0; 32])?;
     Ok(Settings {
         version: FileVersion::V40,
         cipher: Cipher::Aes,
@@ -76,7 +78,7 @@ fn new_settings(alloc: Global) -> Result<Settings, NoMemory>
             passes: NEW_PASSES,
             bytes: NEW_BYTES,
             lanes: NEW_LANES,
-            salt: Bytes::of(alloc, &[0; 32])?,
+            salt,
         },
         public: None,
     })

@@ -13,12 +13,12 @@ use Rattle.cli_words.specs.Needs.{Needs, database_files, files_named, files_of, 
 use Rattle.cli_words.specs.declared.command.Command.{Command}
 use Rattle.cli_writing.specs.Writing.{IsSame, KeepsDraft, KeepsFiles, Store}
 use Rattle.cli_commands.specs.declared.output.Output.{Output}
-use Rattle.keepass_call.specs.declared.task.Task as memory
+use Rattle.call_task.specs.declared.task.Task as memory
 use Rattle.cli_commands.specs.Commands.{may_write}
-use Rattle.keepass_call.specs.Endings.{Ending, Ends, EndsRefused, IsOfDice, IsOfSomeDice, carried_out}
+use Rattle.call_carrying.specs.Endings.{Ending, Ends, EndsRefused, IsOfDice, IsOfSomeDice, carried_out}
 use Rattle.keepass_call.specs.Outcome.{IsOfSomeFile, IsOfTask, World, answer_of}
 use Rattle.cli_commands.specs.SeenChange.{output_text}
-use Rattle.keepass_call.specs.Tasks.{HasSomeFile, Task, draws, draws_by, task_of, may_write_by}
+use Rattle.call_task.specs.Tasks.{HasSomeFile, Task, draws, draws_by, task_of, may_write_by}
 
 same_store : (before mid : Store) → IsSame before mid → mid ≡ before
 same_store before mid h =

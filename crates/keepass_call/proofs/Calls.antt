@@ -14,11 +14,11 @@ use Rattle.cli_words.specs.Needs.{files_named}
 use Rattle.cli_writing.specs.Writing.{IsSame, KeepsDraft, KeepsFiles}
 use Rattle.cli_commands.specs.declared.output.Output.{Output}
 use Rattle.keepass_call.specs.Call.{IsCall}
-use Rattle.keepass_call.specs.Endings.{Ending, Ends, EndsSo}
+use Rattle.call_carrying.specs.Endings.{Ending, Ends, EndsSo}
 use Rattle.keepass_call.specs.Held.{IsAuthentic, IsComplete}
 use Rattle.keepass_call.specs.Outcome.{Counts, Gains, IsAsSaid, IsCut, IsOfSomeFile, IsOfTask, IsRefused, IsSafe, NoFaults, Outcome, Seen, Tells, WhereTold, World, answer_of, ended, outcome}
 use Rattle.cli_words.specs.Words.{command_of}
-use Rattle.keepass_call.specs.Tasks.{draws_by, left_of, may_write_by}
+use Rattle.call_task.specs.Tasks.{draws_by, left_of, may_write_by}
 use Rattle.keepass_call.specs.Telling.{IsPrinted, IsTold}
 use Rattle.keepass_call.proofs.Answered.{answer_is}
 use Rattle.keepass_call.proofs.HeldTasks.{is_given, is_task}

@@ -7,13 +7,13 @@ use Rattle.cli_databases.specs.Databases.{databases_of}
 use Rattle.cli_lines.proofs.Having.{lines_have}
 use Rattle.cli_lines.specs.Lines.{lines_of}
 use Rattle.cli_words.specs.Needs.{needs_of}
-use Rattle.keepass_call.specs.Endings.{Ending}
+use Rattle.call_carrying.specs.Endings.{Ending}
 use Rattle.keepass_call.specs.Held.{IsCarried, IsTask}
 use Rattle.keepass_call.specs.Outcome.{World, answer_of}
 use Rattle.cli_words.specs.Words.{command_of}
-use Rattle.keepass_call.specs.Tasks.{Task, databases_in, task_of, task_with}
+use Rattle.call_task.specs.Tasks.{Task, databases_in, task_of, task_with}
 use Rattle.keepass_call.proofs.Answered.{answer_is}
-use Rattle.keepass_call.proofs.Tasks.{task_is}
+use Rattle.call_task.proofs.Tasks.{task_is}
 
 ok_is : {A : Type 0} (a b : A) → ◌≡◌ {A = Result A Refusal} (Ok a) (Ok b) → a ≡ b
 ok_is a b h = cc

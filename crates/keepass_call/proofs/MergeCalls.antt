@@ -48,11 +48,11 @@ use Rattle.cli_sealing.specs.Sealing.{file_by, file_unless, seal_answer, setting
 use Rattle.cli_merging.specs.Merging.{AfterMerge, after_merge, after_merged, changes_between, merged_or_refusal}
 use Rattle.cli_merging.specs.Reports.{merge_report}
 use Rattle.cli_commands.specs.Commands.{Change, merged_change}
-use Rattle.keepass_call.specs.Endings.{Ending, HoldsNew, ReadsBack, carried_out, change_of_task, ended_with, ending_with, new_file}
+use Rattle.call_carrying.specs.Endings.{Ending, HoldsNew, ReadsBack, carried_out, change_of_task, ended_with, ending_with, new_file}
 use Rattle.keepass_call.specs.Held.{IsAuthentic, IsTask}
 use Rattle.keepass_call.specs.Merges.{HoldsDatabase, HoldsUnder, IsUntouched, MergesAgreed, MergesNothing, MergesParts, TargetHolds, merges, unmodified_text}
 use Rattle.keepass_call.specs.Outcome.{Counts, Gains, IsAsSaid, IsRefused, Seen, Tells, World, answer_of, ended, outcome}
-use Rattle.keepass_call.specs.Tasks.{Task, draws_by}
+use Rattle.call_task.specs.Tasks.{Task, draws_by}
 use Rattle.keepass_call.proofs.Answered.{answer_is}
 use Rattle.keepass_call.proofs.HeldTasks.{task_given}
 use Rattle.keepass_call.proofs.TaskDocs.{task_docs}

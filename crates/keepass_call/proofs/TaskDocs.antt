@@ -20,7 +20,7 @@ use Rattle.agreed_laws.specs.Merges.{AreDocs}
 use Rattle.cli_words.specs.Needs.{needs_of}
 use Rattle.keepass_call.specs.Held.{IsTask}
 use Rattle.keepass_call.specs.Outcome.{World}
-use Rattle.keepass_call.specs.Tasks.{Task}
+use Rattle.call_task.specs.Tasks.{Task}
 
 plain_is_doc : (bytes : List ℕ) (read : DocumentAndHash) → plain_document bytes ≡ Ok read → IsDoc read.0
 unfolding plain_document

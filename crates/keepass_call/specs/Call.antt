@@ -6,7 +6,7 @@ use Rattle.keepass_call.specs.Merges.{MergesAgreed, MergesNothing}
 use Rattle.keepass_call.specs.Outcome.{Counts, IsAsSaid, IsCut, IsRefused, IsSafe, NoFaults, PrintsOfSomeFile, Seen, WhereTold, outcome}
 use Rattle.cli_words.specs.Words.{command_of}
 use Rattle.cli_writing.specs.Writing.{IsSame}
-use Rattle.keepass_call.specs.Tasks.{draws_by, may_write_by}
+use Rattle.call_task.specs.Tasks.{draws_by, may_write_by}
 
 -- A call with these words at a moment, its status, what is seen before and after it, and the counts
 -- before and after.

@@ -6,9 +6,9 @@ use Rattle.cli_words.specs.Words.{command_of}
 use Rattle.cli_lines.specs.Lines.{lines_of}
 use Rattle.cli_databases.specs.Held.{HoldDatabases}
 use Rattle.cli_commands.specs.Commands.{Change}
-use Rattle.keepass_call.specs.Endings.{Ending, ReadsBack, Stores, carried_out, change_of_task}
+use Rattle.call_carrying.specs.Endings.{Ending, ReadsBack, Stores, carried_out, change_of_task}
 use Rattle.keepass_call.specs.Outcome.{Counts, Gains, NoFaults, Seen, World}
-use Rattle.keepass_call.specs.Tasks.{Task, databases_in}
+use Rattle.call_task.specs.Tasks.{Task, databases_in}
 
 -- The words are the task's command, its lines are those that are due, and the files hold its
 -- databases by them.

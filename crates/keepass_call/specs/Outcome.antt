@@ -7,9 +7,9 @@ use Rattle.cli_answers.specs.declared.answers.Refusal.{Refusal}
 use Rattle.cli_answers.specs.Messages.{status_of, reason_text, error_line}
 use Rattle.cli_answers.specs.Phases.{IsLeft, StreamAnswer, TellsStream, then_left, with_left}
 use Rattle.cli_writing.specs.Writing.{KeepsDraft, KeepsFiles, NewFile, Store, store}
-use Rattle.keepass_call.specs.Endings.{Ending, IsOfDice, IsOfSomeDice, Stores, carried_out}
+use Rattle.call_carrying.specs.Endings.{Ending, IsOfDice, IsOfSomeDice, Stores, carried_out}
 use Rattle.cli_words.specs.Words.{command_of}
-use Rattle.keepass_call.specs.Tasks.{HasSomeFile, Task, asked_by, draws_by, left_of, task_of}
+use Rattle.call_task.specs.Tasks.{HasSomeFile, Task, asked_by, draws_by, left_of, task_of}
 
 -- ---- what is defined
 

@@ -6,11 +6,11 @@ ghost use Rattle.cli_answers.specs.Phases.{IsCaused, Leaves, TellsStream};
 ghost use Rattle.cli_words.specs.Needs.{files_named};
 ghost use Rattle.cli_writing.specs.Writing.{IsSame, KeepsDraft, KeepsFiles, store};
 ghost use Rattle.keepass_call.specs.Call.{IsCall};
-ghost use Rattle.keepass_call.specs.Endings.{Ends};
+ghost use Rattle.call_carrying.specs.Endings.{Ends};
 ghost use Rattle.keepass_call.specs.Outcome.{IsOfSomeFile, IsOfTask, World, answer_of, counts, seen};
 ghost use Rattle.cli_commands.specs.SeenChange.{output_text};
 ghost use Rattle.cli_words.specs.Words.{command_of};
-ghost use Rattle.keepass_call.specs.Tasks.{asked_by, draws_by, left_of, may_write_by};
+ghost use Rattle.call_task.specs.Tasks.{asked_by, draws_by, left_of, may_write_by};
 ghost use Rattle.keepass_call.specs.Telling.{IsPrinted, IsTold, IsUnwritten, TellsLine};
 
 use crate::carrying::carry_out;

@@ -6,9 +6,9 @@ ghost use Rattle.cli_answers.specs.Phases.{IsEarlyStop, Leaves, Returns, TellsSt
 ghost use Rattle.cli_lines.specs.Lines.{IsTextLine};
 ghost use Rattle.cli_lines.specs.SeenLines.{lines_seen};
 ghost use Rattle.cli_words.specs.Needs.{files_named, needs_of};
-ghost use Rattle.keepass_call.specs.SeenTask.{task_seen};
+ghost use Rattle.call_task.specs.SeenTask.{task_seen};
 ghost use Rattle.cli_words.specs.Words.{command_of};
-ghost use Rattle.keepass_call.specs.Tasks.{HasSomeFile, asked_by, left_of, task_of};
+ghost use Rattle.call_task.specs.Tasks.{HasSomeFile, asked_by, left_of, task_of};
 
 use cli_answers::Stop;
 use cli_databases::{Databases, Opened, open};

@@ -6,13 +6,12 @@ use Rattle.outside_core.specs.Results.{◌>>=◌}
 use Rattle.vault_model.specs.Tree.{BareDoc}
 use Rattle.cli_answers.specs.declared.answers.Refusal.{Refusal}
 use Rattle.cli_words.specs.declared.command.Command.{Command}
-use Rattle.cli_words.specs.declared.command.Command.TheVariants.{Ls, Show, Search, Add, Edit, Move, Remove, MakeGroup, RemoveGroup, Merge, Export, Info}
+use Rattle.cli_words.specs.declared.command.Command.TheVariants.{Ls, Show, Search, Add, Edit, Move, Remove, MakeGroup, RemoveGroup, Merge, Import, Export, Info}
 use Rattle.cli_words.specs.Needs.{asks_line, needs_of}
 use Rattle.cli_words.specs.Words.{command_of}
 use Rattle.cli_lines.specs.Lines.{HasLines, Lines, lines_of}
-use Rattle.cli_databases.specs.Databases.{Databases, Opened, databases_of}
-use Rattle.cli_databases.specs.SomeFiles.{SomeDatabases}
-use Rattle.cli_commands.specs.Commands.{may_write}
+use Rattle.cli_databases.specs.Databases.{Databases, Opened}
+use Rattle.cli_opening.specs.Opening.{SomeFor, databases_for}
 
 -- What a call is to do: its command, the lines that this asked for, the database that was opened
 -- for it, and the documents of its sources.
@@ -35,13 +34,13 @@ task_with command lines databases = record {
   sources = databases.sources;
 }
 
--- What these words ask for over this input and these files: the command, the lines that are due,
--- and the databases that the command names.
-unfoldable pub task_of : List (List ℕ) → List ℕ → FileMap → Result Task Refusal
-task_of words input files = do
+-- What these words ask for at a moment over this input and these files: the command, the lines that
+-- are due, and the databases that the command names, or the one that an import makes.
+unfoldable pub task_of : List (List ℕ) → ℕ → List ℕ → FileMap → Result Task Refusal
+task_of words time input files = do
   command ← command_of words
   lines ← (lines_of (needs_of command) input).answer
-  databases ← databases_of (needs_of command) lines files
+  databases ← databases_for command lines time files
   Ok (task_with command lines databases)
 
 -- Whether words ask for a line.
@@ -61,6 +60,7 @@ draws (Remove access file entry) = true
 draws (MakeGroup access file group) = true
 draws (RemoveGroup access file group) = true
 draws (Merge access file names from same dry) = not dry && not access.plain
+draws (Import access format source from file) = not access.plain
 draws (Export access format file) = false
 draws (Info access file) = false
 
@@ -68,11 +68,6 @@ draws (Info access file) = false
 abbrev pub draws_by : Result Command Refusal → Bool
 draws_by (Ok command) = draws command
 draws_by (Err refusal) = false
-
--- Whether words are a command that may write its database.
-abbrev pub may_write_by : Result Command Refusal → Bool
-may_write_by (Ok command) = may_write command
-may_write_by (Err refusal) = false
 
 -- What is left of the input after the lines that a command asks for.
 abbrev pub left_behind : Result Command Refusal → List ℕ → List ℕ
@@ -83,9 +78,9 @@ left_behind (Err refusal) input = input
 abbrev pub left_of : List (List ℕ) → List ℕ → List ℕ
 left_of words input = left_behind (command_of words) input
 
--- The words ask for this task, whose databases some files hold, under lines of which each is there
--- that is due.
-pub record HasSomeFile (words : List (List ℕ)) (task : Task) : Type 0 where
+-- The words ask for this task at a moment, whose databases some files hold, under lines of which each
+-- is there that is due.
+pub record HasSomeFile (words : List (List ℕ)) (time : ℕ) (task : Task) : Type 0 where
   pub is_command : command_of words ≡ Ok task.command
   pub has_lines : HasLines (needs_of task.command) task.lines
-  pub holds : SomeDatabases (needs_of task.command) task.lines (databases_in task)
+  pub holds : SomeFor task.command task.lines time (databases_in task)

@@ -16,9 +16,9 @@ use Rattle.cli_words.specs.declared.command.Command.{Command}
 use Rattle.cli_databases.specs.Databases.{Databases, databases_of}
 use Rattle.cli_databases.specs.SomeFiles.{SomeDatabases}
 use Rattle.cli_databases.proofs.SomeOpened.{sealed_unless_plain}
-use Rattle.keepass_call.specs.declared.task.Task as memory
+use Rattle.call_task.specs.declared.task.Task as memory
 use Rattle.cli_words.specs.Words.{command_of}
-use Rattle.keepass_call.specs.Tasks.{HasSomeFile, asked_by, left_behind, task_of, task_with}
+use Rattle.call_task.specs.Tasks.{HasSomeFile, asked_by, left_behind, task_of, task_with}
 
 -- ---- what words ask for
 

@@ -1,8 +1,8 @@
 use Rattle.std.proofs.Common.{◌∙◌, map}
 use Rattle.vault_model.specs.SeenDoc.{doc_seen}
 use Rattle.cli_lines.specs.SeenLines.{lines_seen}
-use Rattle.keepass_call.proofs.Carried.{all_kept, ends_kept, in_order_kept, sealed_kept, some_kept}
-use Rattle.keepass_call.proofs.carrying.carry_out.Goals as goal
+use Rattle.call_carrying.proofs.Carried.{all_kept, ends_kept, in_order_kept, sealed_kept, some_kept}
+use Rattle.call_carrying.proofs.carrying.carry_out.Goals as goal
 
 pub carry_out_on-answer-requires-clause-in_order : goal.carry_out_on-answer-requires-clause-in_order
 carry_out_on-answer-requires-clause-in_order g c =

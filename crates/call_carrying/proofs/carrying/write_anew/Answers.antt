@@ -1,8 +1,8 @@
 use Rattle.std.proofs.Common.{true, refl}
 use Rattle.cli_lines.proofs.Inputs.{told_by}
-use Rattle.keepass_call.proofs.Carried.{keeps_draft, plain_stop, plain_written, sealed_written}
+use Rattle.call_carrying.proofs.Carried.{keeps_draft, plain_stop, plain_written, sealed_written}
 use Rattle.cli_commands.proofs.Changes.{loses_none}
-use Rattle.keepass_call.proofs.carrying.write_anew.Goals as goal
+use Rattle.call_carrying.proofs.carrying.write_anew.Goals as goal
 
 pub returns-in-None-clause-told : goal.returns-in-None-clause-told
 returns-in-None-clause-told g c = λ d t.

@@ -3,8 +3,8 @@ use Rattle.std.specs.Prelude.{map}
 use Rattle.vault_model.specs.SeenDoc.{doc_seen}
 use Rattle.cli_databases.specs.SeenOpened.{opened_seen}
 use Rattle.cli_lines.specs.SeenLines.{lines_seen}
-use Rattle.keepass_call.specs.declared.task.Task as memory
-use Rattle.keepass_call.specs.Tasks.{Task}
+use Rattle.call_task.specs.declared.task.Task as memory
+use Rattle.call_task.specs.Tasks.{Task}
 
 -- A task by its lines' bytes and the nodes of its databases' documents.
 abbrev pub task_seen : memory.Task → Task

@@ -1,7 +1,7 @@
 use Rattle.std.proofs.Common.{◌≡◌, true, false, sym, ◌∙◌}
 use Rattle.vault_model.specs.SeenDoc.{doc_seen}
-use Rattle.keepass_call.proofs.Carried.{asked_written, none_written, reads_same, reads_written, unsealed_written, written_so}
-use Rattle.keepass_call.proofs.carrying.write_if.Goals as goal
+use Rattle.call_carrying.proofs.Carried.{asked_written, none_written, reads_same, reads_written, unsealed_written, written_so}
+use Rattle.call_carrying.proofs.carrying.write_if.Goals as goal
 
 pub returns-then-is_written-clause-told : goal.returns-then-is_written-clause-told
 returns-then-is_written-clause-told g c = λ printed d t.

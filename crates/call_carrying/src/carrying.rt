@@ -11,10 +11,10 @@ ghost use Rattle.cli_words.specs.Needs.{needs_of};
 ghost use Rattle.cli_writing.specs.Held.{IsWritten};
 ghost use Rattle.cli_writing.specs.Writing.{IsSame, KeepsDraft, KeepsFiles, store};
 ghost use Rattle.cli_commands.specs.Commands.{may_write};
-ghost use Rattle.keepass_call.specs.Endings.{Ends, EndsWith, HoldsNew, IsOfDice, IsOfSomeDice, ReadsBack, WritesNew, carried_out, ended_with, new_file, settings_in};
+ghost use Rattle.call_carrying.specs.Endings.{Ends, EndsWith, HoldsNew, IsOfDice, IsOfSomeDice, ReadsBack, WritesNew, carried_out, ended_with, new_file, settings_in};
 ghost use Rattle.cli_commands.specs.SeenChange.{doc_if, lent_settings, output_text};
-ghost use Rattle.keepass_call.specs.SeenTask.{task_seen};
-ghost use Rattle.keepass_call.specs.Tasks.{draws};
+ghost use Rattle.call_task.specs.SeenTask.{task_seen};
+ghost use Rattle.call_task.specs.Tasks.{draws};
 
 use crate::task::{Task, bytes_in};
 use cli_answers::Stop;

@@ -5,8 +5,8 @@ use Rattle.cli_databases.specs.SeenOpened.{databases_seen}
 use Rattle.cli_lines.specs.SeenLines.{lines_seen}
 use Rattle.cli_words.specs.SeenNeeds.{needs_seen}
 use Rattle.cli_words.specs.Words.{command_of}
-use Rattle.keepass_call.proofs.Tasks.{asked_needs, at_needs, database_refused, has_file_by_needs, keys_of_needs, input_early, lines_refused, needs_leave, needs_left, sealed_by_needs, stops_left, task_by_needs, words_early, words_leave, words_refused}
-use Rattle.keepass_call.proofs.task.read_task.Goals as goal
+use Rattle.call_task.proofs.Tasks.{asked_needs, at_needs, database_refused, has_file_by_needs, keys_of_needs, input_early, lines_refused, needs_leave, needs_left, sealed_by_needs, stops_left, task_by_needs, words_early, words_leave, words_refused}
+use Rattle.call_task.proofs.task.read_task.Goals as goal
 
 pub open-requires-clause-keys : goal.open-requires-clause-keys
 open-requires-clause-keys g c =

@@ -1,0 +1,2 @@
+pub mod HeldImports
+pub mod Sealings
