@@ -16,8 +16,8 @@ use Rattle.cli_lines.proofs.Inputs.{left_alone, left_so}
 use Rattle.cli_lines.specs.Lines.{Lines}
 use Rattle.cli_sealing.specs.Sealing.{Seals}
 use Rattle.cli_words.specs.declared.command.Command.{Command}
-use Rattle.cli_words.specs.declared.command.Command.TheVariants.{Ls, Show, Search, Add, Edit, Move, Remove, MakeGroup, RemoveGroup, Merge, Export, Info}
-use Rattle.cli_words.specs.Needs.{needs_of}
+use Rattle.cli_words.specs.declared.command.Command.TheVariants.{Ls, Show, Search, Add, Edit, Move, Remove, MakeGroup, RemoveGroup, Merge, Import, Export, Info}
+use Rattle.cli_words.specs.Needs.{target_access, target_of}
 use Rattle.cli_writing.specs.Held.{IsWritten}
 use Rattle.cli_writing.specs.Writing.{IsWriteStop, KeepsDraft, KeepsFiles, NewFile, Store, Writes}
 use Rattle.cli_commands.specs.declared.output.Output.{Output}
@@ -137,6 +137,7 @@ tells_id (Remove access file entry) None d t = t
 tells_id (MakeGroup access file group) None d t = t
 tells_id (RemoveGroup access file group) None d t = t
 tells_id (Merge access file names from same dry) None d t = refl
+tells_id (Import access format source from file) None d t = refl
 tells_id (Export access format file) None d t = refl
 tells_id (Info access file) None d t = refl
 
@@ -157,6 +158,7 @@ no_id (Remove access file entry) e = e
 no_id (MakeGroup access file group) e = e
 no_id (RemoveGroup access file group) e = e
 no_id (Merge access file names from same dry) e = refl
+no_id (Import access format source from file) e = refl
 no_id (Export access format file) e = refl
 no_id (Info access file) e = refl
 
@@ -165,27 +167,27 @@ no_id (Info access file) e = refl
 -- What a task is carried out to whose command makes this change.
 carried_by : (time : ℕ) (task : Task) (line : Option (List ℕ)) (settings : Option Settings) (dice : List ℕ) (change : Change) → line ≡ task.lines.more → settings ≡ settings_in task.opened.sealing
     → (change_of time task.command line task.sources settings task.opened.doc dice).answer ≡ Ok change
-    → carried_out time task dice ≡ ended_with (needs_of task.command).file task.opened.sealing change.text change.doc (change_of time task.command line task.sources settings task.opened.doc dice).left
+    → carried_out time task dice ≡ ended_with (target_of task.command) task.opened.sealing change.text change.doc (change_of time task.command line task.sources settings task.opened.doc dice).left
 unfolding carried_out
 carried_by time task line settings dice change e s h =
-    ap (λ (l : Option (List ℕ)). then_left (change_of time task.command l task.sources (settings_in task.opened.sealing) task.opened.doc dice) (λ change left. ended_with (needs_of task.command).file task.opened.sealing change.text change.doc left)) (sym e)
-    ∙ ap (λ (x : Option Settings). then_left (change_of time task.command line task.sources x task.opened.doc dice) (λ change left. ended_with (needs_of task.command).file task.opened.sealing change.text change.doc left)) (sym s)
+    ap (λ (l : Option (List ℕ)). then_left (change_of time task.command l task.sources (settings_in task.opened.sealing) task.opened.doc dice) (λ change left. ended_with (target_of task.command) task.opened.sealing change.text change.doc left)) (sym e)
+    ∙ ap (λ (x : Option Settings). then_left (change_of time task.command line task.sources x task.opened.doc dice) (λ change left. ended_with (target_of task.command) task.opened.sealing change.text change.doc left)) (sym s)
     ∙ ap (λ (r : Result Change Refusal). then_left (with_left r (change_of time task.command line task.sources settings task.opened.doc dice).left)
-    (λ change left. ended_with (needs_of task.command).file task.opened.sealing change.text change.doc left)) h
+    (λ change left. ended_with (target_of task.command) task.opened.sealing change.text change.doc left)) h
 
 refused_by : (time : ℕ) (task : Task) (line : Option (List ℕ)) (settings : Option Settings) (dice : List ℕ) (refusal : Refusal) → line ≡ task.lines.more → settings ≡ settings_in task.opened.sealing
     → (change_of time task.command line task.sources settings task.opened.doc dice).answer ≡ Err refusal
     → carried_out time task dice ≡ with_left (Err refusal) (change_of time task.command line task.sources settings task.opened.doc dice).left
 unfolding carried_out
 refused_by time task line settings dice refusal e s h =
-    ap (λ (l : Option (List ℕ)). then_left (change_of time task.command l task.sources (settings_in task.opened.sealing) task.opened.doc dice) (λ change left. ended_with (needs_of task.command).file task.opened.sealing change.text change.doc left)) (sym e)
-    ∙ ap (λ (x : Option Settings). then_left (change_of time task.command line task.sources x task.opened.doc dice) (λ change left. ended_with (needs_of task.command).file task.opened.sealing change.text change.doc left)) (sym s)
+    ap (λ (l : Option (List ℕ)). then_left (change_of time task.command l task.sources (settings_in task.opened.sealing) task.opened.doc dice) (λ change left. ended_with (target_of task.command) task.opened.sealing change.text change.doc left)) (sym e)
+    ∙ ap (λ (x : Option Settings). then_left (change_of time task.command line task.sources x task.opened.doc dice) (λ change left. ended_with (target_of task.command) task.opened.sealing change.text change.doc left)) (sym s)
     ∙ ap (λ (r : Result Change Refusal). then_left (with_left r (change_of time task.command line task.sources settings task.opened.doc dice).left)
-    (λ change left. ended_with (needs_of task.command).file task.opened.sealing change.text change.doc left)) h
+    (λ change left. ended_with (target_of task.command) task.opened.sealing change.text change.doc left)) h
 
 -- The change was made and the file written, if one is.
 pub ends_by : (time : ℕ) (task : Task) (line : Option (List ℕ)) (settings : Option Settings) (dice name : List ℕ) (change : Change) (before now : Store) (old mid new : Option (List ℕ))
-    → line ≡ task.lines.more → settings ≡ settings_in task.opened.sealing → name ≡ (needs_of task.command).file
+    → line ≡ task.lines.more → settings ≡ settings_in task.opened.sealing → name ≡ (target_of task.command)
     → (change_of time task.command line task.sources settings task.opened.doc dice).answer ≡ Ok change → IsLeft old mid (change_of time task.command line task.sources settings task.opened.doc dice).left
     → EndsWith change.text (Ok tt) (ended_with name task.opened.sealing change.text change.doc (change_of time task.command line task.sources settings task.opened.doc dice).left) before now mid new
     → EndsSo change.text (carried_out time task dice).answer before now × IsLeft old new (carried_out time task dice).left
@@ -193,7 +195,7 @@ ends_by time task line settings dice name change before now old mid new e s n h 
     let made = (change_of time task.command line task.sources settings task.opened.doc dice).left in
     let there = subst (λ (f : List ℕ). EndsWith change.text (Ok tt) (ended_with f task.opened.sealing change.text change.doc made) before now mid new) n w in
     subst (λ (t : StreamAnswer Ending). EndsSo change.text t.answer before now × IsLeft old new t.left) (sym (carried_by time task line settings dice change e s h))
-    (there.0, left_after old mid new made (ended_with (needs_of task.command).file task.opened.sealing change.text change.doc made).left l there.1)
+    (there.0, left_after old mid new made (ended_with (target_of task.command) task.opened.sealing change.text change.doc made).left l there.1)
 
 -- The change was refused.
 pub change_refused : (stop : Stop) (time : ℕ) (task : Task) (line : Option (List ℕ)) (settings : Option Settings) (dice : List ℕ) (before : Store) (stream stream' : Option (List ℕ))
@@ -208,7 +210,7 @@ change_refused NoMemory time task line settings dice before stream stream' e s h
 
 -- The file was refused.
 pub file_refused : (stop : Stop) (time : ℕ) (task : Task) (line : Option (List ℕ)) (settings : Option Settings) (dice name : List ℕ) (change : Change) (before now : Store) (old mid new : Option (List ℕ))
-    → line ≡ task.lines.more → settings ≡ settings_in task.opened.sealing → name ≡ (needs_of task.command).file
+    → line ≡ task.lines.more → settings ≡ settings_in task.opened.sealing → name ≡ (target_of task.command)
     → (change_of time task.command line task.sources settings task.opened.doc dice).answer ≡ Ok change → IsLeft old mid (change_of time task.command line task.sources settings task.opened.doc dice).left
     → EndsWith change.text (Err stop) (ended_with name task.opened.sealing change.text change.doc (change_of time task.command line task.sources settings task.opened.doc dice).left) before now mid new
     → Ends (Err stop) (carried_out time task dice) before now old new
@@ -216,14 +218,14 @@ file_refused (Refused refusal) time task line settings dice name change before n
     let made = (change_of time task.command line task.sources settings task.opened.doc dice).left in
     let there = subst (λ (f : List ℕ). EndsWith change.text (Err (Refused refusal)) (ended_with f task.opened.sealing change.text change.doc made) before now mid new) n w in
     subst (λ (t : StreamAnswer Ending). EndsRefused refusal t.answer before now × IsLeft old new t.left) (sym (carried_by time task line settings dice change e s h))
-    (there.0, left_after old mid new made (ended_with (needs_of task.command).file task.opened.sealing change.text change.doc made).left l there.1)
+    (there.0, left_after old mid new made (ended_with (target_of task.command) task.opened.sealing change.text change.doc made).left l there.1)
 file_refused (FileFault given) time task line settings dice name change before now old mid new e s n h l w = tt
 file_refused InputFault time task line settings dice name change before now old mid new e s n h l w = tt
 file_refused NoMemory time task line settings dice name change before now old mid new e s n h l w = tt
 
 -- What was printed and written is of the change.
 pub of_dice : (time : ℕ) (task : Task) (line : Option (List ℕ)) (settings : Option Settings) (dice name printed : List ℕ) (change : Change) (before now : Store)
-    → line ≡ task.lines.more → settings ≡ settings_in task.opened.sealing → name ≡ (needs_of task.command).file → printed ≡ change.text
+    → line ≡ task.lines.more → settings ≡ settings_in task.opened.sealing → name ≡ (target_of task.command) → printed ≡ change.text
     → (change_of time task.command line task.sources settings task.opened.doc dice).answer ≡ Ok change → ReadsBack name task.opened.sealing change.doc before now
     → IsOfDice time task dice printed before now
 of_dice time task line settings dice name printed change before now e s n p h r = record {
@@ -252,8 +254,8 @@ unfolding carried_out
 carried_kept true time command lines sources doc one other dice w k same =
     ap (λ (s : Option Sealing). carried_out time (task_with command lines (record { target = record { doc = doc; sealing = s }; sources = sources })) dice) (same refl)
 carried_kept false time command lines sources doc one other dice w k same =
-    ap (λ (x : Option Settings). then_left (change_of time command lines.more sources x doc dice) (λ change left. ended_with (needs_of command).file one change.text change.doc left)) k
-    ∙ ends_so (needs_of command).file (change_of time command lines.more sources (settings_in other) doc dice).answer (change_of time command lines.more sources (settings_in other) doc dice).left one other
+    ap (λ (x : Option Settings). then_left (change_of time command lines.more sources x doc dice) (λ change left. ended_with (target_of command) one change.text change.doc left)) k
+    ∙ ends_so (target_of command) (change_of time command lines.more sources (settings_in other) doc dice).answer (change_of time command lines.more sources (settings_in other) doc dice).left one other
     (none_changed time command lines.more sources (settings_in other) doc dice w)
 
 pub ends_kept : (time : ℕ) (command : Command) (lines : Lines) (sources : List BareDoc) (doc : BareDoc) (one other : Option Sealing) (d : List ℕ) (result : Result Output Stop) (before now : Store) (dice dice' : Option (List ℕ))
@@ -283,7 +285,7 @@ of_dice_kept time command lines sources doc one other d printed before now k sam
   makes = subst (λ (x : Option Settings). (change_of time command lines.more sources x doc d).answer ≡ Ok h.change) k h.makes;
   text = h.text;
   reads_back =
-      reads_kept (may_write command) (needs_of command).file one other h.change.doc before now same
+      reads_kept (may_write command) (target_of command) one other h.change.doc before now same
       (λ w. if_made (change_of time command lines.more sources (settings_in one) doc d).answer h.change h.makes
       (none_changed time command lines.more sources (settings_in one) doc d w)) h.reads_back;
 }
@@ -312,7 +314,7 @@ none_and : (written sealed : Bool) → written ≡ false → (written && sealed)
 none_and written sealed h = ap (λ (w : Bool). w && sealed) h
 
 -- A command that draws nothing seals nothing.
-pub undrawn_unsealed : (command : Command) (sealed written : Bool) → (may_write command ≡ false → written ≡ false) → sealed ≡ not (needs_of command).access.plain
+pub undrawn_unsealed : (command : Command) (sealed written : Bool) → (may_write command ≡ false → written ≡ false) → sealed ≡ not (target_access command).plain
     → draws command ≡ false → (written && sealed) ≡ false
 undrawn_unsealed (Ls access file group recursive flat) sealed written w h e = none_and written sealed (w refl)
 undrawn_unsealed (Show access file entry clear all attachments names) sealed written w h e = none_and written sealed (w refl)
@@ -325,6 +327,7 @@ undrawn_unsealed (MakeGroup access file group) sealed written w h e = cc
 undrawn_unsealed (RemoveGroup access file group) sealed written w h e = cc
 undrawn_unsealed (Merge access file names from same true) sealed written w h e = none_and written sealed (w refl)
 undrawn_unsealed (Merge access file names from same false) sealed written w h e = and_none written sealed (h ∙ e)
+undrawn_unsealed (Import access format source from file) sealed written w h e = and_none written sealed (h ∙ e)
 undrawn_unsealed (Export access format file) sealed written w h e = none_and written sealed (w refl)
 undrawn_unsealed (Info access file) sealed written w h e = none_and written sealed (w refl)
 

@@ -5,7 +5,7 @@ use Rattle.cli_answers.specs.declared.answers.Refusal.{Refusal}
 use Rattle.cli_answers.specs.declared.answers.Stop.{Stop}
 use Rattle.cli_answers.specs.declared.answers.Stop.TheVariants.{Refused, FileFault, InputFault, NoMemory}
 use Rattle.cli_answers.specs.Phases.{IsLeft, StreamAnswer, then_left, with_left}
-use Rattle.cli_words.specs.Needs.{needs_of}
+use Rattle.cli_words.specs.Needs.{target_of}
 use Rattle.kdbx_frame.specs.declared.settings.Settings.{Settings}
 use Rattle.kdbx_open.specs.declared.sealings.Sealing.{Sealing}
 use Rattle.cli_writing.specs.Held.{HoldsPlain, IsWritten}
@@ -61,7 +61,7 @@ change_of_task time task dice = change_of time task.command task.lines.more task
 unfoldable pub carried_out : ℕ → Task → List ℕ → StreamAnswer Ending
 carried_out time task dice =
     then_left (change_of_task time task dice) (λ change left.
-    ended_with (needs_of task.command).file task.opened.sealing change.text change.doc left)
+    ended_with (target_of task.command) task.opened.sealing change.text change.doc left)
 
 -- ---- what a written file holds
 
@@ -139,7 +139,7 @@ pub record IsOfDice (time : ℕ) (task : Task) (dice printed : List ℕ) (before
     pub change : Change
     pub makes : (change_of_task time task dice).answer ≡ Ok change
     pub text : printed ≡ change.text
-    pub reads_back : ReadsBack (needs_of task.command).file task.opened.sealing change.doc before
+    pub reads_back : ReadsBack (target_of task.command) task.opened.sealing change.doc before
         now
 
 -- The same with some dice, whatever they report.

@@ -7,7 +7,7 @@ ghost use Rattle.kdbx_frame.specs.Settings.{IsInOrder};
 ghost use Rattle.cli_answers.specs.Phases.{IsCommandStop, TellsStream};
 ghost use Rattle.cli_lines.specs.Lines.{IsTextLine};
 ghost use Rattle.cli_lines.specs.SeenLines.{lines_seen};
-ghost use Rattle.cli_words.specs.Needs.{needs_of};
+ghost use Rattle.cli_words.specs.Needs.{target_access, target_of};
 ghost use Rattle.cli_writing.specs.Held.{IsWritten};
 ghost use Rattle.cli_writing.specs.Writing.{IsSame, KeepsDraft, KeepsFiles, store};
 ghost use Rattle.cli_commands.specs.Commands.{may_write};
@@ -16,10 +16,10 @@ ghost use Rattle.cli_commands.specs.SeenChange.{doc_if, lent_settings, output_te
 ghost use Rattle.call_task.specs.SeenTask.{task_seen};
 ghost use Rattle.call_task.specs.Tasks.{draws};
 
-use crate::task::{Task, bytes_in};
+use call_task::Task;
 use cli_answers::Stop;
 use cli_commands::{CommandInput, Output, may_write, perform};
-use cli_databases::Opened;
+use cli_databases::{Opened, bytes_in};
 use cli_sealing::write_sealed;
 use cli_words::Command;
 use cli_writing::write_plain;
@@ -29,11 +29,11 @@ use outside_core::{Dice, FileStore};
 use std::alloc::Global;
 use vault_model::Doc;
 
-// The file of a command's database.
+// The file that a command shows or writes.
 fn file_of(command: &Command) -> &str
-    ensures { result.now ≡ (needs_of command.now).file }
+    ensures { result.now ≡ target_of command.now }
 {
-    cli_words::needs_of(command).file.as_str()
+    cli_words::target_of(command).as_str()
 }
 
 // Clears the composite key of a database at once that is not written again. Its settings stay.
@@ -165,7 +165,7 @@ fn carry_out_on<F: FileStore, D: Dice>(
     requires text { IsTextLine (lines_seen task.old.lines).more }
     requires in_order { IfSome task.old.opened.sealing (λ s. IsInOrder s.settings) }
     requires sealed { is_some task.old.opened.sealing
-        ≡ not (needs_of task.old.command).access.plain }
+        ≡ not (target_access task.old.command).plain }
     ensures told { (d : List ℕ) → TellsStream (draws task.old.command) (D.stream dice.old) d
         → Ends result (carried_out now (task_seen task.old) d)
         (store (F.files files.old) (F.draft_name files.old) (F.draft_bytes files.old))
@@ -192,7 +192,7 @@ fn carry_out_on<F: FileStore, D: Dice>(
     ensures undrawn { draws task.old.command ≡ false
         → D.stream dice.new ≡ D.stream dice.old }
     ensures stream { LosesPrefix (D.stream dice.old) (D.stream dice.new) }
-    ensures cause { IfErr result (IsCommandStop (needs_of task.old.command).file
+    ensures cause { IfErr result (IsCommandStop (target_of task.old.command)
         (F.faults files.old) (F.faults files.new) (D.faults dice.old) (D.faults dice.new)) }
 {
     let input = CommandInput {
@@ -227,7 +227,7 @@ pub fn carry_out<F: FileStore, D: Dice>(
 ) -> Result<Output, Stop>
     requires text { IsTextLine (lines_seen task.lines).more }
     requires in_order { IfSome task.opened.sealing (λ s. IsInOrder s.settings) }
-    requires sealed { is_some task.opened.sealing ≡ not (needs_of task.command).access.plain }
+    requires sealed { is_some task.opened.sealing ≡ not (target_access task.command).plain }
     ensures told { (d : List ℕ) → TellsStream (draws task.command) (D.stream dice.old) d
         → Ends result (carried_out now (task_seen task) d)
         (store (F.files files.old) (F.draft_name files.old) (F.draft_bytes files.old))
@@ -252,7 +252,7 @@ pub fn carry_out<F: FileStore, D: Dice>(
         (store (F.files files.new) (F.draft_name files.new) (F.draft_bytes files.new)) }
     ensures undrawn { draws task.command ≡ false → D.stream dice.new ≡ D.stream dice.old }
     ensures stream { LosesPrefix (D.stream dice.old) (D.stream dice.new) }
-    ensures cause { IfErr result (IsCommandStop (needs_of task.command).file
+    ensures cause { IfErr result (IsCommandStop (target_of task.command)
         (F.faults files.old) (F.faults files.new) (D.faults dice.old) (D.faults dice.new)) }
 {
     clear_unless(may_write(&task.command), &mut task.opened.sealing);

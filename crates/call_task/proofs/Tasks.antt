@@ -11,11 +11,11 @@ use Rattle.cli_answers.specs.declared.answers.Stop.TheVariants.{Refused, FileFau
 use Rattle.cli_answers.specs.Phases.{IsEarlyStop, IsFileStop, IsLeft, IsStreamStop, IsWordsStop, Leaves, RefusesAskedStream, Stops, TellsStream}
 use Rattle.cli_lines.specs.Lines.{HasLines, Lines, lines_of}
 use Rattle.cli_lines.proofs.Inputs.{left_alone}
-use Rattle.cli_words.specs.Needs.{HasKeys, Needs, asks_line, files_named, files_of, needs_of}
+use Rattle.cli_words.specs.Needs.{Needs, asks_line, files_named, import_of, needs_of, target_access}
 use Rattle.cli_words.specs.declared.command.Command.{Command}
-use Rattle.cli_databases.specs.Databases.{Databases, databases_of}
-use Rattle.cli_databases.specs.SomeFiles.{SomeDatabases}
-use Rattle.cli_databases.proofs.SomeOpened.{sealed_unless_plain}
+use Rattle.cli_databases.specs.Databases.{Databases}
+use Rattle.cli_opening.specs.Opening.{SomeFor, databases_for}
+use Rattle.cli_opening.proofs.Opened.{sealed_by}
 use Rattle.call_task.specs.declared.task.Task as memory
 use Rattle.cli_words.specs.Words.{command_of}
 use Rattle.call_task.specs.Tasks.{HasSomeFile, asked_by, left_behind, task_of, task_with}
@@ -23,78 +23,76 @@ use Rattle.call_task.specs.Tasks.{HasSomeFile, asked_by, left_behind, task_of, t
 -- ---- what words ask for
 
 -- Where each phase gives something, that is the task.
-pub task_is : (words : List (List ℕ)) (input : List ℕ) (files : FileMap) (command : Command) (lines : Lines) (databases : Databases)
-    → command_of words ≡ Ok command → (lines_of (needs_of command) input).answer ≡ Ok lines → databases_of (needs_of command) lines files ≡ Ok databases
-    → task_of words input files ≡ Ok (task_with command lines databases)
+pub task_is : (words : List (List ℕ)) (time : ℕ) (input : List ℕ) (files : FileMap) (command : Command) (lines : Lines) (databases : Databases)
+    → command_of words ≡ Ok command → (lines_of (needs_of command) input).answer ≡ Ok lines → databases_for command lines time files ≡ Ok databases
+    → task_of words time input files ≡ Ok (task_with command lines databases)
 unfolding task_of
-task_is words input files command lines databases c p d =
-    ap (λ r. r >>= λ command. (lines_of (needs_of command) input).answer >>= λ lines. databases_of (needs_of command) lines files >>= λ databases. Ok (task_with command lines databases)) c
-    ∙ ap (λ r. r >>= λ lines. databases_of (needs_of command) lines files >>= λ databases. Ok (task_with command lines databases)) p
+task_is words time input files command lines databases c p d =
+    ap (λ r. r >>= λ command. (lines_of (needs_of command) input).answer >>= λ lines. databases_for command lines time files >>= λ databases. Ok (task_with command lines databases)) c
+    ∙ ap (λ r. r >>= λ lines. databases_for command lines time files >>= λ databases. Ok (task_with command lines databases)) p
     ∙ ap (λ r. r >>= λ databases. Ok (task_with command lines databases)) d
 
 -- The same, where what the command asks for has another name.
-pub task_by_needs : (words : List (List ℕ)) (input : List ℕ) (files : FileMap) (command : Command) (needs : Needs) (lines : Lines) (databases : Databases)
-    → command_of words ≡ Ok command → needs ≡ needs_of command → (lines_of needs input).answer ≡ Ok lines → databases_of needs lines files ≡ Ok databases
-    → task_of words input files ≡ Ok (task_with command lines databases)
-task_by_needs words input files command needs lines databases c same p d =
-    task_is words input files command lines databases c (subst (λ (n : Needs). (lines_of n input).answer ≡ Ok lines) same p)
-    (subst (λ (n : Needs). databases_of n lines files ≡ Ok databases) same d)
+pub task_by_needs : (words : List (List ℕ)) (time : ℕ) (input : List ℕ) (files : FileMap) (command : Command) (needs : Needs) (lines : Lines) (databases : Databases)
+    → command_of words ≡ Ok command → needs ≡ needs_of command → (lines_of needs input).answer ≡ Ok lines → databases_for command lines time files ≡ Ok databases
+    → task_of words time input files ≡ Ok (task_with command lines databases)
+task_by_needs words time input files command needs lines databases c same p d =
+    task_is words time input files command lines databases c (subst (λ (n : Needs). (lines_of n input).answer ≡ Ok lines) same p) d
 
-pub has_file_by_needs : (words : List (List ℕ)) (command : Command) (needs : Needs) (lines : Lines) (databases : Databases)
-    → command_of words ≡ Ok command → needs ≡ needs_of command → HasLines needs lines → SomeDatabases needs lines databases
-    → HasSomeFile words (task_with command lines databases)
-has_file_by_needs words command needs lines databases c same p d = record {
+-- The lines that what the command asks for has.
+pub lines_by_needs : (command : Command) (needs : Needs) (lines : Lines) → needs ≡ needs_of command → HasLines needs lines → HasLines (needs_of command) lines
+lines_by_needs command needs lines same p = subst (λ (n : Needs). HasLines n lines) same p
+
+pub has_file_by_needs : (words : List (List ℕ)) (time : ℕ) (command : Command) (needs : Needs) (lines : Lines) (databases : Databases)
+    → command_of words ≡ Ok command → needs ≡ needs_of command → HasLines needs lines → SomeFor command lines time databases
+    → HasSomeFile words time (task_with command lines databases)
+has_file_by_needs words time command needs lines databases c same p d = record {
   is_command = c;
-  has_lines = subst (λ (n : Needs). HasLines n lines) same p;
-  holds = subst (λ (n : Needs). SomeDatabases n lines databases) same d;
+  has_lines = lines_by_needs command needs lines same p;
+  holds = d;
 }
 
--- The database is sealed unless it is a plain document.
-pub sealed_by_needs : (command : Command) (needs : Needs) (lines : Lines) (databases : Databases) → needs ≡ needs_of command
-    → SomeDatabases needs lines databases → is_some databases.target.sealing ≡ not (needs_of command).access.plain
-sealed_by_needs command needs lines databases same h =
-    sealed_unless_plain needs.access.plain needs.access.key_file lines.password databases.target h.target ∙ ap (λ (n : Needs). not n.access.plain) same
-
 -- The words were refused.
-pub words_refused : (stop : Stop) (words : List (List ℕ)) (input : List ℕ) (files : FileMap) → Stops stop (command_of words) → Stops stop (task_of words input files)
+pub words_refused : (stop : Stop) (words : List (List ℕ)) (time : ℕ) (input : List ℕ) (files : FileMap) → Stops stop (command_of words) → Stops stop (task_of words time input files)
 unfolding task_of
-words_refused (Refused refusal) words input files h =
-    ap (λ r. r >>= λ command. (lines_of (needs_of command) input).answer >>= λ lines. databases_of (needs_of command) lines files >>= λ databases. Ok (task_with command lines databases)) h
-words_refused (FileFault name) words input files h = tt
-words_refused InputFault words input files h = tt
-words_refused NoMemory words input files h = tt
+words_refused (Refused refusal) words time input files h =
+    ap (λ r. r >>= λ command. (lines_of (needs_of command) input).answer >>= λ lines. databases_for command lines time files >>= λ databases. Ok (task_with command lines databases)) h
+words_refused (FileFault name) words time input files h = tt
+words_refused InputFault words time input files h = tt
+words_refused NoMemory words time input files h = tt
 
 -- The lines were refused.
-pub lines_refused : (stop : Stop) (words : List (List ℕ)) (input : List ℕ) (files : FileMap) (command : Command) (needs : Needs) (before now : Option (List ℕ))
-    → command_of words ≡ Ok command → needs ≡ needs_of command → RefusesAskedStream stop before now (lines_of needs input) → Stops stop (task_of words input files)
+pub lines_refused : (stop : Stop) (words : List (List ℕ)) (time : ℕ) (input : List ℕ) (files : FileMap) (command : Command) (needs : Needs) (before now : Option (List ℕ))
+    → command_of words ≡ Ok command → needs ≡ needs_of command → RefusesAskedStream stop before now (lines_of needs input) → Stops stop (task_of words time input files)
 unfolding task_of
-lines_refused (Refused refusal) words input files command needs before now c same h =
-    ap (λ r. r >>= λ command. (lines_of (needs_of command) input).answer >>= λ lines. databases_of (needs_of command) lines files >>= λ databases. Ok (task_with command lines databases)) c
-    ∙ ap (λ r. r >>= λ lines. databases_of (needs_of command) lines files >>= λ databases. Ok (task_with command lines databases))
+lines_refused (Refused refusal) words time input files command needs before now c same h =
+    ap (λ r. r >>= λ command. (lines_of (needs_of command) input).answer >>= λ lines. databases_for command lines time files >>= λ databases. Ok (task_with command lines databases)) c
+    ∙ ap (λ r. r >>= λ lines. databases_for command lines time files >>= λ databases. Ok (task_with command lines databases))
     (subst (λ (n : Needs). (lines_of n input).answer ≡ Err refusal) same h.0)
-lines_refused (FileFault name) words input files command needs before now c same h = tt
-lines_refused InputFault words input files command needs before now c same h = tt
-lines_refused NoMemory words input files command needs before now c same h = tt
+lines_refused (FileFault name) words time input files command needs before now c same h = tt
+lines_refused InputFault words time input files command needs before now c same h = tt
+lines_refused NoMemory words time input files command needs before now c same h = tt
 
 -- The database was refused.
-pub database_refused : (stop : Stop) (words : List (List ℕ)) (input : List ℕ) (files : FileMap) (command : Command) (needs : Needs) (lines : Lines)
+pub database_refused : (stop : Stop) (words : List (List ℕ)) (time : ℕ) (input : List ℕ) (files : FileMap) (command : Command) (needs : Needs) (lines : Lines)
     → command_of words ≡ Ok command → needs ≡ needs_of command → (lines_of needs input).answer ≡ Ok lines
-    → Stops stop (databases_of needs lines files) → Stops stop (task_of words input files)
+    → Stops stop (databases_for command lines time files) → Stops stop (task_of words time input files)
 unfolding task_of
-database_refused (Refused refusal) words input files command needs lines c same p h =
-    ap (λ r. r >>= λ command. (lines_of (needs_of command) input).answer >>= λ lines. databases_of (needs_of command) lines files >>= λ databases. Ok (task_with command lines databases)) c
-    ∙ ap (λ r. r >>= λ lines. databases_of (needs_of command) lines files >>= λ databases. Ok (task_with command lines databases))
+database_refused (Refused refusal) words time input files command needs lines c same p h =
+    ap (λ r. r >>= λ command. (lines_of (needs_of command) input).answer >>= λ lines. databases_for command lines time files >>= λ databases. Ok (task_with command lines databases)) c
+    ∙ ap (λ r. r >>= λ lines. databases_for command lines time files >>= λ databases. Ok (task_with command lines databases))
     (subst (λ (n : Needs). (lines_of n input).answer ≡ Ok lines) same p)
-    ∙ ap (λ r. r >>= λ databases. Ok (task_with command lines databases)) (subst (λ (n : Needs). databases_of n lines files ≡ Err refusal) same h)
-database_refused (FileFault name) words input files command needs lines c same p h = tt
-database_refused InputFault words input files command needs lines c same p h = tt
-database_refused NoMemory words input files command needs lines c same p h = tt
+    ∙ ap (λ r. r >>= λ databases. Ok (task_with command lines databases)) h
+database_refused (FileFault name) words time input files command needs lines c same p h = tt
+database_refused InputFault words time input files command needs lines c same p h = tt
+database_refused NoMemory words time input files command needs lines c same p h = tt
 
 -- ---- what opens databases
 
--- What the words ask for has keys.
-pub keys_of_needs : (command : Command) (needs : Needs) → needs ≡ needs_of command → HasKeys (needs_of command) → HasKeys needs
-keys_of_needs command needs same h = subst HasKeys (sym same) h
+-- The database is sealed unless it is a plain document.
+pub sealed_for : (command : Command) (lines : Lines) (time : ℕ) (databases : Databases) → SomeFor command lines time databases
+    → is_some databases.target.sealing ≡ not (target_access command).plain
+sealed_for command lines time databases h = sealed_by (import_of command) (needs_of command) lines time databases h
 
 -- ---- what is left of the input
 
@@ -163,14 +161,9 @@ input_early InputFault names f f' a a' i i' h = h
 input_early NoMemory names f f' a a' i i' h = tt
 
 -- A stop at a file of the command that the words are, as a stop of the call.
-at_words : (command : Command) (words : Result Command Refusal) (f f' a a' i i' : ℕ) (stop : Stop) → words ≡ Ok command
-    → IsFileStop (files_of (needs_of command)) f f' a a' stop → IsEarlyStop (files_named words) f f' a a' i i' stop
+pub at_words : (command : Command) (words : Result Command Refusal) (f f' a a' i i' : ℕ) (stop : Stop) → words ≡ Ok command
+    → IsFileStop (files_named (Ok command)) f f' a a' stop → IsEarlyStop (files_named words) f f' a a' i i' stop
 at_words command words f f' a a' i i' (Refused refusal) is h = h
 at_words command words f f' a a' i i' (FileFault name) is h = subst (λ (w : Result Command Refusal). Increased f f' × Contains (files_named w) name) (sym is) h
 at_words command words f f' a a' i i' InputFault is h = absurd h
 at_words command words f f' a a' i i' NoMemory is h = tt
-
-pub at_needs : (command : Command) (needs : Needs) (words : Result Command Refusal) (f f' a a' i i' : ℕ) (stop : Stop) → words ≡ Ok command
-    → needs ≡ needs_of command → IsFileStop (files_of needs) f f' a a' stop → IsEarlyStop (files_named words) f f' a a' i i' stop
-at_needs command needs words f f' a a' i i' stop is same h =
-    at_words command words f f' a a' i i' stop is (subst (λ (n : Needs). IsFileStop (files_of n) f f' a a' stop) same h)

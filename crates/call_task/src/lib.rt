@@ -3,4 +3,4 @@
 
 mod task;
 
-pub use task::{Task, bytes_in, read_task};
+pub use task::{Task, read_task};

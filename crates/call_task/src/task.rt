@@ -1,21 +1,21 @@
 //! What a call is to do, from its words, its input and its files.
-ghost use Rattle.std.specs.Prelude.{◌≡◌, ◌≤◌, ℕ, List, Ok, Some, IfErr, IfOk, IfSome, is_some, map, not, option_map, string_bytes};
+ghost use Rattle.std.specs.Prelude.{◌≡◌, ◌≤◌, ℕ, List, Ok, Some, IfErr, IfOk, IfSome, is_some, map, not, string_bytes};
 ghost use Rattle.outside_core.specs.Files.{FileMap};
 ghost use Rattle.kdbx_frame.specs.Settings.{IsInOrder};
 ghost use Rattle.cli_answers.specs.Phases.{IsEarlyStop, Leaves, Returns, TellsStream};
 ghost use Rattle.cli_lines.specs.Lines.{IsTextLine};
 ghost use Rattle.cli_lines.specs.SeenLines.{lines_seen};
-ghost use Rattle.cli_words.specs.Needs.{files_named, needs_of};
+ghost use Rattle.cli_words.specs.Needs.{files_named, needs_of, target_access};
 ghost use Rattle.call_task.specs.SeenTask.{task_seen};
 ghost use Rattle.cli_words.specs.Words.{command_of};
 ghost use Rattle.call_task.specs.Tasks.{HasSomeFile, asked_by, left_of, task_of};
 
 use cli_answers::Stop;
-use cli_databases::{Databases, Opened, open};
+use cli_databases::{Databases, Opened};
 use cli_lines::{Lines, read_lines};
+use cli_opening::open_for;
 use cli_words::{Command, read_words};
 use outside_core::{FileStore, List, Source};
-use secret_core::Secret;
 use std::alloc::Global;
 use vault_model::Doc;
 
@@ -31,36 +31,26 @@ pub struct Task {
     pub sources: List<Doc>,
 }
 
-/// The bytes of a line, where there is one.
-pub fn bytes_in(line: &Option<Secret>) -> Option<&[u8]>
-    ensures { option_map (λ bytes. bytes.now) result
-        ≡ option_map (λ secret. secret.bytes) line.now }
-{
-    match line {
-        Some(line) => Some(line.lend(0, line.len())),
-        None => None,
-    }
-}
-
-/// What the words ask for: their command, its lines, and its databases.
+/// What the words ask for at a moment: their command, its lines, and its databases.
 pub fn read_task<F: FileStore, S: Source>(
     alloc: Global,
     words: &[String],
     files: &mut F,
     input: &mut S,
+    now: u64,
 ) -> Result<Task, Stop>
     ensures told { (m : FileMap) (i : List ℕ) → F.files files.old ≡ Some m
         → TellsStream (asked_by (command_of (map string_bytes words.now))) (S.left input.old) i
-        → Returns task_seen result (task_of (map string_bytes words.now) i m) }
+        → Returns task_seen result (task_of (map string_bytes words.now) now i m) }
     ensures command { IfOk result (λ task. command_of (map string_bytes words.now)
         ≡ Ok task.command) }
-    ensures some_file { IfOk result (λ task. HasSomeFile (map string_bytes words.now)
+    ensures some_file { IfOk result (λ task. HasSomeFile (map string_bytes words.now) now
         (task_seen task)) }
     ensures text { IfOk result (λ task. IsTextLine (lines_seen task.lines).more) }
     ensures in_order { IfOk result (λ task. IfSome task.opened.sealing (λ s.
         IsInOrder s.settings)) }
     ensures sealed { IfOk result (λ task. is_some task.opened.sealing
-        ≡ not (needs_of task.command).access.plain) }
+        ≡ not (target_access task.command).plain) }
     ensures left { (i : List ℕ)
         → TellsStream (asked_by (command_of (map string_bytes words.now))) (S.left input.old) i
         → Leaves result (S.left input.old) (S.left input.new)
@@ -83,7 +73,7 @@ pub fn read_task<F: FileStore, S: Source>(
             return Err(stop);
         }
     };
-    let Databases { target, sources } = match open(alloc, files, needs, &lines) {
+    let Databases { target, sources } = match open_for(alloc, files, &command, &lines, now) {
         Ok(databases) => databases,
         Err(stop) => {
             drop(lines);

@@ -5,7 +5,9 @@ use Rattle.std.specs.FinMap as finmap
 use Rattle.outside_core.specs.Files.{FileMap}
 use Rattle.outside_core.specs.Results.{◌>>=◌}
 use Rattle.time_core.specs.Times.{last_stamp}
+use Rattle.vault_model.specs.SeenDoc.{doc_seen}
 use Rattle.vault_model.specs.Tree.{BareDoc}
+use Rattle.vault_model.specs.declared.documents.Doc.{Doc}
 use Rattle.doc_forms.specs.Documents.{DocumentAndHash}
 use Rattle.doc_forms.specs.declared.fails.DocFail.{DocFail}
 use Rattle.kdbx_open.specs.declared.sealings.Sealing.{Sealing}
@@ -13,7 +15,10 @@ use Rattle.psafe_core.specs.Outcome.{psafe_outcome}
 use Rattle.psafe_file.specs.declared.fails.PsafeFail.{PsafeFail}
 use Rattle.table_reading.specs.Rows.{csv_document}
 use Rattle.table_reading.specs.declared.fails.TableFail.{TableFail}
+use Rattle.std.specs.Prelude.{IfOk}
 use Rattle.cli_answers.specs.Messages.{refusal_of}
+use Rattle.cli_answers.specs.Phases.{Returns}
+use Rattle.cli_answers.specs.declared.answers.Stop.{Stop}
 use Rattle.cli_answers.specs.declared.answers.Reason.TheVariants.{StampLimit}
 use Rattle.cli_answers.specs.declared.answers.Refusal.{Refusal}
 use Rattle.cli_words.specs.Needs.{ImportNeeds}
@@ -71,6 +76,13 @@ document_given Psafe name password time bytes doc h =
     stamped name time (safe_or_refusal name (psafe_outcome bytes (given_password password) time)) h.0 ∙ ap (safe_or_refusal name) h.1
 document_given Csv name password time bytes doc h =
     stamped name time (table_or_refusal name (csv_document bytes time)) h.0 ∙ ap (table_or_refusal name) h.1
+
+-- Bytes that were read are a document so.
+pub some_read : (result : Result Doc Stop) (format : ImportFormat) (name : List ℕ) (password : Option (List ℕ)) (time : ℕ) (bytes : List ℕ)
+    → Returns doc_seen result (document_by format name password time bytes)
+    → IfOk result (λ doc. (b : List ℕ) × IsDocumentBy format password time b (doc_seen doc))
+some_read (Ok doc) format name password time bytes h = (bytes, document_held format name password time bytes (doc_seen doc) h)
+some_read (Err stop) format name password time bytes h = tt
 
 -- ---- the new file
 
