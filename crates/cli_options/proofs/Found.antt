@@ -1,5 +1,5 @@
 -- The first option that is found, in two lists one after the other.
-use Rattle.std.proofs.Common.{◌≡◌, ℕ, List, ◌++◌}
+use Rattle.std.proofs.Common.{◌≡◌, ℕ, List}
 use Rattle.std.specs.Option.{option_or}
 use Rattle.std.proofs.lemmas.List.Folds.{find-append}
 use Rattle.cli_options.specs.declared.names.CommandName.{CommandName}

@@ -11,7 +11,6 @@ use Rattle.cli_words.specs.Needs.{HasKey, HasKeys, asks_password, needs_of, targ
 use Rattle.cli_options.specs.Options.{command_named}
 use Rattle.cli_words.specs.declared.command.ExportFormat.{ExportFormat}
 use Rattle.cli_words.specs.declared.command.ImportFormat.{ImportFormat}
-use Rattle.cli_words.specs.declared.command.ImportFormat.TheVariants.{Xml, Psafe, Csv}
 use Rattle.cli_saying.specs.Said.{Said, is_due, is_given, nothing_said, text_of, with_words}
 use Rattle.cli_words.specs.Words.{access_from, access_new, access_of, access_source, add_at, command_at, command_by, command_in, command_saying, edit_at, export_as, export_at, format_asked, has_change, import_as, import_at, import_format, import_from, info_at, is_fit, is_fit_from, is_fit_new, is_mergeable, is_whole, list_at, make_group_at, merge_at, merge_of, move_at, remove_at, remove_group_at, search_at, show_at}
 
