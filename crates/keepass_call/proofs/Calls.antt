@@ -189,13 +189,15 @@ page_call words time page result before written counts counts' e wrote =
     (record {
       gives = λ w t.
           let is : answer_of words time w ≡ with_left (Ok (ending_without page)) w.dice = ap (λ (p : Option (List ℕ)). page_or_answer p words time w) e in
-          subst (λ (a : StreamAnswer Ending). EndsSo page a.answer before.store before.store × IsLeft before.stream before.stream a.left) (sym is)
-          (record {
-            ending = ending_without page;
-            is = refl;
-            text = refl;
-            store = record { files = refl; draft_name = refl; draft_bytes = refl };
-          }, left_alone (draws_by (command_of words)) before.stream w.dice t.dice);
+          subst (λ (a : StreamAnswer Ending). EndsSo page a.answer before.store before.store × IsLeft before.stream before.stream a.left) (sym is) (
+            record {
+              ending = ending_without page;
+              is = refl;
+              text = refl;
+              store = record { files = refl; draft_name = refl; draft_bytes = refl };
+            },
+            left_alone (draws_by (command_of words)) before.stream w.dice t.dice,
+          );
       left = λ w t. page_left words page before.left w.input e t.input;
       errors = refl;
       wrote = wrote;

@@ -42,13 +42,13 @@ merges (Info access file) = false
 -- parts of an agreed set: the target's of the first, and each source's of the next.
 pub record IsAgreedMerge (words : List (List ℕ)) (time : ℕ) (world : World)
     (parts : List (List Db)) : Type 0 where
-    pub task : Task
-    pub is_task : IsTask words time world task
-    pub is_merge : merges task.command ≡ true
-    pub set : List Db
-    pub agreed : Agreed set
-    pub are_parts : AreParts parts set
-    pub joins : map db_in (task.opened.doc ∷ task.sources) ≡ map join parts
+  pub task : Task
+  pub is_task : IsTask words time world task
+  pub is_merge : merges task.command ≡ true
+  pub set : List Db
+  pub agreed : Agreed set
+  pub are_parts : AreParts parts set
+  pub joins : map db_in (task.opened.doc ∷ task.sources) ≡ map join parts
 
 -- Bytes hold a document as a database holds it: by itself, or sealed under its composite key.
 abbrev pub HoldsUnder : Option Sealing → BareDoc → List ℕ → Type 0
