@@ -1,5 +1,2 @@
 pub mod AfterMerges
 pub mod DryRuns
-pub mod Examples
-pub mod NamedNodes
-pub mod UntoldNames

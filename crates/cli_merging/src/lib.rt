@@ -2,8 +2,5 @@
 #![tactic(auto)]
 
 mod merging;
-mod names;
-mod reports;
-mod texts;
 
 pub use merging::{MergeGiven, MergeReport, merge_into};

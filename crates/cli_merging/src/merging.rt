@@ -6,9 +6,9 @@ ghost use Rattle.cli_answers.specs.Phases.{IsPlainStop};
 ghost use Rattle.cli_merging.specs.Merging as spec;
 ghost use Rattle.cli_merging.specs.Merging.{IsUnmerged, MergeChanges, after_merge};
 
-use crate::reports::{MergeFiles, report};
 use cli_answers::{Reason, Stop, refused};
 use document_merge::merging::{MergeFail, Merged, merge_lent};
+use merge_reports::{MergeFiles, MergeOutcome, report};
 use outside_core::{NoMemory, Text};
 use secret_core::Secret;
 use std::alloc::Global;
@@ -79,7 +79,13 @@ fn finished(
         target: given.file,
         sources: given.sources,
     };
-    let text = report(alloc, given.quiet, files, doc, &merged)?;
+    let made = MergeOutcome {
+        same: !merged.changed,
+        old: doc,
+        new: &merged.doc,
+        changes: merged.changes.as_slice(),
+    };
+    let text = report(alloc, given.quiet, files, made)?;
     let Merged {
         doc: new,
         changed,

@@ -4,10 +4,10 @@ ghost use Rattle.std.specs.FinMap.{get};
 ghost use Rattle.vault_model.specs.SeenNodes.{bare_version, entry_row, tree_seen};
 ghost use Rattle.vault_model.specs.Shape.{kids};
 ghost use Rattle.vault_model.specs.Tree.{tree_of, with_record, with_records};
-ghost use Rattle.reference_lay.specs.Shapes.{shape};
+ghost use Rattle.reference_shapes.specs.Shapes.{shape};
 
 use outside_core::{List, NoMemory};
-use reference_lay::shapes::{LentEntry, LentGroup, LentVersion, Shape};
+use reference_shapes::shapes::{LentEntry, LentGroup, LentVersion, Shape};
 use reference_tables::states::LentState;
 use std::alloc::Global;
 use uuid::Uuid;

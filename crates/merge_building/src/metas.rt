@@ -1,9 +1,9 @@
 //! What a document says of itself, copied from what documents lend.
 ghost use Rattle.std.specs.Prelude.{◌≡◌, IfOk};
-ghost use Rattle.reference_lay.specs.Shapes.{meta_of};
+ghost use Rattle.reference_shapes.specs.Shapes.{meta_of};
 
 use outside_core::{Bytes, List, NoMemory, Text};
-use reference_lay::shapes::ShapeMeta;
+use reference_shapes::shapes::ShapeMeta;
 use reference_tables::icons::{LentIcon, LentItem};
 use std::alloc::Global;
 use uuid::Uuid;

@@ -7,7 +7,7 @@ ghost use Rattle.vault_model.specs.Tree.{all_trees, ids_of};
 ghost use Rattle.merge_shapes.specs.NodeTables.{children_in, with_nodes, with_row};
 
 use outside_core::NoMemory;
-use reference_lay::shapes::{Children, LentEntry, LentGroup, LentVersion, Stay};
+use reference_shapes::shapes::{Children, LentEntry, LentGroup, LentVersion, Stay};
 use reference_tables::states::LentState;
 use reference_tables::tables::Table;
 use reference_tables::version_keys::VersionKey;

@@ -4,12 +4,12 @@ ghost use Rattle.std.specs.FinMap.{from_entries};
 ghost use Rattle.vault_model.specs.SeenDoc.{doc_seen};
 ghost use Rattle.vault_model.specs.Tree.{shape_of};
 ghost use Rattle.merge_reading.specs.Rows.{tomb_row};
-ghost use Rattle.reference_lay.specs.Shapes.{meta_of, shape};
+ghost use Rattle.reference_shapes.specs.Shapes.{meta_of, shape};
 ghost use Rattle.merge_shapes.specs.NodeTables.{HasNodes};
 
 use crate::nodes::{NodeTables, add_group};
 use outside_core::NoMemory;
-use reference_lay::shapes::{Shape, ShapeMeta};
+use reference_shapes::shapes::{Shape, ShapeMeta};
 use reference_tables::icons::{LentIcon, LentItem};
 use reference_tables::tables::Table;
 use std::alloc::Global;

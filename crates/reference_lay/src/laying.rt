@@ -7,11 +7,11 @@ ghost use Rattle.vault_model.specs.Shape.{in_order, kids, laid_children, laid_gr
 ghost use Rattle.vault_model.specs.Unite.{tabulate};
 ghost use Rattle.reference_tables.specs.Databases.{database, shared_meta};
 ghost use Rattle.reference_lay.specs.Parents.{AreUnder, ids_under};
-ghost use Rattle.reference_lay.specs.Shapes.{meta_of, shape};
+ghost use Rattle.reference_shapes.specs.Shapes.{meta_of, shape};
 
 use crate::id_lists::IdList;
 use crate::parents::by_parent;
-use crate::shapes::{Children, LentEntry, LentGroup, LentVersion, Shape, ShapeMeta, Stay};
+use reference_shapes::shapes::{Children, LentEntry, LentGroup, LentVersion, Shape, ShapeMeta, Stay};
 use outside_core::NoMemory;
 use reference_tables::databases::Database;
 use reference_tables::icons::{ItemTable, LentIcon, LentItem};

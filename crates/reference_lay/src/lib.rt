@@ -5,4 +5,3 @@
 mod id_lists;
 pub mod laying;
 mod parents;
-pub mod shapes;

@@ -4,7 +4,7 @@ use Rattle.std.specs.FinMap.{contains_key}
 use Rattle.vault_model.specs.Db.{Sound}
 use Rattle.vault_model.specs.Shape.{Shape}
 use Rattle.reference_tables.specs.Databases.{database}
-use Rattle.reference_lay.specs.Shapes.{shape}
+use Rattle.reference_shapes.specs.Shapes.{shape}
 use Rattle.document_merge.proofs.MergedDocs.{laid_root}
 use Rattle.document_merge.proofs.merging.laid.Goals as goal
 

@@ -3,7 +3,7 @@ use Rattle.std.proofs.Common.{◌<◌, ◌≤◌, ◌+◌, ◌-◌, ◌++◌, Li
 use Rattle.vault_model.specs.Db.{NodeId}
 use Rattle.vault_model.specs.SeenNodes.{tree_seen}
 use Rattle.vault_model.specs.Tree.{with_records}
-use Rattle.reference_lay.specs.Shapes.{shape}
+use Rattle.reference_shapes.specs.Shapes.{shape}
 use Rattle.reference_tables.proofs.ListSteps.{drop_next}
 use Rattle.merge_building.proofs.BuiltTrees.{built, built_last, child_absent, child_built, children_built, trees}
 use Rattle.merge_building.proofs.building.+group_at.Goals as goal

@@ -5,7 +5,7 @@ use Rattle.vault_model.specs.Db.{NodeId, id_cmp}
 use Rattle.vault_model.specs.Shape.{Children, laid_children}
 use Rattle.vault_model.specs.Unite.{put_some}
 use Rattle.reference_tables.specs.Databases.{database}
-use Rattle.reference_lay.specs.Shapes.{shape}
+use Rattle.reference_shapes.specs.Shapes.{shape}
 use Rattle.reference_tables.proofs.FillTables.{fill_tabulate, fill}
 use Rattle.reference_tables.proofs.ListSteps.{drop_next, drop_end}
 use Rattle.reference_lay.proofs.laying.all_children.Goals as goal

@@ -3,7 +3,7 @@ use Rattle.std.specs.FinMap.{empty, keys}
 use Rattle.vault_model.specs.Db.{NodeId}
 use Rattle.vault_model.specs.Shape.{Children, laid_children}
 use Rattle.reference_tables.specs.Databases.{database}
-use Rattle.reference_lay.specs.Shapes.{shape}
+use Rattle.reference_shapes.specs.Shapes.{shape}
 use Rattle.reference_tables.proofs.FillTables.{fill}
 use Rattle.reference_lay.proofs.laying.all_children.Given as goal
 

@@ -2,7 +2,7 @@
 use Rattle.std.proofs.Common.{◌∙◌}
 use Rattle.vault_model.specs.Shape.{in_order, laid_children}
 use Rattle.reference_tables.specs.Databases.{database}
-use Rattle.reference_lay.specs.Shapes.{shape}
+use Rattle.reference_shapes.specs.Shapes.{shape}
 use Rattle.reference_lay.proofs.laying.laid_children.Goals as goal
 
 pub returns : goal.returns

@@ -4,7 +4,7 @@ use Rattle.std.specs.Option.{option_map}
 use Rattle.vault_model.specs.Db.{NodeId}
 use Rattle.vault_model.specs.Shape.{GroupRecord, laid_group}
 use Rattle.reference_tables.specs.Databases.{database}
-use Rattle.reference_lay.specs.Shapes.{shape}
+use Rattle.reference_shapes.specs.Shapes.{shape}
 use Rattle.reference_tables.proofs.FillTables.{fill}
 use Rattle.reference_lay.proofs.laying.laid_groups.Given as goal
 

@@ -1,0 +1,8 @@
+use Rattle.std.proofs.Common.{◌≡◌, map, drop}
+use Rattle.vault_model.specs.SeenNodes.{entry_row}
+use Rattle.merge_reports.specs.Names.{with_titles}
+use Rattle.merge_reports.proofs.names.put_titles.Given as goal
+
+abbrev pub invariant-loop-entry : goal.invariant-loop-entry
+invariant-loop-entry l =
+    with_titles (map entry_row (drop l.entry-index l.entries)) l.names ≡ with_titles (map entry_row l.entries) l.fn.names

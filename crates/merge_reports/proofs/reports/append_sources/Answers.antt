@@ -1,0 +1,24 @@
+use Rattle.std.proofs.Common.{◌≡◌, ℕ, ◌+◌, ◌<◌, List, ◌∷◌, ◌++◌, length, drop, get_or, ap, sym, ◌∙◌, append_assoc}
+use Rattle.std.proofs.lemmas.List.{at_drop_more}
+use Rattle.merge_reports.specs.Reports.{source_line, source_lines}
+use Rattle.merge_reports.proofs.reports.append_sources.Goals as goal
+
+-- the line of one more source
+more : (target : List ℕ) (sources : List (List ℕ)) (at : ℕ) (source text longer whole : List ℕ)
+    → at < length sources → source ≡ get_or sources at source → longer ≡ text ++ source_line target source
+    → text ++ source_lines target (drop at sources) ≡ whole
+    → longer ++ source_lines target (drop (at + 1) sources) ≡ whole
+more target sources at source text longer whole below here is all =
+    let rest = drop (at + 1) sources in
+    ap (λ (line : List ℕ). line ++ source_lines target rest) is
+    ∙ append_assoc text (source_line target source) (source_lines target rest)
+    ∙ ap (λ (name : List ℕ). text ++ source_lines target (name ∷ rest)) here
+    ∙ ap (λ (lines : List ℕ). text ++ lines) (sym (at_drop_more (source_lines target) sources at source below))
+    ∙ all
+
+pub loop-source-preserved : goal.loop-source-preserved
+loop-source-preserved c =
+    more c.args.target.now c.args.sources.now c.loop-source.source-index c.source-item.result c.loop-source.text.bytes c.append_source.new.text.bytes _
+    c.loop-source-test.true c.source-item.is
+    (c.in_ok-append_source.ensures ∙ ap (λ (name : List ℕ). c.loop-source.text.bytes ++ source_line c.args.target.now name) c.as_str.ensures)
+    c.loop-source.invariant

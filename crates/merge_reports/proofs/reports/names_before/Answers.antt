@@ -1,0 +1,11 @@
+use Rattle.std.proofs.Common.{sym, ◌∙◌}
+use Rattle.vault_model.specs.SeenDoc.{doc_seen}
+use Rattle.merge_reports.specs.Names.{name_at}
+use Rattle.merge_reports.specs.Reports.{name_in}
+use Rattle.merge_reports.proofs.UntoldNames.{lines_untold}
+use Rattle.merge_reports.proofs.reports.names_before.Goals as goal
+
+pub returns-else-has_deletion : goal.returns-else-has_deletion
+returns-else-has_deletion c =
+    λ new. lines_untold (name_at c.new.result) (name_in (doc_seen c.args.old.now)) new c.args.changes.now
+    (sym c.has_deletion.ensures ∙ c.if-has_deletion.false)

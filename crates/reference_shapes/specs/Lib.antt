@@ -1,0 +1,2 @@
+pub mod RecordCodes
+pub mod Shapes
