@@ -13,7 +13,7 @@ use Rattle.doc_forms.specs.declared.fails.DocFail.{DocFail}
 use Rattle.kdbx_open.specs.declared.sealings.Sealing.{Sealing}
 use Rattle.psafe_core.specs.Outcome.{psafe_outcome}
 use Rattle.psafe_file.specs.declared.fails.PsafeFail.{PsafeFail}
-use Rattle.table_reading.specs.Rows.{csv_document}
+use Rattle.table_reading.specs.Documents.{csv_document}
 use Rattle.table_reading.specs.declared.fails.TableFail.{TableFail}
 use Rattle.std.specs.Prelude.{IfOk}
 use Rattle.cli_answers.specs.Messages.{refusal_of}

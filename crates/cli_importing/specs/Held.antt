@@ -7,7 +7,7 @@ use Rattle.vault_model.specs.Tree.{BareDoc}
 use Rattle.doc_forms.specs.Documents.{DocumentAndHash}
 use Rattle.kdbx_open.specs.declared.sealings.Sealing.{Sealing}
 use Rattle.psafe_core.specs.Outcome.{psafe_outcome}
-use Rattle.table_reading.specs.Rows.{csv_document}
+use Rattle.table_reading.specs.Documents.{csv_document}
 use Rattle.cli_words.specs.Needs.{ImportNeeds}
 use Rattle.cli_words.specs.declared.command.ImportFormat.{ImportFormat}
 use Rattle.cli_words.specs.declared.command.ImportFormat.TheVariants.{Xml, Psafe, Csv}

@@ -16,7 +16,7 @@ use Rattle.kdbx_frame.specs.declared.settings.Settings.{Settings}
 use Rattle.kdbx_open.specs.declared.sealings.Sealing.{Sealing}
 use Rattle.psafe_file.specs.declared.fails.PsafeFail.{PsafeFail}
 use Rattle.psafe_core.specs.Outcome.{psafe_outcome}
-use Rattle.table_reading.specs.Rows.{csv_document}
+use Rattle.table_reading.specs.Documents.{csv_document}
 use Rattle.table_reading.specs.declared.fails.TableFail.{TableFail}
 use Rattle.cli_answers.specs.Messages.{refusal_of}
 use Rattle.cli_answers.specs.declared.answers.Reason.TheVariants.{FileExists, StampLimit}

@@ -3,7 +3,7 @@ ghost use Rattle.std.specs.Prelude.{◌≡◌, ◌≢◌, ◌≤◌, ℕ, List, 
 ghost use Rattle.std.specs.FinMap as finmap;
 ghost use Rattle.outside_core.specs.Files.{FileMap};
 ghost use Rattle.psafe_core.specs.Outcome.{psafe_outcome};
-ghost use Rattle.table_reading.specs.Rows.{csv_document};
+ghost use Rattle.table_reading.specs.Documents.{csv_document};
 ghost use Rattle.vault_model.specs.SeenDoc.{doc_seen};
 ghost use Rattle.cli_answers.specs.Phases.{IsFileStop, IsPlainStop, Returns};
 ghost use Rattle.cli_databases.specs.Databases.{of_file, plain_document};
