@@ -3,7 +3,9 @@ use Rattle.std.proofs.Common.{◌≡◌, ℕ, List, [], refl, sym, ◌∙◌, ap
 use Rattle.std.specs.Prelude.{IfErr, IfOk, is_some, not}
 use Rattle.outside_core.specs.Files.{FileMap}
 use Rattle.outside_core.specs.Results.{◌>>=◌}
+use Rattle.vault_model.specs.Tree.{BareDoc}
 use Rattle.cli_answers.specs.Phases.{IsFileStop, Returns}
+use Rattle.cli_answers.specs.declared.answers.Refusal.{Refusal}
 use Rattle.cli_answers.specs.declared.answers.Stop.{Stop}
 use Rattle.cli_words.specs.Needs.{HasKey, HasKeys, ImportNeeds, Needs, access_made, asks_password, files_by, files_of, import_of, needs_of, target_access}
 use Rattle.cli_words.specs.declared.command.Command.{Command}
@@ -100,7 +102,7 @@ sealed_by None needs lines time databases h =
 
 -- ---- what the files hold
 
-alone_is : (r : Result Opened _) (databases : Databases) → (r >>= λ opened. Ok (alone opened)) ≡ Ok databases
+alone_is : (r : Result Opened Refusal) (databases : Databases) → (r >>= λ opened. Ok (alone opened)) ≡ Ok databases
     → (r ≡ Ok databases.target) × (databases.sources ≡ [])
 alone_is (Ok opened) databases h =
     let is : alone opened ≡ databases = cc h in
@@ -122,7 +124,7 @@ given_by : (i : Option ImportNeeds) (needs : Needs) (lines : Lines) (time : ℕ)
     → HoldBy i needs lines time files databases → databases_by i needs lines time files ≡ Ok databases
 given_by (Some import) needs lines time files databases h =
     ap (λ r. r >>= λ opened. Ok (alone opened)) (import_given import lines time files databases.target h.0)
-    ∙ ap (λ (s : List _). Ok (record { target = databases.target; sources = s })) (sym h.1)
+    ∙ ap (λ (s : List BareDoc). Ok (record { target = databases.target; sources = s })) (sym h.1)
 given_by None needs lines time files databases h = databases_given needs lines files databases h
 
 pub databases_follow : (command : Command) (lines : Lines) (time : ℕ) (files : FileMap) (databases : Databases)
