@@ -184,11 +184,11 @@ pub fn keepass<F: FileStore, S: Source, O: Sink, E: Sink, D: Dice>(
         (counts (F.faults files.new) (F.absences files.new) (S.faults input.new) (O.faults out.new)
         (E.faults err.new) (D.faults dice.new)) }
 {
-    if let Some(page) = page_of(words) {
-        return print(out, page.as_bytes());
-    }
-    match answer(alloc, words, files, input, dice, now) {
-        Ok(output) => print(out, lend_text(&output)),
-        Err(stop) => tell(alloc, err, stop),
+    match page_of(words) {
+        Some(page) => print(out, page.as_bytes()),
+        None => match answer(alloc, words, files, input, dice, now) {
+            Ok(output) => print(out, lend_text(&output)),
+            Err(stop) => tell(alloc, err, stop),
+        },
     }
 }

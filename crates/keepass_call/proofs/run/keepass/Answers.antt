@@ -13,12 +13,12 @@ returns-in-Some g c =
 pub returns-in-Ok : goal.returns-in-Ok
 returns-in-Ok g c =
     let none : page_of (map string_bytes c.args.words.now) ≡ None = sym c.in-None.ensures in
-    printed_call (map string_bytes c.args.words.now) c.args.now (output_text c.in-Ok.output) c.print.result _ _ _ _
+    printed_call (map string_bytes c.args.words.now) c.args.now (output_text c.in-Ok.output) c.print-in-Ok.result _ _ _ _
     (record {
       gives = λ w t. ends_as (map string_bytes c.args.words.now) c.args.now w _ _ _ _ _ none (c.in-Ok.ensures.told w t.files t.input t.dice);
       left = λ w t. c.in-Ok.ensures.left w.input t.input;
       errors = refl;
-      wrote = rw c.lend_text.ensures at c.print.ensures;
+      wrote = rw c.lend_text.ensures at c.print-in-Ok.ensures;
       draft = c.in-Ok.ensures.draft;
       held = λ n w t. c.in-Ok.ensures.held w t.files t.input t.dice;
       unwritten = c.in-Ok.ensures.unwritten;
