@@ -11,8 +11,10 @@ ghost use Rattle.reference_shapes.specs.Shapes.{meta_of, shape};
 
 use crate::id_lists::IdList;
 use crate::parents::by_parent;
-use reference_shapes::shapes::{Children, LentEntry, LentGroup, LentVersion, Shape, ShapeMeta, Stay};
 use outside_core::NoMemory;
+use reference_shapes::shapes::{
+    Children, LentEntry, LentGroup, LentVersion, Shape, ShapeMeta, Stay,
+};
 use reference_tables::databases::Database;
 use reference_tables::icons::{ItemTable, LentIcon, LentItem};
 use reference_tables::ids::{is_same, push_ids, table_of};
