@@ -78,8 +78,8 @@ left_behind (Err refusal) input = input
 abbrev pub left_of : List (List ℕ) → List ℕ → List ℕ
 left_of words input = left_behind (command_of words) input
 
--- The words ask for this task at a moment, whose databases some files hold, under lines of which each
--- is there that is due.
+-- The words ask for this task at a moment, whose databases some files hold, under lines of which
+-- each is there that is due.
 pub record HasSomeFile (words : List (List ℕ)) (time : ℕ) (task : Task) : Type 0 where
   pub is_command : command_of words ≡ Ok task.command
   pub has_lines : HasLines (needs_of task.command) task.lines

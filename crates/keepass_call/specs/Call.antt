@@ -31,9 +31,9 @@ pub record IsCall (words : List (List ℕ)) (time result : ℕ) (before now : Se
   -- Where memory ran out or output failed, so much is as the outcome says.
   pub cut : WhereTold words before (λ world. (result ≡ 9) ⊎ (result ≡ 10)
       → IsCut (outcome words time world) before now)
-  -- Where the words ask for no page, what is printed at status 0 is made of documents that the files
-  -- hold under the lines and the key files that were given, and a file that was written holds the
-  -- document that was made of them, under the same key as before or that of an import.
+  -- Where the words ask for no page, what is printed at status 0 is made of documents that the
+  -- files hold under the lines and the key files that were given, and a file that was written holds
+  -- the document that was made of them, under the same key as before or that of an import.
   pub authentic : page_of words ≡ None → WhereTold words before (λ world. result ≡ 0
       → IsAuthentic words time world before now)
   -- A merge of copies that are parts of an agreed set is never refused because ids clash or moves
