@@ -16,7 +16,7 @@ use Rattle.cli_changes.specs.Ids.{new_id}
 use Rattle.cli_drawing.proofs.Drawn.{next_alone}
 use Rattle.cli_lines.specs.Lines.{IsTextLine}
 use Rattle.cli_words.specs.declared.command.Command.{Command}
-use Rattle.cli_words.specs.declared.command.Command.TheVariants.{Ls, Show, Search, Add, Edit, Move, Remove, MakeGroup, RemoveGroup, Merge, Export, Info}
+use Rattle.cli_words.specs.declared.command.Command.TheVariants.{Ls, Show, Search, Add, Edit, Move, Remove, MakeGroup, RemoveGroup, Merge, Import, Export, Info}
 use Rattle.cli_commands.specs.declared.output.Change as declared
 use Rattle.cli_commands.specs.Commands.{Change, bin_id, change_of, change_with, drawn_id, draws_id, listing_of, makes_node, may_write, merged_change, printed_text}
 use Rattle.cli_exporting.specs.Exporting.{exported}
@@ -61,6 +61,7 @@ makes_drawn (Remove access file entry) doc e = cc
 makes_drawn (MakeGroup access file group) doc e = e
 makes_drawn (RemoveGroup access file group) doc e = cc
 makes_drawn (Merge access file names from same dry) doc e = refl
+makes_drawn (Import access format source from file) doc e = refl
 makes_drawn (Export access format file) doc e = refl
 makes_drawn (Info access file) doc e = refl
 
@@ -146,6 +147,7 @@ none_with time (RemoveGroup access file group) line sources settings id doc e = 
 none_with time (Merge access file names from same false) line sources settings id doc e = cc
 none_with time (Merge access file names from same true) line sources settings id doc e =
     merged_none (after_merge file access.quiet true names doc sources) (dry_none file access.quiet names doc sources)
+none_with time (Import access format source from file) line sources settings id doc e = cc
 none_with time (Export access format file) line sources settings id doc e = printed_none (exported file format doc)
 none_with time (Info access file) line sources settings id doc e = printed_none (Ok (info_shown settings doc))
 

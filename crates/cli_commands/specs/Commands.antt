@@ -1,5 +1,5 @@
 -- What each command makes of its database.
-use Rattle.std.specs.Prelude.{ℕ, Bool, true, false, not, if◌then◌else◌, List, [], Option, None, Some, Result, Ok, Err}
+use Rattle.std.specs.Prelude.{ℕ, Bool, true, false, not, if◌then◌else◌, List, [], codes, Option, None, Some, Result, Ok, Err}
 use Rattle.kdbx_frame.specs.declared.settings.Settings.{Settings}
 use Rattle.vault_model.specs.Db.{NodeId, nil_id}
 use Rattle.vault_model.specs.Tree.{BareDoc, Tree}
@@ -9,7 +9,7 @@ use Rattle.cli_answers.specs.declared.answers.Refusal.{Refusal}
 use Rattle.cli_answers.specs.Messages.{refusal_of}
 use Rattle.cli_answers.specs.Phases.{StreamAnswer, then_left, with_left}
 use Rattle.cli_words.specs.declared.command.Command.{Command}
-use Rattle.cli_words.specs.declared.command.Command.TheVariants.{Ls, Show, Search, Add, Edit, Move, Remove, MakeGroup, RemoveGroup, Merge, Export, Info}
+use Rattle.cli_words.specs.declared.command.Command.TheVariants.{Ls, Show, Search, Add, Edit, Move, Remove, MakeGroup, RemoveGroup, Merge, Import, Export, Info}
 use Rattle.cli_listing.specs.Listing.{group_lines, tree_listed}
 use Rattle.cli_showing.specs.Showing.{entries_shown, entry_shown}
 use Rattle.cli_exporting.specs.Exporting.{exported}
@@ -26,8 +26,8 @@ pub record Change : Type 0 where
   pub text : List ℕ
   pub doc : Option BareDoc
 
--- A command may write its database. A merge does where its document is another after it, and the
--- others wherever they are carried out.
+-- A command may write a file: its database, or that of what an import makes. A merge does where its
+-- document is another after it, and the others wherever they are carried out.
 abbrev pub may_write : Command → Bool
 may_write (Ls access file group recursive flat) = false
 may_write (Show access file entry clear all attachments names) = false
@@ -39,6 +39,7 @@ may_write (Remove access file entry) = true
 may_write (MakeGroup access file group) = true
 may_write (RemoveGroup access file group) = true
 may_write (Merge access file names from same dry) = not dry
+may_write (Import access format source from file) = true
 may_write (Export access format file) = false
 may_write (Info access file) = false
 
@@ -54,6 +55,7 @@ draws_id (Remove access file entry) = true
 draws_id (MakeGroup access file group) = true
 draws_id (RemoveGroup access file group) = true
 draws_id (Merge access file names from same dry) = false
+draws_id (Import access format source from file) = false
 draws_id (Export access format file) = false
 draws_id (Info access file) = false
 
@@ -69,6 +71,7 @@ makes_node (Remove access file entry) doc = needs_bin doc
 makes_node (MakeGroup access file group) doc = true
 makes_node (RemoveGroup access file group) doc = needs_bin doc
 makes_node (Merge access file names from same dry) doc = false
+makes_node (Import access format source from file) doc = false
 makes_node (Export access format file) doc = false
 makes_node (Info access file) doc = false
 
@@ -92,6 +95,11 @@ new_document (Err refusal) = Err refusal
 abbrev pub merged_change : Result AfterMerge Refusal → Result Change Refusal
 merged_change (Ok after) = Ok (record { text = after.text; doc = after.doc })
 merged_change (Err refusal) = Err refusal
+
+-- What an import prints; nothing where it is quiet.
+abbrev pub imported_text : Bool → List ℕ
+imported_text true = []
+imported_text false = codes "Successfully imported database.\n"
 
 -- The id of the bin that a removal makes, where it needs one.
 abbrev pub bin_id : NodeId → BareDoc → Option NodeId
@@ -122,6 +130,8 @@ change_with time (RemoveGroup access file group) line sources settings id doc = 
     (after_rmdir file access.quiet group (bin_id id doc) time doc)
 change_with time (Merge access file names from same dry) line sources settings id doc =
     merged_change (after_merge file access.quiet dry names doc sources)
+change_with time (Import access format source from file) line sources settings id doc =
+    Ok (record { text = imported_text access.quiet; doc = Some doc })
 change_with time (Export access format file) line sources settings id doc =
     printed_text (exported file format doc)
 change_with time (Info access file) line sources settings id doc =

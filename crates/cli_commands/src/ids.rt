@@ -29,6 +29,7 @@ pub(crate) fn makes_node(command: &Command, doc: &Doc) -> bool
         Command::MakeGroup { .. } => true,
         Command::RemoveGroup { .. } => needs_bin(doc),
         Command::Merge { .. } => false,
+        Command::Import { .. } => false,
         Command::Export { .. } => false,
         Command::Info { .. } => false,
     }

@@ -1,14 +1,15 @@
 //! Carrying a command out on its document.
-ghost use Rattle.std.specs.Prelude.{◌≡◌, ◌≤◌, ℕ, List, Ok, IfErr, IfOk, false, map};
+ghost use Rattle.std.specs.Prelude.{◌≡◌, ◌≤◌, ℕ, List, Ok, Some, IfErr, IfOk, false, map};
 ghost use Rattle.outside_core.specs.Streams.{LosesPrefix};
 ghost use Rattle.vault_model.specs.SeenDoc.{doc_seen};
+ghost use Rattle.vault_model.specs.Tree.{BareDoc};
 ghost use Rattle.tree_changes.specs.NewNodes.{lent_value};
 ghost use Rattle.cli_answers.specs.Phases.{IsPlainStop, IsStreamStop, Returns, ReturnsAskedStream, TellsStream};
 ghost use Rattle.cli_lines.specs.Lines.{IsTextLine};
 ghost use Rattle.cli_words.specs.Needs.{needs_of};
 ghost use Rattle.cli_listing.specs.Listing.{tree_listed};
 ghost use Rattle.cli_commands.specs.Commands as spec;
-ghost use Rattle.cli_commands.specs.Commands.{change_of, change_with, draws_id, listing_of};
+ghost use Rattle.cli_commands.specs.Commands.{change_of, change_with, draws_id, imported_text, listing_of};
 ghost use Rattle.cli_commands.specs.SeenChange.{change_seen, lent_settings};
 ghost use Rattle.cli_info.specs.Info.{info_shown};
 
@@ -30,7 +31,7 @@ use std::alloc::Global;
 use uuid::Uuid;
 use vault_model::Doc;
 
-/// Reports whether a command may write its database.
+/// Reports whether a command may write a file.
 pub fn may_write(command: &Command) -> bool
     ensures { result ≡ spec.may_write command.now }
 {
@@ -45,6 +46,7 @@ pub fn may_write(command: &Command) -> bool
         Command::MakeGroup { .. } => true,
         Command::RemoveGroup { .. } => true,
         Command::Merge { dry, .. } => !*dry,
+        Command::Import { .. } => true,
         Command::Export { .. } => false,
         Command::Info { .. } => false,
     }
@@ -149,6 +151,22 @@ fn describe(alloc: Global, doc: &Doc, settings: Option<&Settings>) -> Result<Sec
     }
 }
 
+// The report of an import, whose document is written as it is.
+fn report_import(alloc: Global, quiet: bool) -> Result<Change, Stop>
+    ensures told { (doc : BareDoc) → Returns (λ change. change_seen change doc) result
+        (Ok (record { text = imported_text quiet; doc = Some doc })) }
+    ensures cause { IfErr result IsPlainStop }
+{
+    let mut text = Bytes::new(alloc);
+    if !quiet {
+        text.add(b"Successfully imported database.\n")?;
+    }
+    Ok(Change {
+        output: Output::Listing(text),
+        is_written: true,
+    })
+}
+
 // What a merge is given beside its documents.
 fn merge_given<'a>(given: Given<'a>, sources: &'a [Text], dry: bool) -> MergeGiven<'a>
     ensures file { result.file ≡ given.entry.file }
@@ -228,6 +246,7 @@ fn change_document<'a>(
             let given = merge_given(given, sources.as_slice(), *dry);
             merge_change(merge_into(alloc, doc, input.sources, given))
         }
+        Command::Import { access, .. } => report_import(alloc, access.quiet),
         Command::Export { format, .. } => printed(export(alloc, doc, *format, given.file)),
         Command::Info { .. } => printed(describe(alloc, doc, input.settings)),
     }

@@ -33,23 +33,23 @@ use Rattle.vault_model.specs.Tree.{BareDoc}
 -- ---- a file that was used
 
 -- What a file gave, told of its bytes.
-record Used {A : Type 0} (name : List ℕ) (files : FileMap) (made : List ℕ → Result A Refusal) (x : A) : Type 0 where
-  bytes : List ℕ
-  there : IsThere files name bytes
-  gives : made bytes ≡ Ok x
+pub record Used {A : Type 0} (name : List ℕ) (files : FileMap) (made : List ℕ → Result A Refusal) (x : A) : Type 0 where
+  pub bytes : List ℕ
+  pub there : IsThere files name bytes
+  pub gives : made bytes ≡ Ok x
 
 is_within : {A : Type 0} (small : Bool) (made : Result A Refusal) (x : A) (refusal : Refusal) → cond small made (Err refusal) ≡ Ok x → (small ≡ true) × (made ≡ Ok x)
 is_within true made x refusal h = (refl, h)
 is_within false made x refusal h = cc
 
-used : {A : Type 0} (name : List ℕ) (files : FileMap) (made : List ℕ → Result A Refusal) (x : A) (file : Option (List ℕ))
+pub used : {A : Type 0} (name : List ℕ) (files : FileMap) (made : List ℕ → Result A Refusal) (x : A) (file : Option (List ℕ))
     → finmap.get files name ≡ file → of_file name made file ≡ Ok x → Used name files made x
 used name files made x None is h = cc
 used name files made x (Some bytes) is h =
     let w = is_within (nat_le (length bytes) file_limit) (made bytes) x (refusal_of TooLarge name) h in
     record { bytes = bytes; there = record { found = is; within = leb-true (length bytes) file_limit w.0 }; gives = w.1 }
 
-given : {A : Type 0} (name : List ℕ) (files : FileMap) (made : List ℕ → Result A Refusal) (x : A) (bytes : List ℕ)
+pub given : {A : Type 0} (name : List ℕ) (files : FileMap) (made : List ℕ → Result A Refusal) (x : A) (bytes : List ℕ)
     → IsThere files name bytes → made bytes ≡ Ok x → of_file name made (finmap.get files name) ≡ Ok x
 given name files made x bytes there gives =
     ap (of_file name made) there.found
@@ -83,14 +83,14 @@ some_key : (r : Result (List ℕ) Refusal) (key : Option (List ℕ)) → (r >>= 
 some_key (Ok k) key h = (k, (refl, cc))
 some_key (Err refusal) key h = cc
 
-key_held : (key_file : Option (List ℕ)) (files : FileMap) (key : Option (List ℕ)) → key_of key_file files ≡ Ok key → GivesKey key_file files key
+pub key_held : (key_file : Option (List ℕ)) (files : FileMap) (key : Option (List ℕ)) → key_of key_file files ≡ Ok key → GivesKey key_file files key
 key_held None files key h = cc
 key_held (Some name) files key h =
     let s = some_key (key_in name (finmap.get files name)) key h in
     let u = used name files (λ bytes. key_or_refusal name (key_file_key bytes)) s.0 (finmap.get files name) refl s.1.0 in
     (s.0, (record { bytes = u.bytes; there = u.there; gives = keyed_by name (key_file_key u.bytes) s.0 u.gives }, s.1.1))
 
-key_given : (key_file : Option (List ℕ)) (files : FileMap) (key : Option (List ℕ)) → GivesKey key_file files key → key_of key_file files ≡ Ok key
+pub key_given : (key_file : Option (List ℕ)) (files : FileMap) (key : Option (List ℕ)) → GivesKey key_file files key → key_of key_file files ≡ Ok key
 key_given None files key h = ap Ok (sym h)
 key_given (Some name) files key (k, (is, same)) =
     ap (λ r. r >>= (λ x. Ok (Some x))) (given name files (λ bytes. key_or_refusal name (key_file_key bytes)) k is.bytes is.there (ap (key_or_refusal name) is.gives))

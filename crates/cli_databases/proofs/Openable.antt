@@ -12,7 +12,7 @@ can_open_by true no_password key password h k e = cc
 can_open_by false true key password h k e = inr (h refl refl)
 can_open_by false false key password h k e = inl k
 
-can_open : (access : Access) (password : Option (List ℕ)) → HasKey access → is_some password ≡ asks_password access → CanOpen access password
+pub can_open : (access : Access) (password : Option (List ℕ)) → HasKey access → is_some password ≡ asks_password access → CanOpen access password
 can_open access password h k = can_open_by access.plain access.no_password access.key_file password h k
 
 -- The line that was asked for, or the key file, opens the database.

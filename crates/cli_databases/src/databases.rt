@@ -48,8 +48,8 @@ pub struct Databases {
     pub sources: List<Doc>,
 }
 
-// What is refused when a file is not read.
-fn unread(alloc: Global, fail: ReadFail, name: &str) -> Stop
+/// The stop of a call that could not read the file of this name.
+pub fn unread(alloc: Global, fail: ReadFail, name: &str) -> Stop
     ensures { IsUnread fail name.now result }
 {
     match fail {
@@ -63,8 +63,8 @@ fn unread(alloc: Global, fail: ReadFail, name: &str) -> Stop
     }
 }
 
-// The answer that a refusal of the document's reader is.
-fn document_answer(fail: DocFail) -> Reason
+/// The answer that a refusal of the document's reader is.
+pub fn document_answer(fail: DocFail) -> Reason
     ensures is { result ≡ spec.document_answer fail }
     ensures there { result ≢ Reason.NoSuchFile }
 {
@@ -155,9 +155,9 @@ fn unopened(alloc: Global, fail: OpenFail, name: &str) -> Stop
     }
 }
 
-// The plain document that a text is, which is dropped before the document is made.
+/// The plain document that a text is, which is dropped before the document is made.
 #[tactic(auto, unfolding(crate::specs::Databases::plain_document))]
-fn read_plain(alloc: Global, text: Secret) -> Result<ReadDoc, DocFail>
+pub fn read_plain(alloc: Global, text: Secret) -> Result<ReadDoc, DocFail>
     ensures { reader.Returns read_seen result (plain_document text.bytes) }
 {
     let mut stream = InnerStream::Clear;
@@ -241,8 +241,8 @@ fn open_key_file<F: FileStore>(alloc: Global, files: &mut F, name: &str) -> Resu
     }
 }
 
-// The key of the key file, where one is named.
-fn key_of<F: FileStore>(
+/// The key of the key file, where one is named. It must be cleared and released.
+pub fn key_of<F: FileStore>(
     alloc: Global,
     files: &mut F,
     key_file: Option<&str>,
@@ -338,8 +338,8 @@ fn open_sealed<F: FileStore>(
     open_under(alloc, files, name, composite(password, key))
 }
 
-// The name that is given, if one is.
-fn name_in(name: &Option<Text>) -> Option<&str>
+/// The name that is given, if one is.
+pub fn name_in(name: &Option<Text>) -> Option<&str>
     ensures { option_map (λ n. n.now) result ≡ name.now }
 {
     match name {
@@ -388,8 +388,8 @@ fn document(opened: Opened) -> Doc
     doc
 }
 
-// The bytes of a line, where there is one.
-fn bytes_in(line: &Option<Secret>) -> Option<&[u8]>
+/// The bytes of a line, where there is one.
+pub fn bytes_in(line: &Option<Secret>) -> Option<&[u8]>
     ensures { option_map (λ bytes. bytes.now) result ≡ line_seen line.now }
 {
     match line {

@@ -3,4 +3,6 @@
 
 mod databases;
 
-pub use databases::{Databases, Opened, open};
+pub use databases::{
+    Databases, Opened, bytes_in, document_answer, key_of, name_in, open, read_plain, unread,
+};

@@ -1,5 +1,5 @@
 -- What a call answers, from its task.
-use Rattle.std.proofs.Common.{◌≡◌, ◌≤◌, ℕ, List, [], ◌∷◌, refl, inl, inr, sym, ◌∙◌, ap, subst, arith, Bool, false, Option, Result, Ok, Err}
+use Rattle.std.proofs.Common.{◌≡◌, ◌≤◌, ℕ, List, [], ◌∷◌, refl, inl, inr, sym, ◌∙◌, ap, subst, arith, Bool, false, Option, Some, None, Result, Ok, Err}
 use Rattle.std.specs.Prelude.{Contains, IfErr, IfOk, OnErr}
 use Rattle.std.proofs.lemmas.List.Elements.{Contains-append_left, Contains-append_right}
 use Rattle.outside_core.specs.Counts.{Increased}
@@ -9,16 +9,20 @@ use Rattle.cli_answers.specs.declared.answers.Stop.TheVariants.{Refused, FileFau
 use Rattle.cli_answers.specs.Phases.{IsCaused, IsCommandStop, IsEarlyStop, IsLeft, Leaves, Stops, StreamAnswer, TellsStream, then_left, with_left}
 use Rattle.cli_databases.proofs.Stops.{rose_before}
 use Rattle.cli_lines.proofs.Inputs.{left_alone}
-use Rattle.cli_words.specs.Needs.{Needs, database_files, files_named, files_of, key_files, needs_of, source_files}
+use Rattle.cli_words.specs.Needs.{ImportNeeds, Needs, database_files, file_made, files_by, files_named, files_of, import_of, key_files, needs_of, source_files, target_of}
+use Rattle.cli_words.specs.Words.{command_of}
 use Rattle.cli_words.specs.declared.command.Command.{Command}
 use Rattle.cli_writing.specs.Writing.{IsSame, KeepsDraft, KeepsFiles, Store}
 use Rattle.cli_commands.specs.declared.output.Output.{Output}
-use Rattle.keepass_call.specs.declared.task.Task as memory
+use Rattle.call_task.specs.declared.task.Task as memory
 use Rattle.cli_commands.specs.Commands.{may_write}
-use Rattle.keepass_call.specs.Endings.{Ending, Ends, EndsRefused, IsOfDice, IsOfSomeDice, carried_out}
-use Rattle.keepass_call.specs.Outcome.{IsOfSomeFile, IsOfTask, World, answer_of}
+use Rattle.cli_databases.proofs.HeldFiles.{in_turn}
+use Rattle.call_carrying.specs.Endings.{Ending, Ends, EndsRefused, IsOfDice, IsOfSomeDice, carried_out}
+use Rattle.cli_pages.specs.Pages.{page_of}
+use Rattle.keepass_call.specs.Outcome.{IsOfSomeFile, IsOfTask, World, answer_of, command_answer, may_write_by, page_or_answer}
+use Rattle.keepass_call.proofs.Pages.{no_page}
 use Rattle.cli_commands.specs.SeenChange.{output_text}
-use Rattle.keepass_call.specs.Tasks.{HasSomeFile, Task, draws, draws_by, task_of, may_write_by}
+use Rattle.call_task.specs.Tasks.{HasSomeFile, Task, draws, draws_by, task_of}
 
 same_store : (before mid : Store) → IsSame before mid → mid ≡ before
 same_store before mid h =
@@ -26,31 +30,49 @@ same_store before mid h =
     ∙ ap (λ (n : Option (List ℕ)). record { files = before.files; draft_name = n; draft_bytes = mid.draft_bytes }) h.draft_name
     ∙ ap (λ (b : List ℕ). record { files = before.files; draft_name = before.draft_name; draft_bytes = b }) h.draft_bytes
 
--- What words result in whose task is this.
-pub answer_is : (words : List (List ℕ)) (time : ℕ) (world : World) (task : Task) → task_of words world.input world.files ≡ Ok task
-    → answer_of words time world ≡ carried_out time task world.dice
-unfolding answer_of
-answer_is words time world task h = ap (λ (r : Result Task Refusal). then_left (with_left r world.dice) (carried_out time)) h
+-- What words come to as a command whose task is this.
+command_is : (words : List (List ℕ)) (time : ℕ) (world : World) (task : Task) → task_of words time world.input world.files ≡ Ok task
+    → command_answer words time world ≡ carried_out time task world.dice
+unfolding command_answer
+command_is words time world task h = ap (λ (r : Result Task Refusal). then_left (with_left r world.dice) (carried_out time)) h
 
-answer_refused : (words : List (List ℕ)) (time : ℕ) (world : World) (refusal : Refusal) → task_of words world.input world.files ≡ Err refusal
-    → answer_of words time world ≡ with_left (Err refusal) world.dice
-unfolding answer_of
-answer_refused words time world refusal h = ap (λ (r : Result Task Refusal). then_left (with_left r world.dice) (carried_out time)) h
+command_refused : (words : List (List ℕ)) (time : ℕ) (world : World) (refusal : Refusal) → task_of words time world.input world.files ≡ Err refusal
+    → command_answer words time world ≡ with_left (Err refusal) world.dice
+unfolding command_answer
+command_refused words time world refusal h = ap (λ (r : Result Task Refusal). then_left (with_left r world.dice) (carried_out time)) h
+
+-- Words that ask for no page come to what they do as a command.
+pub as_command : (words : List (List ℕ)) (time : ℕ) (world : World) → page_of words ≡ None → answer_of words time world ≡ command_answer words time world
+as_command words time world none = ap (λ (p : Option (List ℕ)). page_or_answer p words time world) none
+
+pub ends_as : (words : List (List ℕ)) (time : ℕ) (world : World) (result : Result Output Stop) (before now : Store) (dice dice' : Option (List ℕ)) → page_of words ≡ None
+    → Ends result (command_answer words time world) before now dice dice' → Ends result (answer_of words time world) before now dice dice'
+ends_as words time world result before now dice dice' none h =
+    subst (λ (a : StreamAnswer Ending). Ends result a before now dice dice') (sym (as_command words time world none)) h
+
+task_no_page : (words : List (List ℕ)) (time : ℕ) (world : World) (task : Task) → task_of words time world.input world.files ≡ Ok task → page_of words ≡ None
+unfolding task_of
+task_no_page words time world task h = let c = in_turn (command_of words) _ task h in no_page words c.0 c.1.0
+
+-- What words result in whose task is this.
+pub answer_is : (words : List (List ℕ)) (time : ℕ) (world : World) (task : Task) → task_of words time world.input world.files ≡ Ok task
+    → answer_of words time world ≡ carried_out time task world.dice
+answer_is words time world task h = as_command words time world (task_no_page words time world task h) ∙ command_is words time world task h
 
 -- The task was carried out, or stopped.
 pub comes_to : (words : List (List ℕ)) (time : ℕ) (world : World) (task : Task) (result : Result Output Stop) (before mid now : Store) (dice dice' : Option (List ℕ))
-    → task_of words world.input world.files ≡ Ok task → IsSame before mid → Ends result (carried_out time task world.dice) mid now dice dice'
-    → Ends result (answer_of words time world) before now dice dice'
+    → task_of words time world.input world.files ≡ Ok task → IsSame before mid → Ends result (carried_out time task world.dice) mid now dice dice'
+    → Ends result (command_answer words time world) before now dice dice'
 comes_to words time world task result before mid now dice dice' t s h =
-    subst (λ (a : StreamAnswer Ending). Ends result a before now dice dice') (sym (answer_is words time world task t))
+    subst (λ (a : StreamAnswer Ending). Ends result a before now dice dice') (sym (command_is words time world task t))
     (subst (λ (m : Store). Ends result (carried_out time task world.dice) m now dice dice') (same_store before mid s) h)
 
 -- There is no task.
 pub stops_early : (stop : Stop) (words : List (List ℕ)) (time : ℕ) (world : World) (asked : Bool) (before now : Store) (dice : Option (List ℕ))
-    → Stops stop (task_of words world.input world.files) → IsSame before now → TellsStream asked dice world.dice
-    → Ends (Err stop) (answer_of words time world) before now dice dice
+    → Stops stop (task_of words time world.input world.files) → IsSame before now → TellsStream asked dice world.dice
+    → Ends (Err stop) (command_answer words time world) before now dice dice
 stops_early (Refused refusal) words time world asked before now dice h s t =
-    subst (λ (a : StreamAnswer Ending). EndsRefused refusal a.answer before now × IsLeft dice dice a.left) (sym (answer_refused words time world refusal h))
+    subst (λ (a : StreamAnswer Ending). EndsRefused refusal a.answer before now × IsLeft dice dice a.left) (sym (command_refused words time world refusal h))
     (record { is = refl; same = s }, left_alone asked dice world.dice t)
 stops_early (FileFault name) words time world asked before now dice h s t = tt
 stops_early InputFault words time world asked before now dice h s t = tt
@@ -99,14 +121,14 @@ stop_leaves NoMemory before now left h = tt
 -- ---- what was printed and written
 
 pub of_task : (words : List (List ℕ)) (time : ℕ) (world : World) (task : Task) (result : Result Output Stop) (before mid now : Store)
-    → task_of words world.input world.files ≡ Ok task → IsSame before mid
+    → task_of words time world.input world.files ≡ Ok task → IsSame before mid
     → IfOk result (λ output. IsOfDice time task world.dice (output_text output) mid now)
     → IfOk result (λ output. IsOfTask words time world (output_text output) before now)
 of_task words time world task (Ok output) before mid now t s h =
     record { task = task; gives = t; of_dice = subst (λ (m : Store). IsOfDice time task world.dice (output_text output) m now) (same_store before mid s) h }
 of_task words time world task (Err stop) before mid now t s h = tt
 
-pub prints_some : (words : List (List ℕ)) (time : ℕ) (task : Task) (result : Result Output Stop) (before mid now : Store) → HasSomeFile words task → IsSame before mid
+pub prints_some : (words : List (List ℕ)) (time : ℕ) (task : Task) (result : Result Output Stop) (before mid now : Store) → HasSomeFile words time task → IsSame before mid
     → IfOk result (λ output. IsOfSomeDice time task (output_text output) mid now) → IfOk result (λ output. IsOfSomeFile words time (output_text output) before now)
 prints_some words time task (Ok output) before mid now f s h =
     record { task = task; has_file = f; of_dice = subst (λ (m : Store). IsOfSomeDice time task (output_text output) m now) (same_store before mid s) h }
@@ -121,18 +143,26 @@ early_caused InputFault names f f' a a' i i' d h = inl h
 early_caused NoMemory names f f' a a' i i' d h = tt
 
 -- The file of the database is among those of a command.
-target_named : (needs : Needs) (name : List ℕ) → needs.file ≡ name → Contains (files_of needs) name
-target_named needs name is =
+opened_named : (needs : Needs) (name : List ℕ) → needs.file ≡ name → Contains (files_of needs) name
+opened_named needs name is =
     Contains-append_left (database_files needs.access needs.file) (source_files needs.from needs.sources) name
     (Contains-append_right (key_files needs.access.key_file) (needs.file ∷ []) name (0, omega arith, is))
 
+-- So is the file that it shows or writes.
+made_named : (i : Option ImportNeeds) (needs : Needs) (name : List ℕ) → file_made i needs.file ≡ name → Contains (files_by i needs) name
+made_named (Some import) needs name is = (1, omega arith, is)
+made_named None needs name is = opened_named needs name is
+
+target_named : (command : Command) (name : List ℕ) → target_of command ≡ name → Contains (files_named (Ok command)) name
+target_named command name is = made_named (import_of command) (needs_of command) name is
+
 -- A stop of the command that the words are, as a stop of the call.
 pub command_caused : (result : Result Output Stop) (command : Command) (words : Result Command Refusal) (f f' f'' a a' i i' d d' : ℕ) → words ≡ Ok command
-    → f ≤ f' → IfErr result (IsCommandStop (needs_of command).file f' f'' d d') → IfErr result (IsCaused (files_named words) f f'' a a' i i' d d')
+    → f ≤ f' → IfErr result (IsCommandStop (target_of command) f' f'' d d') → IfErr result (IsCaused (files_named words) f f'' a a' i i' d d')
 command_caused (Ok x) command words f f' f'' a a' i i' d d' is p h = tt
 command_caused (Err (Refused refusal)) command words f f' f'' a a' i i' d d' is p h = λ e. absurd (h e)
 command_caused (Err (FileFault name)) command words f f' f'' a a' i i' d d' is p h =
     subst (λ (w : Result Command Refusal). Increased f f'' × Contains (files_named w) name) (sym is)
-    (rose_before f f' f'' p h.1, target_named (needs_of command) name (sym h.0))
+    (rose_before f f' f'' p h.1, target_named command name (sym h.0))
 command_caused (Err InputFault) command words f f' f'' a a' i i' d d' is p h = inr h
 command_caused (Err NoMemory) command words f f' f'' a a' i i' d d' is p h = tt

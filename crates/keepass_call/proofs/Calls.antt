@@ -9,20 +9,25 @@ use Rattle.cli_answers.specs.declared.answers.Stop.{Stop}
 use Rattle.cli_answers.specs.declared.answers.Stop.TheVariants.{Refused, FileFault, InputFault, NoMemory}
 use Rattle.cli_answers.proofs.Statuses.{own, seven_missing}
 use Rattle.cli_answers.specs.Messages.{error_line, reason_text, status_of}
-use Rattle.cli_answers.specs.Phases.{IsCaused, IsLeft, Leaves, StreamAnswer}
+use Rattle.cli_answers.specs.Phases.{IsCaused, IsLeft, Leaves, StreamAnswer, TellsStream, with_left}
 use Rattle.cli_words.specs.Needs.{files_named}
 use Rattle.cli_writing.specs.Writing.{IsSame, KeepsDraft, KeepsFiles}
 use Rattle.cli_commands.specs.declared.output.Output.{Output}
 use Rattle.keepass_call.specs.Call.{IsCall}
-use Rattle.keepass_call.specs.Endings.{Ending, Ends, EndsSo}
+use Rattle.cli_commands.proofs.Changes.{loses_none}
+use Rattle.cli_lines.proofs.Inputs.{left_alone}
+use Rattle.cli_words.specs.declared.command.Command.{Command}
+use Rattle.call_carrying.specs.Endings.{Ending, Ends, EndsSo, ending_without}
 use Rattle.keepass_call.specs.Held.{IsAuthentic, IsComplete}
-use Rattle.keepass_call.specs.Outcome.{Counts, Gains, IsAsSaid, IsCut, IsOfSomeFile, IsOfTask, IsRefused, IsSafe, NoFaults, Outcome, Seen, Tells, WhereTold, World, answer_of, ended, outcome}
+use Rattle.cli_pages.specs.Pages.{page_of}
+use Rattle.keepass_call.specs.Outcome.{Counts, Gains, IsAsSaid, IsCut, IsOfSomeFile, IsOfTask, IsRefused, IsSafe, NoFaults, Outcome, Seen, Tells, WhereTold, World, answer_of, ended, may_write_by, outcome, page_or_answer}
 use Rattle.cli_words.specs.Words.{command_of}
-use Rattle.keepass_call.specs.Tasks.{draws_by, left_of, may_write_by}
+use Rattle.call_task.specs.Tasks.{asked_by, draws_by, left_behind, left_of}
 use Rattle.keepass_call.specs.Telling.{IsPrinted, IsTold}
 use Rattle.keepass_call.proofs.Answered.{answer_is}
 use Rattle.keepass_call.proofs.HeldTasks.{is_given, is_task}
 use Rattle.keepass_call.proofs.MergeCalls.{merges_agreed, merges_nothing}
+use Rattle.keepass_call.proofs.Pages.{no_page}
 
 -- ---- what is written
 
@@ -50,11 +55,11 @@ pub record Printed (words : List (List ℕ)) (time : ℕ) (printed : List ℕ) (
   pub errors : now.errors ≡ before.errors
   pub wrote : IsPrinted printed result before.written now.written counts.out counts'.out
   pub draft : KeepsDraft before.store now.store
-  pub held : WhereTold words before (λ w. IsOfTask words time w printed before.store now.store)
+  pub held : page_of words ≡ None → WhereTold words before (λ w. IsOfTask words time w printed before.store now.store)
   pub unwritten : may_write_by (command_of words) ≡ false → IsSame before.store now.store
   pub undrawn : draws_by (command_of words) ≡ false → now.stream ≡ before.stream
   pub stream : LosesPrefix before.stream now.stream
-  pub some_file : IsOfSomeFile words time printed before.store now.store
+  pub some_file : page_of words ≡ None → IsOfSomeFile words time printed before.store now.store
 
 -- The outcome of words that end so.
 outcome_is : (words : List (List ℕ)) (time : ℕ) (w : World) (e : Ending) → (answer_of words time w).answer ≡ Ok e
@@ -130,13 +135,13 @@ module _ (words : List (List ℕ)) (time : ℕ) (printed : List ℕ) (result : �
   complete w t ending carried calm =
       elim p.wrote [ inl whole ↦ inl whole.0 | inr part ↦ elim part.0 [ inl nine ↦ inr nine | inr ten ↦ absurd (calm.out ten.1) ] ]
 
-  authentic : WhereTold words before (λ w. result ≡ 0 → IsAuthentic words time w before now)
-  authentic w t zero =
+  authentic : page_of words ≡ None → WhereTold words before (λ w. result ≡ 0 → IsAuthentic words time w before now)
+  authentic none w t zero =
       let g = p.gives w t in
-      let h = p.held w t in
+      let h = p.held none w t in
       record {
         task = h.task;
-        is_task = is_task words w h.task h.gives;
+        is_task = is_task words time w h.task h.gives;
         change = h.of_dice.change;
         makes = h.of_dice.makes;
         text = subst (λ (x : List ℕ). Gains before.written now.written x) h.of_dice.text (gained zero);
@@ -155,11 +160,54 @@ module _ (words : List (List ℕ)) (time : ℕ) (printed : List ℕ) (result : �
     refused = λ w t some nine ten. absurd (never some nine ten);
     cut = cut;
     authentic = authentic;
-    agreed_merge = λ w t. merges_agreed words time result before now counts counts' w t (λ some nine ten. absurd (never some nine ten)) (authentic w t) (λ zero. as_said w t (inl zero));
-    merge_again = λ w t. merges_nothing words time result before now counts counts' w t (λ some nine ten. absurd (never some nine ten)) (authentic w t) (λ zero. as_said w t (inl zero));
+    agreed_merge = λ w t. merges_agreed words time result before now counts counts' w t (λ some nine ten. absurd (never some nine ten)) (λ none. authentic none w t) (λ zero. as_said w t (inl zero));
+    merge_again = λ w t. merges_nothing words time result before now counts counts' w t (λ some nine ten. absurd (never some nine ten)) (λ none. authentic none w t) (λ zero. as_said w t (inl zero));
     complete = complete;
-    some_file = λ zero. (printed, (p.some_file, gained zero));
+    some_file = λ none zero. (printed, (p.some_file none, gained zero));
   }
+
+-- ---- a call that printed a page
+
+no_none : (page : List ℕ) (asked : Option (List ℕ)) → asked ≡ Some page → asked ≡ None → ⊥
+no_none page asked e none = cc (sym e ∙ none)
+
+-- Words that ask for a page take nothing from the input.
+page_left : (words : List (List ℕ)) (page : List ℕ) (before : Option (List ℕ)) (input : List ℕ) → page_of words ≡ Some page
+    → TellsStream (asked_by (command_of words)) before input → IsLeft before before (left_of words input)
+page_left words page before input e t = by (command_of words) refl
+  where
+    by : (read : Result Command Refusal) → command_of words ≡ read → IsLeft before before (left_of words input)
+    by (Ok command) is = absurd (no_none page (page_of words) e (no_page words command is))
+    by (Err refusal) is =
+        subst (λ (r : Result Command Refusal). IsLeft before before (left_behind r input)) (sym is) (left_alone (asked_by (command_of words)) before input t)
+
+-- A call whose words ask for a page, of which all that is seen is what it printed.
+pub page_call : (words : List (List ℕ)) (time : ℕ) (page : List ℕ) (result : ℕ) (before : Seen) (written : Option (List ℕ)) (counts counts' : Counts) → page_of words ≡ Some page
+    → IsPrinted page result before.written written counts.out counts'.out → IsCall words time result before (record before { written = written }) counts counts'
+page_call words time page result before written counts counts' e wrote =
+    printed_call words time page result before (record before { written = written }) counts counts'
+    (record {
+      gives = λ w t.
+          let is : answer_of words time w ≡ with_left (Ok (ending_without page)) w.dice = ap (λ (p : Option (List ℕ)). page_or_answer p words time w) e in
+          subst (λ (a : StreamAnswer Ending). EndsSo page a.answer before.store before.store × IsLeft before.stream before.stream a.left) (sym is) (
+            record {
+              ending = ending_without page;
+              is = refl;
+              text = refl;
+              store = record { files = refl; draft_name = refl; draft_bytes = refl };
+            },
+            left_alone (draws_by (command_of words)) before.stream w.dice t.dice,
+          );
+      left = λ w t. page_left words page before.left w.input e t.input;
+      errors = refl;
+      wrote = wrote;
+      draft = inr (refl, refl);
+      held = λ none. absurd (no_none page (page_of words) e none);
+      unwritten = λ r. record { files = refl; draft_name = refl; draft_bytes = refl };
+      undrawn = λ r. refl;
+      stream = loses_none before.stream;
+      some_file = λ none. absurd (no_none page (page_of words) e none);
+    })
 
 -- ---- a call that stopped
 
@@ -301,9 +349,9 @@ module _ (words : List (List ℕ)) (time result : ℕ) (before now : Seen) (coun
     as_said = stopped_said stop s;
     refused = stopped_refused stop s;
     cut = λ w t when. record { text = no_front before.written now.written (outcome words time w).text s.written; store = inl s.kept };
-    authentic = λ w t zero. absurd (not_done stop s zero);
-    agreed_merge = λ w t. merges_agreed words time result before now counts counts' w t (stopped_refused stop s w t) (λ zero. absurd (not_done stop s zero)) (λ zero. absurd (not_done stop s zero));
-    merge_again = λ w t. merges_nothing words time result before now counts counts' w t (stopped_refused stop s w t) (λ zero. absurd (not_done stop s zero)) (λ zero. absurd (not_done stop s zero));
+    authentic = λ none w t zero. absurd (not_done stop s zero);
+    agreed_merge = λ w t. merges_agreed words time result before now counts counts' w t (stopped_refused stop s w t) (λ none zero. absurd (not_done stop s zero)) (λ zero. absurd (not_done stop s zero));
+    merge_again = λ w t. merges_nothing words time result before now counts counts' w t (stopped_refused stop s w t) (λ none zero. absurd (not_done stop s zero)) (λ zero. absurd (not_done stop s zero));
     complete = stopped_complete stop s;
-    some_file = λ zero. absurd (not_done stop s zero);
+    some_file = λ none zero. absurd (not_done stop s zero);
   }

@@ -2,46 +2,47 @@
 use Rattle.std.proofs.Common.{◌≡◌, ℕ, List, ◌∙◌, ap, subst, Result, Ok}
 use Rattle.cli_answers.specs.declared.answers.Refusal.{Refusal}
 use Rattle.cli_answers.specs.Phases.{StreamAnswer}
-use Rattle.cli_databases.proofs.HeldFiles.{databases_given, databases_held, in_turn}
-use Rattle.cli_databases.specs.Databases.{databases_of}
+use Rattle.cli_databases.proofs.HeldFiles.{in_turn}
+use Rattle.cli_opening.proofs.Opened.{databases_follow, databases_hold}
+use Rattle.cli_opening.specs.Opening.{databases_for}
 use Rattle.cli_lines.proofs.Having.{lines_have}
 use Rattle.cli_lines.specs.Lines.{lines_of}
 use Rattle.cli_words.specs.Needs.{needs_of}
-use Rattle.keepass_call.specs.Endings.{Ending}
+use Rattle.call_carrying.specs.Endings.{Ending}
 use Rattle.keepass_call.specs.Held.{IsCarried, IsTask}
 use Rattle.keepass_call.specs.Outcome.{World, answer_of}
 use Rattle.cli_words.specs.Words.{command_of}
-use Rattle.keepass_call.specs.Tasks.{Task, databases_in, task_of, task_with}
+use Rattle.call_task.specs.Tasks.{Task, databases_in, task_of, task_with}
 use Rattle.keepass_call.proofs.Answered.{answer_is}
-use Rattle.keepass_call.proofs.Tasks.{task_is}
+use Rattle.call_task.proofs.Tasks.{task_is}
 
 ok_is : {A : Type 0} (a b : A) → ◌≡◌ {A = Result A Refusal} (Ok a) (Ok b) → a ≡ b
 ok_is a b h = cc
 
 -- What words ask for is what their files hold.
-pub is_task : (words : List (List ℕ)) (world : World) (task : Task) → task_of words world.input world.files ≡ Ok task → IsTask words world task
+pub is_task : (words : List (List ℕ)) (time : ℕ) (world : World) (task : Task) → task_of words time world.input world.files ≡ Ok task → IsTask words time world task
 unfolding task_of
-is_task words world task h =
+is_task words time world task h =
     let c = in_turn (command_of words) _ task h in
     let l = in_turn (lines_of (needs_of c.0) world.input).answer _ task c.1.1 in
-    let d = in_turn (databases_of (needs_of c.0) l.0 world.files) _ task l.1.1 in
+    let d = in_turn (databases_for c.0 l.0 time world.files) _ task l.1.1 in
     let same = ok_is (task_with c.0 l.0 d.0) task d.1.1 in
-    subst (λ (x : Task). IsTask words world x) same
+    subst (λ (x : Task). IsTask words time world x) same
     (record {
       is_command = c.1.0;
       are_lines = l.1.0;
-      holds = databases_held (needs_of c.0) l.0 world.files d.0 (lines_have (needs_of c.0) world.input l.0 l.1.0) d.1.0;
+      holds = databases_hold c.0 l.0 time world.files d.0 (lines_have (needs_of c.0) world.input l.0 l.1.0) d.1.0;
     })
 
 -- And what files hold is asked for.
-pub task_given : (words : List (List ℕ)) (world : World) (task : Task) → IsTask words world task → task_of words world.input world.files ≡ Ok task
-task_given words world task h =
-    task_is words world.input world.files task.command task.lines (databases_in task) h.is_command h.are_lines
-    (databases_given (needs_of task.command) task.lines world.files (databases_in task) h.holds)
+pub task_given : (words : List (List ℕ)) (time : ℕ) (world : World) (task : Task) → IsTask words time world task → task_of words time world.input world.files ≡ Ok task
+task_given words time world task h =
+    task_is words time world.input world.files task.command task.lines (databases_in task) h.is_command h.are_lines
+    (databases_follow task.command task.lines time world.files (databases_in task) h.holds)
 
 -- What a task is carried out to is given.
 pub is_given : (words : List (List ℕ)) (time : ℕ) (world : World) (ending : Ending) → IsCarried words time world ending
     → (answer_of words time world).answer ≡ Ok ending
 is_given words time world ending h =
-    ap (λ (a : StreamAnswer Ending). a.answer) (answer_is words time world h.task (task_given words world h.task h.is_task))
+    ap (λ (a : StreamAnswer Ending). a.answer) (answer_is words time world h.task (task_given words time world h.task h.is_task))
     ∙ h.gives

@@ -1,7 +1,6 @@
 pub mod Answered
 pub mod Calls
-pub mod Carried
 pub mod HeldTasks
 pub mod MergeCalls
+pub mod Pages
 pub mod TaskDocs
-pub mod Tasks

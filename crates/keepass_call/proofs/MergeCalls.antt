@@ -35,9 +35,10 @@ use Rattle.cli_answers.specs.Phases.{IsLeft, StreamAnswer, TellsStream, after_le
 use Rattle.cli_answers.specs.declared.answers.Refusal.{Refusal}
 use Rattle.cli_words.specs.declared.command.Access.{Access}
 use Rattle.cli_words.specs.declared.command.Command.{Command}
-use Rattle.cli_words.specs.declared.command.Command.TheVariants.{Ls, Show, Search, Add, Edit, Move, Remove, MakeGroup, RemoveGroup, Merge, Export, Info}
-use Rattle.cli_words.specs.Needs.{files_named, needs_of}
+use Rattle.cli_words.specs.declared.command.Command.TheVariants.{Ls, Show, Search, Add, Edit, Move, Remove, MakeGroup, RemoveGroup, Merge, Import, Export, Info}
+use Rattle.cli_words.specs.Needs.{files_named, needs_of, target_of}
 use Rattle.cli_words.specs.Words.{command_of}
+use Rattle.cli_pages.specs.Pages.{page_of}
 use Rattle.cli_lines.specs.Lines.{Lines}
 use Rattle.cli_databases.specs.Databases.{Opened, plain_document}
 use Rattle.cli_databases.specs.Held.{HoldsBy}
@@ -48,13 +49,14 @@ use Rattle.cli_sealing.specs.Sealing.{file_by, file_unless, seal_answer, setting
 use Rattle.cli_merging.specs.Merging.{AfterMerge, after_merge, after_merged, changes_between, merged_or_refusal}
 use Rattle.merge_reports.specs.Reports.{merge_report}
 use Rattle.cli_commands.specs.Commands.{Change, merged_change}
-use Rattle.keepass_call.specs.Endings.{Ending, HoldsNew, ReadsBack, carried_out, change_of_task, ended_with, ending_with, new_file}
+use Rattle.call_carrying.specs.Endings.{Ending, HoldsNew, ReadsBack, carried_out, change_of_task, ended_with, ending_with, new_file}
 use Rattle.keepass_call.specs.Held.{IsAuthentic, IsTask}
 use Rattle.keepass_call.specs.Merges.{HoldsDatabase, HoldsUnder, IsUntouched, MergesAgreed, MergesNothing, MergesParts, TargetHolds, merges, unmodified_text}
 use Rattle.keepass_call.specs.Outcome.{Counts, Gains, IsAsSaid, IsRefused, Seen, Tells, World, answer_of, ended, outcome}
-use Rattle.keepass_call.specs.Tasks.{Task, draws_by}
+use Rattle.call_task.specs.Tasks.{Task, draws_by}
 use Rattle.keepass_call.proofs.Answered.{answer_is}
 use Rattle.keepass_call.proofs.HeldTasks.{task_given}
+use Rattle.keepass_call.proofs.Pages.{no_page}
 use Rattle.keepass_call.proofs.TaskDocs.{task_docs}
 
 -- ---- answers that are of another status than 6
@@ -191,8 +193,8 @@ module _ (name : List ℕ) (sealing : Option Sealing) (t new : BareDoc) (files :
 -- ---- a task that merges parts of an agreed set
 
 -- What is known of it.
-record AgreedTask (words : List (List ℕ)) (world : World) (parts : List (List Db)) (task : Task) : Type 0 where
-  is_task : IsTask words world task
+record AgreedTask (words : List (List ℕ)) (time : ℕ) (world : World) (parts : List (List Db)) (task : Task) : Type 0 where
+  is_task : IsTask words time world task
   set : List Db
   agreed : Agreed set
   are_parts : AreParts parts set
@@ -203,7 +205,7 @@ record Carried (time : ℕ) (world : World) (before now : Seen) (task : Task) : 
   change : Change
   makes : (change_of_task time task world.dice).answer ≡ Ok change
   text : Gains before.written now.written change.text
-  reads_back : ReadsBack (needs_of task.command).file task.opened.sealing change.doc before.store now.store
+  reads_back : ReadsBack (target_of task.command) task.opened.sealing change.doc before.store now.store
 
 -- The words of a merge that is no dry run.
 record MergeWords (command : Command) : Type 0 where
@@ -225,6 +227,7 @@ merge_words (Remove access file entry) e = absurd (true≢false (sym e))
 merge_words (MakeGroup access file group) e = absurd (true≢false (sym e))
 merge_words (RemoveGroup access file group) e = absurd (true≢false (sym e))
 merge_words (Merge access file names from same true) e = absurd (true≢false (sym e))
+merge_words (Import access format source from file) e = absurd (true≢false (sym e))
 merge_words (Export access format file) e = absurd (true≢false (sym e))
 merge_words (Info access file) e = absurd (true≢false (sym e))
 merge_words (Merge access file names from same false) e = record { access = access; file = file; names = names; from = from; same = same; is = refl }
@@ -250,12 +253,12 @@ report_same false same file names old new changes e = ap (λ b. merge_report fal
 
 module _ (words : List (List ℕ)) (time result : ℕ) (before now : Seen) (counts counts' : Counts) (world : World) (told : Tells words before world)
     (refused : IsRefused (files_named (command_of words)) (outcome words time world) result before now counts counts')
-    (authentic : result ≡ 0 → IsAuthentic words time world before now)
+    (authentic : page_of words ≡ None → result ≡ 0 → IsAuthentic words time world before now)
     (said : result ≡ 0 → IsAsSaid (outcome words time world) result before now) where
-  carried : (task : Task) → IsTask words world task → result ≡ 0 → Carried time world before now task
+  carried : (task : Task) → IsTask words time world task → result ≡ 0 → Carried time world before now task
   carried task is zero =
-      let a = authentic zero in
-      let same = ok_is a.task task (sym (task_given words world a.task a.is_task) ∙ task_given words world task is) in
+      let a = authentic (no_page words task.command is.is_command) zero in
+      let same = ok_is a.task task (sym (task_given words time world a.task a.is_task) ∙ task_given words time world task is) in
       subst (Carried time world before now) same (record { change = a.change; makes = a.makes; text = a.text; reads_back = a.reads_back })
 
   module _ (access : Access) (file : List ℕ) (names : List (List ℕ)) (from : Access) (same : Bool) (lines : Lines) (opened : Opened) (sources : List BareDoc) where
@@ -275,12 +278,12 @@ module _ (words : List (List ℕ)) (time result : ℕ) (before now : Seen) (coun
     unfolding carried_out
     carried_is = refl
 
-    answer_so : IsTask words world task → answer_of words time world ≡ after_left change_is world.dice next
-    answer_so is = answer_is words time world task (task_given words world task is) ∙ carried_is
+    answer_so : IsTask words time world task → answer_of words time world ≡ after_left change_is world.dice next
+    answer_so is = answer_is words time world task (task_given words time world task is) ∙ carried_is
 
-    module _ (parts : List (List Db)) (a : AgreedTask words world parts task) where
+    module _ (parts : List (List Db)) (a : AgreedTask words time world parts task) where
       are_docs : AreDocs (t ∷ sources)
-      are_docs = task_docs words world task a.is_task
+      are_docs = task_docs words time world task refl a.is_task
 
       into : MergesInto (join (end_to_end parts)) (merge_result t sources)
       into = parts_merged t sources a.set parts are_docs a.agreed a.are_parts a.joins
@@ -314,10 +317,10 @@ module _ (words : List (List ℕ)) (time result : ℕ) (before now : Seen) (coun
       merges_parts : MergesParts task parts world result now
       merges_parts = record { not_refused = not_refused; merged = merged }
 
-    module _ (first : List Db) (others : List (List Db)) (a : AgreedTask words world (first ∷ others) task) (within : AreParts others first)
+    module _ (first : List Db) (others : List (List Db)) (a : AgreedTask words time world (first ∷ others) task) (within : AreParts others first)
         (settled : IsSettled LEVELS t) (zero : result ≡ 0) where
       stays : merge_result t sources ≡ Ok t
-      stays = again t sources a.set first others (task_docs words world task a.is_task) a.agreed a.are_parts.0 within a.joins settled
+      stays = again t sources a.set first others (task_docs words time world task refl a.is_task) a.agreed a.are_parts.0 within a.joins settled
 
       untouched : IsUntouched task before now
       untouched =
@@ -339,17 +342,17 @@ module _ (words : List (List ℕ)) (time result : ℕ) (before now : Seen) (coun
 
   -- ---- by the command
 
-  pub merges_agreed : MergesAgreed words world result now
+  pub merges_agreed : MergesAgreed words time world result now
   merges_agreed parts m =
       let w = merge_words m.task.command m.is_merge in
-      subst (λ (c : Command). AgreedTask words world parts (record m.task { command = c }) → MergesParts (record m.task { command = c }) parts world result now) w.is
+      subst (λ (c : Command). AgreedTask words time world parts (record m.task { command = c }) → MergesParts (record m.task { command = c }) parts world result now) w.is
       (merges_parts w.access w.file w.names w.from w.same m.task.lines m.task.opened m.task.sources parts)
       (record { is_task = m.is_task; set = m.set; agreed = m.agreed; are_parts = m.are_parts; joins = m.joins })
 
-  pub merges_nothing : MergesNothing words world result before now
+  pub merges_nothing : MergesNothing words time world result before now
   merges_nothing g zero =
       let m = g.merge in
       let w = merge_words m.task.command m.is_merge in
-      subst (λ (c : Command). AgreedTask words world (g.first ∷ g.others) (record m.task { command = c }) → IsUntouched (record m.task { command = c }) before now) w.is
+      subst (λ (c : Command). AgreedTask words time world (g.first ∷ g.others) (record m.task { command = c }) → IsUntouched (record m.task { command = c }) before now) w.is
       (λ a. untouched w.access w.file w.names w.from w.same m.task.lines m.task.opened m.task.sources g.first g.others a g.within g.settled zero)
       (record { is_task = m.is_task; set = m.set; agreed = m.agreed; are_parts = m.are_parts; joins = m.joins })

@@ -1,5 +1,5 @@
 -- The documents of a task keep what every document keeps, since they are read.
-use Rattle.std.proofs.Common.{◌≡◌, ℕ, Bool, true, false, inl, inr, List, [], ◌∷◌, Option, Result, Ok, Err, map, refl, ap, subst}
+use Rattle.std.proofs.Common.{◌≡◌, ℕ, Bool, true, false, inl, inr, List, [], ◌∷◌, Option, None, Result, Ok, Err, map, refl, ap, subst}
 use Rattle.outside_core.specs.Files.{FileMap}
 use Rattle.stream_core.specs.InnerStream.{NoKeystream}
 use Rattle.vault_model.specs.Tree.{BareDoc, IsDoc}
@@ -15,12 +15,13 @@ use Rattle.kdbx_open.specs.Sealed.{Sealed}
 use Rattle.kdbx_open.specs.declared.fail.OpenFail.{OpenFail}
 use Rattle.cli_words.specs.declared.command.Access.{Access}
 use Rattle.cli_databases.specs.Databases.{Opened, password_from, plain_document}
-use Rattle.cli_databases.specs.Held.{HoldAll, HoldsBy}
+use Rattle.cli_databases.specs.Held.{HoldAll, HoldDatabases, HoldsBy}
+use Rattle.cli_opening.specs.Opening.{HoldBy}
 use Rattle.agreed_laws.specs.Merges.{AreDocs}
-use Rattle.cli_words.specs.Needs.{needs_of}
+use Rattle.cli_words.specs.Needs.{ImportNeeds, import_of, needs_of}
 use Rattle.keepass_call.specs.Held.{IsTask}
 use Rattle.keepass_call.specs.Outcome.{World}
-use Rattle.keepass_call.specs.Tasks.{Task}
+use Rattle.call_task.specs.Tasks.{Task, databases_in}
 
 plain_is_doc : (bytes : List ℕ) (read : DocumentAndHash) → plain_document bytes ≡ Ok read → IsDoc read.0
 unfolding plain_document
@@ -56,10 +57,19 @@ all_are_docs from same target (name ∷ names) (line ∷ lines) files (doc ∷ d
     subst IsDoc p (subst IsDoc h.0.is (held_is_doc from.plain from.key_file name (password_from same target line) files h.0.opened h.0.holds))
 all_are_docs from same target (name ∷ names) (line ∷ lines) files (doc ∷ docs) h d (inr i) = all_are_docs from same target names lines files docs h.1 d i
 
-pub task_docs : (words : List (List ℕ)) (world : World) (task : Task) → IsTask words world task → AreDocs (task.opened.doc ∷ task.sources)
-task_docs words world task is d (inl p) =
+-- So it is with a task that is no import.
+task_holds : (words : List (List ℕ)) (time : ℕ) (world : World) (task : Task) → import_of task.command ≡ None → IsTask words time world task
+    → HoldDatabases (needs_of task.command) task.lines world.files (databases_in task)
+task_holds words time world task none is =
+    subst (λ (i : Option ImportNeeds). HoldBy i (needs_of task.command) task.lines time world.files (databases_in task)) none is.holds
+
+pub task_docs : (words : List (List ℕ)) (time : ℕ) (world : World) (task : Task) → import_of task.command ≡ None → IsTask words time world task
+    → AreDocs (task.opened.doc ∷ task.sources)
+task_docs words time world task none is d (inl p) =
     let needs = needs_of task.command in
-    subst IsDoc p (held_is_doc needs.access.plain needs.access.key_file needs.file task.lines.password world.files task.opened is.holds.target)
-task_docs words world task is d (inr i) =
+    let holds = task_holds words time world task none is in
+    subst IsDoc p (held_is_doc needs.access.plain needs.access.key_file needs.file task.lines.password world.files task.opened holds.target)
+task_docs words time world task none is d (inr i) =
     let needs = needs_of task.command in
-    all_are_docs needs.from needs.same task.lines.password needs.sources task.lines.sources world.files task.sources is.holds.sources d i
+    let holds = task_holds words time world task none is in
+    all_are_docs needs.from needs.same task.lines.password needs.sources task.lines.sources world.files task.sources holds.sources d i

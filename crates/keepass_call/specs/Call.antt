@@ -1,12 +1,13 @@
 -- What the program promises of each call.
-use Rattle.std.specs.Prelude.{◌≡◌, ◌≢◌, ◌⊎◌, ℕ, List, false}
+use Rattle.std.specs.Prelude.{◌≡◌, ◌≢◌, ◌⊎◌, ℕ, List, None, false}
 use Rattle.cli_words.specs.Needs.{files_named}
 use Rattle.keepass_call.specs.Held.{IsAuthentic, IsComplete}
 use Rattle.keepass_call.specs.Merges.{MergesAgreed, MergesNothing}
-use Rattle.keepass_call.specs.Outcome.{Counts, IsAsSaid, IsCut, IsRefused, IsSafe, NoFaults, PrintsOfSomeFile, Seen, WhereTold, outcome}
+use Rattle.keepass_call.specs.Outcome.{Counts, IsAsSaid, IsCut, IsRefused, IsSafe, NoFaults, PrintsOfSomeFile, Seen, WhereTold, may_write_by, outcome}
+use Rattle.cli_pages.specs.Pages.{page_of}
 use Rattle.cli_words.specs.Words.{command_of}
 use Rattle.cli_writing.specs.Writing.{IsSame}
-use Rattle.keepass_call.specs.Tasks.{draws_by, may_write_by}
+use Rattle.call_task.specs.Tasks.{draws_by}
 
 -- A call with these words at a moment, its status, what is seen before and after it, and the counts
 -- before and after.
@@ -30,20 +31,22 @@ pub record IsCall (words : List (List ℕ)) (time result : ℕ) (before now : Se
   -- Where memory ran out or output failed, so much is as the outcome says.
   pub cut : WhereTold words before (λ world. (result ≡ 9) ⊎ (result ≡ 10)
       → IsCut (outcome words time world) before now)
-  -- What is printed at status 0 is made of documents that the files hold under the lines and the
-  -- key files that were given, and a file that was written holds the document that was made of them,
-  -- under the same key as before.
-  pub authentic : WhereTold words before (λ world. result ≡ 0
+  -- Where the words ask for no page, what is printed at status 0 is made of documents that the
+  -- files hold under the lines and the key files that were given, and a file that was written holds
+  -- the document that was made of them, under the same key as before or that of an import.
+  pub authentic : page_of words ≡ None → WhereTold words before (λ world. result ≡ 0
       → IsAuthentic words time world before now)
   -- A merge of copies that are parts of an agreed set is never refused because ids clash or moves
   -- make a cycle, and at status 0 the target holds the join of all of them.
-  pub agreed_merge : WhereTold words before (λ world. MergesAgreed words world result now)
+  pub agreed_merge : WhereTold words before (λ world. MergesAgreed words time world result now)
   -- Where the target is settled and has all of them already, such a merge changes nothing at
   -- status 0.
-  pub merge_again : WhereTold words before (λ world. MergesNothing words world result before now)
+  pub merge_again : WhereTold words before (λ world.
+      MergesNothing words time world result before now)
   -- What can be carried out is.
   pub complete : WhereTold words before (λ world. IsComplete words time world result counts
       counts')
-  -- Reported or not: what is printed at status 0 is made of documents that some files hold, and a
-  -- file that was written holds the document that was made of them.
-  pub some_file : result ≡ 0 → PrintsOfSomeFile words time before now
+  -- Reported or not: where the words ask for no page, what is printed at status 0 is made of
+  -- documents that some files hold, and a file that was written holds the document that was made of
+  -- them.
+  pub some_file : page_of words ≡ None → result ≡ 0 → PrintsOfSomeFile words time before now

@@ -1,40 +1,41 @@
 -- What a call that was carried out rests on: files that hold what was used of them, speaking of all
 -- their bytes.
 use Rattle.std.specs.Prelude.{◌≡◌, ℕ, List, ◌⊎◌, Ok}
-use Rattle.cli_words.specs.Needs.{needs_of}
+use Rattle.cli_words.specs.Needs.{needs_of, target_of}
 use Rattle.cli_words.specs.Words.{command_of}
 use Rattle.cli_lines.specs.Lines.{lines_of}
-use Rattle.cli_databases.specs.Held.{HoldDatabases}
+use Rattle.cli_opening.specs.Opening.{HoldFor}
 use Rattle.cli_commands.specs.Commands.{Change}
-use Rattle.keepass_call.specs.Endings.{Ending, ReadsBack, Stores, carried_out, change_of_task}
+use Rattle.call_carrying.specs.Endings.{Ending, ReadsBack, Stores, carried_out, change_of_task}
 use Rattle.keepass_call.specs.Outcome.{Counts, Gains, NoFaults, Seen, World}
-use Rattle.keepass_call.specs.Tasks.{Task, databases_in}
+use Rattle.call_task.specs.Tasks.{Task, databases_in}
 
 -- The words are the task's command, its lines are those that are due, and the files hold its
--- databases by them.
-pub record IsTask (words : List (List ℕ)) (world : World) (task : Task) : Type 0 where
+-- databases by them, or what an import makes its database of.
+pub record IsTask (words : List (List ℕ)) (time : ℕ) (world : World) (task : Task) : Type 0 where
   pub is_command : command_of words ≡ Ok task.command
   pub are_lines : (lines_of (needs_of task.command) world.input).answer ≡ Ok task.lines
-  pub holds : HoldDatabases (needs_of task.command) task.lines world.files (databases_in task)
+  pub holds : HoldFor task.command task.lines time world.files (databases_in task)
 
 -- The words are a task that ends so.
 pub record IsCarried (words : List (List ℕ)) (time : ℕ) (world : World) (ending : Ending) : Type 0
   where
     pub task : Task
-    pub is_task : IsTask words world task
+    pub is_task : IsTask words time world task
     pub gives : (carried_out time task world.dice).answer ≡ Ok ending
 
 -- What was printed is what the command makes of the documents that the files hold; and where it
 -- writes, the file that it is defined to write was written, and holds the document that the same
--- change makes: by itself, or sealed under the composite key that opened the old one.
+-- change makes: by itself, or sealed under the composite key that opened the old one or that an
+-- import was given.
 pub record IsAuthentic (words : List (List ℕ)) (time : ℕ) (world : World) (before now : Seen) :
     Type 0 where
   pub task : Task
-  pub is_task : IsTask words world task
+  pub is_task : IsTask words time world task
   pub change : Change
   pub makes : (change_of_task time task world.dice).answer ≡ Ok change
   pub text : Gains before.written now.written change.text
-  pub reads_back : ReadsBack (needs_of task.command).file task.opened.sealing change.doc
+  pub reads_back : ReadsBack (target_of task.command) task.opened.sealing change.doc
       before.store now.store
   pub ending : Ending
   pub ends : (carried_out time task world.dice).answer ≡ Ok ending

@@ -12,13 +12,13 @@ use Rattle.kdbx_open.specs.Opening.{FileContents}
 use Rattle.kdbx_open.specs.Sealed.{Sealed}
 use Rattle.kdbx_open.specs.declared.sealings.Sealing.{Sealing}
 use Rattle.cli_words.specs.declared.command.Command.{Command}
-use Rattle.cli_words.specs.declared.command.Command.TheVariants.{Ls, Show, Search, Add, Edit, Move, Remove, MakeGroup, RemoveGroup, Merge, Export, Info}
+use Rattle.cli_words.specs.declared.command.Command.TheVariants.{Ls, Show, Search, Add, Edit, Move, Remove, MakeGroup, RemoveGroup, Merge, Import, Export, Info}
 use Rattle.cli_words.specs.Needs.{needs_of}
 use Rattle.cli_databases.specs.Databases.{plain_document}
 use Rattle.cli_writing.specs.Writing.{IsSame, Store}
 use Rattle.keepass_call.specs.Held.{IsTask}
 use Rattle.keepass_call.specs.Outcome.{Gains, Seen, World}
-use Rattle.keepass_call.specs.Tasks.{Task}
+use Rattle.call_task.specs.Tasks.{Task}
 
 -- A command is a merge, and no dry run.
 abbrev pub merges : Command → Bool
@@ -32,6 +32,7 @@ merges (Remove access file entry) = false
 merges (MakeGroup access file group) = false
 merges (RemoveGroup access file group) = false
 merges (Merge access file names from same dry) = not dry
+merges (Import access format source from file) = false
 merges (Export access format file) = false
 merges (Info access file) = false
 
@@ -39,15 +40,15 @@ merges (Info access file) = false
 
 -- The words are a merge, and the files hold its documents, whose databases are the joins of these
 -- parts of an agreed set: the target's of the first, and each source's of the next.
-pub record IsAgreedMerge (words : List (List ℕ)) (world : World) (parts : List (List Db)) : Type 0
-  where
-    pub task : Task
-    pub is_task : IsTask words world task
-    pub is_merge : merges task.command ≡ true
-    pub set : List Db
-    pub agreed : Agreed set
-    pub are_parts : AreParts parts set
-    pub joins : map db_in (task.opened.doc ∷ task.sources) ≡ map join parts
+pub record IsAgreedMerge (words : List (List ℕ)) (time : ℕ) (world : World)
+    (parts : List (List Db)) : Type 0 where
+  pub task : Task
+  pub is_task : IsTask words time world task
+  pub is_merge : merges task.command ≡ true
+  pub set : List Db
+  pub agreed : Agreed set
+  pub are_parts : AreParts parts set
+  pub joins : map db_in (task.opened.doc ∷ task.sources) ≡ map join parts
 
 -- Bytes hold a document as a database holds it: by itself, or sealed under its composite key.
 abbrev pub HoldsUnder : Option Sealing → BareDoc → List ℕ → Type 0
@@ -82,18 +83,18 @@ pub record MergesParts (task : Task) (parts : List (List Db)) (world : World) (r
   pub merged : result ≡ 0 → HoldsDatabase task (join (end_to_end parts)) world now
 
 -- So it is with each call whose words merge parts of an agreed set.
-abbrev pub MergesAgreed : List (List ℕ) → World → ℕ → Seen → Type 0
-MergesAgreed words world result now =
-    (parts : List (List Db)) (merge : IsAgreedMerge words world parts)
+abbrev pub MergesAgreed : List (List ℕ) → ℕ → World → ℕ → Seen → Type 0
+MergesAgreed words time world result now =
+    (parts : List (List Db)) (merge : IsAgreedMerge words time world parts)
     → MergesParts merge.task parts world result now
 
 -- ---- merging again
 
 -- The words merge sources whose parts are within the target's, which is settled.
-pub record IsMergeAgain (words : List (List ℕ)) (world : World) : Type 0 where
+pub record IsMergeAgain (words : List (List ℕ)) (time : ℕ) (world : World) : Type 0 where
   pub first : List Db
   pub others : List (List Db)
-  pub merge : IsAgreedMerge words world (first ∷ others)
+  pub merge : IsAgreedMerge words time world (first ∷ others)
   pub within : AreParts others first
   pub settled : IsSettled LEVELS merge.task.opened.doc
 
@@ -109,6 +110,6 @@ pub record IsUntouched (task : Task) (before now : Seen) : Type 0 where
   pub dice : now.stream ≡ before.stream
 
 -- That is what each call does at status 0 whose words are such a merge.
-abbrev pub MergesNothing : List (List ℕ) → World → ℕ → Seen → Seen → Type 0
-MergesNothing words world result before now =
-    (again : IsMergeAgain words world) → result ≡ 0 → IsUntouched again.merge.task before now
+abbrev pub MergesNothing : List (List ℕ) → ℕ → World → ℕ → Seen → Seen → Type 0
+MergesNothing words time world result before now =
+    (again : IsMergeAgain words time world) → result ≡ 0 → IsUntouched again.merge.task before now

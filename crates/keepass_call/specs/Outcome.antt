@@ -1,5 +1,5 @@
 -- What a call results in: its phases one after another, and all that is seen of it.
-use Rattle.std.specs.Prelude.{◌≡◌, ◌≢◌, ℕ, List, [], ◌++◌, Contains, Option, None, Some, option_map, ◌⊎◌, Result, Ok, Err, codes}
+use Rattle.std.specs.Prelude.{◌≡◌, ◌≢◌, ℕ, Bool, false, List, [], ◌++◌, Contains, Option, None, Some, option_map, ◌⊎◌, Result, Ok, Err, codes}
 use Rattle.outside_core.specs.Counts.{Increased}
 use Rattle.outside_core.specs.Files.{FileMap}
 use Rattle.outside_core.specs.Streams.{GainsPrefix, LosesPrefix}
@@ -7,9 +7,12 @@ use Rattle.cli_answers.specs.declared.answers.Refusal.{Refusal}
 use Rattle.cli_answers.specs.Messages.{status_of, reason_text, error_line}
 use Rattle.cli_answers.specs.Phases.{IsLeft, StreamAnswer, TellsStream, then_left, with_left}
 use Rattle.cli_writing.specs.Writing.{KeepsDraft, KeepsFiles, NewFile, Store, store}
-use Rattle.keepass_call.specs.Endings.{Ending, IsOfDice, IsOfSomeDice, Stores, carried_out}
+use Rattle.cli_commands.specs.Commands.{may_write}
+use Rattle.cli_pages.specs.Pages.{page_of}
 use Rattle.cli_words.specs.Words.{command_of}
-use Rattle.keepass_call.specs.Tasks.{HasSomeFile, Task, asked_by, draws_by, left_of, task_of}
+use Rattle.cli_words.specs.declared.command.Command.{Command}
+use Rattle.call_task.specs.Tasks.{HasSomeFile, Task, asked_by, draws_by, left_of, task_of}
+use Rattle.call_carrying.specs.Endings.{Ending, IsOfDice, IsOfSomeDice, Stores, carried_out, ending_without}
 
 -- ---- what is defined
 
@@ -20,11 +23,21 @@ pub record World : Type 0 where
   pub input : List ℕ
   pub dice : List ℕ
 
--- What these words give at a moment over a world: what they ask for, and what that is carried out
--- to over the dice. The first refusal ends the call.
-unfoldable pub answer_of : List (List ℕ) → ℕ → World → StreamAnswer Ending
-answer_of words time world =
-    then_left (with_left (task_of words world.input world.files) world.dice) (carried_out time)
+-- What these words come to at a moment over a world, as a command: what they ask for, and what that
+-- is carried out to over the dice. The first refusal ends the call.
+unfoldable pub command_answer : List (List ℕ) → ℕ → World → StreamAnswer Ending
+command_answer words time world =
+    then_left (with_left (task_of words time world.input world.files) world.dice)
+    (carried_out time)
+
+-- What a call gives: the page that its words ask for, or else what they come to as a command.
+abbrev pub page_or_answer : Option (List ℕ) → List (List ℕ) → ℕ → World → StreamAnswer Ending
+page_or_answer (Some page) words time world = with_left (Ok (ending_without page)) world.dice
+page_or_answer None words time world = command_answer words time world
+
+-- What these words give at a moment over a world.
+abbrev pub answer_of : List (List ℕ) → ℕ → World → StreamAnswer Ending
+answer_of words time world = page_or_answer (page_of words) words time world
 
 -- What a call results in where nothing of the outside fails: its status, what it prints, its line
 -- on standard error, the file that is written, if one is, and what is left of the input and of the
@@ -120,6 +133,11 @@ pub record Tells (words : List (List ℕ)) (before : Seen) (world : World) : Typ
 abbrev pub WhereTold : List (List ℕ) → Seen → (World → Type 0) → Type 0
 WhereTold words before P = (world : World) → Tells words before world → P world
 
+-- Whether words are a command that may write a file.
+abbrev pub may_write_by : Result Command Refusal → Bool
+may_write_by (Ok command) = may_write command
+may_write_by (Err refusal) = false
+
 -- ---- what a call keeps
 
 -- All is as the outcome says.
@@ -174,7 +192,7 @@ pub record IsSafe (result : ℕ) (before now : Seen) (counts counts' : Counts) :
 pub record IsOfTask (words : List (List ℕ)) (time : ℕ) (world : World) (printed : List ℕ)
     (before now : Store) : Type 0 where
   pub task : Task
-  pub gives : task_of words world.input world.files ≡ Ok task
+  pub gives : task_of words time world.input world.files ≡ Ok task
   pub of_dice : IsOfDice time task world.dice printed before now
 
 -- This is what the words print on documents that some files hold, with some bytes drawn, and the
@@ -182,7 +200,7 @@ pub record IsOfTask (words : List (List ℕ)) (time : ℕ) (world : World) (prin
 pub record IsOfSomeFile (words : List (List ℕ)) (time : ℕ) (printed : List ℕ) (before now : Store) :
     Type 0 where
   pub task : Task
-  pub has_file : HasSomeFile words task
+  pub has_file : HasSomeFile words time task
   pub of_dice : IsOfSomeDice time task printed before now
 
 -- What was printed is so.

@@ -6,17 +6,18 @@ ghost use Rattle.cli_answers.specs.Phases.{IsCaused, Leaves, TellsStream};
 ghost use Rattle.cli_words.specs.Needs.{files_named};
 ghost use Rattle.cli_writing.specs.Writing.{IsSame, KeepsDraft, KeepsFiles, store};
 ghost use Rattle.keepass_call.specs.Call.{IsCall};
-ghost use Rattle.keepass_call.specs.Endings.{Ends};
-ghost use Rattle.keepass_call.specs.Outcome.{IsOfSomeFile, IsOfTask, World, answer_of, counts, seen};
+ghost use Rattle.call_carrying.specs.Endings.{Ends};
+ghost use Rattle.keepass_call.specs.Outcome.{IsOfSomeFile, IsOfTask, World, command_answer, counts, may_write_by, seen};
 ghost use Rattle.cli_commands.specs.SeenChange.{output_text};
 ghost use Rattle.cli_words.specs.Words.{command_of};
-ghost use Rattle.keepass_call.specs.Tasks.{asked_by, draws_by, left_of, may_write_by};
+ghost use Rattle.call_task.specs.Tasks.{asked_by, draws_by, left_of};
 ghost use Rattle.keepass_call.specs.Telling.{IsPrinted, IsTold, IsUnwritten, TellsLine};
 
-use crate::carrying::carry_out;
-use crate::task::read_task;
+use call_carrying::carry_out;
+use call_task::read_task;
 use cli_answers::{Reason, Stop, line, status, text_of_reason};
 use cli_commands::{Output, lend_text};
+use cli_pages::page_of;
 use outside_core::{Dice, FileStore, NoMemory, Sink, SinkFail, Source, write_all};
 use std::alloc::Global;
 
@@ -32,7 +33,7 @@ const OUTPUT_FAULT: u8 = 10;
 /// The status of a call whose input failed.
 const INPUT_FAULT: u8 = 11;
 
-// The phases of a call, one after another.
+// The phases of a call whose words are to be a command, one after another.
 fn answer<F: FileStore, S: Source, D: Dice>(
     alloc: Global,
     words: &[String],
@@ -46,7 +47,7 @@ fn answer<F: FileStore, S: Source, D: Dice>(
         world.input
         → TellsStream (draws_by (command_of (map string_bytes words.now)))
         (D.stream dice.old) world.dice
-        → Ends result (answer_of (map string_bytes words.now) now world)
+        → Ends result (command_answer (map string_bytes words.now) now world)
         (store (F.files files.old) (F.draft_name files.old) (F.draft_bytes files.old))
         (store (F.files files.new) (F.draft_name files.new) (F.draft_bytes files.new))
         (D.stream dice.old) (D.stream dice.new) }
@@ -84,7 +85,7 @@ fn answer<F: FileStore, S: Source, D: Dice>(
         (F.faults files.new) (F.absences files.old) (F.absences files.new) (S.faults input.old)
         (S.faults input.new) (D.faults dice.old) (D.faults dice.new)) }
 {
-    let task = read_task(alloc, words, files, input)?;
+    let task = read_task(alloc, words, files, input, now)?;
     carry_out(alloc, files, dice, task, now)
 }
 
@@ -158,7 +159,8 @@ fn tell<E: Sink>(alloc: Global, err: &mut E, stop: Stop) -> u8
 /// each by itself, or sealed under the composite key of its line of input and its key file. A
 /// refusal changes no file, and what was printed where an object fails is a prefix of the outcome's
 /// text.
-/// Words that are no command that may write change no file and draw nothing. Words that can be
+/// Words that ask for a page print it, and touch nothing else. Words that are no command that may
+/// write change no file and draw nothing. Words that can be
 /// carried out give status 0 where nothing fails. Copies of one database that are parts of an
 /// agreed set are merged into the join of all of them, and what the target has already changes
 /// nothing.
@@ -182,8 +184,11 @@ pub fn keepass<F: FileStore, S: Source, O: Sink, E: Sink, D: Dice>(
         (counts (F.faults files.new) (F.absences files.new) (S.faults input.new) (O.faults out.new)
         (E.faults err.new) (D.faults dice.new)) }
 {
-    match answer(alloc, words, files, input, dice, now) {
-        Ok(output) => print(out, lend_text(&output)),
-        Err(stop) => tell(alloc, err, stop),
+    match page_of(words) {
+        Some(page) => print(out, page.as_bytes()),
+        None => match answer(alloc, words, files, input, dice, now) {
+            Ok(output) => print(out, lend_text(&output)),
+            Err(stop) => tell(alloc, err, stop),
+        },
     }
 }

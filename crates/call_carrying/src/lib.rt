@@ -1,0 +1,7 @@
+//! Carrying out what a call is to do: what its command makes of its database, and the file that is
+//! written.
+#![tactic(auto)]
+
+mod carrying;
+
+pub use carrying::carry_out;

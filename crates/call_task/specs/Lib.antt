@@ -1,0 +1,2 @@
+pub mod SeenTask
+pub mod Tasks

@@ -1,0 +1,3 @@
+pub mod HeldImports
+pub mod Imported
+pub mod Sealings

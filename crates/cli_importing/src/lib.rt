@@ -1,0 +1,7 @@
+//! The database that an import makes: what its source is, under a key of its own.
+#![tactic(auto)]
+
+mod imports;
+mod sources;
+
+pub use imports::import;

@@ -1,0 +1,184 @@
+//! The document of an import's source.
+ghost use Rattle.std.specs.Prelude.{◌≡◌, ◌≢◌, ◌≤◌, ℕ, List, [], ◌∷◌, IfErr, IfOk, Some, option_map};
+ghost use Rattle.std.specs.FinMap as finmap;
+ghost use Rattle.outside_core.specs.Files.{FileMap};
+ghost use Rattle.psafe_core.specs.Outcome.{psafe_outcome};
+ghost use Rattle.table_reading.specs.Documents.{csv_document};
+ghost use Rattle.vault_model.specs.SeenDoc.{doc_seen};
+ghost use Rattle.cli_answers.specs.Phases.{IsFileStop, IsPlainStop, Returns};
+ghost use Rattle.cli_databases.specs.Databases.{of_file, plain_document};
+ghost use Rattle.cli_words.specs.declared.command.ImportFormat.TheVariants as format;
+ghost use Rattle.cli_words.specs.SeenNeeds.{import_seen};
+ghost use Rattle.cli_importing.specs.Answers as spec;
+ghost use Rattle.cli_importing.specs.Answers.{IsNoTable, IsUnsafe};
+ghost use Rattle.cli_importing.specs.Held.{IsDocumentBy};
+ghost use Rattle.cli_importing.specs.Imports.{at_stamp, document_by, given_password, plain_or_refusal, safe_or_refusal, source_of, table_or_refusal};
+
+use cli_answers::{Reason, Stop, refused};
+use cli_databases::{document_answer, read_plain, unread};
+use cli_words::{ImportFormat, ImportNeeds};
+use doc_read::{DocFail, ReadDoc};
+use kdbx_open::FILE_LIMIT;
+use outside_core::FileStore;
+use psafe_core::import_psafe;
+use psafe_file::PsafeFail;
+use secret_core::{Secret, read_file};
+use std::alloc::Global;
+use table_reading::{TableFail, import_csv};
+use time_core::Stamp;
+use vault_model::Doc;
+
+// The answer that a refusal of the reader of Password Safe's files is.
+fn safe_answer(fail: PsafeFail) -> Reason
+    ensures is { result ≡ spec.safe_answer fail }
+    ensures there { result ≢ Reason.NoSuchFile }
+{
+    match fail {
+        PsafeFail::NotPsafe => Reason::NotPsafe,
+        PsafeFail::Truncated(length) => Reason::EndsEarly(length),
+        PsafeFail::IterLimit(_) => Reason::IterLimit,
+        PsafeFail::WrongPassword { .. } => Reason::WrongPassword,
+        PsafeFail::FieldForm(at) => Reason::BadField(at),
+        PsafeFail::Mac { kept, found } => Reason::DamagedOrWrongKey { kept, found },
+        PsafeFail::NilId(number) => Reason::NilRecord(number),
+        PsafeFail::DuplicateId(id) => Reason::DuplicateId(id),
+        PsafeFail::TooDeep(_) => Reason::TooDeep,
+        PsafeFail::NoMemory => Reason::OutOfMemory,
+    }
+}
+
+// The answer that a refusal of the reader of tables is.
+fn table_answer(fail: TableFail) -> Reason
+    ensures is { result ≡ spec.table_answer fail }
+    ensures there { result ≢ Reason.NoSuchFile }
+{
+    match fail {
+        TableFail::NotUtf8(length) => Reason::NotUtf8(length),
+        TableFail::ColumnMissing => Reason::NoTitleColumn,
+        TableFail::RowWidth(number) => Reason::BadRow(number),
+        TableFail::BadTime(number) => Reason::BadRow(number),
+        TableFail::DuplicateId(id) => Reason::DuplicateId(id),
+        TableFail::TooDeep(_) => Reason::TooDeep,
+        TableFail::NoMemory => Reason::OutOfMemory,
+    }
+}
+
+// The plain document in these bytes of a file.
+fn read_document(alloc: Global, name: &str, bytes: Secret) -> Result<Doc, Stop>
+    ensures gives { Returns doc_seen result
+        (plain_or_refusal name.now (plain_document bytes.bytes)) }
+    ensures cause { IfErr result IsPlainStop }
+{
+    match read_plain(alloc, bytes) {
+        Ok(
+            ReadDoc {
+                doc,
+                header_hash: _,
+            },
+        ) => Ok(doc),
+        Err(DocFail::NoMemory) => Err(Stop::NoMemory),
+        Err(fail) => Err(refused(alloc, document_answer(fail), name)),
+    }
+}
+
+// A password that is given; none is empty.
+fn given_password<'a>(password: Option<&'a [u8]>) -> &'a [u8]
+    ensures { result.now ≡ given_password (option_map (λ p. p.now) password.entry) }
+{
+    match password {
+        Some(password) => password,
+        None => &[],
+    }
+}
+
+// The document of a file of Password Safe, under its password.
+fn read_safe(
+    alloc: Global,
+    name: &str,
+    password: Option<&[u8]>,
+    bytes: &Secret,
+    now: Stamp,
+) -> Result<Doc, Stop>
+    ensures gives { Returns doc_seen result (safe_or_refusal name.now (psafe_outcome
+        bytes.now.bytes (given_password (option_map (λ p. p.now) password.entry)) now)) }
+    ensures cause { IfErr result IsPlainStop }
+{
+    match import_psafe(
+        alloc,
+        bytes.lend(0, bytes.len()),
+        given_password(password),
+        now,
+    ) {
+        Ok(doc) => Ok(doc),
+        Err(PsafeFail::NoMemory) => Err(Stop::NoMemory),
+        Err(fail) => Err(refused(alloc, safe_answer(fail), name)),
+    }
+}
+
+// The document of a table.
+fn read_table(alloc: Global, name: &str, bytes: &Secret, now: Stamp) -> Result<Doc, Stop>
+    ensures gives { Returns doc_seen result
+        (table_or_refusal name.now (csv_document bytes.now.bytes now)) }
+    ensures cause { IfErr result IsPlainStop }
+{
+    match import_csv(alloc, bytes.lend(0, bytes.len()), now) {
+        Ok(doc) => Ok(doc),
+        Err(TableFail::NoMemory) => Err(Stop::NoMemory),
+        Err(fail) => Err(refused(alloc, table_answer(fail), name)),
+    }
+}
+
+// The document that the bytes of a file are in a format, under a password, if the format has one,
+// and at a moment.
+fn read_by(
+    alloc: Global,
+    format: ImportFormat,
+    name: &str,
+    password: Option<&[u8]>,
+    bytes: Secret,
+    now: u64,
+) -> Result<Doc, Stop>
+    ensures gives { Returns doc_seen result (document_by format name.now
+        (option_map (λ p. p.now) password.entry) now bytes.bytes) }
+    ensures cause { IfErr result IsPlainStop }
+{
+    if let ImportFormat::Xml = format {
+        return read_document(alloc, name, bytes);
+    }
+    let Some(stamp) = Stamp::of(now) else {
+        return Err(refused(alloc, Reason::StampLimit, name));
+    };
+    match format {
+        ImportFormat::Psafe => read_safe(alloc, name, password, &bytes, stamp),
+        _ => read_table(alloc, name, &bytes, stamp),
+    }
+}
+
+/// Reads the source of an import, whose file is not changed.
+pub(crate) fn read_source<F: FileStore>(
+    alloc: Global,
+    files: &mut F,
+    import: ImportNeeds<'_>,
+    password: Option<&[u8]>,
+    now: u64,
+) -> Result<Doc, Stop>
+    ensures told { (m : FileMap) → F.files files.old ≡ Some m
+        → Returns doc_seen result (source_of (import_seen import.entry)
+        (option_map (λ p. p.now) password.entry) now m) }
+    ensures some_file { IfOk result (λ doc. (bytes : List ℕ)
+        × IsDocumentBy import.entry.format (option_map (λ p. p.now) password.entry) now bytes
+        (doc_seen doc)) }
+    ensures cause { IfErr result (IsFileStop (import.entry.source.now ∷ []) (F.faults files.old)
+        (F.faults files.new) (F.absences files.old) (F.absences files.new)) }
+    ensures faults { F.faults files.old ≤ F.faults files.new }
+    ensures absences { F.absences files.old ≤ F.absences files.new }
+    ensures files { F.files files.new ≡ F.files files.old }
+    ensures draft_name { F.draft_name files.new ≡ F.draft_name files.old }
+    ensures draft_bytes { F.draft_bytes files.new ≡ F.draft_bytes files.old }
+{
+    let name = import.source.as_str();
+    match read_file(alloc, files, name, FILE_LIMIT) {
+        Ok(bytes) => read_by(alloc, import.format, name, password, bytes, now),
+        Err(fail) => Err(unread(alloc, fail, name)),
+    }
+}
