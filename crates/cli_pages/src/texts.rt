@@ -89,8 +89,8 @@ keepass import [OPTION..] SOURCE DATABASE
     password or a key file, unless --plain is given. A file of Password Safe is
     opened with a line of standard input.
     --format FORMAT
-        What SOURCE is: a document as XML, which is the default, a file of
-        Password Safe 3, or a table as CSV.
+        What SOURCE is: a document as XML (xml, the default), a file of Password
+        Safe 3 (psafe3), or a table (csv).
     -p, --set-password
         DATABASE gets a password: the line of standard input after the one of
         SOURCE, if that has one.
@@ -101,8 +101,8 @@ keepass export [OPTION..] DATABASE
     Prints the whole database without its protection: the passwords in it can be
     read.
     -f FORMAT, --format FORMAT
-        What is printed: the document as XML, which is the default, or a table
-        as CSV.
+        What is printed: the document as XML (xml, the default), or a table
+        (csv).
 
 keepass db-info [OPTION..] DATABASE
     Prints what the database is called, how it is protected, and how much is in
