@@ -1,5 +1,5 @@
 -- Small records, and what they give.
-use Rattle.std.proofs.Common.{◌≡◌, ℕ, List, [], ◌∷◌, None, Some, codes, refl, replicate}
+use Rattle.std.proofs.Common.{◌≡◌, ℕ, List, [], ◌∷◌, codes, refl}
 use Rattle.std.specs.Str.{chars, is_utf8}
 use Rattle.psafe_fields.specs.Fields.{SafeField}
 use Rattle.psafe_fields.specs.Kinds.{created_kind, group_kind, title_kind}

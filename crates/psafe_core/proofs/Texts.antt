@@ -1,9 +1,8 @@
 -- The texts of a record are in UTF-8.
-use Rattle.std.proofs.Common.{◌≡◌, ◌==◌, ◌&&◌, ℕ, true, false, Bool, List, [], ◌∷◌, Option, Some, None, refl, inl, inr, cond}
+use Rattle.std.proofs.Common.{◌≡◌, ◌==◌, ◌&&◌, ℕ, true, false, Bool, List, [], ◌∷◌, Option, Some, None, refl, cond}
 use Rattle.std.specs.Prelude.{IfSome}
 use Rattle.std.specs.Option.{option_or, unwrap_or}
 use Rattle.std.specs.Str.{is_utf8}
-use Rattle.std.proofs.lemmas.Bool.{cases_Bool}
 use Rattle.std.proofs.lemmas.Str.{IsUtf8-nil, is_utf8-from_IsUtf8}
 use Rattle.import_tree.specs.Entries.{AreTexts}
 use Rattle.psafe_core.specs.Records.{imported_record, last_of, text_in, text_of}

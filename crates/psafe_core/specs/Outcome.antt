@@ -1,5 +1,5 @@
 -- What a file of Password Safe is imported as, or the first reason why it is not.
-use Rattle.std.specs.Prelude.{ℕ, ◌+◌, if◌then◌else◌, Bool, Option, None, Some, List, [], ◌∷◌, bytes_eq, Result, Ok, Err}
+use Rattle.std.specs.Prelude.{ℕ, ◌+◌, if◌then◌else◌, Option, None, Some, List, [], ◌∷◌, bytes_eq, Result, Ok, Err}
 use Rattle.import_tree.specs.Outcome.{imported_document}
 use Rattle.import_tree.specs.declared.fails.TreeFail.{TreeFail}
 use Rattle.import_tree.specs.declared.fails.TreeFail.TheVariants as tree

@@ -1,5 +1,5 @@
 -- Small deciphered bytes, and their first faults.
-use Rattle.std.proofs.Common.{◌≡◌, ℕ, Option, List, [], ◌∷◌, ◌++◌, None, Some, codes, refl, replicate, length}
+use Rattle.std.proofs.Common.{◌≡◌, ℕ, Option, List, [], ◌∷◌, ◌++◌, None, Some, refl, replicate, length}
 use Rattle.std.specs.Str.{chars, is_utf8}
 use Rattle.psafe_fields.specs.Faults.{first_fault}
 use Rattle.psafe_fields.specs.Fields.{fields_of, records_of}

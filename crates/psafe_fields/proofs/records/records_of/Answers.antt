@@ -1,4 +1,4 @@
-use Rattle.std.proofs.Common.{◌≡◌, ◌+◌, ◌-◌, ◌++◌, ◌∷◌, [], List, ℕ, length, take, drop, ap, sym, ◌∙◌, arith, rules, subst, length-drop}
+use Rattle.std.proofs.Common.{◌≡◌, ◌+◌, ◌-◌, ◌++◌, List, ℕ, length, take, drop, ap, sym, ◌∙◌, arith, subst, length-drop}
 use Rattle.std.proofs.lemmas.List.{append-nil, drop-map, length-map, take-map, take_rest}
 use Rattle.psafe_fields.specs.Ends.{AreUnended, EndsFirst}
 use Rattle.psafe_fields.specs.Fields.{SafeField, records_in}
