@@ -3,7 +3,10 @@ _keepass() {
   local word=${COMP_WORDS[COMP_CWORD]} before=${COMP_WORDS[COMP_CWORD - 1]} command=${COMP_WORDS[1]} options
   COMPREPLY=()
   if [ "$COMP_CWORD" -eq 1 ]; then
-    COMPREPLY=($(compgen -W 'ls show search add edit mv rm mkdir rmdir merge import export db-info' -- "$word"))
+    case $word in
+      -*) COMPREPLY=($(compgen -W '--help --version' -- "$word")) ;;
+      *) COMPREPLY=($(compgen -W 'ls show search add edit mv rm mkdir rmdir merge import export db-info' -- "$word")) ;;
+    esac
     return
   fi
   case "$command $before" in

@@ -1,5 +1,7 @@
 # Made by docs/make-words from docs/commands.toml.
 complete -c keepass -n __fish_use_subcommand -f
+complete -c keepass -n __fish_use_subcommand -l help -d 'Prints how the program is called.'
+complete -c keepass -n __fish_use_subcommand -l version -d 'Prints the version of the program.'
 complete -c keepass -n __fish_use_subcommand -a ls -d 'Lists the titles of a group\'s entries and the names of its groups; the root group where none is named.'
 complete -c keepass -n '__fish_seen_subcommand_from ls' -l recursive -s R -d 'The groups inside are listed too, each indented by two spaces more.'
 complete -c keepass -n '__fish_seen_subcommand_from ls' -l flatten -s f -d 'With --recursive: each line begins with its path in place of spaces.'
@@ -70,13 +72,13 @@ complete -c keepass -n '__fish_seen_subcommand_from merge' -l no-password -d 'Th
 complete -c keepass -n '__fish_seen_subcommand_from merge' -l plain -d 'The database is a plain XML export, which has no password and no key file.'
 complete -c keepass -n '__fish_seen_subcommand_from merge' -l quiet -s q -d 'Nothing is reported.'
 complete -c keepass -n __fish_use_subcommand -a import -d 'Makes DATABASE, which must not be there yet, from SOURCE. It needs a password or a key file, unless --plain is given. A file of Password Safe is opened with a line of standard input.'
-complete -c keepass -n '__fish_seen_subcommand_from import' -l format -x -a 'xml psafe3 csv' -d 'What SOURCE is: a document as XML, which is the default, a file of Password Safe 3, or a table as CSV.'
+complete -c keepass -n '__fish_seen_subcommand_from import' -l format -x -a 'xml psafe3 csv' -d 'What SOURCE is: a document as XML (xml, the default), a file of Password Safe 3 (psafe3), or a table (csv).'
 complete -c keepass -n '__fish_seen_subcommand_from import' -l set-password -s p -d 'DATABASE gets a password: the line of standard input after the one of SOURCE, if that has one.'
 complete -c keepass -n '__fish_seen_subcommand_from import' -l set-key-file -r -F -d 'DATABASE is opened with this key file from now on.'
 complete -c keepass -n '__fish_seen_subcommand_from import' -l plain -d 'The database is a plain XML export, which has no password and no key file.'
 complete -c keepass -n '__fish_seen_subcommand_from import' -l quiet -s q -d 'Nothing is reported.'
 complete -c keepass -n __fish_use_subcommand -a export -d 'Prints the whole database without its protection: the passwords in it can be read.'
-complete -c keepass -n '__fish_seen_subcommand_from export' -l format -s f -x -a 'xml csv' -d 'What is printed: the document as XML, which is the default, or a table as CSV.'
+complete -c keepass -n '__fish_seen_subcommand_from export' -l format -s f -x -a 'xml csv' -d 'What is printed: the document as XML (xml, the default), or a table (csv).'
 complete -c keepass -n '__fish_seen_subcommand_from export' -l key-file -s k -r -F -d 'The database needs this key file besides its password.'
 complete -c keepass -n '__fish_seen_subcommand_from export' -l no-password -d 'The database has no password: no line is read for it. Needs a key file.'
 complete -c keepass -n '__fish_seen_subcommand_from export' -l plain -d 'The database is a plain XML export, which has no password and no key file.'

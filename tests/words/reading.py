@@ -2,7 +2,8 @@
 
 `read(words)` gives None where the words are wrong, and otherwise a dictionary: the command, the options that were given
 with their values (True of a flag, a list of the names of `--attributes`), the positions, and how many lines of standard
-input are read. The table of commands and options is docs/commands.toml."""
+input are read. `line(words)` is the same as crates/words_reader prints it. The table of commands and options is
+docs/commands.toml."""
 import os, tomllib
 
 top = os.path.dirname(os.path.dirname(os.path.dirname(os.path.abspath(__file__))))
@@ -136,3 +137,54 @@ def command_of(words):
     if "password-prompt" in given:
         lines += 1
     return {"command": command, "given": given, "positions": positions, "lines": lines}
+
+
+def access(name, plain, quiet, key_file, no_password):
+    """The parts of a line for a database, and how it is opened."""
+    parts = [f"database={name}"] + ["plain"] * plain + ["quiet"] * quiet
+    return parts + ([f"key-file={key_file}"] if key_file is not None else []) + ["no-password"] * no_password
+
+
+def own_parts(command, given, positions):
+    """The parts of a line that only this command has."""
+    def flags(*names):
+        return [name for name in names if name in given]
+
+    def texts(*names):
+        return [f"{name}={given[name]}" for name in names if name in given]
+
+    plain, quiet = "plain" in given, "quiet" in given
+    if command == "ls":
+        return [f"group={group}" for group in positions[1:]] + flags("recursive", "flatten")
+    if command == "show":
+        return ([f"entry={positions[1]}"] + flags("show-protected", "all", "show-attachments")
+                + [f"attribute={name}" for name in given.get("attributes", [])])
+    if command in ("add", "edit"):
+        return ([f"entry={positions[1]}"] + texts("title", "username", "url", "notes")
+                + (["password"] if "password-prompt" in given else []))
+    if command == "merge":
+        opened = given.get("key-file-from"), "no-password-from" in given
+        if "same-credentials" in given:
+            opened = given.get("key-file"), "no-password" in given
+        return ([part for source in positions[1:] for part in access(source, plain, quiet, *opened)]
+                + flags("same-credentials", "dry-run"))
+    if command == "import":
+        form = given.get("import-format", "xml")
+        return access(positions[0], form != "psafe3", quiet, None, False) + [f"format={form}"]
+    if command == "export":
+        return [f"format={given.get('format', 'xml')}"]
+    names = {"search": ["term"], "mv": ["node", "group"], "rm": ["entry"], "mkdir": ["group"], "rmdir": ["group"], "db-info": []}
+    return [f"{name}={word}" for name, word in zip(names[command], positions[1:], strict=True)]
+
+
+def line(words):
+    """What the words are, in one line with a tab after each part."""
+    found = read(words)
+    if found is None:
+        return "wrong"
+    command, given, positions = found["command"], found["given"], found["positions"]
+    plain, quiet = "plain" in given, "quiet" in given
+    opened = access(positions[0], plain, quiet, given.get("key-file"), "no-password" in given)
+    if command == "import":
+        opened = access(positions[1], plain, quiet, given.get("set-key-file"), not plain and "set-password" not in given)
+    return "".join(part + "\t" for part in [command] + opened + own_parts(command, given, positions))

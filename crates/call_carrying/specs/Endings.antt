@@ -133,7 +133,7 @@ Ends (Err InputFault) defined before now dice dice' = Unit {0}
 Ends (Err NoMemory) defined before now dice dice' = Unit {0}
 
 -- What was printed is what the command of a task makes of its document with these dice, and the
--- document that it makes stands in the file that was written, if one is written.
+-- document that it makes is in the file that was written, if one is written.
 pub record IsOfDice (time : ℕ) (task : Task) (dice printed : List ℕ) (before now : Store) : Type 0
   where
     pub change : Change

@@ -52,7 +52,7 @@ no_end b rest h = h
 no_return : (b : ℕ) (rest : List ℕ) → (b == 13) ≡ false → (b == 13 && ends_next rest) ≡ false
 no_return b rest h = ap (λ (x : Bool). x && ends_next rest) h
 
--- one byte more was read, and stands at the end
+-- one byte more was read, and is at the end
 one_more : (line : List ℕ) (b : ℕ) (rest : List ℕ) → with_bytes line (with_byte b (line_from (length line + 1) rest)) ≡ cut (line ++ b ∷ []) false rest
 one_more line b rest =
     sym (with_more line (b ∷ []) (line_from (length line + 1) rest))

@@ -2,3 +2,4 @@ pub mod Found
 pub mod Letters
 pub mod Named
 pub mod Places
+pub mod Taken

@@ -65,6 +65,6 @@ last SetPassword h = cc
 last SetKeyFile h = cc
 last ImportFormat h = cc
 
--- Only one option may stand more than once.
+-- Only one option may occur more than once.
 pub one_repeatable : (f g : CommandOption) → is_repeatable f ≡ true → is_repeatable g ≡ true → place_of f ≡ place_of g
 one_repeatable f g h i = last f h ∙ sym (last g i)

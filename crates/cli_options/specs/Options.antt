@@ -30,7 +30,7 @@ command_named word =
 -- ---- how options are written
 
 -- How an option is written: its name after `--`, its letter after `-` where it has one, whether it
--- has a value, and whether it may stand more than once.
+-- has a value, and whether it may occur more than once.
 pub record OptionForm : Type 0 where
   pub name : List ℕ
   pub letter : Option ℕ
@@ -55,7 +55,7 @@ valued name letter = record {
   is_repeatable = false;
 }
 
--- The form of an option that has a value and may stand more than once.
+-- The form of an option that has a value and may occur more than once.
 abbrev pub repeatable : List ℕ → Option ℕ → OptionForm
 repeatable name letter = record {
   name = name;
@@ -99,7 +99,7 @@ form_of ImportFormat = valued (codes "format") None
 abbrev pub has_value : CommandOption → Bool
 has_value option = (form_of option).has_value
 
--- Whether an option may stand more than once.
+-- Whether an option may occur more than once.
 abbrev pub is_repeatable : CommandOption → Bool
 is_repeatable option = (form_of option).is_repeatable
 

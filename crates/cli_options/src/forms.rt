@@ -66,7 +66,7 @@ pub(crate) struct OptionForm {
     pub letter: Option<u8>,
     /// Whether it has a value.
     pub has_value: bool,
-    /// Whether it may stand more than once.
+    /// Whether it may occur more than once.
     pub is_repeatable: bool,
 }
 
@@ -94,7 +94,7 @@ fn valued(name: &'static str, letter: Option<u8>) -> OptionForm
     }
 }
 
-// The form of an option that has a value and may stand more than once.
+// The form of an option that has a value and may occur more than once.
 fn repeatable(name: &'static str, letter: Option<u8>) -> OptionForm
     ensures { form_seen result ≡ spec.repeatable name.now letter }
 {
@@ -144,7 +144,7 @@ pub fn has_value(option: CommandOption) -> bool
     form_of(option).has_value
 }
 
-/// Reports whether an option may stand more than once.
+/// Reports whether an option may occur more than once.
 pub fn is_repeatable(option: CommandOption) -> bool
     ensures { result ≡ spec.is_repeatable option }
 {

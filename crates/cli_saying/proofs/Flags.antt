@@ -47,7 +47,7 @@ set_past_set (z ∷ zs) zero (suc j) x y h = refl
 set_past_set (z ∷ zs) (suc i) zero x y h = refl
 set_past_set (z ∷ zs) (suc i) (suc j) x y h = ap (λ ts. z ∷ ts) (set_past_set zs i j x y (λ e. h (ap suc e)))
 
--- An option by its place, or one that may stand more than once.
+-- An option by its place, or one that may occur more than once.
 abbrev put : Bool → ℕ → List ℕ → Said → Option Said
 put true place text said = Some (record said { names = said.names ++ text ∷ [] })
 put false place text said =
@@ -65,7 +65,7 @@ given_put option text said = by (is_repeatable option)
     by true = refl
     by false = refl
 
--- An option in its place before one that may stand more than once, or after it.
+-- An option in its place before one that may occur more than once, or after it.
 place_past_name : (said : Said) (p : ℕ) (t u : List ℕ)
     → option_and_then (put true p u) (put false p t said) ≡ option_and_then (put false p t) (put true p u said)
 place_past_name said p t u = by (is_some (slice_index_or said.given p None))

@@ -1,6 +1,7 @@
 pub mod FlagWords
 pub mod Flags
 pub mod LongNames
+pub mod OneName
 pub mod OptionWords
 pub mod Positions
 pub mod PrefixCases

@@ -4,7 +4,7 @@ use Rattle.std.specs.Prelude.{MatchOption, option_map}
 use Rattle.cli_saying.specs.Prefixes.{strip_prefix}
 use Rattle.cli_saying.proofs.Stripping.{stripped}
 
--- what a call answers that tells where a text begins so
+-- what a call that takes a prefix off a text answers is what `strip_prefix` says
 pub by_cases : (front text : List ℕ) (rest : Option (Bor (List ℕ))) (P : Type 0) (Q : Bor (List ℕ) → Type 0) → MatchOption rest P Q
     → (P → (x : List ℕ) → text ≢ front ++ x) → ((x : Bor (List ℕ)) → Q x → text ≡ front ++ x.now)
     → option_map (λ x. x.now) rest ≡ strip_prefix front text

@@ -1,3 +1,4 @@
+pub mod Credentials
 pub mod Laws
 pub mod Prefixes
 pub mod Said

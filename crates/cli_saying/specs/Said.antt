@@ -14,7 +14,7 @@ is_option (b ∷ []) = false
 is_option (b ∷ c ∷ bs) = b == 45
 
 -- What the words after a command's name say: the text of each option that was given, a flag's being
--- empty; the texts of the option that may stand more than once, in their order; the option whose
+-- empty; the texts of the option that may occur more than once, in their order; the option whose
 -- value is due in the next word; whether `--` was there, after which no word is an option; and the
 -- positions.
 pub record Said : Type 0 where
@@ -42,7 +42,7 @@ text_in option texts = slice_index_or texts (place_of option) None
 abbrev pub text_of : CommandOption → Said → Option (List ℕ)
 text_of option said = text_in option said.given
 
--- An option that stands at most once was given.
+-- An option that occurs at most once was given.
 abbrev pub is_given : CommandOption → Said → Bool
 is_given option said = is_some (text_of option said)
 
@@ -65,7 +65,7 @@ unless_given false said = Some said
 abbrev pub with_text : List (Option (List ℕ)) → CommandOption → List ℕ → List (Option (List ℕ))
 with_text given option text = slice_set given (place_of option) (Some text)
 
--- An option with its text: after the texts before it where it may stand more than once, or else in
+-- An option with its text: after the texts before it where it may occur more than once, or else in
 -- its place.
 abbrev pub with_option_text : Said → CommandOption → List ℕ → Said
 with_option_text said option text = if is_repeatable option

@@ -30,7 +30,7 @@ impl From<NoMemory> for WordsFail {
 pub struct SaidWords<'a, 'b> {
     /// The text of each option that was given, by its place; a flag's text is empty.
     pub given: [Option<&'a str>; OPTIONS],
-    /// The texts of the option that may stand more than once.
+    /// The texts of the option that may occur more than once.
     pub names: &'b [Text],
     /// The option whose value is due in the next word.
     pub due: Option<CommandOption>,
@@ -50,7 +50,7 @@ pub struct GivenTexts<'a> {
 /// What else words say, while they are read.
 #[derive(Drop)]
 pub struct ReadingState {
-    /// The texts of the option that may stand more than once.
+    /// The texts of the option that may occur more than once.
     pub names: List<Text>,
     /// The option whose value is due in the next word.
     pub due: Option<CommandOption>,
@@ -101,7 +101,7 @@ pub fn text_of<'a>(said: &SaidWords<'a, '_>, option: CommandOption) -> Option<&'
     text_in(said.given, option)
 }
 
-/// Reports whether an option that stands at most once was given.
+/// Reports whether an option that occurs at most once was given.
 pub fn is_given(said: &SaidWords<'_, '_>, option: CommandOption) -> bool
     ensures { result ≡ spec.is_given option (said_seen said.now) }
 {
@@ -186,6 +186,16 @@ pub fn add_position(
         (Some (spec.with_position (reading_seen given.entry state.old) word.now)) }
 {
     add_text(state.alloc, &mut state.positions, word)
+}
+
+/// A copy of a text, where there is one.
+pub fn copy_of(alloc: Global, text: Option<&str>) -> Result<Option<Text>, NoMemory>
+    ensures { IfOk result (λ copy. copy ≡ text_seen text.entry) }
+{
+    match text {
+        Some(text) => Ok(Some(Text::of(alloc, text)?)),
+        None => Ok(None),
+    }
 }
 
 /// Copies of texts.

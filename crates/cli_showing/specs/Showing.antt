@@ -41,7 +41,7 @@ abbrev pub with_value_of : BareDoc → (clear : Bool) → Option BareField → L
 with_value_of doc clear None text = Ok (text ++ codes "\n")
 with_value_of doc clear (Some field) text = with_value doc clear field text
 
--- A text after which a key is put, and what stands between a key and its value.
+-- A text after which a key is put, and what is between a key and its value.
 abbrev pub with_key : List ℕ → List ℕ → List ℕ
 with_key key text = (text ++ key) ++ codes ": "
 

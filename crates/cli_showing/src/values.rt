@@ -33,7 +33,7 @@ fn field_of<'a>(fields: &'a [Field], key: &str) -> Option<&'a Field>
     None
 }
 
-// Puts a key after a text, and what stands between a key and its value.
+// Puts a key after a text, and what is between a key and its value.
 fn append_key(alloc: Global, text: &mut Secret, key: &str) -> Result<(), NoMemory>
     ensures { OnOk result (text.new.bytes ≡ with_key key.now text.old.bytes) }
 {

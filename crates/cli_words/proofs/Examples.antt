@@ -29,7 +29,7 @@ unknown_format = refl
 flat_listing : command_in (codes "ls" ∷ codes "-f" ∷ codes "F" ∷ []) ≡ Some (Ls by_password (codes "F") None false true)
 flat_listing = refl
 
--- Another option stands once.
+-- Another option occurs once.
 plain_twice : command_in (codes "ls" ∷ codes "--plain" ∷ codes "--plain" ∷ codes "F" ∷ []) ≡ None
 plain_twice = refl
 

@@ -11,8 +11,9 @@ use Rattle.cli_words.specs.Needs.{HasKey, HasKeys, asks_password, needs_of, targ
 use Rattle.cli_options.specs.Options.{command_named}
 use Rattle.cli_words.specs.declared.command.ExportFormat.{ExportFormat}
 use Rattle.cli_words.specs.declared.command.ImportFormat.{ImportFormat}
+use Rattle.cli_saying.specs.Credentials.{is_fit, is_fit_from, is_fit_new, is_whole}
 use Rattle.cli_saying.specs.Said.{Said, is_due, is_given, nothing_said, text_of, with_words}
-use Rattle.cli_words.specs.Words.{access_from, access_new, access_of, access_source, add_at, command_at, command_by, command_in, command_saying, edit_at, export_as, export_at, format_asked, has_change, import_as, import_at, import_format, import_from, info_at, is_fit, is_fit_from, is_fit_new, is_mergeable, is_whole, list_at, make_group_at, merge_at, merge_of, move_at, remove_at, remove_group_at, search_at, show_at}
+use Rattle.cli_words.specs.Words.{access_from, access_new, access_of, access_source, add_at, command_at, command_by, command_in, command_saying, edit_at, export_as, export_at, format_asked, has_change, import_as, import_at, import_format_asked, import_from, info_at, is_mergeable, list_at, make_group_at, merge_at, merge_of, move_at, remove_at, remove_group_at, search_at, show_at}
 
 -- What a command opens has keys, and so has what it shows or writes.
 abbrev IsKeyed : Command → Type 0
@@ -141,7 +142,7 @@ command_key name.MakeGroup said h = by_positions (make_group_at said) tt (λ a. 
 command_key name.RemoveGroup said h = by_positions (remove_group_at said) tt (λ a. tt) (λ a b. alone said h a false) (λ a b c r. tt)
 command_key name.Merge said h = merge_key said h
 command_key name.Import said h =
-    by_positions (import_at said) tt (λ a. tt) (λ a b. import_key said a b (import_format (text_of option.ImportFormat said)))
+    by_positions (import_at said) tt (λ a. tt) (λ a b. import_key said a b (import_format_asked (text_of option.ImportFormat said)))
     (λ a b c r. tt)
 command_key name.Export said h =
     by_positions (export_at said) tt (λ a. export_key said h a (format_asked (text_of option.Format said))) (λ a b. tt) (λ a b c r. tt)

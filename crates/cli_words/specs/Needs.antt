@@ -52,7 +52,8 @@ needs_of (Merge access file sources from same dry) = record {
   sources = sources;
   has_line = false;
 }
-needs_of (Import access format source from file) = without_sources from source (asks_password access)
+needs_of (Import access format source from file) =
+    without_sources from source (asks_password access)
 needs_of (Export access format file) = without_sources access file false
 needs_of (Info access file) = without_sources access file false
 

@@ -16,7 +16,8 @@ use Rattle.cli_options.specs.declared.names.CommandName.{CommandName}
 use Rattle.cli_options.specs.declared.names.CommandName.TheVariants as name
 use Rattle.cli_options.specs.declared.forms.CommandOption.TheVariants as option
 use Rattle.cli_options.specs.Options.{command_named}
-use Rattle.cli_saying.specs.Said.{Said, is_due, is_given, nothing_said, text_of, with_words}
+use Rattle.cli_saying.specs.Credentials.{is_fit_new, is_whole}
+use Rattle.cli_saying.specs.Said.{Said, is_given, nothing_said, text_of, with_words}
 
 -- How a database is opened.
 abbrev pub access_of : Said → Access
@@ -38,27 +39,6 @@ access_from said = if is_given option.SameCredentials said then access_of said
       no_password = is_given option.NoPasswordFrom said;
     }
 
--- What opens a database fits it: nothing at a plain document, else a password or a key file.
-abbrev pub is_fit : (plain no_password has_key : Bool) → Bool
-is_fit plain no_password has_key =
-    if plain then not (no_password || has_key) else (not no_password || has_key)
-
--- What opens the sources of a merge fits them. Where they are opened as the target is, that is no
--- plain document, and nothing is given for the sources alone.
-abbrev pub is_fit_from : Said → Bool
-is_fit_from said = if is_given option.SameCredentials said
-    then not (is_given option.Plain said || is_given option.NoPasswordFrom said
-    || is_given option.KeyFileFrom said)
-    else is_fit (is_given option.Plain said) (is_given option.NoPasswordFrom said)
-    (is_given option.KeyFileFrom said)
-
--- Nothing is due, and what opens each database fits it.
-abbrev pub is_whole : Said → Bool
-is_whole said =
-    not (is_due said)
-    && (is_fit (is_given option.Plain said) (is_given option.NoPassword said)
-    (is_given option.KeyFile said) && is_fit_from said)
-
 -- How a new database is opened: by the password and the key file that it is to have.
 abbrev pub access_new : Said → Access
 access_new said = record {
@@ -67,12 +47,6 @@ access_new said = record {
   key_file = text_of option.SetKeyFile said;
   no_password = not (is_given option.Plain said || is_given option.SetPassword said);
 }
-
--- What opens a new database fits it: nothing at a plain document, else a password or a key file.
-abbrev pub is_fit_new : Said → Bool
-is_fit_new said = if is_given option.Plain said
-    then not (is_given option.SetPassword said || is_given option.SetKeyFile said)
-    else (is_given option.SetPassword said || is_given option.SetKeyFile said)
 
 -- The values that an entry is to have.
 abbrev pub asked_of : Said → Asked
@@ -111,20 +85,20 @@ import_format_named name =
     else None))
 
 -- The format of what is imported: the plain document where none is named.
-abbrev pub import_format : Option (List ℕ) → Option ImportFormat
-import_format None = Some Xml
-import_format (Some name) = import_format_named name
+abbrev pub import_format_asked : Option (List ℕ) → Option ImportFormat
+import_format_asked None = Some Xml
+import_format_asked (Some name) = import_format_named name
 
 -- A file of this format has no password.
-abbrev pub is_open : ImportFormat → Bool
-is_open Xml = true
-is_open Psafe = false
-is_open Csv = true
+abbrev pub lacks_password : ImportFormat → Bool
+lacks_password Xml = true
+lacks_password Psafe = false
+lacks_password Csv = true
 
 -- How the source of an import is opened: by a password alone, if it has one.
 abbrev pub access_source : Said → ImportFormat → Access
 access_source said format = record {
-  plain = is_open format;
+  plain = lacks_password format;
   quiet = is_given option.Quiet said;
   key_file = None;
   no_password = false;
@@ -218,7 +192,7 @@ import_as said source file None = None
 -- `import SOURCE DATABASE`
 abbrev pub import_at : Said → List (List ℕ) → Option Command
 import_at said (source ∷ file ∷ []) =
-    import_as said source file (import_format (text_of option.ImportFormat said))
+    import_as said source file (import_format_asked (text_of option.ImportFormat said))
 import_at said positions = None
 
 -- A database is written in a format, if that is known.

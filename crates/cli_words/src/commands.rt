@@ -10,61 +10,14 @@ use crate::command::{Access, Asked, Command, ExportFormat, ImportFormat};
 use cli_answers::{Reason, Stop, refused};
 use cli_options::{CommandName, CommandOption, command_named};
 use cli_saying::{
-    SaidWords, WordsFail, add_words, copies_of, empty_state, is_given, no_texts, text_of,
+    SaidWords, WordsFail, add_words, copies_of, copy_of, empty_state, is_fit_new, is_given,
+    is_whole, no_texts, text_of,
 };
 use outside_core::{NoMemory, Text};
 use std::alloc::Global;
 
 /// The most sources of a merge.
 const SOURCES: usize = 16;
-
-// Reports whether what opens a database fits it.
-fn is_fit(plain: bool, no_password: bool, has_key: bool) -> bool
-    ensures { result ≡ spec.is_fit plain no_password has_key }
-{
-    if plain {
-        !(no_password || has_key)
-    } else {
-        !no_password || has_key
-    }
-}
-
-// Reports whether what opens the sources of a merge fits them.
-fn is_fit_from(said: &SaidWords<'_, '_>) -> bool
-    ensures { result ≡ spec.is_fit_from (said_seen said.now) }
-{
-    let plain = is_given(said, CommandOption::Plain);
-    let no_password = is_given(said, CommandOption::NoPasswordFrom);
-    let has_key = is_given(said, CommandOption::KeyFileFrom);
-    if is_given(said, CommandOption::SameCredentials) {
-        !(plain || no_password || has_key)
-    } else {
-        is_fit(plain, no_password, has_key)
-    }
-}
-
-// Reports whether what opens a new database fits it.
-fn is_fit_new(said: &SaidWords<'_, '_>) -> bool
-    ensures { result ≡ spec.is_fit_new (said_seen said.now) }
-{
-    let has_password = is_given(said, CommandOption::SetPassword);
-    let has_key = is_given(said, CommandOption::SetKeyFile);
-    if is_given(said, CommandOption::Plain) {
-        !(has_password || has_key)
-    } else {
-        has_password || has_key
-    }
-}
-
-// Reports whether nothing is due, and what opens each database fits it.
-fn is_whole(said: &SaidWords<'_, '_>) -> bool
-    ensures { result ≡ spec.is_whole (said_seen said.now) }
-{
-    let plain = is_given(said, CommandOption::Plain);
-    let no_password = is_given(said, CommandOption::NoPassword);
-    let has_key = is_given(said, CommandOption::KeyFile);
-    said.due.is_none() && is_fit(plain, no_password, has_key) && is_fit_from(said)
-}
 
 // Reports whether at least one value of an entry is given.
 fn has_change(said: &SaidWords<'_, '_>) -> bool
@@ -77,16 +30,6 @@ fn has_change(said: &SaidWords<'_, '_>) -> bool
         || is_given(said, CommandOption::EntryPassword)
 }
 
-// A text of its own, where there is one.
-fn owned(alloc: Global, text: Option<&str>) -> Result<Option<Text>, NoMemory>
-    ensures { IfOk result (λ copy. copy ≡ text_seen text.entry) }
-{
-    match text {
-        Some(text) => Ok(Some(Text::of(alloc, text)?)),
-        None => Ok(None),
-    }
-}
-
 // How a database is opened.
 fn access_of(alloc: Global, said: &SaidWords<'_, '_>) -> Result<Access, NoMemory>
     ensures { IfOk result (λ access. access ≡ spec.access_of (said_seen said.now)) }
@@ -94,7 +37,7 @@ fn access_of(alloc: Global, said: &SaidWords<'_, '_>) -> Result<Access, NoMemory
     Ok(Access {
         plain: is_given(said, CommandOption::Plain),
         quiet: is_given(said, CommandOption::Quiet),
-        key_file: owned(alloc, text_of(said, CommandOption::KeyFile))?,
+        key_file: copy_of(alloc, text_of(said, CommandOption::KeyFile))?,
         no_password: is_given(said, CommandOption::NoPassword),
     })
 }
@@ -109,7 +52,7 @@ fn access_from(alloc: Global, said: &SaidWords<'_, '_>) -> Result<Access, NoMemo
     Ok(Access {
         plain: is_given(said, CommandOption::Plain),
         quiet: is_given(said, CommandOption::Quiet),
-        key_file: owned(alloc, text_of(said, CommandOption::KeyFileFrom))?,
+        key_file: copy_of(alloc, text_of(said, CommandOption::KeyFileFrom))?,
         no_password: is_given(said, CommandOption::NoPasswordFrom),
     })
 }
@@ -122,7 +65,7 @@ fn access_new(alloc: Global, said: &SaidWords<'_, '_>) -> Result<Access, NoMemor
     Ok(Access {
         plain,
         quiet: is_given(said, CommandOption::Quiet),
-        key_file: owned(alloc, text_of(said, CommandOption::SetKeyFile))?,
+        key_file: copy_of(alloc, text_of(said, CommandOption::SetKeyFile))?,
         no_password: !(plain || is_given(said, CommandOption::SetPassword)),
     })
 }
@@ -144,10 +87,10 @@ fn asked_of(alloc: Global, said: &SaidWords<'_, '_>) -> Result<Asked, NoMemory>
     ensures { IfOk result (λ asked. asked ≡ spec.asked_of (said_seen said.now)) }
 {
     Ok(Asked {
-        title: owned(alloc, text_of(said, CommandOption::Title))?,
-        user: owned(alloc, text_of(said, CommandOption::User))?,
-        url: owned(alloc, text_of(said, CommandOption::Url))?,
-        notes: owned(alloc, text_of(said, CommandOption::Notes))?,
+        title: copy_of(alloc, text_of(said, CommandOption::Title))?,
+        user: copy_of(alloc, text_of(said, CommandOption::User))?,
+        url: copy_of(alloc, text_of(said, CommandOption::Url))?,
+        notes: copy_of(alloc, text_of(said, CommandOption::Notes))?,
         password: is_given(said, CommandOption::EntryPassword),
     })
 }
@@ -186,8 +129,8 @@ fn import_format_named(name: &str) -> Option<ImportFormat>
 }
 
 // The format of what is imported: the plain document where none is named.
-fn import_format(name: Option<&str>) -> Option<ImportFormat>
-    ensures { result ≡ spec.import_format (text_seen name.entry) }
+fn import_format_asked(name: Option<&str>) -> Option<ImportFormat>
+    ensures { result ≡ spec.import_format_asked (text_seen name.entry) }
 {
     match name {
         Some(name) => import_format_named(name),
@@ -254,7 +197,7 @@ fn list_of(
     Ok(Command::Ls {
         access: base.access,
         file: base.file,
-        group: owned(alloc, group)?,
+        group: copy_of(alloc, group)?,
         recursive: is_given(said, CommandOption::Recursive),
         flat: is_given(said, CommandOption::Flat),
     })
@@ -483,7 +426,7 @@ fn import_at(alloc: Global, said: &SaidWords<'_, '_>) -> Result<Command, WordsFa
     let [source, file] = said.positions else {
         return Err(WordsFail::Wrong);
     };
-    match import_format(text_of(said, CommandOption::ImportFormat)) {
+    match import_format_asked(text_of(said, CommandOption::ImportFormat)) {
         Some(format) if is_fit_new(said) => Ok(import_from(alloc, said, format, source, file)?),
         _ => Err(WordsFail::Wrong),
     }

@@ -39,7 +39,7 @@ fn push_group_ids(ids: &mut Vec<Uuid>, group: &Group) -> Result<(), NoMemory>
 }
 
 /// Of two ids the lesser, or the first where there is no second.
-fn lesser(id: Uuid, other: Option<Uuid>) -> Uuid
+pub fn lesser(id: Uuid, other: Option<Uuid>) -> Uuid
     ensures { result ≡ spec.lesser_id id other }
 {
     match other {
@@ -50,9 +50,9 @@ fn lesser(id: Uuid, other: Option<Uuid>) -> Uuid
 
 /// A set of ids, and the least that was put into it twice.
 #[derive(Drop)]
-pub(crate) struct IdSet {
-    pub(crate) ids: BTreeSet<Uuid>,
-    pub(crate) duplicate: Option<Uuid>,
+pub struct IdSet {
+    pub ids: BTreeSet<Uuid>,
+    pub duplicate: Option<Uuid>,
 }
 
 /// The set of some ids, which are put into it from the last to the first.
@@ -77,8 +77,9 @@ fn set_of(alloc: Global, ids: &[Uuid]) -> Result<IdSet, NoMemory>
     })
 }
 
-/// The ids of all nodes of a tree.
-pub(crate) fn ids_of(alloc: Global, root: &Group) -> Result<IdSet, NoMemory>
+/// The ids of all nodes of a tree, and the least that two of them have. The only refusal is that
+/// memory ran out.
+pub fn ids_of(alloc: Global, root: &Group) -> Result<IdSet, NoMemory>
     ensures duplicate { IfOk result (λ s. s.duplicate
         ≡ spec.least_duplicate (node_ids (tree_seen root.now))) }
     ensures ids { IfOk result (λ s. (u : NodeId)

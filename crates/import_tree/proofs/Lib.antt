@@ -1,0 +1,5 @@
+pub mod Deep
+pub mod NamedIds
+pub mod Kept
+pub mod Proper
+pub mod Put

@@ -1,12 +1,13 @@
 -- The entries of an imported file, with the groups that they are in.
-use Rattle.std.specs.Prelude.{ℕ, Bool, true, false, Option, None, Some, List, [], ◌∷◌, ◌++◌, codes, take}
+use Rattle.std.specs.Prelude.{◌≡◌, ℕ, Bool, true, false, IfSome, Option, None, Some, List, [], ◌∷◌, ◌++◌, codes, take}
 use Rattle.std.specs.Fmt.{decimal}
+use Rattle.std.specs.Str.{is_utf8}
 use Rattle.doc_forms.specs.Entries.{no_content}
 use Rattle.sha1.specs.Sha1.{sha1}
 use Rattle.uuid.specs.Parts.{with_variant, with_version}
 use Rattle.uuid.specs.declared.Variant.TheVariants.{RFC4122}
 use Rattle.uuid.specs.declared.Version.TheVariants.{Sha1}
-use Rattle.vault_model.specs.Bare.{BareField}
+use Rattle.vault_model.specs.Bare.{BareContent, BareField}
 use Rattle.vault_model.specs.Db.{NodeId, nil_id}
 use Rattle.vault_model.specs.Shape.{EntryRecord}
 
@@ -58,7 +59,22 @@ fields_of entry =
     ∷ field (codes "UserName") entry.user false
     ∷ [])
 
--- The entry that is made of it at a moment, which every time is that the file does not give.
+-- All texts of an entry are in UTF-8.
+pub record AreTexts (entry : ImportedEntry) : Type 0 where
+  pub title : is_utf8 entry.title ≡ true
+  pub user : is_utf8 entry.user ≡ true
+  pub password : is_utf8 entry.password ≡ true
+  pub url : is_utf8 entry.url ≡ true
+  pub notes : is_utf8 entry.notes ≡ true
+  pub history : IfSome entry.history (λ text. is_utf8 text ≡ true)
+
+-- What an entry says at a moment that has these fields and was made then; every time is that moment
+-- that the file does not give.
+abbrev pub content_at : ℕ → ℕ → List BareField → BareContent
+content_at now created fields =
+    record no_content { created = created; expiry = now; fields = fields }
+
+-- The entry that is made of an imported one at a moment.
 abbrev pub entry_at : ℕ → ImportedEntry → EntryRecord
 entry_at now entry = record {
   placed = now;
@@ -66,11 +82,7 @@ entry_at now entry = record {
   current = record {
     mark = record {
       modified = entry.modified;
-      content = record no_content {
-        created = entry.created;
-        expiry = now;
-        fields = fields_of entry;
-      };
+      content = content_at now entry.created (fields_of entry);
     };
     stats = record { accessed = now; usage = 0 };
   };

@@ -1,3 +1,5 @@
 pub mod Entries
+pub mod SeenEntries
 pub mod Trees
 pub mod Outcome
+pub mod SeenDrafts

@@ -5,7 +5,8 @@ use Rattle.import_tree.specs.Entries.{ImportedEntry}
 use Rattle.import_tree.specs.Trees.{document_of}
 use Rattle.import_tree.specs.declared.fails.TreeFail.{TreeFail}
 use Rattle.import_tree.specs.declared.fails.TreeFail.TheVariants as fail
-use Rattle.outside_core.specs.Results.{◌>>=◌}
+use Rattle.outside_core.specs.Results as results
+use Rattle.outside_core.specs.Results.{◌>>=◌, Meaning, exact, free}
 use Rattle.vault_model.specs.Db.{NodeId}
 use Rattle.vault_model.specs.Tree.{BareDoc, LEVELS, Tree, Trees, beside, node, node_ids, none}
 
@@ -35,13 +36,26 @@ abbrev pub refuse_depth : Option NodeId → Result (Unit {0}) TreeFail
 refuse_depth None = Ok tt
 refuse_depth (Some id) = Err (fail.TooDeep id)
 
+-- A tree's ids differ and its groups are not too deep.
+abbrev pub checked_tree : Tree → Result (Unit {0}) TreeFail
+checked_tree tree = do
+  _ ← refuse_duplicate (least_duplicate (node_ids tree))
+  refuse_depth (least_id (groups_below LEVELS tree))
+
 -- A document whose ids differ and whose groups are not too deep.
 abbrev pub checked : BareDoc → Result BareDoc TreeFail
-checked doc = do
-  _ ← refuse_duplicate (least_duplicate (node_ids doc.tree))
-  _ ← refuse_depth (least_id (groups_below LEVELS doc.tree))
-  Ok doc
+checked doc = checked_tree doc.tree >>= λ _. Ok doc
 
 -- The document of imported entries at a moment, or why there is none.
 unfoldable pub imported_document : ℕ → List ImportedEntry → Result BareDoc TreeFail
 imported_document now entries = checked (document_of now entries)
+
+-- What a refusal says of what is defined: that this is its refusal, but running out of memory says
+-- nothing.
+abbrev pub meaning_of : TreeFail → Meaning TreeFail
+meaning_of fail.NoMemory = free
+meaning_of refusal = exact refusal
+
+-- what a call returns is what is defined, seen without memory
+abbrev pub Returns : {X Y : Type 0} → (X → Y) → Result X TreeFail → Result Y TreeFail → Type 0
+Returns view result defined = results.Returns meaning_of view result defined

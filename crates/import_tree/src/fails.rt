@@ -1,5 +1,8 @@
 //! Why imported entries are not taken.
 
+ghost use Rattle.std.specs.Prelude.{◌≡◌};
+
+use outside_core::NoMemory;
 use uuid::Uuid;
 
 /// Why imported entries give no document.
@@ -11,4 +14,14 @@ pub enum TreeFail {
     TooDeep(Uuid),
     /// Memory ran out.
     NoMemory,
+}
+
+impl From<NoMemory> for TreeFail {
+    ghost use Rattle.import_tree.specs.declared.fails.TreeFail.TheVariants as fail;
+
+    ghost from_gives = { λ _ e. e ≡ fail.NoMemory };
+
+    fn from(_none: NoMemory) -> TreeFail {
+        TreeFail::NoMemory
+    }
 }

@@ -23,7 +23,7 @@ use Rattle.cli_pages.specs.Pages.{page_of}
 use Rattle.keepass_call.specs.Outcome.{Counts, Gains, IsAsSaid, IsCut, IsOfSomeFile, IsOfTask, IsRefused, IsSafe, NoFaults, Outcome, Seen, Tells, WhereTold, World, answer_of, ended, may_write_by, outcome, page_or_answer}
 use Rattle.cli_words.specs.Words.{command_of}
 use Rattle.call_task.specs.Tasks.{asked_by, draws_by, left_behind, left_of}
-use Rattle.keepass_call.specs.Telling.{IsPrinted, IsTold}
+use Rattle.keepass_call.specs.Telling.{IsPrinted, IsTold, PrintsPage}
 use Rattle.keepass_call.proofs.Answered.{answer_is}
 use Rattle.keepass_call.proofs.HeldTasks.{is_given, is_task}
 use Rattle.keepass_call.proofs.MergeCalls.{merges_agreed, merges_nothing}
@@ -60,6 +60,7 @@ pub record Printed (words : List (List ℕ)) (time : ℕ) (printed : List ℕ) (
   pub undrawn : draws_by (command_of words) ≡ false → now.stream ≡ before.stream
   pub stream : LosesPrefix before.stream now.stream
   pub some_file : page_of words ≡ None → IsOfSomeFile words time printed before.store now.store
+  pub page : (text : List ℕ) → page_of words ≡ Some text → PrintsPage text result before now counts counts'
 
 -- The outcome of words that end so.
 outcome_is : (words : List (List ℕ)) (time : ℕ) (w : World) (e : Ending) → (answer_of words time w).answer ≡ Ok e
@@ -156,6 +157,7 @@ module _ (words : List (List ℕ)) (time : ℕ) (printed : List ℕ) (result : �
     safe = safe;
     reads_only = p.unwritten;
     draws_nothing = p.undrawn;
+    page = p.page;
     as_said = as_said;
     refused = λ w t some nine ten. absurd (never some nine ten);
     cut = cut;
@@ -168,8 +170,11 @@ module _ (words : List (List ℕ)) (time : ℕ) (printed : List ℕ) (result : �
 
 -- ---- a call that printed a page
 
-no_none : (page : List ℕ) (asked : Option (List ℕ)) → asked ≡ Some page → asked ≡ None → ⊥
+pub no_none : (page : List ℕ) (asked : Option (List ℕ)) → asked ≡ Some page → asked ≡ None → ⊥
 no_none page asked e none = cc (sym e ∙ none)
+
+some_is : (one other : List ℕ) → Some one ≡ Some other → one ≡ other
+some_is one other e = cc e
 
 -- Words that ask for a page take nothing from the input.
 page_left : (words : List (List ℕ)) (page : List ℕ) (before : Option (List ℕ)) (input : List ℕ) → page_of words ≡ Some page
@@ -207,6 +212,10 @@ page_call words time page result before written counts counts' e wrote =
       undrawn = λ r. refl;
       stream = loses_none before.stream;
       some_file = λ none. absurd (no_none page (page_of words) e none);
+      page = λ text is. record {
+        text = subst (λ (x : List ℕ). IsPrinted x result before.written written counts.out counts'.out) (some_is page text (sym e ∙ is)) wrote;
+        untouched = refl;
+      };
     })
 
 -- ---- a call that stopped
@@ -224,6 +233,7 @@ pub record Stopped (words : List (List ℕ)) (time : ℕ) (stop : Stop) (result 
   pub caused : IsCaused (files_named (command_of words)) counts.files counts'.files counts.absences counts'.absences counts.input counts'.input
       counts.dice counts'.dice stop
   pub told : IsTold stop result before.errors now.errors counts.err counts'.err
+  pub no_page : page_of words ≡ None
 
 module _ (words : List (List ℕ)) (time result : ℕ) (before now : Seen) (counts counts' : Counts) where
   refused_so : (refusal : Refusal) → Stopped words time (Refused refusal) result before now counts counts' → (w : World) → Tells words before w
@@ -346,6 +356,7 @@ module _ (words : List (List ℕ)) (time result : ℕ) (before now : Seen) (coun
     };
     reads_only = s.unwritten;
     draws_nothing = s.undrawn;
+    page = λ text is. absurd (no_none text (page_of words) is s.no_page);
     as_said = stopped_said stop s;
     refused = stopped_refused stop s;
     cut = λ w t when. record { text = no_front before.written now.written (outcome words time w).text s.written; store = inl s.kept };

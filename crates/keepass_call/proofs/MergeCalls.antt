@@ -1,4 +1,4 @@
--- What calls come to that merge parts of an agreed set.
+-- What calls result in that merge parts of an agreed set.
 use Rattle.std.proofs.Common.{◌≡◌, ◌≢◌, ℕ, Bool, true, false, not, cond, ◌&&◌, inl, inr, List, ◌∷◌, Option, Some, None, Result, Ok, Err, map, refl, sym, ap, subst, ◌∙◌, arith, true≢false}
 use Rattle.std.specs.Prelude.{if◌then◌else◌, option_map}
 use Rattle.std.specs.FinMap.{get, get-insert}

@@ -1,9 +1,10 @@
 -- What the program promises of each call.
-use Rattle.std.specs.Prelude.{◌≡◌, ◌≢◌, ◌⊎◌, ℕ, List, None, false}
+use Rattle.std.specs.Prelude.{◌≡◌, ◌≢◌, ◌⊎◌, ℕ, List, None, Some, false}
 use Rattle.cli_words.specs.Needs.{files_named}
 use Rattle.keepass_call.specs.Held.{IsAuthentic, IsComplete}
 use Rattle.keepass_call.specs.Merges.{MergesAgreed, MergesNothing}
 use Rattle.keepass_call.specs.Outcome.{Counts, IsAsSaid, IsCut, IsRefused, IsSafe, NoFaults, PrintsOfSomeFile, Seen, WhereTold, may_write_by, outcome}
+use Rattle.keepass_call.specs.Telling.{PrintsPage}
 use Rattle.cli_pages.specs.Pages.{page_of}
 use Rattle.cli_words.specs.Words.{command_of}
 use Rattle.cli_writing.specs.Writing.{IsSame}
@@ -19,6 +20,9 @@ pub record IsCall (words : List (List ℕ)) (time result : ℕ) (before now : Se
   -- command that draws draw nothing.
   pub reads_only : may_write_by (command_of words) ≡ false → IsSame before.store now.store
   pub draws_nothing : draws_by (command_of words) ≡ false → now.stream ≡ before.stream
+  -- Reported or not: words that ask for a page print it, and touch nothing else.
+  pub page : (text : List ℕ) → page_of words ≡ Some text
+      → PrintsPage text result before now counts counts'
   -- Where the status is 0, or nothing failed and memory did not run out, all is as the outcome of
   -- the words says.
   pub as_said : WhereTold words before (λ world. (result ≡ 0)

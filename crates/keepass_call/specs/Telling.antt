@@ -7,7 +7,7 @@ use Rattle.outside_core.specs.declared.fails.SinkFail.TheVariants as sink
 use Rattle.cli_answers.specs.declared.answers.Stop.{Stop}
 use Rattle.cli_answers.specs.declared.answers.Stop.TheVariants.{Refused, FileFault, InputFault, NoMemory}
 use Rattle.cli_answers.specs.Messages.{status_of, reason_text, error_line}
-use Rattle.keepass_call.specs.Outcome.{Gains}
+use Rattle.keepass_call.specs.Outcome.{Counts, Gains, Seen}
 
 -- The status where a text was not written.
 abbrev pub IsUnwritten : SinkFail → ℕ → Type 0
@@ -38,3 +38,10 @@ IsTold (FileFault name) = TellsLine 7 (error_line name (codes "file fault"))
 IsTold InputFault = TellsLine 11 (error_line (codes "input") (codes "fault"))
 IsTold NoMemory = λ result errors errors' faults faults'. (result ≡ 9)
     ⊎ ((result ≡ 10) × Increased faults faults')
+
+-- A page was printed, or a prefix of it where memory ran out or standard output failed, and nothing
+-- else was touched.
+pub record PrintsPage (page : List ℕ) (result : ℕ) (before now : Seen) (counts counts' : Counts) :
+    Type 0 where
+  pub text : IsPrinted page result before.written now.written counts.out counts'.out
+  pub untouched : now ≡ record before { written = now.written }

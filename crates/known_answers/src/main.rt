@@ -9,6 +9,7 @@ mod block_ciphers;
 mod keys;
 mod macs;
 mod question;
+mod safes;
 mod stream_ciphers;
 
 use crate::question::{Fault, Question};
@@ -32,6 +33,7 @@ fn computed(alloc: Global, question: &Question<'_>) -> Result<String, Fault> {
         "blake2b" => argon::digest(alloc, question),
         "argon2d" => argon::argon2d(alloc, question),
         "argon2id" => argon::argon2id(alloc, question),
+        "password-safe" => safes::opened(alloc, question),
         name => keys::computed(alloc, name, question),
     }
 }

@@ -3,7 +3,7 @@ use Rattle.std.specs.Prelude.{string_bytes}
 use Rattle.cli_commands.specs.SeenChange.{output_text}
 use Rattle.cli_pages.specs.Pages.{page_of}
 use Rattle.keepass_call.proofs.Answered.{ends_as}
-use Rattle.keepass_call.proofs.Calls.{page_call, printed_call, stopped_call}
+use Rattle.keepass_call.proofs.Calls.{no_none, page_call, printed_call, stopped_call}
 use Rattle.keepass_call.proofs.run.keepass.Goals as goal
 
 pub returns-in-Some : goal.returns-in-Some
@@ -25,6 +25,7 @@ returns-in-Ok g c =
       undrawn = c.in-Ok.ensures.undrawn;
       stream = c.in-Ok.ensures.stream;
       some_file = λ n. c.in-Ok.ensures.some_file;
+      page = λ text is. absurd (no_none text _ is none);
     })
 
 pub returns-in-Err : goal.returns-in-Err
@@ -42,4 +43,5 @@ returns-in-Err g c =
       stream = c.in-Err.ensures.stream;
       caused = c.in-Err.ensures.cause;
       told = c.tell.ensures;
+      no_page = none;
     })

@@ -1,0 +1,64 @@
+use Rattle.std.proofs.Common.{◌≡◌, [], ◌∷◌, List, ℕ, None, Some, sym, ap, ◌∙◌}
+use Rattle.std.specs.List.{position}
+use Rattle.std.specs.Option.{option_copied_mut}
+use Rattle.std.specs.Prelude.{slice_get}
+use Rattle.vault_model.specs.SeenNodes.{entry_row, tree_seen}
+use Rattle.vault_model.specs.declared.nodes.Group.{Group, out-Group}
+use Rattle.import_tree.specs.Trees.{new_groups, with_entry}
+use Rattle.import_tree.proofs.Put.{after_first, err_then, first_name, has, kept_below, no_names, ok_then, put_below, put_here, put_new}
+use Rattle.import_tree.proofs.putting.+put_entry.Goals as goal
+
+pub returns-in_default-clause-ok : goal.returns-in_default-clause-ok
+returns-in_default-clause-ok t c =
+    let now = c.args.now in
+    let names = c.args.names.now in
+    let g = c.args.group.now in
+    ok_then c.put_last.result
+    (λ put. put_here now [] names (entry_row c.args.entry) g c.args.entry c.put_last.new.list put
+    ∙ ap (λ (ns : List (List ℕ)). with_entry now ns (entry_row c.args.entry) (tree_seen g)) (sym (no_names names c.in_default.len_below)))
+    c.put_last.ensures.ok
+
+pub returns-in_default-place_of-clause-ok : goal.returns-in_default-place_of-clause-ok
+returns-in_default-place_of-clause-ok t c =
+    let now = c.args.now in
+    let names = c.args.names.now in
+    let g = c.args.group.now in
+    let e = entry_row c.args.entry in
+    let name = c.name-item.result in
+    let whole : names ≡ name ∷ after_first names = first_name names name c.in-len1-up.len_at_least c.name-item.is in
+    let way : position (has name) (out-Group g).groups ≡ None =
+    ap (λ (gs : List Group). position (has name) gs) (sym c.as_slice.ensures)
+    ∙ ap (λ (n : List ℕ). position (has n) c.as_slice.result.now) (sym c.as_str-name.ensures)
+    ∙ sym c.place_of.ensures ∙ c.in_default-place_of.is in
+    let made = c.in_ok-new.ensures ∙ ap (λ (n : List ℕ). new_groups now (out-Group g).id n (after_first names) e) c.as_str-name.ensures in
+    ok_then c.put_last-in_default-place_of.result
+    (λ put. put_new now name (after_first names) e g c.in_ok-new.new c.put_last-in_default-place_of.new.list way made put
+    ∙ ap (λ (ns : List (List ℕ)). with_entry now ns e (tree_seen g)) (sym whole))
+    c.put_last-in_default-place_of.ensures.ok
+
+pub returns-in-Some-get_mut-clause-ok : goal.returns-in-Some-get_mut-clause-ok
+returns-in-Some-get_mut-clause-ok t c =
+    let now = c.args.now in
+    let names = c.args.names.now in
+    let g = c.args.group.now in
+    let e = entry_row c.args.entry in
+    let name = c.name-item.result in
+    let whole : names ≡ name ∷ after_first names = first_name names name c.in-len1-up.len_at_least c.name-item.is in
+    let way : position (has name) (out-Group g).groups ≡ Some c.in-Some.at =
+    ap (λ (gs : List Group). position (has name) gs) (sym c.as_slice.ensures)
+    ∙ ap (λ (n : List ℕ). position (has n) c.as_slice.result.now) (sym c.as_str-name.ensures)
+    ∙ sym c.place_of.ensures ∙ c.in-Some.is in
+    let is : slice_get (out-Group g).groups c.in-Some.at ≡ Some c.in-Some-get_mut.below.now = sym c.get_mut.ensures.item ∙ ap option_copied_mut c.in-Some-get_mut.is in
+    ok_then c.put_entry.result
+    (λ put. put_below now name (after_first names) e g c.in-Some.at c.in-Some-get_mut.below.now c.put_entry.new.group way is put
+    ∙ ap (λ (ns : List (List ℕ)). with_entry now ns e (tree_seen g)) (sym whole))
+    c.put_entry.ensures.ok
+
+pub returns-in-Some-get_mut-clause-err : goal.returns-in-Some-get_mut-clause-err
+returns-in-Some-get_mut-clause-err t c =
+    let names = c.args.names.now in
+    let g = c.args.group.now in
+    let is : slice_get (out-Group g).groups c.in-Some.at ≡ Some c.in-Some-get_mut.below.now = sym c.get_mut.ensures.item ∙ ap option_copied_mut c.in-Some-get_mut.is in
+    err_then c.put_entry.result
+    (λ same. kept_below c.args.now c.name-item.result (after_first names) (entry_row c.args.entry) g c.in-Some.at c.in-Some-get_mut.below.now c.put_entry.new.group is same)
+    c.put_entry.ensures.err

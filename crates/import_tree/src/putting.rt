@@ -1,0 +1,90 @@
+//! Entries put into groups that their names lead to.
+
+ghost use Rattle.std.specs.Prelude.{◌≡◌, [], IfOk, OnErr, OnOk, position, bytes_eq, true};
+ghost use Rattle.std.specs.List.{list_all};
+ghost use Rattle.std.specs.Str.{is_utf8};
+ghost use Rattle.import_tree.specs.Trees as spec;
+ghost use Rattle.vault_model.specs.SeenNodes.{entry_row, tree_seen};
+ghost use Rattle.vault_model.specs.Walk.{name_of};
+
+use outside_core::{NoMemory, Text};
+use std::alloc::Global;
+use tree_groups::new_group;
+use tree_steps::put_last;
+use uuid::Uuid;
+use vault_model::{Entry, Group, Stamp};
+
+// Reports whether a group has this name.
+fn has_name(group: &Group, name: &str) -> bool
+    ensures { result ≡ bytes_eq (name_of (tree_seen group.now)) name.now }
+{
+    group.state.content.name.as_str() == name
+}
+
+// The place of the first group of this name.
+fn place_of(groups: &[Group], name: &str) -> Option<usize>
+    ensures { result ≡ position (λ g. bytes_eq (name_of (tree_seen g)) name.now) groups.now }
+{
+    groups.iter().position(|group| has_name(group, name))
+}
+
+// A new group of a name in the group of this id, with an entry in it, or in the group to which more
+// names lead from it.
+fn new_groups(
+    alloc: Global,
+    parent: Uuid,
+    name: &str,
+    names: &[Text],
+    now: Stamp,
+    entry: Entry,
+) -> Result<Group, NoMemory>
+    ensures { IfOk result (λ group. tree_seen group
+        ≡ spec.new_groups now parent name.now names.now (entry_row entry)) }
+{
+    let id = Uuid::new_v5(&parent, name.as_bytes());
+    let mut group = new_group(alloc, id, name, now)?;
+    match names {
+        [next, names @ ..] => {
+            let below = new_groups(alloc, id, next.as_str(), names, now, entry)?;
+            put_last(&mut group.groups, below)?;
+        }
+        [] => put_last(&mut group.entries, entry)?,
+    }
+    Ok(group)
+}
+
+/// Puts an entry after the others of the group to which names lead. Groups that are not there are
+/// made, each as the last in its group. The only refusal is that memory ran out; it changes nothing.
+pub(crate) fn put_entry(
+    alloc: Global,
+    group: &mut Group,
+    names: &[Text],
+    now: Stamp,
+    entry: Entry,
+) -> Result<(), NoMemory>
+    ensures ok { OnOk result (tree_seen group.new
+        ≡ spec.with_entry now names.now (entry_row entry) (tree_seen group.old)) }
+    ensures err { OnErr result (tree_seen group.new ≡ tree_seen group.old) }
+{
+    let [name, names @ ..] = names else {
+        return put_last(&mut group.entries, entry);
+    };
+    let name = name.as_str();
+    let Some(at) = place_of(group.groups.as_slice(), name) else {
+        let new = new_groups(alloc, group.id, name, names, now, entry)?;
+        return put_last(&mut group.groups, new);
+    };
+    match group.groups.get_mut(at) {
+        Some(below) => put_entry(alloc, below, names, now, entry),
+        None => Err(NoMemory),
+    }
+}
+
+/// All names are in UTF-8.
+pub(crate) fn names_are_utf8(names: &[Text])
+    ensures { list_all is_utf8 names.now ≡ true }
+{
+    for name in names {
+        let _bytes = name.as_str().as_bytes();
+    }
+}

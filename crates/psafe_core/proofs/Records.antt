@@ -1,0 +1,40 @@
+-- Records, one after another.
+use Rattle.std.proofs.Common.{◌≡◌, ◌≢◌, ℕ, ◌+◌, ◌<◌, true, false, List, [], ◌∷◌, ◌++◌, Option, Some, None, length, take, drop, map, get_or, refl, ap, sym, ◌∙◌, subst, inl, inr, append_assoc}
+use Rattle.std.specs.Prelude.{bytes_eq}
+use Rattle.std.specs.Borrow.{Bor}
+use Rattle.std.proofs.lemmas.Bool.{cases_Bool}
+use Rattle.std.proofs.lemmas.List.{drop_more}
+use Rattle.psafe_core.specs.Outcome.{nil_record}
+use Rattle.psafe_core.specs.Records.{id_of}
+use Rattle.psafe_fields.specs.Fields.{SafeField}
+use Rattle.psafe_fields.specs.Seen.{fields_seen, records_seen}
+use Rattle.psafe_fields.specs.declared.fields.SafeField as memory
+use Rattle.vault_model.specs.Db.{NodeId, nil_id}
+
+not_nil : (id : NodeId) → bytes_eq id nil_id ≡ false → id ≢ nil_id
+not_nil id differs same =
+    let e : true ≡ false = subst (λ (u : NodeId). bytes_eq u nil_id ≡ false) same differs in cc
+
+-- Where no record has the nil id, the first has not, and no later one has.
+pub first_not_nil : (number : ℕ) (r : List SafeField) (rs : List (List SafeField)) → nil_record number (r ∷ rs) ≡ None
+    → (id_of number r ≢ nil_id) × (nil_record (number + 1) rs ≡ None)
+first_not_nil number r rs none = elim (cases_Bool (bytes_eq (id_of number r) nil_id)) [
+  | inl same ↦ absurd (first_nil same)
+  | inr other ↦ (not_nil (id_of number r) other, rw other at none)
+] where
+  first_nil : bytes_eq (id_of number r) nil_id ≡ true → ⊥
+  first_nil same = let h = rw same at none in cc
+
+module _ (records : List (Bor (List memory.SafeField))) (at : ℕ) (d : Bor (List memory.SafeField)) (within : at < length records) (total : Option ℕ)
+    (so_far : nil_record (at + 1) (records_seen (drop at records)) ≡ total) where
+  here : nil_record (at + 1) (records_seen (get_or records at d ∷ drop (at + 1) records)) ≡ total
+  here = subst (λ (l : List (Bor (List memory.SafeField))). nil_record (at + 1) (records_seen l) ≡ total) (drop_more records at d within) so_far
+
+  -- The record here has the nil id.
+  pub nil_here : bytes_eq (id_of (at + 1) (fields_seen (get_or records at d).now)) nil_id ≡ true → Some (at + 1) ≡ total
+  nil_here is = rw is at here
+
+  -- It has not.
+  pub nil_later : bytes_eq (id_of (at + 1) (fields_seen (get_or records at d).now)) nil_id ≡ false
+      → nil_record (at + 1 + 1) (records_seen (drop (at + 1) records)) ≡ total
+  nil_later is = rw is at here

@@ -1,0 +1,169 @@
+//! Importing a file: its document, or the first reason why it has none.
+ghost use Rattle.std.specs.Prelude.{◌≡◌, ◌≢◌, ◌∷◌, [], ◌++◌, ℕ, List, None, OnOk};
+ghost use Rattle.import_tree.specs.Outcome.{checked};
+ghost use Rattle.import_tree.specs.SeenDrafts.{draft_seen};
+ghost use Rattle.mac_core.specs.Hmac256.{HasAbsorbed};
+ghost use Rattle.psafe_core.specs.Outcome.{content_outcome, nil_record, of_tree, or_field_form, or_tree_fail, psafe_outcome, records_outcome};
+ghost use Rattle.psafe_core.specs.Records as spec;
+ghost use Rattle.psafe_core.specs.Records.{imported_record, imported_records};
+ghost use Rattle.psafe_core.specs.Seen.{with_more};
+ghost use Rattle.psafe_fields.specs.Faults.{sound_fields};
+ghost use Rattle.psafe_fields.specs.Fields.{contents_of};
+ghost use Rattle.psafe_fields.specs.Seen.{fields_seen, records_seen};
+ghost use Rattle.psafe_file.specs.Opened.{content_seen};
+ghost use Rattle.psafe_file.specs.Results.{Returns};
+ghost use Rattle.vault_model.specs.Db.{nil_id};
+ghost use Rattle.vault_model.specs.SeenDoc.{doc_seen};
+
+use crate::PsafeFail;
+use crate::entries::entry_of;
+use crate::readings::id_of;
+use import_tree::{ImportDraft, TreeFail, add_imported, finish_import, start_import};
+use mac_core::Hmac256;
+use outside_core::{List, NoMemory};
+use psafe_fields::{FieldsFail, SafeField, read_fields, records_of};
+use psafe_file::{OpenedSafe, check_mac, open_safe};
+use std::alloc::Global;
+use vault_model::{Doc, Stamp};
+
+// The fields of the deciphered bytes.
+fn fields_of(alloc: Global, bytes: &[u8]) -> Result<List<SafeField>, PsafeFail>
+    ensures { Returns fields_seen result (or_field_form (sound_fields bytes.now)) }
+{
+    match read_fields(alloc, bytes) {
+        Ok(fields) => Ok(fields),
+        Err(FieldsFail::FieldForm(place)) => Err(PsafeFail::FieldForm(place)),
+        Err(FieldsFail::NoMemory) => Err(PsafeFail::NoMemory),
+    }
+}
+
+// Gives the contents of fields to a MAC.
+fn absorb_fields(computed: &mut Hmac256, fields: &[SafeField])
+    ensures { (key message : List ℕ) → HasAbsorbed computed.old key message
+        → HasAbsorbed computed.new key (message ++ contents_of (fields_seen fields.now)) }
+{
+    for field in fields {
+        computed.update(field.content);
+    }
+}
+
+// The number of the first record whose entry has the nil id, if one has it.
+fn nil_record(records: &[&[SafeField]]) -> Option<u64>
+    ensures { result ≡ nil_record 1 (records_seen records.now) }
+{
+    for at in 0..records.len() {
+        let number = at as u64 + 1;
+        if id_of(number, records[at]).is_nil() {
+            return Some(number);
+        }
+    }
+    None
+}
+
+// Puts the entry of the record of this number into a draft.
+fn add_record(
+    alloc: Global,
+    draft: &mut ImportDraft,
+    now: Stamp,
+    number: u64,
+    record_fields: &[SafeField],
+) -> Result<(), NoMemory>
+    requires { spec.id_of number (fields_seen record_fields.now) ≢ nil_id }
+    ensures { OnOk result (draft_seen draft.new ≡ with_more now
+        (imported_record now number (fields_seen record_fields.now) ∷ []) (draft_seen draft.old)) }
+{
+    let entry = entry_of(alloc, now, number, record_fields)?;
+    add_imported(alloc, draft, now, entry)
+}
+
+// Puts the entries of records into a draft, one after another.
+fn add_records(
+    alloc: Global,
+    draft: &mut ImportDraft,
+    now: Stamp,
+    records: &[&[SafeField]],
+) -> Result<(), NoMemory>
+    requires { nil_record 1 (records_seen records.now) ≡ None }
+    ensures { OnOk result (draft_seen draft.new ≡ with_more now
+        (imported_records now 1 (records_seen records.now)) (draft_seen draft.old)) }
+{
+    for at in 0..records.len() {
+        add_record(alloc, draft, now, at as u64 + 1, records[at])?;
+    }
+    Ok(())
+}
+
+// A refusal of imported entries, as one of the file.
+fn of_tree(refusal: TreeFail) -> PsafeFail
+    ensures { result ≡ of_tree refusal }
+{
+    match refusal {
+        TreeFail::DuplicateId(id) => PsafeFail::DuplicateId(id),
+        TreeFail::TooDeep(id) => PsafeFail::TooDeep(id),
+        TreeFail::NoMemory => PsafeFail::NoMemory,
+    }
+}
+
+// The document of a draft.
+fn finish(alloc: Global, draft: ImportDraft) -> Result<Doc, PsafeFail>
+    ensures { Returns doc_seen result (or_tree_fail (checked (draft_seen draft))) }
+{
+    match finish_import(alloc, draft) {
+        Ok(doc) => Ok(doc),
+        Err(refusal) => Err(of_tree(refusal)),
+    }
+}
+
+// The document of records.
+#[tactic(auto, unfolding(crate::specs::Outcome::records_outcome, import_tree::specs::Outcome::imported_document))]
+fn document_of(alloc: Global, now: Stamp, records: &[&[SafeField]]) -> Result<Doc, PsafeFail>
+    ensures { Returns doc_seen result (records_outcome now (records_seen records.now)) }
+{
+    if let Some(number) = nil_record(records) {
+        return Err(PsafeFail::NilId(number));
+    }
+    let mut draft = start_import(alloc, now)?;
+    add_records(alloc, &mut draft, now, records)?;
+    finish(alloc, draft)
+}
+
+// The document of what a password opened; the MAC was given nothing yet.
+#[tactic(auto, unfolding(crate::specs::Outcome::content_outcome))]
+fn read_content(alloc: Global, now: Stamp, safe: OpenedSafe) -> Result<Doc, PsafeFail>
+    ensures { (key : List ℕ) → HasAbsorbed safe.computed key []
+        → Returns doc_seen result (content_outcome key now (content_seen safe)) }
+{
+    let OpenedSafe {
+        bytes,
+        mac,
+        mut computed,
+    } = safe;
+    let fields = fields_of(alloc, bytes.lend(0, bytes.len()))?;
+    absorb_fields(&mut computed, fields.as_slice());
+    check_mac(&mac, computed)?;
+    let records = records_of(alloc, fields.as_slice())?;
+    document_of(alloc, now, records.as_slice())
+}
+
+/// The document that a file of Password Safe V3 of these bytes is imported as, under a password.
+///
+/// Each record gives an entry, in a group below the root for each name that its group has, with a
+/// dot between each two; every time is now that the record does not give. The passwords that a
+/// record had before are kept as they stand, in the hidden field `PasswordHistory`. Whatever the
+/// answer, the keys that were derived were cleared and released.
+///
+/// # Errors
+///
+/// The first that holds in the order of [`PsafeFail`]'s variants.
+#[tactic(auto, unfolding(crate::specs::Outcome::psafe_outcome))]
+pub fn import_psafe(
+    alloc: Global,
+    bytes: &[u8],
+    password: &[u8],
+    now: Stamp,
+) -> Result<Doc, PsafeFail>
+    ensures { Returns doc_seen result (psafe_outcome bytes.now password.now now) }
+{
+    let safe = open_safe(alloc, bytes, password)?;
+    read_content(alloc, now, safe)
+}

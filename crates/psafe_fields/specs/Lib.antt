@@ -1,0 +1,5 @@
+pub mod Fields
+pub mod Ends
+pub mod Kinds
+pub mod Faults
+pub mod Seen

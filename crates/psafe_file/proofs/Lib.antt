@@ -1,0 +1,7 @@
+mod Blocks
+pub mod Cuts
+pub mod Marks
+pub mod Openings
+pub mod SafeForms
+pub mod Steps
+mod Turns

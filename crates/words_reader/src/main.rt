@@ -1,0 +1,45 @@
+//! Reads lists of words as the program reads them. Each line of standard input is a list, with a tab
+//! after each word. For each a line is printed: the command that the words are and what it says,
+//! with a tab after each part, or `wrong`.
+#![tactic(auto)]
+
+mod parts;
+mod written;
+
+use crate::written::written;
+use cli_answers::Stop;
+use cli_words::read_words;
+use std::alloc::{AllocError, Global};
+use std::io::{self, BufRead, BufReader};
+
+// The words of a line.
+fn words_of(alloc: Global, line: &str) -> Result<Vec<String>, AllocError> {
+    let pieces: Vec<&str> = line.split_terminator('\t').collect(alloc)?;
+    let mut words = Vec::new(alloc);
+    for piece in pieces.as_slice() {
+        words.push(String::from_str(alloc, *piece)?)?;
+    }
+    Ok(words)
+}
+
+// Prints what becomes of a line of the input.
+fn answer(rt: &impl Print, alloc: Global, line: &str) -> io::Result<()> {
+    let words = words_of(alloc, line)?;
+    match read_words(alloc, words.as_slice()) {
+        Ok(command) => {
+            let parts = written(alloc, &command)?;
+            println!(rt; "{}", parts.as_str())
+        }
+        Err(Stop::Refused(_)) => println!(rt; "wrong"),
+        Err(_) => println!(rt; "out of memory"),
+    }
+}
+
+fn main(rt: HostRuntime) -> io::Result<()> {
+    let alloc = rt.alloc();
+    for line in BufReader::new(alloc, rt.reader())?.lines(alloc) {
+        let line = line?;
+        answer(&rt, alloc, &line)?;
+    }
+    Ok(())
+}
