@@ -1,5 +1,5 @@
 -- An import, phase after phase.
-use Rattle.std.proofs.Common.{◌≡◌, ◌≤◌, ℕ, List, [], ◌∷◌, ◌++◌, sym, ◌∙◌, ap, subst, Option, Some, None, Result, Ok, Err}
+use Rattle.std.proofs.Common.{◌≡◌, ◌≤◌, ℕ, List, [], ◌∷◌, ◌∙◌, ap, subst, Option, Ok, Err}
 use Rattle.std.specs.FinMap as finmap
 use Rattle.outside_core.specs.Files.{FileMap}
 use Rattle.outside_core.specs.Results.{◌>>=◌}

@@ -1,10 +1,6 @@
 -- Refusals of the readers of other programs' files, as answers.
-use Rattle.std.specs.Prelude.{◌≡◌, List, ℕ}
-use Rattle.cli_answers.specs.Messages.{Refuses, refusal_of}
-use Rattle.cli_answers.specs.Phases.{IsMemoryStop}
 use Rattle.cli_answers.specs.declared.answers.Reason.{Reason}
 use Rattle.cli_answers.specs.declared.answers.Reason.TheVariants as answer
-use Rattle.cli_answers.specs.declared.answers.Stop.{Stop}
 use Rattle.psafe_file.specs.declared.fails.PsafeFail.{PsafeFail}
 use Rattle.psafe_file.specs.declared.fails.PsafeFail.TheVariants as safe
 use Rattle.table_reading.specs.declared.fails.TableFail.{TableFail}
@@ -32,13 +28,3 @@ table_answer (table.BadTime number) = answer.BadRow number
 table_answer (table.DuplicateId id) = answer.DuplicateId id
 table_answer (table.TooDeep id) = answer.TooDeep
 table_answer table.NoMemory = answer.OutOfMemory
-
--- The stop of a call whose source, the file of this name, is not read as one of Password Safe.
-abbrev pub IsUnsafe : PsafeFail → List ℕ → Stop → Type 0
-IsUnsafe safe.NoMemory name stop = IsMemoryStop stop
-IsUnsafe why name stop = Refuses stop (refusal_of (safe_answer why) name)
-
--- The stop of a call whose source, the file of this name, is not read as a table.
-abbrev pub IsNoTable : TableFail → List ℕ → Stop → Type 0
-IsNoTable table.NoMemory name stop = IsMemoryStop stop
-IsNoTable why name stop = Refuses stop (refusal_of (table_answer why) name)

@@ -1,18 +1,16 @@
 //! The document of an import's source.
 ghost use Rattle.std.specs.Prelude.{◌≡◌, ◌≢◌, ◌≤◌, ℕ, List, [], ◌∷◌, IfErr, IfOk, Some, option_map};
-ghost use Rattle.std.specs.FinMap as finmap;
 ghost use Rattle.outside_core.specs.Files.{FileMap};
 ghost use Rattle.psafe_core.specs.Outcome.{psafe_outcome};
 ghost use Rattle.table_reading.specs.Documents.{csv_document};
 ghost use Rattle.vault_model.specs.SeenDoc.{doc_seen};
 ghost use Rattle.cli_answers.specs.Phases.{IsFileStop, IsPlainStop, Returns};
-ghost use Rattle.cli_databases.specs.Databases.{of_file, plain_document};
+ghost use Rattle.cli_databases.specs.Databases.{plain_document};
 ghost use Rattle.cli_words.specs.declared.command.ImportFormat.TheVariants as format;
 ghost use Rattle.cli_words.specs.SeenNeeds.{import_seen};
 ghost use Rattle.cli_importing.specs.Answers as spec;
-ghost use Rattle.cli_importing.specs.Answers.{IsNoTable, IsUnsafe};
 ghost use Rattle.cli_importing.specs.Held.{IsDocumentBy};
-ghost use Rattle.cli_importing.specs.Imports.{at_stamp, document_by, given_password, plain_or_refusal, safe_or_refusal, source_of, table_or_refusal};
+ghost use Rattle.cli_importing.specs.Imports.{document_by, given_password, plain_or_refusal, safe_or_refusal, source_of, table_or_refusal};
 
 use cli_answers::{Reason, Stop, refused};
 use cli_databases::{document_answer, read_plain, unread};

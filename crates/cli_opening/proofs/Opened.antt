@@ -1,5 +1,5 @@
 -- The databases of a command, by whether it is an import.
-use Rattle.std.proofs.Common.{◌≡◌, ℕ, List, [], refl, sym, ◌∙◌, ap, subst, Option, Some, None, Result, Ok, Err}
+use Rattle.std.proofs.Common.{◌≡◌, ℕ, List, [], sym, ◌∙◌, ap, subst, Option, Some, None, Result, Ok, Err}
 use Rattle.std.specs.Prelude.{IfErr, IfOk, is_some, not}
 use Rattle.outside_core.specs.Files.{FileMap}
 use Rattle.outside_core.specs.Results.{◌>>=◌}
@@ -15,7 +15,7 @@ use Rattle.cli_databases.specs.Databases.{Databases, Opened, databases_of}
 use Rattle.cli_databases.specs.SeenOpened.{databases_seen}
 use Rattle.cli_databases.specs.SomeFiles.{SomeDatabases}
 use Rattle.cli_databases.specs.declared.databases.Databases as memory
-use Rattle.cli_databases.proofs.HeldFiles.{databases_given, databases_held, in_turn}
+use Rattle.cli_databases.proofs.HeldFiles.{databases_given, databases_held}
 use Rattle.cli_databases.proofs.Openable.{can_open}
 use Rattle.cli_databases.proofs.SomeOpened.{sealed_unless_plain}
 use Rattle.cli_importing.specs.Imports.{imported_of}

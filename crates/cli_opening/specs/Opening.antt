@@ -1,5 +1,5 @@
 -- The databases of a command: those that it opens, or the one that an import makes.
-use Rattle.std.specs.Prelude.{◌≡◌, ℕ, List, [], Option, None, Some, Result, Ok}
+use Rattle.std.specs.Prelude.{◌≡◌, ℕ, [], Option, None, Some, Result, Ok}
 use Rattle.outside_core.specs.Files.{FileMap}
 use Rattle.outside_core.specs.Results.{◌>>=◌}
 use Rattle.cli_answers.specs.declared.answers.Refusal.{Refusal}

@@ -36,7 +36,7 @@ use Rattle.cli_answers.specs.declared.answers.Refusal.{Refusal}
 use Rattle.cli_words.specs.declared.command.Access.{Access}
 use Rattle.cli_words.specs.declared.command.Command.{Command}
 use Rattle.cli_words.specs.declared.command.Command.TheVariants.{Ls, Show, Search, Add, Edit, Move, Remove, MakeGroup, RemoveGroup, Merge, Import, Export, Info}
-use Rattle.cli_words.specs.Needs.{files_named, needs_of, target_of}
+use Rattle.cli_words.specs.Needs.{files_named, target_of}
 use Rattle.cli_words.specs.Words.{command_of}
 use Rattle.cli_pages.specs.Pages.{page_of}
 use Rattle.cli_lines.specs.Lines.{Lines}

@@ -110,6 +110,14 @@ fn print<O: Sink>(out: &mut O, text: &[u8]) -> u8
     }
 }
 
+// Writes a page, and gives the status that goes with it.
+fn print_page<O: Sink>(out: &mut O, page: &str) -> u8
+    ensures { IsPrinted page.now result (O.written out.old) (O.written out.new) (O.faults out.old)
+        (O.faults out.new) }
+{
+    print(out, page.as_bytes())
+}
+
 // Writes the line of a subject, and gives the status that goes with it.
 fn tell_line<E: Sink>(alloc: Global, err: &mut E, own: u8, subject: &str, text: &str) -> u8
     ensures { TellsLine own (error_line subject.now text.now) result (E.written err.old)
@@ -185,7 +193,7 @@ pub fn keepass<F: FileStore, S: Source, O: Sink, E: Sink, D: Dice>(
         (E.faults err.new) (D.faults dice.new)) }
 {
     match page_of(words) {
-        Some(page) => print(out, page.as_bytes()),
+        Some(page) => print_page(out, page),
         None => match answer(alloc, words, files, input, dice, now) {
             Ok(output) => print(out, lend_text(&output)),
             Err(stop) => tell(alloc, err, stop),

@@ -1,4 +1,4 @@
-use Rattle.std.proofs.Common.{◌≡◌, None, Some, map, refl, sym}
+use Rattle.std.proofs.Common.{◌≡◌, None, Ok, Err, map, refl, sym}
 use Rattle.std.specs.Prelude.{string_bytes}
 use Rattle.cli_commands.specs.SeenChange.{output_text}
 use Rattle.cli_pages.specs.Pages.{page_of}
@@ -8,17 +8,17 @@ use Rattle.keepass_call.proofs.run.keepass.Goals as goal
 
 pub returns-in-Some : goal.returns-in-Some
 returns-in-Some g c =
-    page_call (map string_bytes c.args.words.now) c.args.now c.in-Some.page.now c.print.result _ _ _ _ (sym c.in-Some.ensures) (rw c.as_bytes.ensures at c.print.ensures)
+    page_call (map string_bytes c.args.words.now) c.args.now c.in-Some.page.now c.print_page.result _ _ _ _ (sym c.in-Some.ensures) c.print_page.ensures
 
 pub returns-in-Ok : goal.returns-in-Ok
 returns-in-Ok g c =
     let none : page_of (map string_bytes c.args.words.now) ≡ None = sym c.in-None.ensures in
-    printed_call (map string_bytes c.args.words.now) c.args.now (output_text c.in-Ok.output) c.print-in-Ok.result _ _ _ _
+    printed_call (map string_bytes c.args.words.now) c.args.now (output_text c.in-Ok.output) c.print.result _ _ _ _
     (record {
-      gives = λ w t. ends_as (map string_bytes c.args.words.now) c.args.now w _ _ _ _ _ none (c.in-Ok.ensures.told w t.files t.input t.dice);
+      gives = λ w t. ends_as (map string_bytes c.args.words.now) c.args.now w (Ok c.in-Ok.output) _ _ _ _ none (c.in-Ok.ensures.told w t.files t.input t.dice);
       left = λ w t. c.in-Ok.ensures.left w.input t.input;
       errors = refl;
-      wrote = rw c.lend_text.ensures at c.print-in-Ok.ensures;
+      wrote = rw c.lend_text.ensures at c.print.ensures;
       draft = c.in-Ok.ensures.draft;
       held = λ n w t. c.in-Ok.ensures.held w t.files t.input t.dice;
       unwritten = c.in-Ok.ensures.unwritten;
@@ -33,7 +33,7 @@ returns-in-Err g c =
     let none : page_of (map string_bytes c.args.words.now) ≡ None = sym c.in-None.ensures in
     stopped_call (map string_bytes c.args.words.now) c.args.now c.tell.result _ _ _ _ c.in-Err.stop
     (record {
-      gives = λ w t. ends_as (map string_bytes c.args.words.now) c.args.now w _ _ _ _ _ none (c.in-Err.ensures.told w t.files t.input t.dice);
+      gives = λ w t. ends_as (map string_bytes c.args.words.now) c.args.now w (Err c.in-Err.stop) _ _ _ _ none (c.in-Err.ensures.told w t.files t.input t.dice);
       left = λ w t. c.in-Err.ensures.left w.input t.input;
       kept = c.in-Err.ensures.kept;
       written = refl;
