@@ -77,6 +77,14 @@ imported_where_no_file_can_be() {
   judged "$name: a report that cannot be printed" $?
   rm work/FILE
   works "$name: quietly" '' "$program" "${words[@]:0:1}" -q "${words[@]:1}" work/FILE
+  rm work/FILE
+  case " $* " in
+    *' -p '*)
+      "$program" "${words[@]}" work/FILE >out.txt 2>err.txt <&-
+      [ $? = 11 ] && [ ! -s out.txt ] && [ "$(cat err.txt)" = 'keepass: input: fault' ] && [ -z "$(ls work)" ]
+      judged "$name: standard input closed" $?
+      ;;
+  esac
   rm -rf work program
 }
 
@@ -176,7 +184,7 @@ imported_files() {
   printf 'pw\npw\n' >input.txt
   imported_where_no_file_can_be many.psafe3 -p --format psafe3
   imported_on_a_full_disk many.csv -p --format csv
-  many_times 'import -p killed' "$importing/killed" "$program" csv many.csv pw 30
+  many_times 'import -p killed' "$importing/killed" "$program" csv many.csv pw 10
   if [ -n "$with_pykeepass" ]; then sealed_imports "$1"; else echo 'skipped: imports into databases; pykeepass is not installed'; fi
   rm -rf many.csv many.psafe3 before.txt after.txt report.txt FILE SOURCE
 }
