@@ -20,7 +20,8 @@ not_imported() {
   kept "$name" "$status" "$said" work "$@"
 }
 
-# imports_at_the_limits: sources and documents as long as may be, and longer; as many nodes as may be, and one more; many columns.
+# imports_at_the_limits: sources and documents as long as may be, and longer; a node more than may be; many columns. So many entries as nodes
+# may be are longer than a document.
 imports_at_the_limits() {
   local limit='limit passed'
   : >input.txt
@@ -35,12 +36,16 @@ imports_at_the_limits() {
   truncate -s 134217728 work/SOURCE
   not_imported 'a table as long as may be' 4 work/SOURCE 'no Title column' "$program" import --plain --format csv work/SOURCE work/FILE
   { echo Title; head -c 30000000 /dev/zero | tr '\0' '&'; } >work/SOURCE
+  not_imported 'a title longer than may be written' 8 work/FILE "$limit" "$program" import --plain --format csv work/SOURCE work/FILE
+  "$importing/make" bytes 134086657 work/SOURCE
   not_imported 'a text longer than may be written' 8 work/FILE "$limit" "$program" import --plain --format csv work/SOURCE work/FILE
+  "$importing/make" bytes 134086656 work/SOURCE
+  works 'a text as long as may be written' 'Successfully imported database.' "$program" import --plain --format csv work/SOURCE work/FILE
+  [ "$(stat -c %s work/FILE)" = 134086656 ]
+  judged 'a text as long as may be written is whole' $?
+  rm work/FILE
   "$importing/make" nodes 262144 work/SOURCE
   not_imported 'a node more than may be' 8 work/FILE "$limit" "$program" import --plain --format csv work/SOURCE work/FILE
-  "$importing/make" nodes 262143 work/SOURCE
-  works 'as many nodes as may be' 'Successfully imported database.' "$program" import --plain --format csv work/SOURCE work/FILE
-  rm -f work/FILE
   "$importing/make" columns 1000 SOURCE
   compared 'a thousand columns' "$importing/against" "$program" file csv SOURCE
   rm -rf work
