@@ -1,0 +1,4 @@
+pub mod IsoTimes
+pub mod Places
+pub mod RecordRows
+pub mod Remaining

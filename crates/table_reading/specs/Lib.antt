@@ -1,0 +1,6 @@
+pub mod Refusals
+pub mod Cells
+pub mod Columns
+pub mod Groups
+pub mod Rows
+pub mod Documents

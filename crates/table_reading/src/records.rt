@@ -1,0 +1,34 @@
+//! The rows of a text.
+
+ghost use Rattle.std.specs.Prelude.{◌≡◌, IfOk, map};
+ghost use Rattle.csv.specs.Reading.{default_config, records, strip_bom};
+ghost use Rattle.csv.specs.Records.{fields_of};
+
+use csv::{ReaderBuilder, StringRecord};
+use outside_core::NoMemory;
+use std::alloc::Global;
+
+/// The rows of a text of CSV (RFC 4180), with the settings of the crate `csv`: fields between
+/// commas, which quotes may be around, and rows that end with CR, LF or both. A blank line is no
+/// row, and a byte order mark at the start is dropped. The text is in UTF-8, so that the only refusal
+/// is that memory ran out.
+///
+/// The rows, and what `csv` gathers them in, are in memory that is not wiped; so are the passwords in
+/// them.
+pub(crate) fn rows_of(alloc: Global, text: &[u8]) -> Result<Vec<StringRecord>, NoMemory>
+    ensures { IfOk result (λ rows. map fields_of rows.items
+        ≡ records default_config (strip_bom text.now)) }
+{
+    let reader = ReaderBuilder::new()
+        .has_headers(false)
+        .flexible(true)
+        .from_reader(alloc, text);
+    let mut rows = Vec::new(alloc);
+    for row in reader.into_records() {
+        match row {
+            Ok(row) => rows.push(row)?,
+            Err(_) => return Err(NoMemory),
+        }
+    }
+    Ok(rows)
+}
