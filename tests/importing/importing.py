@@ -22,7 +22,9 @@ ROOT = uuid.UUID("6b5f0f1e-9d1c-4c3a-8f57-0d2c1e4a7b90")
 ENTRIES = uuid.UUID("2f0c7a54-31b8-4e6d-9a02-c47d5e8190ab")
 FORMATS = "xml", "psafe3", "csv"
 UNIX = 62_135_596_800
+sys.setrecursionlimit(10_000)  # a tree of the model is walked by recursion
 FILE_LIMIT, LINE_LIMIT = 134_217_728, 4096
+NAMES = 1_024  # the most that lead to an entry; the program walks no more
 
 
 # ---- the tree
@@ -64,6 +66,8 @@ class Tree:
         return group
 
     def add(self, names, identity, fields, created, modified):
+        if len(names) > NAMES:
+            raise Refused(9, "out of memory")
         self.group(names)["Entry"].append(new_entry(identity, fields, created, modified, self.now))
 
     def whole(self):
