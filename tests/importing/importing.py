@@ -265,7 +265,7 @@ def stand_in(words):
                 os.remove(said.file + ".part")
             raise Refused(7, "file fault")
     except Refused as refused:
-        sys.stderr.write(f"keepass: {subject}: {refused.text}\n")
+        sys.stderr.write(f"keepass: {'words' if refused.status == 9 else subject}: {refused.text}\n")
         return refused.status
     sys.stdout.write("" if said.quiet else "Successfully imported database.\n")
     return 0
