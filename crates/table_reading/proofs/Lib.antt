@@ -1,3 +1,4 @@
+pub mod Examples
 pub mod IsoTimes
 pub mod Places
 pub mod RecordRows
