@@ -14,7 +14,7 @@ use Rattle.cli_lines.proofs.Inputs.{left_alone}
 use Rattle.cli_words.specs.Needs.{Needs, asks_line, files_named, import_of, needs_of, target_access}
 use Rattle.cli_words.specs.declared.command.Command.{Command}
 use Rattle.cli_databases.specs.Databases.{Databases}
-use Rattle.cli_opening.specs.Opening.{SomeFor, databases_for}
+use Rattle.cli_opening.specs.Opening.{SomeCommandDatabases, databases_for}
 use Rattle.cli_opening.proofs.Opened.{sealed_by}
 use Rattle.call_task.specs.declared.task.Task as memory
 use Rattle.cli_words.specs.Words.{command_of}
@@ -44,7 +44,7 @@ pub lines_by_needs : (command : Command) (needs : Needs) (lines : Lines) → nee
 lines_by_needs command needs lines same p = subst (λ (n : Needs). HasLines n lines) same p
 
 pub has_file_by_needs : (words : List (List ℕ)) (time : ℕ) (command : Command) (needs : Needs) (lines : Lines) (databases : Databases)
-    → command_of words ≡ Ok command → needs ≡ needs_of command → HasLines needs lines → SomeFor command lines time databases
+    → command_of words ≡ Ok command → needs ≡ needs_of command → HasLines needs lines → SomeCommandDatabases command lines time databases
     → HasSomeFile words time (task_with command lines databases)
 has_file_by_needs words time command needs lines databases c same p d = record {
   is_command = c;
@@ -90,7 +90,7 @@ database_refused NoMemory words time input files command needs lines c same p h 
 -- ---- what opens databases
 
 -- The database is sealed unless it is a plain document.
-pub sealed_for : (command : Command) (lines : Lines) (time : ℕ) (databases : Databases) → SomeFor command lines time databases
+pub sealed_for : (command : Command) (lines : Lines) (time : ℕ) (databases : Databases) → SomeCommandDatabases command lines time databases
     → is_some databases.target.sealing ≡ not (target_access command).plain
 sealed_for command lines time databases h = sealed_by (import_of command) (needs_of command) lines time databases h
 

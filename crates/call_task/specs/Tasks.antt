@@ -11,7 +11,7 @@ use Rattle.cli_words.specs.Needs.{asks_line, needs_of}
 use Rattle.cli_words.specs.Words.{command_of}
 use Rattle.cli_lines.specs.Lines.{HasLines, Lines, lines_of}
 use Rattle.cli_databases.specs.Databases.{Databases, Opened}
-use Rattle.cli_opening.specs.Opening.{SomeFor, databases_for}
+use Rattle.cli_opening.specs.Opening.{SomeCommandDatabases, databases_for}
 
 -- What a call is to do: its command, the lines that this asked for, the database that was opened
 -- for it, and the documents of its sources.
@@ -83,4 +83,4 @@ left_of words input = left_behind (command_of words) input
 pub record HasSomeFile (words : List (List ℕ)) (time : ℕ) (task : Task) : Type 0 where
   pub is_command : command_of words ≡ Ok task.command
   pub has_lines : HasLines (needs_of task.command) task.lines
-  pub holds : SomeFor task.command task.lines time (databases_in task)
+  pub holds : SomeCommandDatabases task.command task.lines time (databases_in task)

@@ -21,7 +21,7 @@ use Rattle.cli_databases.proofs.SomeOpened.{sealed_unless_plain}
 use Rattle.cli_importing.specs.Imports.{imported_of}
 use Rattle.cli_importing.proofs.HeldImports.{import_given, import_held}
 use Rattle.cli_importing.proofs.Sealings.{sealed_anew}
-use Rattle.cli_opening.specs.Opening.{HoldBy, HoldFor, SomeBy, alone, databases_by, databases_for}
+use Rattle.cli_opening.specs.Opening.{HoldImportOrDatabases, HoldCommandDatabases, SomeImportOrDatabases, one_database, databases_by, databases_for}
 
 -- ---- an import's key
 
@@ -64,13 +64,13 @@ module _ (result : Result memory.Databases Stop) (i : Option ImportNeeds) (needs
       (subst (λ (n : Needs). Returns databases_seen result (databases_of n lines files)) same h)
 
   pub some_import : (import : ImportNeeds) (lines : Lines) (time : ℕ) → Some import ≡ i
-      → IfOk result (λ databases. SomeBy (Some import) needs lines time (databases_seen databases)) → IfOk result (λ databases. SomeBy i needs lines time (databases_seen databases))
-  some_import import lines time e h = subst (λ (x : Option ImportNeeds). IfOk result (λ databases. SomeBy x needs lines time (databases_seen databases))) e h
+      → IfOk result (λ databases. SomeImportOrDatabases (Some import) needs lines time (databases_seen databases)) → IfOk result (λ databases. SomeImportOrDatabases i needs lines time (databases_seen databases))
+  some_import import lines time e h = subst (λ (x : Option ImportNeeds). IfOk result (λ databases. SomeImportOrDatabases x needs lines time (databases_seen databases))) e h
 
   pub some_opened : (lent : Needs) (lines : Lines) (time : ℕ) → None ≡ i → lent ≡ needs
-      → IfOk result (λ databases. SomeDatabases lent lines (databases_seen databases)) → IfOk result (λ databases. SomeBy i needs lines time (databases_seen databases))
+      → IfOk result (λ databases. SomeDatabases lent lines (databases_seen databases)) → IfOk result (λ databases. SomeImportOrDatabases i needs lines time (databases_seen databases))
   some_opened lent lines time e same h =
-      subst (λ (x : Option ImportNeeds). IfOk result (λ databases. SomeBy x needs lines time (databases_seen databases))) e
+      subst (λ (x : Option ImportNeeds). IfOk result (λ databases. SomeImportOrDatabases x needs lines time (databases_seen databases))) e
       (subst (λ (n : Needs). IfOk result (λ databases. SomeDatabases n lines (databases_seen databases))) same h)
 
   pub stops_import : (import : ImportNeeds) (f f' a a' : ℕ) → Some import ≡ i
@@ -93,7 +93,7 @@ lines_so lent needs lines same h = subst (λ (n : Needs). HasLines n lines) (sym
 -- ---- what is sealed
 
 -- The database is sealed unless it is a plain document.
-pub sealed_by : (i : Option ImportNeeds) (needs : Needs) (lines : Lines) (time : ℕ) (databases : Databases) → SomeBy i needs lines time databases
+pub sealed_by : (i : Option ImportNeeds) (needs : Needs) (lines : Lines) (time : ℕ) (databases : Databases) → SomeImportOrDatabases i needs lines time databases
     → is_some databases.target.sealing ≡ not (access_made i needs.access).plain
 sealed_by (Some import) needs lines time databases h =
     sealed_anew import.access.plain import.access.key_file lines.more databases.target.sealing h.0.sealing
@@ -102,31 +102,31 @@ sealed_by None needs lines time databases h =
 
 -- ---- what the files hold
 
-alone_is : (r : Result Opened Refusal) (databases : Databases) → (r >>= λ opened. Ok (alone opened)) ≡ Ok databases
+one_database_is : (r : Result Opened Refusal) (databases : Databases) → (r >>= λ opened. Ok (one_database opened)) ≡ Ok databases
     → (r ≡ Ok databases.target) × (databases.sources ≡ [])
-alone_is (Ok opened) databases h =
-    let is : alone opened ≡ databases = cc h in
+one_database_is (Ok opened) databases h =
+    let is : one_database opened ≡ databases = cc h in
     (ap (λ (d : Databases). Ok d.target) is, ap (λ (d : Databases). d.sources) (sym is))
-alone_is (Err refusal) databases h = cc
+one_database_is (Err refusal) databases h = cc
 
 held_by : (i : Option ImportNeeds) (needs : Needs) (lines : Lines) (time : ℕ) (files : FileMap) (databases : Databases) → HasLines needs lines
-    → databases_by i needs lines time files ≡ Ok databases → HoldBy i needs lines time files databases
+    → databases_by i needs lines time files ≡ Ok databases → HoldImportOrDatabases i needs lines time files databases
 held_by (Some import) needs lines time files databases has h =
-    let a = alone_is (imported_of import lines time files) databases h in
+    let a = one_database_is (imported_of import lines time files) databases h in
     (import_held import lines time files databases.target a.0, a.1)
 held_by None needs lines time files databases has h = databases_held needs lines files databases has h
 
 pub databases_hold : (command : Command) (lines : Lines) (time : ℕ) (files : FileMap) (databases : Databases) → HasLines (needs_of command) lines
-    → databases_for command lines time files ≡ Ok databases → HoldFor command lines time files databases
+    → databases_for command lines time files ≡ Ok databases → HoldCommandDatabases command lines time files databases
 databases_hold command lines time files databases has h = held_by (import_of command) (needs_of command) lines time files databases has h
 
 given_by : (i : Option ImportNeeds) (needs : Needs) (lines : Lines) (time : ℕ) (files : FileMap) (databases : Databases)
-    → HoldBy i needs lines time files databases → databases_by i needs lines time files ≡ Ok databases
+    → HoldImportOrDatabases i needs lines time files databases → databases_by i needs lines time files ≡ Ok databases
 given_by (Some import) needs lines time files databases h =
-    ap (λ r. r >>= λ opened. Ok (alone opened)) (import_given import lines time files databases.target h.0)
+    ap (λ r. r >>= λ opened. Ok (one_database opened)) (import_given import lines time files databases.target h.0)
     ∙ ap (λ (s : List BareDoc). Ok (record { target = databases.target; sources = s })) (sym h.1)
 given_by None needs lines time files databases h = databases_given needs lines files databases h
 
 pub databases_follow : (command : Command) (lines : Lines) (time : ℕ) (files : FileMap) (databases : Databases)
-    → HoldFor command lines time files databases → databases_for command lines time files ≡ Ok databases
+    → HoldCommandDatabases command lines time files databases → databases_for command lines time files ≡ Ok databases
 databases_follow command lines time files databases h = given_by (import_of command) (needs_of command) lines time files databases h

@@ -15,14 +15,14 @@ use Rattle.cli_importing.specs.Imports.{imported_of}
 -- ---- what is defined
 
 -- A database without sources beside it.
-abbrev pub alone : Opened → Databases
-alone opened = record { target = opened; sources = [] }
+abbrev pub one_database : Opened → Databases
+one_database opened = record { target = opened; sources = [] }
 
 -- The database that an import makes at a moment, or else those that a command asks for.
 abbrev pub databases_by : Option ImportNeeds → Needs → Lines → ℕ → FileMap
     → Result Databases Refusal
 databases_by (Some import) needs lines time files =
-    imported_of import lines time files >>= λ opened. Ok (alone opened)
+    imported_of import lines time files >>= λ opened. Ok (one_database opened)
 databases_by None needs lines time files = databases_of needs lines files
 
 -- The databases of a command at a moment, by the lines that it asked for.
@@ -34,26 +34,28 @@ databases_for command lines time files =
 
 -- The files hold what the import makes its database of, or else the databases that a command asks
 -- for.
-abbrev pub HoldBy : Option ImportNeeds → Needs → Lines → ℕ → FileMap → Databases → Type 0
-HoldBy (Some import) needs lines time files databases =
+abbrev pub HoldImportOrDatabases : Option ImportNeeds → Needs → Lines → ℕ → FileMap → Databases
+    → Type 0
+HoldImportOrDatabases (Some import) needs lines time files databases =
     HoldsImport import lines time files databases.target × (databases.sources ≡ [])
-HoldBy None needs lines time files databases = HoldDatabases needs lines files databases
+HoldImportOrDatabases None needs lines time files databases =
+    HoldDatabases needs lines files databases
 
 -- The files hold the databases of a command at a moment.
-abbrev pub HoldFor : Command → Lines → ℕ → FileMap → Databases → Type 0
-HoldFor command lines time files databases =
-    HoldBy (import_of command) (needs_of command) lines time files databases
+abbrev pub HoldCommandDatabases : Command → Lines → ℕ → FileMap → Databases → Type 0
+HoldCommandDatabases command lines time files databases =
+    HoldImportOrDatabases (import_of command) (needs_of command) lines time files databases
 
 -- ---- the same of some files, whatever the store reports
 
 -- Some bytes hold what the import makes its database of, or else the databases that a command asks
 -- for.
-abbrev pub SomeBy : Option ImportNeeds → Needs → Lines → ℕ → Databases → Type 0
-SomeBy (Some import) needs lines time databases =
+abbrev pub SomeImportOrDatabases : Option ImportNeeds → Needs → Lines → ℕ → Databases → Type 0
+SomeImportOrDatabases (Some import) needs lines time databases =
     SomeImport import lines time databases.target × (databases.sources ≡ [])
-SomeBy None needs lines time databases = SomeDatabases needs lines databases
+SomeImportOrDatabases None needs lines time databases = SomeDatabases needs lines databases
 
 -- Some bytes hold the databases of a command at a moment.
-abbrev pub SomeFor : Command → Lines → ℕ → Databases → Type 0
-SomeFor command lines time databases =
-    SomeBy (import_of command) (needs_of command) lines time databases
+abbrev pub SomeCommandDatabases : Command → Lines → ℕ → Databases → Type 0
+SomeCommandDatabases command lines time databases =
+    SomeImportOrDatabases (import_of command) (needs_of command) lines time databases

@@ -8,7 +8,7 @@ ghost use Rattle.cli_lines.specs.Lines.{CanOpen, HasLines};
 ghost use Rattle.cli_lines.specs.SeenLines.{line_seen, lines_seen};
 ghost use Rattle.cli_words.specs.Needs.{HasKey, HasKeys, Needs, files_by, files_named, needs_of, target_access};
 ghost use Rattle.cli_words.specs.SeenNeeds.{import_seen};
-ghost use Rattle.cli_opening.specs.Opening.{SomeBy, SomeFor, databases_by, databases_for};
+ghost use Rattle.cli_opening.specs.Opening.{SomeImportOrDatabases, SomeCommandDatabases, databases_by, databases_for};
 
 use cli_answers::Stop;
 use cli_databases::{Databases, open};
@@ -31,7 +31,7 @@ fn open_import<F: FileStore>(
         → Returns databases_seen result
         (databases_by (Some (import_seen needs.entry)) n (lines_seen lines.now) now m) }
     ensures some_file { (n : Needs) → IfOk result (λ databases.
-        SomeBy (Some (import_seen needs.entry)) n (lines_seen lines.now) now
+        SomeImportOrDatabases (Some (import_seen needs.entry)) n (lines_seen lines.now) now
         (databases_seen databases)) }
     ensures in_order { IfOk result (λ databases. IfSome databases.target.sealing (λ sealing.
         IsInOrder sealing.settings)) }
@@ -68,8 +68,8 @@ pub fn open_for<F: FileStore>(
     ensures told { (m : FileMap) → F.files files.old ≡ Some m
         → Returns databases_seen result
         (databases_for command.now (lines_seen lines.now) now m) }
-    ensures some_file { IfOk result (λ databases. SomeFor command.now (lines_seen lines.now) now
-        (databases_seen databases)) }
+    ensures some_file { IfOk result (λ databases. SomeCommandDatabases command.now
+        (lines_seen lines.now) now (databases_seen databases)) }
     ensures in_order { IfOk result (λ databases. IfSome databases.target.sealing (λ sealing.
         IsInOrder sealing.settings)) }
     ensures cause { IfErr result (IsFileStop (files_named (Ok command.now))

@@ -1,4 +1,5 @@
--- The pages: what the program prints where its words are no command and ask what it is.
+-- The pages: what the program prints where one word alone asks for it, its help and its version.
+-- These two words are commands of their own, which open no file and read no line.
 use Rattle.std.specs.Prelude.{ℕ, if◌then◌else◌, List, [], ◌∷◌, codes, Option, None, Some}
 use Rattle.std.specs.Str.{bytes_eq}
 use Rattle.cli_pages.specs.Texts.{help, version}

@@ -1,4 +1,4 @@
-//! The pages that the program prints where its words are no command: its help, and its version.
+//! The pages that the program prints where one word alone asks for one: its help, and its version.
 #![tactic(auto)]
 
 mod pages;

@@ -8,7 +8,7 @@ use Rattle.vault_model.specs.SeenNodes.{tree_seen}
 use Rattle.vault_model.specs.Tree.{LEVELS, Tree, Trees, all_trees, are_distinct, beside, height, height_all, node, node_ids, none}
 use Rattle.vault_model.specs.declared.nodes.Group.{Group, out-Group}
 use Rattle.vault_model.proofs.SeenGroups.{seen_group}
-use Rattle.import_tree.specs.Outcome.{checked_tree, groups_below, groups_below_among, least_id, refuse_depth, refuse_duplicate}
+use Rattle.import_tree.specs.Outcome.{sound_tree, groups_below, groups_below_among, least_id, refuse_depth, refuse_duplicate}
 
 -- where no group is below so many levels, the tree has no more
 none_below : {A : Type 0} (xs ys : List A) → xs ++ ys ≡ [] → (xs ≡ []) × (ys ≡ [])
@@ -78,7 +78,7 @@ fine_by None None u e = (refl, refl)
 fine_by None (Some id) u e = absurd (cc e)
 fine_by (Some id) deep u e = absurd (cc e)
 
-pub fine : (t : Tree) (u : Unit {0}) → checked_tree t ≡ Ok u → IsFine t
+pub fine : (t : Tree) (u : Unit {0}) → sound_tree t ≡ Ok u → IsFine t
 fine t u e =
     let facts = fine_by (least_duplicate (node_ids t)) (least_id (groups_below LEVELS t)) u e in
     record {

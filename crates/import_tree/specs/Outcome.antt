@@ -37,18 +37,18 @@ refuse_depth None = Ok tt
 refuse_depth (Some id) = Err (fail.TooDeep id)
 
 -- A tree's ids differ and its groups are not too deep.
-abbrev pub checked_tree : Tree → Result (Unit {0}) TreeFail
-checked_tree tree = do
+abbrev pub sound_tree : Tree → Result (Unit {0}) TreeFail
+sound_tree tree = do
   _ ← refuse_duplicate (least_duplicate (node_ids tree))
   refuse_depth (least_id (groups_below LEVELS tree))
 
 -- A document whose ids differ and whose groups are not too deep.
-abbrev pub checked : BareDoc → Result BareDoc TreeFail
-checked doc = checked_tree doc.tree >>= λ _. Ok doc
+abbrev pub sound_document : BareDoc → Result BareDoc TreeFail
+sound_document doc = sound_tree doc.tree >>= λ _. Ok doc
 
 -- The document of imported entries at a moment, or why there is none.
 unfoldable pub imported_document : ℕ → List ImportedEntry → Result BareDoc TreeFail
-imported_document now entries = checked (document_of now entries)
+imported_document now entries = sound_document (document_of now entries)
 
 -- What a refusal says of what is defined: that this is its refusal, but running out of memory says
 -- nothing.

@@ -2,7 +2,7 @@
 
 ghost use Rattle.std.specs.Prelude.{◌≡◌, ◌≢◌, [], IfOk, OnErr, OnOk};
 ghost use Rattle.import_tree.specs.Entries.{AreTexts};
-ghost use Rattle.import_tree.specs.Outcome.{Returns, checked};
+ghost use Rattle.import_tree.specs.Outcome.{Returns, sound_document};
 ghost use Rattle.import_tree.specs.SeenDrafts.{draft_seen};
 ghost use Rattle.import_tree.specs.SeenEntries.{imported_seen};
 ghost use Rattle.import_tree.specs.Trees.{document_of, with_imported};
@@ -74,7 +74,7 @@ pub fn add_imported(
 /// [`TreeFail::DuplicateId`] with the least id that two nodes have; then [`TreeFail::TooDeep`] with
 /// the least id of a group below the 128th level. [`TreeFail::NoMemory`] where memory runs out.
 pub fn finish_import(alloc: Global, draft: ImportDraft) -> Result<Doc, TreeFail>
-    ensures { Returns doc_seen result (checked (draft_seen draft)) }
+    ensures { Returns doc_seen result (sound_document (draft_seen draft)) }
 {
     match refusal_of(alloc, &draft.root) {
         Ok(()) => Ok(Doc {

@@ -56,7 +56,7 @@ fn least_deep(alloc: Global, root: &Group) -> Result<Option<Uuid>, NoMemory>
 
 /// Refuses a tree in which two nodes have one id, and then one with too many levels.
 pub(crate) fn refusal_of(alloc: Global, root: &Group) -> Result<(), TreeFail>
-    ensures { spec.Returns (λ u. u) result (spec.checked_tree (tree_seen root.now)) }
+    ensures { spec.Returns (λ u. u) result (spec.sound_tree (tree_seen root.now)) }
 {
     let ids = ids_of(alloc, root)?;
     if let Some(id) = ids.duplicate {

@@ -16,7 +16,7 @@ use Rattle.kdbx_open.specs.declared.fail.OpenFail.{OpenFail}
 use Rattle.cli_words.specs.declared.command.Access.{Access}
 use Rattle.cli_databases.specs.Databases.{Opened, password_from, plain_document}
 use Rattle.cli_databases.specs.Held.{HoldAll, HoldDatabases, HoldsBy}
-use Rattle.cli_opening.specs.Opening.{HoldBy}
+use Rattle.cli_opening.specs.Opening.{HoldImportOrDatabases}
 use Rattle.agreed_laws.specs.Merges.{AreDocs}
 use Rattle.cli_words.specs.Needs.{ImportNeeds, import_of, needs_of}
 use Rattle.keepass_call.specs.Held.{IsTask}
@@ -61,7 +61,7 @@ all_are_docs from same target (name ∷ names) (line ∷ lines) files (doc ∷ d
 task_holds : (words : List (List ℕ)) (time : ℕ) (world : World) (task : Task) → import_of task.command ≡ None → IsTask words time world task
     → HoldDatabases (needs_of task.command) task.lines world.files (databases_in task)
 task_holds words time world task none is =
-    subst (λ (i : Option ImportNeeds). HoldBy i (needs_of task.command) task.lines time world.files (databases_in task)) none is.holds
+    subst (λ (i : Option ImportNeeds). HoldImportOrDatabases i (needs_of task.command) task.lines time world.files (databases_in task)) none is.holds
 
 pub task_docs : (words : List (List ℕ)) (time : ℕ) (world : World) (task : Task) → import_of task.command ≡ None → IsTask words time world task
     → AreDocs (task.opened.doc ∷ task.sources)

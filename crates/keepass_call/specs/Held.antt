@@ -4,7 +4,7 @@ use Rattle.std.specs.Prelude.{◌≡◌, ℕ, List, ◌⊎◌, Ok}
 use Rattle.cli_words.specs.Needs.{needs_of, target_of}
 use Rattle.cli_words.specs.Words.{command_of}
 use Rattle.cli_lines.specs.Lines.{lines_of}
-use Rattle.cli_opening.specs.Opening.{HoldFor}
+use Rattle.cli_opening.specs.Opening.{HoldCommandDatabases}
 use Rattle.cli_commands.specs.Commands.{Change}
 use Rattle.call_carrying.specs.Endings.{Ending, ReadsBack, Stores, carried_out, change_of_task}
 use Rattle.keepass_call.specs.Outcome.{Counts, Gains, NoFaults, Seen, World}
@@ -15,7 +15,7 @@ use Rattle.call_task.specs.Tasks.{Task, databases_in}
 pub record IsTask (words : List (List ℕ)) (time : ℕ) (world : World) (task : Task) : Type 0 where
   pub is_command : command_of words ≡ Ok task.command
   pub are_lines : (lines_of (needs_of task.command) world.input).answer ≡ Ok task.lines
-  pub holds : HoldFor task.command task.lines time world.files (databases_in task)
+  pub holds : HoldCommandDatabases task.command task.lines time world.files (databases_in task)
 
 -- The words are a task that ends so.
 pub record IsCarried (words : List (List ℕ)) (time : ℕ) (world : World) (ending : Ending) : Type 0

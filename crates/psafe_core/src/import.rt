@@ -1,6 +1,6 @@
 //! Importing a file: its document, or the first reason why it has none.
 ghost use Rattle.std.specs.Prelude.{◌≡◌, ◌≢◌, ◌∷◌, [], ◌++◌, ℕ, List, None, OnOk};
-ghost use Rattle.import_tree.specs.Outcome.{checked};
+ghost use Rattle.import_tree.specs.Outcome.{sound_document};
 ghost use Rattle.import_tree.specs.SeenDrafts.{draft_seen};
 ghost use Rattle.mac_core.specs.Hmac256.{HasAbsorbed};
 ghost use Rattle.psafe_core.specs.Outcome.{content_outcome, nil_record, of_tree, or_field_form, or_tree_fail, psafe_outcome, records_outcome};
@@ -106,7 +106,7 @@ fn of_tree(refusal: TreeFail) -> PsafeFail
 
 // The document of a draft.
 fn finish(alloc: Global, draft: ImportDraft) -> Result<Doc, PsafeFail>
-    ensures { Returns doc_seen result (or_tree_fail (checked (draft_seen draft))) }
+    ensures { Returns doc_seen result (or_tree_fail (sound_document (draft_seen draft))) }
 {
     match finish_import(alloc, draft) {
         Ok(doc) => Ok(doc),

@@ -6,7 +6,7 @@ use Rattle.std.specs.Fmt.{decimal}
 use Rattle.import_tree.proofs.NamedIds.{named_not_nil}
 use Rattle.import_tree.specs.Entries.{ImportedEntry, entry_space, numbered_id}
 use Rattle.import_tree.specs.Outcome as tree
-use Rattle.import_tree.specs.Outcome.{checked, imported_document}
+use Rattle.import_tree.specs.Outcome.{sound_document, imported_document}
 use Rattle.import_tree.specs.Trees.{document_of, with_entries, with_imported}
 use Rattle.import_tree.specs.declared.fails.TreeFail.{TreeFail}
 use Rattle.import_tree.specs.declared.fails.TreeFail.TheVariants as tree_fail
@@ -24,7 +24,7 @@ use Rattle.table_reading.specs.declared.rows.Table.{Table}
 
 -- the document of a draft with more entries
 abbrev pub finished : ℕ → BareDoc → List ImportedEntry → Result BareDoc TableFail
-finished now doc entries = as_table (checked (record doc { tree = with_entries now entries doc.tree }))
+finished now doc entries = as_table (sound_document (record doc { tree = with_entries now entries doc.tree }))
 
 -- the document of a draft with the rows that are left, which are numbered from here on
 abbrev pub remaining : Table → ℕ → List (List (List ℕ)) → BareDoc → Result BareDoc TableFail
@@ -62,10 +62,10 @@ module _ (table : Table) (number : ℕ) (row : List (List ℕ)) (rows : List (Li
   refused e h = fails_on e (row_entry table number row >>= after) (finished table.moment doc) (fails_on e (row_entry table number row) after h)
 
 -- no row is left
-pub finished_ok : (doc made : BareDoc) → checked doc ≡ Ok made → as_table (checked doc) ≡ Ok made
+pub finished_ok : (doc made : BareDoc) → sound_document doc ≡ Ok made → as_table (sound_document doc) ≡ Ok made
 finished_ok doc made h = ap as_table h
 
-pub finished_err : (doc : BareDoc) (e : TreeFail) → Fails (tree.meaning_of e) (checked doc) → Fails (meaning_of (of_tree e)) (as_table (checked doc))
+pub finished_err : (doc : BareDoc) (e : TreeFail) → Fails (tree.meaning_of e) (sound_document doc) → Fails (meaning_of (of_tree e)) (as_table (sound_document doc))
 finished_err doc (tree_fail.DuplicateId id) h = ap as_table h
 finished_err doc (tree_fail.TooDeep id) h = ap as_table h
 finished_err doc tree_fail.NoMemory h = tt
