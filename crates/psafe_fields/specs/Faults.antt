@@ -23,7 +23,8 @@ or_else (Some n) other = Some n
 -- fields no content is tested.
 abbrev pub first_fault : ℕ → FieldList → Option ℕ
 first_fault len all =
-    or_else (first_faulty (after_header all.fields)) (or_else all.cut_off (unended_at len all.fields))
+    or_else (first_faulty (after_header all.fields))
+    (or_else all.cut_off (unended_at len all.fields))
 
 -- Fields without a fault, or the place of the first.
 abbrev pub faultless : List SafeField → Option ℕ → Result (List SafeField) ℕ
@@ -32,4 +33,5 @@ faultless fields (Some place) = Err place
 
 -- The fields of the deciphered bytes, or the place of the first fault.
 unfoldable pub sound_fields : List ℕ → Result (List SafeField) ℕ
-sound_fields bytes = faultless (fields_of bytes).fields (first_fault (length bytes) (fields_of bytes))
+sound_fields bytes =
+    faultless (fields_of bytes).fields (first_fault (length bytes) (fields_of bytes))

@@ -50,7 +50,8 @@ fn split_field(offset: usize, bytes: &[u8]) -> Option<(SafeField, &[u8])>
     requires { 0 < length bytes.now }
     ensures { MatchOption result
         (nat_lt (length bytes.now) (field_room (from_le_bytes w32 (take 4 bytes.now))) ≡ true)
-        (λ x. (nat_lt (length bytes.now) (field_room (from_le_bytes w32 (take 4 bytes.now))) ≡ false)
+        (λ x. (nat_lt (length bytes.now)
+        (field_room (from_le_bytes w32 (take 4 bytes.now))) ≡ false)
         × (field_seen x.0 ≡ spec.field_at offset bytes.now)
         × (x.1.now ≡ drop (field_room (from_le_bytes w32 (take 4 bytes.now))) bytes.now)) }
 {

@@ -82,7 +82,8 @@ pub(crate) fn entry_of(
     number: u64,
     row: &StringRecord,
 ) -> Result<ImportedEntry, TableFail>
-    ensures entry { Returns imported_seen result (spec.row_entry table.now number (fields_of row.now)) }
+    ensures entry { Returns imported_seen result
+        (spec.row_entry table.now number (fields_of row.now)) }
     ensures texts { IfOk result (λ entry. AreTexts (imported_seen entry)) }
 {
     let times = times_of(table, number, row)?;
