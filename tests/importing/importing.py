@@ -24,7 +24,6 @@ FORMATS = "xml", "psafe3", "csv"
 UNIX = 62_135_596_800
 sys.setrecursionlimit(10_000)  # a tree of the model is walked by recursion
 FILE_LIMIT, LINE_LIMIT = 134_217_728, 4096
-NAMES = 1_024  # the most that lead to an entry; the program walks no more
 
 
 # ---- the tree
@@ -66,17 +65,21 @@ class Tree:
         return group
 
     def add(self, names, identity, fields, created, modified):
-        if len(names) > NAMES:
-            raise Refused(9, "out of memory")
         self.group(names)["Entry"].append(new_entry(identity, fields, created, modified, self.now))
 
     def whole(self):
-        """The document, whose ids must differ, and whose groups may not be too deep."""
-        nodes = list(model.walk(self.document["Root"]))
-        ids = sorted(found.node["UUID"] for _, found in nodes)
+        """The document, whose ids must differ, and whose groups may not be too deep. No recursion walks them, since there may be any number
+        of levels."""
+        ids, deepest, left = [], 0, [(self.document["Root"], 1)]
+        while left:
+            group, level = left.pop()
+            ids += [group["UUID"], *(entry["UUID"] for entry in group["Entry"])]
+            deepest = max(deepest, level)
+            left += [(below, level + 1) for below in group["Group"]]
+        ids.sort()
         twice = [one for one, other in zip(ids, ids[1:]) if one == other]
         model.refuse_if(twice, 4, f"duplicate id {uuid.UUID(bytes=twice[0]) if twice else ''}")
-        model.refuse_if(any(found.level > model.LEVELS for is_entry, found in nodes if not is_entry), 8, "limit passed")
+        model.refuse_if(deepest > model.LEVELS, 8, "limit passed")
         return self.document
 
 

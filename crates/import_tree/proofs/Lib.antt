@@ -3,3 +3,7 @@ pub mod NamedIds
 pub mod Kept
 pub mod Proper
 pub mod Put
+pub mod Apart
+pub mod TakenApart
+pub mod Grown
+pub mod Levels

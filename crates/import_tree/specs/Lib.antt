@@ -2,4 +2,6 @@ pub mod Entries
 pub mod SeenEntries
 pub mod Trees
 pub mod Outcome
+pub mod Branches
+pub mod SeenBranches
 pub mod SeenDrafts

@@ -38,6 +38,22 @@ abbrev mutual
       if bytes_eq (name_of tree) name then beside (with_entry now names entry tree) trees
       else beside tree (with_entry_among now parent name names entry trees)
 
+-- An entry with its id, the names that lead to it from a group, and the moment at which it is put
+-- there.
+pub record Placed : Type 0 where
+  pub now : ℕ
+  pub names : List (List ℕ)
+  pub row : NodeId × EntryRecord
+
+-- A tree with such an entry more.
+abbrev pub with_placed : Placed → Tree → Tree
+with_placed placed tree = with_entry placed.now placed.names placed.row tree
+
+-- A tree with such entries more, one after another.
+abbrev pub with_all_placed : List Placed → Tree → Tree
+with_all_placed [] tree = tree
+with_all_placed (placed ∷ rest) tree = with_all_placed rest (with_placed placed tree)
+
 -- A tree with an imported entry more.
 abbrev pub with_imported : ℕ → ImportedEntry → Tree → Tree
 with_imported now entry tree = with_entry now entry.groups (entry.id, entry_at now entry) tree

@@ -1,9 +1,12 @@
 //! The document that imported entries give: groups by their names, ids made of names.
 #![tactic(auto)]
 
+mod branches;
+mod depths;
 mod drafts;
 mod entries;
 mod fails;
+mod growing;
 mod ids;
 mod importing;
 mod outcome;

@@ -31,8 +31,8 @@ fn push_deep_ids(ids: &mut Vec<Uuid>, group: &Group, levels: usize) -> Result<()
     Ok(())
 }
 
-// The least of some ids, if there is one.
-fn least_of(ids: &[Uuid]) -> Option<Uuid>
+/// The least of some ids, if there is one.
+pub(crate) fn least_of(ids: &[Uuid]) -> Option<Uuid>
     ensures { result ≡ spec.least_id ids.now }
 {
     let mut least = None;

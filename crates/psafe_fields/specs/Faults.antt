@@ -1,5 +1,6 @@
 -- The first fault in the deciphered bytes of a file.
 use Rattle.std.specs.Prelude.{ℕ, if◌then◌else◌, Option, None, Some, List, [], ◌∷◌, length, Result, Ok, Err}
+use Rattle.std.specs.Option.{option_or}
 use Rattle.psafe_fields.specs.Fields.{FieldList, SafeField, after_header, fields_of, is_ended}
 use Rattle.psafe_fields.specs.Kinds.{is_faulty}
 
@@ -13,18 +14,13 @@ first_faulty (field ∷ fields) =
 abbrev pub unended_at : ℕ → List SafeField → Option ℕ
 unended_at len fields = if is_ended fields then None else Some len
 
--- A first choice, or else another.
-abbrev pub or_else : Option ℕ → Option ℕ → Option ℕ
-or_else None other = other
-or_else (Some n) other = Some n
-
 -- The place of the first fault in fields of so many bytes: a faulty field of a record, a field that
 -- passes the end, or a header or record that is not ended, whose place is the end. Of the header's
 -- fields no content is tested.
 abbrev pub first_fault : ℕ → FieldList → Option ℕ
 first_fault len all =
-    or_else (first_faulty (after_header all.fields))
-    (or_else all.cut_off (unended_at len all.fields))
+    option_or (first_faulty (after_header all.fields))
+    (option_or all.cut_off (unended_at len all.fields))
 
 -- Fields without a fault, or the place of the first.
 abbrev pub faultless : List SafeField → Option ℕ → Result (List SafeField) ℕ

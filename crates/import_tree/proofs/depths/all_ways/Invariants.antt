@@ -1,0 +1,8 @@
+use Rattle.std.proofs.Common.{◌≡◌, ◌++◌, drop, map}
+use Rattle.import_tree.specs.SeenBranches.{ways_seen}
+use Rattle.import_tree.specs.SeenDrafts.{placed_seen}
+use Rattle.import_tree.proofs.depths.all_ways.Given as goal
+
+-- those that are made, with those that are left, are all
+abbrev pub invariant-loop-placed : goal.invariant-loop-placed
+invariant-loop-placed l = map placed_seen l.entries ≡ ways_seen l.ways.items ++ map placed_seen (drop l.placed-index l.entries)
