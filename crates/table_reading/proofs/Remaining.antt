@@ -41,13 +41,13 @@ one_by_one entry (Err e) next = refl
 
 module _ (table : Table) (number : ℕ) (row : List (List ℕ)) (rows : List (List (List ℕ))) (doc : BareDoc) where
   abbrev after : ImportedEntry → Result (List ImportedEntry) TableFail
-  after entry = row_entries table (suc number) rows >>= λ entries. Ok (entry ∷ entries)
+  after entry = row_entries table (number + 1) rows >>= λ entries. Ok (entry ∷ entries)
 
   pub one_more : (entry : ImportedEntry) → row_entry table number row ≡ Ok entry
-      → remaining table number (row ∷ rows) doc ≡ remaining table (suc number) rows (record doc { tree = with_imported table.moment entry doc.tree })
+      → remaining table number (row ∷ rows) doc ≡ remaining table (number + 1) rows (record doc { tree = with_imported table.moment entry doc.tree })
   one_more entry is =
       ap (λ r. (r >>= after) >>= finished table.moment doc) is
-      ∙ one_by_one entry (row_entries table (suc number) rows) (finished table.moment doc)
+      ∙ one_by_one entry (row_entries table (number + 1) rows) (finished table.moment doc)
 
   fails_on : {A B : Type 0} (e : TableFail) (r : Result A TableFail) (next : A → Result B TableFail) → Fails (meaning_of e) r → Fails (meaning_of e) (r >>= next)
   fails_on (fail.NotUtf8 n) r next h = ap (λ x. x >>= next) h

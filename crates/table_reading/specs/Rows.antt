@@ -1,5 +1,7 @@
 -- The entries of the rows of a table.
-use Rattle.std.specs.Prelude.{ℕ, suc, ◌==◌, Bool, true, false, List, [], ◌∷◌, length, Option, None, Some, Result, Ok, Err}
+use Rattle.std.specs.Prelude.{ℕ, ◌==◌, Bool, true, false, List, [], ◌∷◌, length, map, None, Result, Ok, Err}
+use Rattle.std.specs.List.{enumerate_from}
+use Rattle.std.specs.Option.{ok_or}
 use Rattle.import_tree.specs.Entries.{ImportedEntry, numbered_id}
 use Rattle.outside_core.specs.Results.{◌>>=◌}
 use Rattle.table_reading.specs.Cells.{cell, time_of}
@@ -10,11 +12,9 @@ use Rattle.table_reading.specs.declared.fails.TableFail.TheVariants as fail
 use Rattle.table_reading.specs.declared.rows.Table.{Table}
 use Rattle.table_reading.specs.declared.rows.Times.{Times}
 
--- the two times of the row of this number, where both are times
-abbrev pub both_times : ℕ → Option ℕ → Option ℕ → Result Times TableFail
-both_times number (Some created) (Some modified) =
-    Ok (record { created = created; modified = modified })
-both_times number _ _ = Err (fail.BadTime number)
+-- the time that this text of the row of this number is
+abbrev pub row_time : ℕ → ℕ → List ℕ → Result ℕ TableFail
+row_time now number text = ok_or (time_of now text) (fail.BadTime number)
 
 -- a row has as many fields as the first
 abbrev pub refuse_width : ℕ → Bool → Result (Unit {0}) TableFail
@@ -25,8 +25,9 @@ refuse_width number false = Err (fail.RowWidth number)
 abbrev pub row_times : Table → ℕ → List (List ℕ) → Result Times TableFail
 row_times table number row = do
   _ ← refuse_width number (length row == table.width)
-  both_times number (time_of table.moment (cell table.columns.created row))
-      (time_of table.moment (cell table.columns.modified row))
+  created ← row_time table.moment number (cell table.columns.created row)
+  modified ← row_time table.moment number (cell table.columns.modified row)
+  Ok (record { created = created; modified = modified })
 
 -- the entry of the row of this number, with its times
 abbrev pub timed_entry : Columns → ℕ → Times → List (List ℕ) → ImportedEntry
@@ -49,10 +50,15 @@ row_entry table number row = do
   times ← row_times table number row
   Ok (timed_entry table.columns number times row)
 
+-- the values of results, or the first refusal among them
+abbrev pub values_of : {A E : Type 0} → List (Result A E) → Result (List A) E
+values_of [] = Ok []
+values_of (result ∷ results) = do
+  value ← result
+  values ← values_of results
+  Ok (value ∷ values)
+
 -- the entries of rows that are numbered from here on, or the first refusal
 abbrev pub row_entries : Table → ℕ → List (List (List ℕ)) → Result (List ImportedEntry) TableFail
-row_entries table number [] = Ok []
-row_entries table number (row ∷ rows) = do
-  entry ← row_entry table number row
-  entries ← row_entries table (suc number) rows
-  Ok (entry ∷ entries)
+row_entries table first rows =
+    values_of (map (λ row. row_entry table row.0 row.1) (enumerate_from first rows))

@@ -7,7 +7,7 @@ ghost use Rattle.import_tree.specs.SeenEntries.{imported_seen};
 ghost use Rattle.table_reading.specs.Refusals.{Returns};
 ghost use Rattle.table_reading.specs.Rows as spec;
 
-use crate::cells::{cell, secret_of, time_of};
+use crate::cells::{cell, secret_cell, time_of};
 use crate::columns::Columns;
 use crate::fails::TableFail;
 use crate::groups::group_names;
@@ -33,6 +33,13 @@ struct Times {
     modified: Stamp,
 }
 
+// The time that this text of the row of this number is.
+fn row_time(now: Stamp, number: u64, text: &str) -> Result<Stamp, TableFail>
+    ensures { result ≡ spec.row_time now number text.now }
+{
+    time_of(text, now).ok_or(TableFail::BadTime(number))
+}
+
 // The times of the row of this number, of as many fields as each row has.
 fn times_of(table: &Table, number: u64, row: &StringRecord) -> Result<Times, TableFail>
     ensures { result ≡ spec.row_times table.now number (fields_of row.now) }
@@ -40,13 +47,9 @@ fn times_of(table: &Table, number: u64, row: &StringRecord) -> Result<Times, Tab
     if row.len() != table.width {
         return Err(TableFail::RowWidth(number));
     }
-    let columns = &table.columns;
-    let created = time_of(cell(row, columns.created), table.moment);
-    let modified = time_of(cell(row, columns.modified), table.moment);
-    match (created, modified) {
-        (Some(created), Some(modified)) => Ok(Times { created, modified }),
-        _ => Err(TableFail::BadTime(number)),
-    }
+    let created = row_time(table.moment, number, cell(row, table.columns.created))?;
+    let modified = row_time(table.moment, number, cell(row, table.columns.modified))?;
+    Ok(Times { created, modified })
 }
 
 // The entry of the row of this number, with these times.
@@ -64,11 +67,11 @@ fn timed_entry(
     Ok(ImportedEntry {
         groups: group_names(alloc, cell(row, columns.group))?,
         id: numbered_id(number),
-        title: secret_of(alloc, cell(row, columns.title))?,
-        user: secret_of(alloc, cell(row, columns.user))?,
-        password: secret_of(alloc, cell(row, columns.password))?,
-        url: secret_of(alloc, cell(row, columns.url))?,
-        notes: secret_of(alloc, cell(row, columns.notes))?,
+        title: secret_cell(alloc, row, columns.title)?,
+        user: secret_cell(alloc, row, columns.user)?,
+        password: secret_cell(alloc, row, columns.password)?,
+        url: secret_cell(alloc, row, columns.url)?,
+        notes: secret_cell(alloc, row, columns.notes)?,
         history: None,
         created: times.created,
         modified: times.modified,

@@ -1,4 +1,4 @@
-use Rattle.std.proofs.Common.{◌≡◌, ◌+◌, ℕ, suc, List, drop, map, subst, sym, ap, ◌∙◌, arith}
+use Rattle.std.proofs.Common.{◌+◌, ℕ, List, drop, map, subst, sym, ap, ◌∙◌}
 use Rattle.std.proofs.lemmas.List.{drop_all}
 use Rattle.std.proofs.lemmas.Result.{err_from_is_err_and}
 use Rattle.csv.specs.Records.{Row, fields_of}
@@ -39,13 +39,10 @@ loop-at-preserved c =
     let row = c.index-rows-at.result in
     let doc = draft_seen c.loop-at.draft in
     let rest = map fields_of (drop (at + 1) rows) in
-    let new = draft_seen c.add_imported.new.draft in
-    let next : suc (at + 1) ≡ at + 1 + 1 = omega arith in
     c.loop-at.invariant
     ∙ ap (λ (rs : List (List (List ℕ))). remaining table (at + 1) rs doc) (row_at rows at row c.loop-at-test.true c.index-rows-at.is)
     ∙ one_more table (at + 1) (fields_of row) rest doc (imported_seen c.in_ok-entry.entry) c.in_ok-entry.ensures.entry
-    ∙ ap (remaining table (suc (at + 1)) rest) (sym c.in_ok-add_imported.ensures.ok)
-    ∙ ap (λ n. remaining table n rest new) next
+    ∙ ap (remaining table (at + 1 + 1) rest) (sym c.in_ok-add_imported.ensures.ok)
 
 pub returns-in_err-finish_import : goal.returns-in_err-finish_import
 returns-in_err-finish_import c =

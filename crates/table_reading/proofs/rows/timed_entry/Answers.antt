@@ -1,14 +1,25 @@
-use Rattle.std.proofs.Common.{ap, ◌∙◌}
-use Rattle.std.proofs.lemmas.Str.{is_utf8-from_IsUtf8}
-use Rattle.std.specs.Str.{is_utf8}
+use Rattle.std.proofs.Common.{refl}
 use Rattle.table_reading.proofs.rows.timed_entry.Goals as goal
+
+pub returns-clause-entry : goal.returns-clause-entry
+returns-clause-entry c =
+    rw (
+      c.in_ok-group_names.ensures,
+      c.cell.ensures,
+      c.numbered_id.ensures,
+      c.in_ok-secret_cell.ensures.is,
+      c.in_ok-secret_cell-2.ensures.is,
+      c.in_ok-secret_cell-3.ensures.is,
+      c.in_ok-secret_cell-4.ensures.is,
+      c.in_ok-secret_cell-5.ensures.is,
+    ) refl
 
 pub returns-clause-texts : goal.returns-clause-texts
 returns-clause-texts c = record {
-  title = ap is_utf8 c.in_ok-secret_of.ensures ∙ is_utf8-from_IsUtf8 c.cell-2.result.now c.cell-2.utf8;
-  user = ap is_utf8 c.in_ok-secret_of-2.ensures ∙ is_utf8-from_IsUtf8 c.cell-3.result.now c.cell-3.utf8;
-  password = ap is_utf8 c.in_ok-secret_of-3.ensures ∙ is_utf8-from_IsUtf8 c.cell-4.result.now c.cell-4.utf8;
-  url = ap is_utf8 c.in_ok-secret_of-4.ensures ∙ is_utf8-from_IsUtf8 c.cell-5.result.now c.cell-5.utf8;
-  notes = ap is_utf8 c.in_ok-secret_of-5.ensures ∙ is_utf8-from_IsUtf8 c.cell-6.result.now c.cell-6.utf8;
+  title = c.in_ok-secret_cell.ensures.utf8;
+  user = c.in_ok-secret_cell-2.ensures.utf8;
+  password = c.in_ok-secret_cell-3.ensures.utf8;
+  url = c.in_ok-secret_cell-4.ensures.utf8;
+  notes = c.in_ok-secret_cell-5.ensures.utf8;
   history = tt;
 }
