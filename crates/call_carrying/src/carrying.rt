@@ -19,7 +19,7 @@ ghost use Rattle.call_task.specs.Tasks.{draws};
 use call_task::Task;
 use cli_answers::Stop;
 use cli_commands::{CommandInput, Output, may_write, perform};
-use cli_databases::{Opened, bytes_in};
+use cli_files::{Opened, bytes_in};
 use cli_sealing::write_sealed;
 use cli_words::Command;
 use cli_writing::write_plain;

@@ -1,7 +1,7 @@
 -- What is seen of a task in memory.
 use Rattle.std.specs.Prelude.{map}
 use Rattle.vault_model.specs.SeenDoc.{doc_seen}
-use Rattle.cli_databases.specs.SeenOpened.{opened_seen}
+use Rattle.cli_files.specs.SeenOpened.{opened_seen}
 use Rattle.cli_lines.specs.SeenLines.{lines_seen}
 use Rattle.call_task.specs.declared.task.Task as memory
 use Rattle.call_task.specs.Tasks.{Task}

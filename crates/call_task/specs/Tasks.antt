@@ -10,7 +10,8 @@ use Rattle.cli_words.specs.declared.command.Command.TheVariants.{Ls, Show, Searc
 use Rattle.cli_words.specs.Needs.{asks_line, needs_of}
 use Rattle.cli_words.specs.Words.{command_of}
 use Rattle.cli_lines.specs.Lines.{HasLines, Lines, lines_of}
-use Rattle.cli_databases.specs.Databases.{Databases, Opened}
+use Rattle.cli_files.specs.Files.{Opened}
+use Rattle.cli_databases.specs.Databases.{Databases}
 use Rattle.cli_opening.specs.Opening.{SomeCommandDatabases, databases_for}
 
 -- What a call is to do: its command, the lines that this asked for, the database that was opened

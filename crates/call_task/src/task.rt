@@ -11,7 +11,8 @@ ghost use Rattle.cli_words.specs.Words.{command_of};
 ghost use Rattle.call_task.specs.Tasks.{HasSomeFile, asked_by, left_of, task_of};
 
 use cli_answers::Stop;
-use cli_databases::{Databases, Opened};
+use cli_databases::Databases;
+use cli_files::Opened;
 use cli_lines::{Lines, read_lines};
 use cli_opening::open_for;
 use cli_words::{Command, read_words};

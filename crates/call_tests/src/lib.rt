@@ -1,20 +1,8 @@
-//! The tests of `keepass_call`, `kdbx_open` and `doc_read`: calls over objects in memory, of which
-//! some fail, and files and documents that other programs made.
+//! Tests of the call and of reading that are no rows of `call_rows`: a document whose stream is
+//! given, and a call that derives a key at its full cost.
 #![tactic(auto)]
 
 #[cfg(test)]
-mod calls;
-#[cfg(test)]
-mod changes;
-#[cfg(test)]
 mod documents;
 #[cfg(test)]
-mod moves;
-#[cfg(test)]
-mod opening;
-#[cfg(test)]
-mod plain;
-#[cfg(test)]
-mod sealed;
-#[cfg(test)]
-mod version_3_1;
+mod imports;

@@ -1,6 +1,6 @@
 pub mod HeldFiles
+pub mod NoDocuments
 pub mod Openable
 pub mod Refusals
 pub mod SomeOpened
 pub mod Sources
-pub mod Stops

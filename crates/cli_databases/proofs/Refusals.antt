@@ -15,9 +15,10 @@ use Rattle.cli_answers.specs.Phases.{IsFault, IsMemoryStop, Stops}
 use Rattle.cli_answers.specs.declared.answers.Refusal.{Refusal}
 use Rattle.cli_answers.specs.declared.answers.Stop.{Stop}
 use Rattle.cli_answers.specs.declared.answers.Stop.TheVariants.{Refused, FileFault, InputFault, NoMemory}
-use Rattle.cli_databases.specs.Databases.{IsUnopened, Opened, held_under, open_answer, vault_or_refusal}
+use Rattle.cli_files.specs.Files.{Opened}
+use Rattle.cli_databases.specs.Databases.{IsUnopened, held_under, open_answer, vault_or_refusal}
 
-refused_so : (stop : Stop) (refusal : Refusal) (defined : Result Opened Refusal) → Refuses stop refusal → defined ≡ Err refusal → Stops stop defined
+pub refused_so : (stop : Stop) (refusal : Refusal) (defined : Result Opened Refusal) → Refuses stop refusal → defined ≡ Err refusal → Stops stop defined
 refused_so (Refused given) refusal defined h is = is ∙ ap Err (sym h)
 refused_so (FileFault name) refusal defined h is = absurd h
 refused_so InputFault refusal defined h is = absurd h
@@ -29,7 +30,7 @@ at_fault (FileFault given) name defined h = tt
 at_fault InputFault name defined h = absurd h
 at_fault NoMemory name defined h = tt
 
-without_memory : (stop : Stop) (defined : Result Opened Refusal) → IsMemoryStop stop → Stops stop defined
+pub without_memory : (stop : Stop) (defined : Result Opened Refusal) → IsMemoryStop stop → Stops stop defined
 without_memory (Refused given) defined h = absurd h
 without_memory (FileFault name) defined h = absurd h
 without_memory InputFault defined h = absurd h

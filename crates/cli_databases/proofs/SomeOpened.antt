@@ -1,7 +1,7 @@
 -- What is known of a database that some file holds.
 use Rattle.std.proofs.Common.{◌≡◌, ℕ, List, sym, ap, Bool, true, false, Option}
 use Rattle.std.specs.Prelude.{is_some, not}
-use Rattle.cli_databases.specs.Databases.{Opened}
+use Rattle.cli_files.specs.Files.{Opened}
 use Rattle.cli_databases.specs.SomeFiles.{SomeHolds}
 
 -- It is sealed exactly where it is no plain document.

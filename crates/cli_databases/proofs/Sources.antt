@@ -8,14 +8,17 @@ use Rattle.secret_core.specs.Secret.{SecretBuffer}
 use Rattle.vault_model.specs.SeenDoc.{doc_seen}
 use Rattle.vault_model.specs.Tree.{BareDoc}
 use Rattle.vault_model.specs.declared.documents.Doc.{Doc}
+use Rattle.cli_answers.specs.declared.answers.Refusal.{Refusal}
 use Rattle.cli_answers.specs.declared.answers.Stop.{Stop}
-use Rattle.cli_answers.specs.Phases.{IsFileStop, Returns}
+use Rattle.cli_answers.specs.declared.answers.Stop.TheVariants.{FileFault, InputFault, NoMemory, Refused}
+use Rattle.cli_answers.specs.Phases.{IsFileStop, Returns, Stops}
 use Rattle.cli_words.specs.declared.command.Access.{Access}
 use Rattle.cli_words.specs.Needs.{database_files, source_files}
 use Rattle.cli_lines.specs.SeenLines.{line_seen}
-use Rattle.cli_databases.specs.Databases.{Opened, docs_from, document_in, password_from}
+use Rattle.cli_files.specs.Files.{Opened}
+use Rattle.cli_databases.specs.Databases.{docs_from, document_in, password_from}
 use Rattle.cli_databases.specs.SomeFiles.{GainsSources, SomeHolds, SomeSources}
-use Rattle.cli_databases.proofs.Stops.{later_at_files}
+use Rattle.cli_files.proofs.FileStops.{first_at_files, later_at_files}
 
 -- A list by its first element and what is left.
 pub first_and_rest : {A : Type 0} (items rest : List A) (item : A) → 1 ≤ length items → rest ≡ take (length items - 1) (drop 1 items)
@@ -34,16 +37,24 @@ line_and_rest lines rest line l r i = ap (map line_seen) (first_and_rest lines r
 pub one_more : (docs now : List Doc) (doc : Doc) → now ≡ docs ++ doc ∷ [] → map doc_seen now ≡ map doc_seen docs ++ doc_seen doc ∷ []
 one_more docs now doc h = ap (map doc_seen) h ∙ map-append doc_seen docs (doc ∷ [])
 
+-- The first source is opened, and then those that are left.
+docs_first : (from : Access) (same : Bool) (target password line : Option (List ℕ)) (name : List ℕ) (names rest : List (List ℕ))
+    (lines more : List (Option (List ℕ))) (docs : List BareDoc) (files : FileMap) → names ≡ name ∷ rest → lines ≡ line ∷ more
+    → password ≡ password_from same target line → docs_from from same target names lines docs files
+    ≡ (document_in from name password files >>= λ x. docs_from from same target rest more (docs ++ x ∷ []) files)
+unfolding docs_from
+docs_first from same target password line name names rest lines more docs files n l p =
+    ap (λ ns. docs_from from same target ns lines docs files) n
+    ∙ ap (λ ls. docs_from from same target (name ∷ rest) ls docs files) l
+    ∙ ap (λ w. document_in from name w files >>= λ x. docs_from from same target rest more (docs ++ x ∷ []) files) (sym p)
+
 -- One source is opened, and then those that are left.
 docs_next : (from : Access) (same : Bool) (target password line : Option (List ℕ)) (name : List ℕ) (names rest : List (List ℕ))
     (lines more : List (Option (List ℕ))) (docs now : List BareDoc) (doc : BareDoc) (files : FileMap) → names ≡ name ∷ rest → lines ≡ line ∷ more
     → password ≡ password_from same target line → now ≡ docs ++ doc ∷ [] → document_in from name password files ≡ Ok doc
     → docs_from from same target names lines docs files ≡ docs_from from same target rest more now files
-unfolding docs_from
 docs_next from same target password line name names rest lines more docs now doc files n l p d h =
-    ap (λ ns. docs_from from same target ns lines docs files) n
-    ∙ ap (λ ls. docs_from from same target (name ∷ rest) ls docs files) l
-    ∙ ap (λ w. document_in from name w files >>= λ x. docs_from from same target rest more (docs ++ x ∷ []) files) (sym p)
+    docs_first from same target password line name names rest lines more docs files n l p
     ∙ ap (λ r. r >>= λ x. docs_from from same target rest more (docs ++ x ∷ []) files) h
     ∙ ap (λ ds. docs_from from same target rest more ds files) (sym d)
 
@@ -84,3 +95,26 @@ stops_next (Ok x) from name names rest f f' f'' a a' a'' n p q h = tt
 stops_next (Err stop) from name names rest f f' f'' a a' a'' n p q h =
     subst (λ (ns : List (List ℕ)). IsFileStop (source_files from ns) f f'' a a'' stop) (sym n)
     (later_at_files (database_files from name) (source_files from rest) f f' f'' a a' a'' stop p q h)
+
+-- A phase that stopped stops what comes after it.
+stops_both : {A B : Type 0} (stop : Stop) (phase : Result A Refusal) (next : A → Result B Refusal) → Stops stop phase → Stops stop (phase >>= next)
+stops_both (Refused refusal) phase next h = ap (λ r. r >>= next) h
+stops_both (FileFault name) phase next h = tt
+stops_both InputFault phase next h = tt
+stops_both NoMemory phase next h = tt
+
+-- The first source is not opened.
+pub told_stop : (stop : Stop) (from : Access) (same : Bool) (target password line : Option (List ℕ)) (name : List ℕ) (names rest : List (List ℕ))
+    (lines more : List (Option (List ℕ))) (docs : List BareDoc) (files : FileMap) → names ≡ name ∷ rest → lines ≡ line ∷ more
+    → password ≡ password_from same target line → Stops stop (document_in from name password files) → Stops stop (docs_from from same target names lines docs files)
+told_stop stop from same target password line name names rest lines more docs files n l p h =
+    subst (λ (r : Result (List BareDoc) Refusal). Stops stop r)
+    (sym (docs_first from same target password line name names rest lines more docs files n l p))
+    (stops_both stop (document_in from name password files) (λ x. docs_from from same target rest more (docs ++ x ∷ []) files) h)
+
+-- A stop at the first source.
+pub stops_first : (stop : Stop) (from : Access) (name : List ℕ) (names rest : List (List ℕ)) (f f' a a' : ℕ) → names ≡ name ∷ rest
+    → IsFileStop (database_files from name) f f' a a' stop → IsFileStop (source_files from names) f f' a a' stop
+stops_first stop from name names rest f f' a a' n h =
+    subst (λ (ns : List (List ℕ)). IsFileStop (source_files from ns) f f' a a' stop) (sym n)
+    (first_at_files (database_files from name) (source_files from rest) f f' a a' stop h)

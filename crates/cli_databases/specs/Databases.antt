@@ -1,30 +1,22 @@
 -- The databases of a call: what the files that its command names hold, and what the first of them
 -- is sealed with.
-use Rattle.std.specs.Prelude.{ℕ, Bool, true, false, List, [], ◌∷◌, ◌++◌, length, nat_le, cond, Option, None, Some, Result, Ok, Err}
+use Rattle.std.specs.Prelude.{ℕ, Bool, true, false, List, [], ◌∷◌, ◌++◌, Option, None, Some, Result, Ok, Err}
 use Rattle.std.specs.FinMap as map
 use Rattle.outside_core.specs.Files.{FileMap}
 use Rattle.secret_core.specs.declared.files.ReadFail.{ReadFail}
 use Rattle.secret_core.specs.declared.files.ReadFail.TheVariants as read
-use Rattle.key_core.specs.KeyFile.{key_file_key}
 use Rattle.key_core.specs.Keys.{composite_key}
-use Rattle.key_core.specs.declared.key_file.KeyFileFail.{KeyFileFail}
-use Rattle.key_core.specs.declared.key_file.KeyFileFail.TheVariants as key
 use Rattle.mac_core.specs.declared.fail.BlockFail.{BlockFail}
 use Rattle.mac_core.specs.declared.fail.BlockFail.TheVariants as block
-use Rattle.stream_core.specs.InnerStream.{NoKeystream}
 use Rattle.vault_model.specs.Tree.{BareDoc}
-use Rattle.vault_model.specs.declared.forms.DocForm.TheVariants.{Plain}
-use Rattle.doc_forms.specs.Documents.{DocumentAndHash, document}
+use Rattle.doc_forms.specs.Documents.{DocumentAndHash}
 use Rattle.doc_forms.specs.declared.fails.DocFail.{DocFail}
-use Rattle.doc_forms.specs.declared.fails.DocFail.TheVariants as doc
 use Rattle.kdbx_parts.specs.declared.fail.FrameFail.{FrameFail}
 use Rattle.kdbx_parts.specs.declared.fail.FrameFail.TheVariants as frame
 use Rattle.kdbx_open.specs.declared.fail.OpenFail.{OpenFail}
 use Rattle.kdbx_open.specs.declared.fail.OpenFail.TheVariants as sealed
-use Rattle.kdbx_open.specs.Causes.{file_limit}
 use Rattle.kdbx_open.specs.Files.{opening_of}
 use Rattle.kdbx_open.specs.Opening.{FileContents}
-use Rattle.kdbx_open.specs.declared.sealings.Sealing.{Sealing}
 use Rattle.cli_answers.specs.declared.answers.Reason.{Reason}
 use Rattle.cli_answers.specs.declared.answers.Reason.TheVariants as answer
 use Rattle.cli_answers.specs.declared.answers.Reason.TheVariants.{NoSuchFile, TooLarge, OutOfMemory}
@@ -35,23 +27,11 @@ use Rattle.cli_words.specs.Needs.{Needs}
 use Rattle.cli_lines.specs.Lines.{CanOpen, Lines}
 use Rattle.cli_answers.specs.Messages.{refusal_of, Refuses}
 use Rattle.outside_core.specs.Results.{◌>>=◌}
-use Rattle.cli_answers.specs.Phases.{IsFault, IsMemoryStop}
+use Rattle.cli_answers.specs.Phases.{IsMemoryStop}
+use Rattle.cli_files.specs.Answers.{IsUnread, document_answer}
+use Rattle.cli_files.specs.Files.{Opened, key_of, of_file, plain_document}
 
 -- ---- refusals of the crates below, as answers
-
--- A refusal of the document's reader.
-abbrev pub document_answer : DocFail → Reason
-document_answer (doc.Form place) = answer.Form place
-document_answer (doc.Depth place) = answer.Depth
-document_answer (doc.BadValue place) = answer.BadValue place
-document_answer (doc.Compressed place) = answer.Compressed
-document_answer (doc.TooDeep place) = answer.TooDeep
-document_answer (doc.TooMany count) = answer.TooMany
-document_answer (doc.NilId place) = answer.NilId place
-document_answer (doc.MissingElement which place) = answer.MissingElement place
-document_answer (doc.DuplicateId id) = answer.DuplicateId id
-document_answer (doc.BinaryRef number) = answer.BinaryRef number
-document_answer doc.NoMemory = OutOfMemory
 
 -- A refusal of the reader of headers and inner fields.
 abbrev pub frame_answer : FrameFail → Reason
@@ -98,19 +78,7 @@ open_answer (sealed.Doc fail) = document_answer fail
 open_answer (sealed.HeaderHash kept found) = answer.DamagedOrWrongKey kept found
 open_answer sealed.NoMemory = OutOfMemory
 
--- A refusal of a key file.
-abbrev pub key_answer : KeyFileFail → Reason
-key_answer (key.KeyFileForm place) = answer.BadKeyFile place
-key_answer (key.KeyFileHash kept found) = answer.KeyFileHash kept found
-key_answer key.NoMemory = OutOfMemory
-
 -- ---- databases
-
--- A database that was opened: its document, and what its file is sealed with, unless it is a plain
--- document.
-pub record Opened : Type 0 where
-  pub doc : BareDoc
-  pub sealing : Option Sealing
 
 -- A plain document.
 abbrev pub opened_plain : BareDoc → Opened
@@ -125,17 +93,6 @@ opened_under composite vault = record {
 
 -- ---- files
 
--- What is made of the bytes of the file of this name, which is there and not too large.
-abbrev pub of_file : {A : Type 0} → List ℕ → (List ℕ → Result A Refusal) → Option (List ℕ)
-    → Result A Refusal
-of_file name made None = Err (refusal_of NoSuchFile name)
-of_file name made (Some bytes) = cond (nat_le (length bytes) file_limit) (made bytes)
-    (Err (refusal_of TooLarge name))
-
--- What a text says as a plain document, which hides nothing and has no binaries beside it.
-unfoldable pub plain_document : List ℕ → Result DocumentAndHash DocFail
-plain_document text = document (record { form = Plain; keystream = NoKeystream }) [] text
-
 -- The plain document that the file of this name holds, or the refusal.
 abbrev pub document_or_refusal : List ℕ → Result DocumentAndHash DocFail → Result Opened Refusal
 document_or_refusal name (Ok read) = Ok (opened_plain read.0)
@@ -144,20 +101,6 @@ document_or_refusal name (Err fail) = Err (refusal_of (document_answer fail) nam
 -- What a file of this name holds as a plain document.
 abbrev pub plain_of : List ℕ → Option (List ℕ) → Result Opened Refusal
 plain_of name = of_file name (λ bytes. document_or_refusal name (plain_document bytes))
-
--- The key that the key file of this name gives, or the refusal.
-abbrev pub key_or_refusal : List ℕ → Result (List ℕ) KeyFileFail → Result (List ℕ) Refusal
-key_or_refusal name (Ok key) = Ok key
-key_or_refusal name (Err fail) = Err (refusal_of (key_answer fail) name)
-
--- The key of the key file of this name.
-abbrev pub key_in : List ℕ → Option (List ℕ) → Result (List ℕ) Refusal
-key_in name = of_file name (λ bytes. key_or_refusal name (key_file_key bytes))
-
--- The key of the key file, where one is named.
-abbrev pub key_of : Option (List ℕ) → FileMap → Result (Option (List ℕ)) Refusal
-key_of None files = Ok None
-key_of (Some name) files = key_in name (map.get files name) >>= λ key. Ok (Some key)
 
 -- The database that the file of this name is under a composite key, by what opening it answers.
 abbrev pub vault_or_refusal : List ℕ → List ℕ → Result FileContents OpenFail → Result Opened Refusal
@@ -235,13 +178,6 @@ CanOpenAll from same target (name ∷ names) (line ∷ lines) =
     CanOpen from (password_from same target line) × CanOpenAll from same target names lines
 
 -- ---- stops
-
--- The stop of a call that could not read the file of this name.
-abbrev pub IsUnread : ReadFail → List ℕ → Stop → Type 0
-IsUnread (read.TooLarge n) name stop = Refuses stop (refusal_of TooLarge name)
-IsUnread read.NoSuchFile name stop = Refuses stop (refusal_of NoSuchFile name)
-IsUnread read.FileFault name stop = IsFault stop name
-IsUnread read.NoMemory name stop = IsMemoryStop stop
 
 -- The stop of a call that could not open the file of this name.
 abbrev pub IsUnopened : OpenFail → List ℕ → Stop → Type 0

@@ -1,23 +1,17 @@
 -- What files hold of which a database is made, speaking of all their bytes.
-use Rattle.std.specs.Prelude.{◌≡◌, ◌≤◌, ℕ, Bool, true, false, List, [], ◌∷◌, length, Option, None, Some, Ok}
-use Rattle.std.specs.FinMap as map
+use Rattle.std.specs.Prelude.{◌≡◌, ℕ, Bool, true, false, List, [], ◌∷◌, Option, Ok}
 use Rattle.outside_core.specs.Files.{FileMap}
-use Rattle.key_core.specs.KeyFile.{key_file_key}
 use Rattle.key_core.specs.Keys.{composite_key}
 use Rattle.vault_model.specs.Tree.{BareDoc}
 use Rattle.doc_forms.specs.Documents.{DocumentAndHash}
-use Rattle.kdbx_open.specs.Causes.{file_limit}
 use Rattle.kdbx_open.specs.Opening.{FileContents}
 use Rattle.kdbx_open.specs.Sealed.{Sealed}
 use Rattle.cli_words.specs.declared.command.Access.{Access}
 use Rattle.cli_words.specs.Needs.{Needs}
 use Rattle.cli_lines.specs.Lines.{Lines}
-use Rattle.cli_databases.specs.Databases.{Databases, Opened, opened_plain, opened_under, password_from, plain_document}
-
--- The file of this name is there and within the limit, and these are its bytes.
-pub record IsThere (files : FileMap) (name bytes : List ℕ) : Type 0 where
-  pub found : map.get files name ≡ Some bytes
-  pub within : length bytes ≤ file_limit
+use Rattle.cli_files.specs.Files.{Opened, plain_document}
+use Rattle.cli_files.specs.Held.{GivesKey, IsThere}
+use Rattle.cli_databases.specs.Databases.{Databases, opened_plain, opened_under, password_from}
 
 -- The file of this name is a plain document, and the database is that.
 pub record IsPlain (file : List ℕ) (files : FileMap) (opened : Opened) : Type 0 where
@@ -26,17 +20,6 @@ pub record IsPlain (file : List ℕ) (files : FileMap) (opened : Opened) : Type 
   pub read : DocumentAndHash
   pub says : plain_document bytes ≡ Ok read
   pub is : opened_plain read.0 ≡ opened
-
--- The key file of this name gives this key.
-pub record IsKeyFile (name : List ℕ) (files : FileMap) (key : List ℕ) : Type 0 where
-  pub bytes : List ℕ
-  pub there : IsThere files name bytes
-  pub gives : key_file_key bytes ≡ Ok key
-
--- The key file gives this key, where one is named.
-abbrev pub GivesKey : Option (List ℕ) → FileMap → Option (List ℕ) → Type 0
-GivesKey None files key = key ≡ None
-GivesKey (Some name) files key = (k : List ℕ) × (IsKeyFile name files k × (key ≡ Some k))
 
 -- The file of this name holds the document of the database by its settings, sealed under the
 -- composite key of the password and the key file.

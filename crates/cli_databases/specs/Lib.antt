@@ -1,4 +1,5 @@
 pub mod Databases
 pub mod Held
+pub mod NoDocument
 pub mod SeenOpened
 pub mod SomeFiles

@@ -2,12 +2,8 @@
 use Rattle.std.specs.Prelude.{map}
 use Rattle.vault_model.specs.SeenDoc.{doc_seen}
 use Rattle.cli_databases.specs.declared.databases.Databases as memory
-use Rattle.cli_databases.specs.declared.databases.Opened as declared
-use Rattle.cli_databases.specs.Databases.{Databases, Opened}
-
--- A database by its document's nodes, and what its file is sealed with.
-abbrev pub opened_seen : declared.Opened → Opened
-opened_seen opened = record { doc = doc_seen opened.doc; sealing = opened.sealing }
+use Rattle.cli_databases.specs.Databases.{Databases}
+use Rattle.cli_files.specs.SeenOpened.{opened_seen}
 
 -- The databases of a call by the nodes of their documents, and what the file of the first is sealed
 -- with.

@@ -1,6 +1,5 @@
 -- What some bytes hold, whether or not the store reports its files: those that it handed out.
-use Rattle.std.specs.Prelude.{◌≡◌, ℕ, Bool, true, false, List, [], ◌∷◌, ◌++◌, Option, None, Some, Ok}
-use Rattle.key_core.specs.KeyFile.{key_file_key}
+use Rattle.std.specs.Prelude.{◌≡◌, ℕ, Bool, true, false, List, [], ◌∷◌, ◌++◌, Option, Ok}
 use Rattle.key_core.specs.Keys.{composite_key}
 use Rattle.vault_model.specs.Tree.{BareDoc}
 use Rattle.doc_forms.specs.Documents.{DocumentAndHash}
@@ -9,7 +8,9 @@ use Rattle.kdbx_open.specs.Sealed.{IsHeld}
 use Rattle.cli_words.specs.declared.command.Access.{Access}
 use Rattle.cli_words.specs.Needs.{Needs}
 use Rattle.cli_lines.specs.Lines.{Lines}
-use Rattle.cli_databases.specs.Databases.{Databases, Opened, opened_plain, opened_under, password_from, plain_document}
+use Rattle.cli_files.specs.Files.{Opened, plain_document}
+use Rattle.cli_files.specs.SomeFiles.{SomeKey}
+use Rattle.cli_databases.specs.Databases.{Databases, opened_plain, opened_under, password_from}
 
 -- Some bytes are a plain document, and the database is that.
 pub record SomePlain (opened : Opened) : Type 0 where
@@ -17,15 +18,6 @@ pub record SomePlain (opened : Opened) : Type 0 where
   pub read : DocumentAndHash
   pub says : plain_document bytes ≡ Ok read
   pub is : opened_plain read.0 ≡ opened
-
--- Some bytes are a key file that gives this key.
-abbrev pub IsSomeKey : List ℕ → Type 0
-IsSomeKey key = (bytes : List ℕ) × (key_file_key bytes ≡ Ok key)
-
--- The key is that of some key file, where one is named.
-abbrev pub SomeKey : Option (List ℕ) → Option (List ℕ) → Type 0
-SomeKey None key = key ≡ None
-SomeKey (Some name) key = (k : List ℕ) × (IsSomeKey k × (key ≡ Some k))
 
 -- Some bytes hold the document of the database by its settings, sealed under its composite key,
 -- which is this one.

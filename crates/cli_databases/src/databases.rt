@@ -1,44 +1,36 @@
 //! The databases of a call.
-ghost use Rattle.std.specs.Prelude.{◌≡◌, ◌≢◌, ◌≤◌, ◌⊎◌, [], ◌∷◌, ◌++◌, IfErr, IfOk, IfSome, IsSome, OnOk, Some, false, map, option_map};
+ghost use Rattle.std.specs.Prelude.{◌≡◌, ◌≢◌, ◌⊎◌, [], ◌∷◌, ◌++◌, IfErr, IfOk, IfSome, IsSome, OnOk, Some, false, map, option_map};
 ghost use Rattle.std.specs.FinMap as finmap;
 ghost use Rattle.outside_core.specs.Files.{FileMap};
-ghost use Rattle.key_core.specs.KeyFile.{key_file_key};
-ghost use Rattle.doc_forms.specs.Refusals as reader;
-ghost use Rattle.doc_forms.specs.SeenDocuments.{read_seen};
 ghost use Rattle.kdbx_frame.specs.Settings.{IsInOrder};
+ghost use Rattle.cli_files.specs.Files.{Opened as BareOpened};
+ghost use Rattle.cli_files.specs.LeavesFiles.{LeavesFiles};
+ghost use Rattle.cli_files.specs.SeenOpened.{opened_seen};
 ghost use Rattle.cli_databases.specs.Databases as spec;
-ghost use Rattle.cli_databases.specs.Databases.{CanOpenAll, IsUnopened, IsUnread, databases_of, docs_from, document_in, document_or_refusal, held_in, held_under, key_in, key_or_refusal, plain_document, plain_of, sealed_in, sources_of};
-ghost use Rattle.cli_databases.specs.SeenOpened.{databases_seen, opened_seen};
-ghost use Rattle.cli_databases.specs.SomeFiles.{GainsSources, IsSealedUnder, IsSomeKey, SomeDatabases, SomeHolds, SomeKey, SomePlain, SomeSources};
+ghost use Rattle.cli_databases.specs.Databases.{CanOpenAll, IsUnopened, databases_of, docs_from, document_in, held_in, held_under, plain_of, sealed_in, sources_of};
+ghost use Rattle.cli_databases.specs.SeenOpened.{databases_seen};
+ghost use Rattle.cli_databases.specs.SomeFiles.{GainsSources, IsSealedUnder, SomeDatabases, SomeHolds, SomePlain, SomeSources};
 ghost use Rattle.key_core.specs.Keys.{composite_key};
 ghost use Rattle.cli_lines.specs.Lines.{CanOpen, HasLines};
 ghost use Rattle.cli_lines.specs.SeenLines.{line_seen, lines_seen};
 ghost use Rattle.vault_model.specs.SeenDoc.{doc_seen};
-ghost use Rattle.cli_answers.specs.Phases.{Returns, IsFileStop, IsPlainStop};
+ghost use Rattle.cli_answers.specs.Phases.{Returns, IsFileStop};
 ghost use Rattle.cli_words.specs.Needs.{HasKeys, database_files, files_of, key_files, source_files};
 ghost use Rattle.cli_words.specs.SeenNeeds.{needs_seen};
 
+use crate::plain::build;
 use cli_answers::{Reason, Stop, refused};
+use cli_files::{Opened, bytes_in, document_answer, key_of, name_in, unread};
 use cli_lines::Lines;
 use cli_words::{Access, Needs};
-use doc_read::{DocFail, ReadDoc, read_parts, resolve};
 use kdbx_frame::FrameFail;
 use kdbx_open::{FILE_LIMIT, OpenFail, Sealing, open_file, release_key};
-use key_core::{KeyFileFail, composite, read_key_file};
+use key_core::composite;
 use mac_core::BlockFail;
-use outside_core::{FileStore, List, NoMemory, Text};
-use secret_core::{Key, ReadFail, Secret, read_file};
+use outside_core::{FileStore, List, Text};
+use secret_core::{Key, Secret, read_file};
 use std::alloc::Global;
-use stream_core::InnerStream;
-use vault_model::{Doc, DocForm};
-
-/// A database that was opened.
-pub struct Opened {
-    /// Its document.
-    pub doc: Doc,
-    /// What its file is sealed with, unless it is a plain document.
-    pub sealing: Option<Sealing>,
-}
+use vault_model::Doc;
 
 /// The databases of a call.
 pub struct Databases {
@@ -46,41 +38,6 @@ pub struct Databases {
     pub target: Opened,
     /// The documents of its sources.
     pub sources: List<Doc>,
-}
-
-/// The stop of a call that could not read the file of this name.
-pub fn unread(alloc: Global, fail: ReadFail, name: &str) -> Stop
-    ensures { IsUnread fail name.now result }
-{
-    match fail {
-        ReadFail::TooLarge(_) => refused(alloc, Reason::TooLarge, name),
-        ReadFail::NoSuchFile => refused(alloc, Reason::NoSuchFile, name),
-        ReadFail::FileFault => match Text::of(alloc, name) {
-            Ok(name) => Stop::FileFault(name),
-            Err(NoMemory) => Stop::NoMemory,
-        },
-        ReadFail::NoMemory => Stop::NoMemory,
-    }
-}
-
-/// The answer that a refusal of the document's reader is.
-pub fn document_answer(fail: DocFail) -> Reason
-    ensures is { result ≡ spec.document_answer fail }
-    ensures there { result ≢ Reason.NoSuchFile }
-{
-    match fail {
-        DocFail::Form(at) => Reason::Form(at),
-        DocFail::Depth(_) => Reason::Depth,
-        DocFail::BadValue(at) => Reason::BadValue(at),
-        DocFail::Compressed(_) => Reason::Compressed,
-        DocFail::TooDeep(_) => Reason::TooDeep,
-        DocFail::TooMany(_) => Reason::TooMany,
-        DocFail::NilId(at) => Reason::NilId(at),
-        DocFail::MissingElement(_, at) => Reason::MissingElement(at),
-        DocFail::DuplicateId(id) => Reason::DuplicateId(id),
-        DocFail::BinaryRef(number) => Reason::BinaryRef(number),
-        DocFail::NoMemory => Reason::OutOfMemory,
-    }
 }
 
 // The answer that a refusal of a header or of inner fields is.
@@ -120,18 +77,6 @@ fn block_answer(fail: BlockFail) -> Reason
     }
 }
 
-// The answer that a refusal of a key file is.
-fn key_answer(fail: KeyFileFail) -> Reason
-    ensures is { result ≡ spec.key_answer fail }
-    ensures there { result ≢ Reason.NoSuchFile }
-{
-    match fail {
-        KeyFileFail::KeyFileForm(at) => Reason::BadKeyFile(at),
-        KeyFileFail::KeyFileHash { kept, found } => Reason::KeyFileHash { kept, found },
-        KeyFileFail::NoMemory => Reason::OutOfMemory,
-    }
-}
-
 // What is refused when a file is not opened.
 fn unopened(alloc: Global, fail: OpenFail, name: &str) -> Stop
     ensures { IsUnopened fail name.now result }
@@ -155,38 +100,6 @@ fn unopened(alloc: Global, fail: OpenFail, name: &str) -> Stop
     }
 }
 
-/// The plain document that a text is, which is dropped before the document is made.
-#[tactic(auto, unfolding(crate::specs::Databases::plain_document))]
-pub fn read_plain(alloc: Global, text: Secret) -> Result<ReadDoc, DocFail>
-    ensures { reader.Returns read_seen result (plain_document text.bytes) }
-{
-    let mut stream = InnerStream::Clear;
-    let parts = read_parts(alloc, text.lend(0, text.len()), DocForm::Plain, &mut stream)?;
-    drop(text);
-    resolve(alloc, &List::new(alloc), parts)
-}
-
-// The plain document in these bytes of a file.
-fn build(alloc: Global, name: &str, bytes: Secret) -> Result<Opened, Stop>
-    ensures gives { Returns opened_seen result
-        (document_or_refusal name.now (plain_document bytes.bytes)) }
-    ensures some_file { IfOk result (λ opened. SomePlain (opened_seen opened)) }
-    ensures in_order { IfOk result (λ opened. IfSome opened.sealing (λ sealing.
-        IsInOrder sealing.settings)) }
-    ensures cause { IfErr result IsPlainStop }
-{
-    match read_plain(alloc, bytes) {
-        Ok(
-            ReadDoc {
-                doc,
-                header_hash: _,
-            },
-        ) => Ok(Opened { doc, sealing: None }),
-        Err(DocFail::NoMemory) => Err(Stop::NoMemory),
-        Err(fail) => Err(refused(alloc, document_answer(fail), name)),
-    }
-}
-
 // The plain document in a file.
 fn open_plain<F: FileStore>(alloc: Global, files: &mut F, name: &str) -> Result<Opened, Stop>
     ensures told { (m : FileMap) → F.files files.old ≡ Some m
@@ -196,11 +109,8 @@ fn open_plain<F: FileStore>(alloc: Global, files: &mut F, name: &str) -> Result<
         IsInOrder sealing.settings)) }
     ensures cause { IfErr result (IsFileStop (name.now ∷ []) (F.faults files.old)
         (F.faults files.new) (F.absences files.old) (F.absences files.new)) }
-    ensures faults { F.faults files.old ≤ F.faults files.new }
-    ensures absences { F.absences files.old ≤ F.absences files.new }
-    ensures files { F.files files.new ≡ F.files files.old }
-    ensures draft_name { F.draft_name files.new ≡ F.draft_name files.old }
-    ensures draft_bytes { F.draft_bytes files.new ≡ F.draft_bytes files.old }
+    ensures leaves { LeavesFiles F.files F.draft_name F.draft_bytes F.faults F.absences files.old
+        files.new }
 {
     match read_file(alloc, files, name, FILE_LIMIT) {
         Ok(bytes) => build(alloc, name, bytes),
@@ -208,65 +118,24 @@ fn open_plain<F: FileStore>(alloc: Global, files: &mut F, name: &str) -> Result<
     }
 }
 
-// The key in these bytes of a key file.
-fn key_by(alloc: Global, name: &str, bytes: &Secret) -> Result<Key, Stop>
-    ensures gives { Returns (λ key. key) result
-        (key_or_refusal name.now (key_file_key bytes.now.bytes)) }
-    ensures some_file { IfOk result IsSomeKey }
-    ensures cause { IfErr result IsPlainStop }
+// A database that was opened under its composite key, which goes on with it.
+fn sealed_by(opened: kdbx_open::Opened) -> Opened
+    ensures { result ≡ record {
+      doc = opened.doc;
+      sealing = Some (record { settings = opened.settings; composite = opened.composite });
+    } }
 {
-    match read_key_file(alloc, bytes.lend(0, bytes.len())) {
-        Ok(key) => Ok(key),
-        Err(KeyFileFail::NoMemory) => Err(Stop::NoMemory),
-        Err(fail) => Err(refused(alloc, key_answer(fail), name)),
-    }
-}
-
-// The key of a key file.
-fn open_key_file<F: FileStore>(alloc: Global, files: &mut F, name: &str) -> Result<Key, Stop>
-    ensures told { (m : FileMap) → F.files files.old ≡ Some m
-        → Returns (λ key. key) result (key_in name.now (finmap.get m name.now)) }
-    ensures some_file { IfOk result IsSomeKey }
-    ensures cause { IfErr result (IsFileStop (name.now ∷ []) (F.faults files.old)
-        (F.faults files.new) (F.absences files.old) (F.absences files.new)) }
-    ensures faults { F.faults files.old ≤ F.faults files.new }
-    ensures absences { F.absences files.old ≤ F.absences files.new }
-    ensures files { F.files files.new ≡ F.files files.old }
-    ensures draft_name { F.draft_name files.new ≡ F.draft_name files.old }
-    ensures draft_bytes { F.draft_bytes files.new ≡ F.draft_bytes files.old }
-{
-    match read_file(alloc, files, name, FILE_LIMIT) {
-        Ok(bytes) => key_by(alloc, name, &bytes),
-        Err(fail) => Err(unread(alloc, fail, name)),
-    }
-}
-
-/// The key of the key file, where one is named. It must be cleared and released.
-pub fn key_of<F: FileStore>(
-    alloc: Global,
-    files: &mut F,
-    key_file: Option<&str>,
-) -> Result<Option<Key>, Stop>
-    ensures told { (m : FileMap) → F.files files.old ≡ Some m
-        → Returns (λ key. key) result
-        (spec.key_of (option_map (λ name. name.now) key_file.entry) m) }
-    ensures given { IfOk result (λ key. IsSome key_file.entry → IsSome key) }
-    ensures some_file { IfOk result (SomeKey (option_map (λ name. name.now) key_file.entry)) }
-    ensures cause { IfErr result (IsFileStop (key_files
-        (option_map (λ name. name.now) key_file.entry)) (F.faults files.old) (F.faults files.new)
-        (F.absences files.old) (F.absences files.new)) }
-    ensures faults { F.faults files.old ≤ F.faults files.new }
-    ensures absences { F.absences files.old ≤ F.absences files.new }
-    ensures files { F.files files.new ≡ F.files files.old }
-    ensures draft_name { F.draft_name files.new ≡ F.draft_name files.old }
-    ensures draft_bytes { F.draft_bytes files.new ≡ F.draft_bytes files.old }
-{
-    match key_file {
-        Some(name) => match open_key_file(alloc, files, name) {
-            Ok(key) => Ok(Some(key)),
-            Err(stop) => Err(stop),
-        },
-        None => Ok(None),
+    let kdbx_open::Opened {
+        doc,
+        settings,
+        composite,
+    } = opened;
+    Opened {
+        doc,
+        sealing: Some(Sealing {
+            settings,
+            composite,
+        }),
     }
 }
 
@@ -286,26 +155,11 @@ fn open_under<F: FileStore>(
         IsInOrder sealing.settings)) }
     ensures cause { IfErr result (IsFileStop (name.now ∷ []) (F.faults files.old)
         (F.faults files.new) (F.absences files.old) (F.absences files.new)) }
-    ensures faults { F.faults files.old ≤ F.faults files.new }
-    ensures absences { F.absences files.old ≤ F.absences files.new }
-    ensures files { F.files files.new ≡ F.files files.old }
-    ensures draft_name { F.draft_name files.new ≡ F.draft_name files.old }
-    ensures draft_bytes { F.draft_bytes files.new ≡ F.draft_bytes files.old }
+    ensures leaves { LeavesFiles F.files F.draft_name F.draft_bytes F.faults F.absences files.old
+        files.new }
 {
     match open_file(alloc, files, name, composite) {
-        Ok(
-            kdbx_open::Opened {
-                doc,
-                settings,
-                composite,
-            },
-        ) => Ok(Opened {
-            doc,
-            sealing: Some(Sealing {
-                settings,
-                composite,
-            }),
-        }),
+        Ok(opened) => Ok(sealed_by(opened)),
         Err(fail) => Err(unopened(alloc, fail, name)),
     }
 }
@@ -329,23 +183,10 @@ fn open_sealed<F: FileStore>(
         IsInOrder sealing.settings)) }
     ensures cause { IfErr result (IsFileStop (name.now ∷ []) (F.faults files.old)
         (F.faults files.new) (F.absences files.old) (F.absences files.new)) }
-    ensures faults { F.faults files.old ≤ F.faults files.new }
-    ensures absences { F.absences files.old ≤ F.absences files.new }
-    ensures files { F.files files.new ≡ F.files files.old }
-    ensures draft_name { F.draft_name files.new ≡ F.draft_name files.old }
-    ensures draft_bytes { F.draft_bytes files.new ≡ F.draft_bytes files.old }
+    ensures leaves { LeavesFiles F.files F.draft_name F.draft_bytes F.faults F.absences files.old
+        files.new }
 {
     open_under(alloc, files, name, composite(password, key))
-}
-
-/// The name that is given, if one is.
-pub fn name_in(name: &Option<Text>) -> Option<&str>
-    ensures { option_map (λ n. n.now) result ≡ name.now }
-{
-    match name {
-        Some(name) => Some(name.as_str()),
-        None => None,
-    }
 }
 
 // What a file holds: a document by itself, or else sealed.
@@ -366,11 +207,8 @@ fn open_held<F: FileStore>(
         IsInOrder sealing.settings)) }
     ensures cause { IfErr result (IsFileStop (key_files access.now.key_file ++ file.now ∷ [])
         (F.faults files.old) (F.faults files.new) (F.absences files.old) (F.absences files.new)) }
-    ensures faults { F.faults files.old ≤ F.faults files.new }
-    ensures absences { F.absences files.old ≤ F.absences files.new }
-    ensures files { F.files files.new ≡ F.files files.old }
-    ensures draft_name { F.draft_name files.new ≡ F.draft_name files.old }
-    ensures draft_bytes { F.draft_bytes files.new ≡ F.draft_bytes files.old }
+    ensures leaves { LeavesFiles F.files F.draft_name F.draft_bytes F.faults F.absences files.old
+        files.new }
 {
     if access.plain {
         return open_plain(alloc, files, file);
@@ -386,16 +224,6 @@ fn document(opened: Opened) -> Doc
     let Opened { doc, sealing } = opened;
     release_key(sealing);
     doc
-}
-
-/// The bytes of a line, where there is one.
-pub fn bytes_in(line: &Option<Secret>) -> Option<&[u8]>
-    ensures { option_map (λ bytes. bytes.now) result ≡ line_seen line.now }
-{
-    match line {
-        Some(line) => Some(line.lend(0, line.len())),
-        None => None,
-    }
 }
 
 // The password of a source: that of the target, or the source's own line.
@@ -422,16 +250,13 @@ fn open_source<F: FileStore>(
     ensures told { (m : FileMap) → F.files files.old ≡ Some m
         → Returns doc_seen result (document_in from.now name.now
         (option_map (λ p. p.now) password.entry) m) }
-    ensures some_file { IfOk result (λ doc. (opened : spec.Opened)
+    ensures some_file { IfOk result (λ doc. (opened : BareOpened)
         × (SomeHolds from.now.plain from.now.key_file (option_map (λ p. p.now) password.entry)
         opened × (opened.doc ≡ doc_seen doc))) }
     ensures cause { IfErr result (IsFileStop (database_files from.now name.now)
         (F.faults files.old) (F.faults files.new) (F.absences files.old) (F.absences files.new)) }
-    ensures faults { F.faults files.old ≤ F.faults files.new }
-    ensures absences { F.absences files.old ≤ F.absences files.new }
-    ensures files { F.files files.new ≡ F.files files.old }
-    ensures draft_name { F.draft_name files.new ≡ F.draft_name files.old }
-    ensures draft_bytes { F.draft_bytes files.new ≡ F.draft_bytes files.old }
+    ensures leaves { LeavesFiles F.files F.draft_name F.draft_bytes F.faults F.absences files.old
+        files.new }
 {
     match open_held(alloc, files, from, name.as_str(), password) {
         Ok(opened) => Ok(document(opened)),
@@ -461,11 +286,8 @@ fn open_sources<F: FileStore>(
     ensures cause { IfErr result (IsFileStop
         (source_files needs.entry.from.now needs.entry.sources.now)
         (F.faults files.old) (F.faults files.new) (F.absences files.old) (F.absences files.new)) }
-    ensures faults { F.faults files.old ≤ F.faults files.new }
-    ensures absences { F.absences files.old ≤ F.absences files.new }
-    ensures files { F.files files.new ≡ F.files files.old }
-    ensures draft_name { F.draft_name files.new ≡ F.draft_name files.old }
-    ensures draft_bytes { F.draft_bytes files.new ≡ F.draft_bytes files.old }
+    ensures leaves { LeavesFiles F.files F.draft_name F.draft_bytes F.faults F.absences files.old
+        files.new }
 {
     let [name, names @ ..] = needs.sources else {
         return Ok(());
@@ -503,10 +325,8 @@ fn open_all<F: FileStore>(
     ensures cause { IfErr result (IsFileStop
         (source_files needs.entry.from.now needs.entry.sources.now)
         (F.faults files.old) (F.faults files.new) (F.absences files.old) (F.absences files.new)) }
-    ensures faults { F.faults files.old ≤ F.faults files.new }
-    ensures files { F.files files.new ≡ F.files files.old }
-    ensures draft_name { F.draft_name files.new ≡ F.draft_name files.old }
-    ensures draft_bytes { F.draft_bytes files.new ≡ F.draft_bytes files.old }
+    ensures leaves { LeavesFiles F.files F.draft_name F.draft_bytes F.faults F.absences files.old
+        files.new }
 {
     let mut docs = List::new(alloc);
     let target = bytes_in(&lines.password);
@@ -544,10 +364,8 @@ pub fn open<F: FileStore>(
         IsInOrder sealing.settings)) }
     ensures cause { IfErr result (IsFileStop (files_of (needs_seen needs.entry))
         (F.faults files.old) (F.faults files.new) (F.absences files.old) (F.absences files.new)) }
-    ensures faults { F.faults files.old ≤ F.faults files.new }
-    ensures files { F.files files.new ≡ F.files files.old }
-    ensures draft_name { F.draft_name files.new ≡ F.draft_name files.old }
-    ensures draft_bytes { F.draft_bytes files.new ≡ F.draft_bytes files.old }
+    ensures leaves { LeavesFiles F.files F.draft_name F.draft_bytes F.faults F.absences files.old
+        files.new }
 {
     let password = bytes_in(&lines.password);
     let target = open_held(alloc, files, needs.access, needs.file.as_str(), password)?;

@@ -2,7 +2,6 @@
 #![tactic(auto)]
 
 mod databases;
+mod plain;
 
-pub use databases::{
-    Databases, Opened, bytes_in, document_answer, key_of, name_in, open, read_plain, unread,
-};
+pub use databases::{Databases, open};

@@ -25,8 +25,8 @@ use Rattle.cli_words.specs.Needs.{ImportNeeds}
 use Rattle.cli_words.specs.declared.command.ImportFormat.{ImportFormat}
 use Rattle.cli_words.specs.declared.command.ImportFormat.TheVariants.{Xml, Psafe, Csv}
 use Rattle.cli_lines.specs.Lines.{Lines}
-use Rattle.cli_databases.specs.Databases.{Opened, key_of, plain_document}
-use Rattle.cli_databases.proofs.HeldFiles.{given, in_turn, key_given, key_held, used}
+use Rattle.cli_files.specs.Files.{Opened, key_of, plain_document}
+use Rattle.cli_files.proofs.HeldKeys.{given, in_turn, key_given, key_held, used}
 use Rattle.cli_importing.specs.Held.{HoldsImport, IsDocumentBy, IsSealingBy}
 use Rattle.cli_importing.specs.Imports.{at_stamp, document_by, given_password, imported_of, new_sealing, plain_or_refusal, refuse_file, safe_or_refusal, sealing_of, source_of, table_or_refusal}
 

@@ -10,7 +10,7 @@ use Rattle.cli_answers.specs.declared.answers.Stop.{Stop}
 use Rattle.cli_answers.specs.declared.answers.Stop.TheVariants.{Refused, FileFault, InputFault, NoMemory}
 use Rattle.cli_words.specs.Needs.{ImportNeeds}
 use Rattle.cli_lines.specs.Lines.{Lines}
-use Rattle.cli_databases.proofs.Stops.{first_at_files, later_at_files}
+use Rattle.cli_files.proofs.FileStops.{first_at_files, later_at_files}
 use Rattle.cli_importing.specs.Imports.{imported_of, refuse_file, sealing_of, source_of}
 
 module _ (import : ImportNeeds) (lines : Lines) (time : ℕ) (files : FileMap) (password : Option (List ℕ)) (name : List ℕ) (doc : BareDoc)

@@ -1,3 +1,4 @@
 pub mod HeldImports
 pub mod Imported
+pub mod Refused
 pub mod Sealings

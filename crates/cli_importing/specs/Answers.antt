@@ -1,6 +1,13 @@
--- Refusals of the readers of other programs' files, as answers.
+-- Refusals of the readers of other programs' files, as answers, and stops at documents.
+use Rattle.std.specs.Prelude.{ℕ, List}
 use Rattle.cli_answers.specs.declared.answers.Reason.{Reason}
 use Rattle.cli_answers.specs.declared.answers.Reason.TheVariants as answer
+use Rattle.cli_answers.specs.declared.answers.Stop.{Stop}
+use Rattle.cli_answers.specs.Messages.{refusal_of, Refuses}
+use Rattle.cli_answers.specs.Phases.{IsMemoryStop}
+use Rattle.cli_files.specs.Answers.{document_answer}
+use Rattle.doc_forms.specs.declared.fails.DocFail.{DocFail}
+use Rattle.doc_forms.specs.declared.fails.DocFail.TheVariants as doc
 use Rattle.psafe_file.specs.declared.fails.PsafeFail.{PsafeFail}
 use Rattle.psafe_file.specs.declared.fails.PsafeFail.TheVariants as safe
 use Rattle.table_reading.specs.declared.fails.TableFail.{TableFail}
@@ -28,3 +35,18 @@ table_answer (table.BadTime number) = answer.BadRow number
 table_answer (table.DuplicateId id) = answer.DuplicateId id
 table_answer (table.TooDeep id) = answer.TooDeep
 table_answer table.NoMemory = answer.OutOfMemory
+
+-- The stop of a call that could not make the plain document of the file of this name.
+abbrev pub IsDocumentStop : DocFail → List ℕ → Stop → Type 0
+IsDocumentStop doc.NoMemory name stop = IsMemoryStop stop
+IsDocumentStop why name stop = Refuses stop (refusal_of (document_answer why) name)
+
+-- The stop of a call that could not read the file of Password Safe of this name.
+abbrev pub IsSafeStop : PsafeFail → List ℕ → Stop → Type 0
+IsSafeStop safe.NoMemory name stop = IsMemoryStop stop
+IsSafeStop why name stop = Refuses stop (refusal_of (safe_answer why) name)
+
+-- The stop of a call that could not read the table of this name.
+abbrev pub IsTableStop : TableFail → List ℕ → Stop → Type 0
+IsTableStop table.NoMemory name stop = IsMemoryStop stop
+IsTableStop why name stop = Refuses stop (refusal_of (table_answer why) name)

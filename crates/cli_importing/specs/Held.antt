@@ -12,9 +12,9 @@ use Rattle.cli_words.specs.Needs.{ImportNeeds}
 use Rattle.cli_words.specs.declared.command.ImportFormat.{ImportFormat}
 use Rattle.cli_words.specs.declared.command.ImportFormat.TheVariants.{Xml, Psafe, Csv}
 use Rattle.cli_lines.specs.Lines.{Lines}
-use Rattle.cli_databases.specs.Databases.{Opened, plain_document}
-use Rattle.cli_databases.specs.Held.{GivesKey, IsThere}
-use Rattle.cli_databases.specs.SomeFiles.{SomeKey}
+use Rattle.cli_files.specs.Files.{Opened, plain_document}
+use Rattle.cli_files.specs.Held.{GivesKey, IsThere}
+use Rattle.cli_files.specs.SomeFiles.{SomeKey}
 use Rattle.cli_importing.specs.Imports.{given_password, new_sealing}
 
 -- ---- documents

@@ -25,7 +25,8 @@ use Rattle.cli_words.specs.Needs.{ImportNeeds}
 use Rattle.cli_words.specs.declared.command.ImportFormat.{ImportFormat}
 use Rattle.cli_words.specs.declared.command.ImportFormat.TheVariants.{Xml, Psafe, Csv}
 use Rattle.cli_lines.specs.Lines.{Lines}
-use Rattle.cli_databases.specs.Databases.{Opened, document_answer, key_of, of_file, plain_document}
+use Rattle.cli_files.specs.Answers.{document_answer}
+use Rattle.cli_files.specs.Files.{Opened, key_of, of_file, plain_document}
 use Rattle.cli_importing.specs.Answers.{safe_answer, table_answer}
 
 -- ---- the source

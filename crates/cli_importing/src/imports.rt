@@ -1,10 +1,11 @@
 //! The database that an import makes.
-ghost use Rattle.std.specs.Prelude.{◌≡◌, ◌≤◌, [], ◌∷◌, IfErr, IfOk, IfSome, Some, option_map};
+ghost use Rattle.std.specs.Prelude.{◌≡◌, [], ◌∷◌, IfErr, IfOk, IfSome, Some, option_map};
 ghost use Rattle.std.specs.FinMap as finmap;
 ghost use Rattle.outside_core.specs.Files.{FileMap};
 ghost use Rattle.kdbx_frame.specs.Settings.{IsInOrder};
 ghost use Rattle.cli_answers.specs.Phases.{IsFault, IsFileStop, Returns};
-ghost use Rattle.cli_databases.specs.SeenOpened.{opened_seen};
+ghost use Rattle.cli_files.specs.LeavesFiles.{LeavesFiles};
+ghost use Rattle.cli_files.specs.SeenOpened.{opened_seen};
 ghost use Rattle.cli_lines.specs.Lines.{CanOpen};
 ghost use Rattle.cli_lines.specs.SeenLines.{line_seen, lines_seen};
 ghost use Rattle.cli_words.specs.Needs.{key_files};
@@ -15,7 +16,7 @@ ghost use Rattle.cli_importing.specs.Imports.{imported_of, refuse_file, sealing_
 
 use crate::sources::read_source;
 use cli_answers::{Reason, Stop, refused};
-use cli_databases::{Opened, bytes_in, key_of, name_in};
+use cli_files::{Opened, bytes_in, key_of, name_in};
 use cli_lines::Lines;
 use cli_words::{Access, ImportNeeds};
 use kdbx_frame::{Cipher, FileVersion, Settings};
@@ -40,11 +41,8 @@ fn refuse_existing<F: FileStore>(alloc: Global, files: &mut F, name: &str) -> Re
         → Returns (λ u. u) result (refuse_file name.now (finmap.get m name.now)) }
     ensures cause { IfErr result (IsFileStop (name.now ∷ []) (F.faults files.old)
         (F.faults files.new) (F.absences files.old) (F.absences files.new)) }
-    ensures faults { F.faults files.old ≤ F.faults files.new }
-    ensures absences { F.absences files.old ≤ F.absences files.new }
-    ensures files { F.files files.new ≡ F.files files.old }
-    ensures draft_name { F.draft_name files.new ≡ F.draft_name files.old }
-    ensures draft_bytes { F.draft_bytes files.new ≡ F.draft_bytes files.old }
+    ensures leaves { LeavesFiles F.files F.draft_name F.draft_bytes F.faults F.absences files.old
+        files.new }
 {
     match files.size(name) {
         Ok(_) => Err(refused(alloc, Reason::FileExists, name)),
@@ -100,11 +98,8 @@ fn new_sealing<F: FileStore>(
     ensures in_order { IfOk result (λ sealing. IfSome sealing (λ s. IsInOrder s.settings)) }
     ensures cause { IfErr result (IsFileStop (key_files access.now.key_file)
         (F.faults files.old) (F.faults files.new) (F.absences files.old) (F.absences files.new)) }
-    ensures faults { F.faults files.old ≤ F.faults files.new }
-    ensures absences { F.absences files.old ≤ F.absences files.new }
-    ensures files { F.files files.new ≡ F.files files.old }
-    ensures draft_name { F.draft_name files.new ≡ F.draft_name files.old }
-    ensures draft_bytes { F.draft_bytes files.new ≡ F.draft_bytes files.old }
+    ensures leaves { LeavesFiles F.files F.draft_name F.draft_bytes F.faults F.absences files.old
+        files.new }
 {
     if access.plain {
         return Ok(None);
@@ -138,10 +133,8 @@ pub fn import<F: FileStore>(
     ensures cause { IfErr result (IsFileStop (import.entry.source.now
         ∷ import.entry.file.now ∷ key_files import.entry.access.now.key_file)
         (F.faults files.old) (F.faults files.new) (F.absences files.old) (F.absences files.new)) }
-    ensures faults { F.faults files.old ≤ F.faults files.new }
-    ensures files { F.files files.new ≡ F.files files.old }
-    ensures draft_name { F.draft_name files.new ≡ F.draft_name files.old }
-    ensures draft_bytes { F.draft_bytes files.new ≡ F.draft_bytes files.old }
+    ensures leaves { LeavesFiles F.files F.draft_name F.draft_bytes F.faults F.absences files.old
+        files.new }
 {
     let doc = read_source(alloc, files, import, bytes_in(&lines.password), now)?;
     refuse_existing(alloc, files, import.file.as_str())?;

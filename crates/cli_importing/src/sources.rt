@@ -1,19 +1,21 @@
 //! The document of an import's source.
-ghost use Rattle.std.specs.Prelude.{◌≡◌, ◌≢◌, ◌≤◌, ℕ, List, [], ◌∷◌, IfErr, IfOk, Some, option_map};
+ghost use Rattle.std.specs.Prelude.{◌≡◌, ◌≢◌, ℕ, List, [], ◌∷◌, IfErr, IfOk, Some, option_map};
 ghost use Rattle.outside_core.specs.Files.{FileMap};
 ghost use Rattle.psafe_core.specs.Outcome.{psafe_outcome};
 ghost use Rattle.table_reading.specs.Documents.{csv_document};
 ghost use Rattle.vault_model.specs.SeenDoc.{doc_seen};
 ghost use Rattle.cli_answers.specs.Phases.{IsFileStop, IsPlainStop, Returns};
-ghost use Rattle.cli_databases.specs.Databases.{plain_document};
+ghost use Rattle.cli_files.specs.Files.{plain_document};
+ghost use Rattle.cli_files.specs.LeavesFiles.{LeavesFiles};
 ghost use Rattle.cli_words.specs.declared.command.ImportFormat.TheVariants as format;
 ghost use Rattle.cli_words.specs.SeenNeeds.{import_seen};
 ghost use Rattle.cli_importing.specs.Answers as spec;
+ghost use Rattle.cli_importing.specs.Answers.{IsDocumentStop, IsSafeStop, IsTableStop};
 ghost use Rattle.cli_importing.specs.Held.{IsDocumentBy};
 ghost use Rattle.cli_importing.specs.Imports.{document_by, given_password, plain_or_refusal, safe_or_refusal, source_of, table_or_refusal};
 
 use cli_answers::{Reason, Stop, refused};
-use cli_databases::{document_answer, read_plain, unread};
+use cli_files::{document_answer, read_plain, unread};
 use cli_words::{ImportFormat, ImportNeeds};
 use doc_read::{DocFail, ReadDoc};
 use kdbx_open::FILE_LIMIT;
@@ -61,6 +63,17 @@ fn table_answer(fail: TableFail) -> Reason
     }
 }
 
+// The stop of a call that could not make the document of the file of this name.
+fn document_stop(alloc: Global, fail: DocFail, name: &str) -> Stop
+    ensures stop { IsDocumentStop fail name.now result }
+    ensures cause { IsPlainStop result }
+{
+    if let DocFail::NoMemory = fail {
+        return Stop::NoMemory;
+    }
+    refused(alloc, document_answer(fail), name)
+}
+
 // The plain document in these bytes of a file.
 fn read_document(alloc: Global, name: &str, bytes: Secret) -> Result<Doc, Stop>
     ensures gives { Returns doc_seen result
@@ -74,8 +87,7 @@ fn read_document(alloc: Global, name: &str, bytes: Secret) -> Result<Doc, Stop>
                 header_hash: _,
             },
         ) => Ok(doc),
-        Err(DocFail::NoMemory) => Err(Stop::NoMemory),
-        Err(fail) => Err(refused(alloc, document_answer(fail), name)),
+        Err(fail) => Err(document_stop(alloc, fail, name)),
     }
 }
 
@@ -87,6 +99,17 @@ fn given_password<'a>(password: Option<&'a [u8]>) -> &'a [u8]
         Some(password) => password,
         None => &[],
     }
+}
+
+// The stop of a call that could not read the file of Password Safe of this name.
+fn safe_stop(alloc: Global, fail: PsafeFail, name: &str) -> Stop
+    ensures stop { IsSafeStop fail name.now result }
+    ensures cause { IsPlainStop result }
+{
+    if let PsafeFail::NoMemory = fail {
+        return Stop::NoMemory;
+    }
+    refused(alloc, safe_answer(fail), name)
 }
 
 // The document of a file of Password Safe, under its password.
@@ -108,9 +131,19 @@ fn read_safe(
         now,
     ) {
         Ok(doc) => Ok(doc),
-        Err(PsafeFail::NoMemory) => Err(Stop::NoMemory),
-        Err(fail) => Err(refused(alloc, safe_answer(fail), name)),
+        Err(fail) => Err(safe_stop(alloc, fail, name)),
     }
+}
+
+// The stop of a call that could not read the table of this name.
+fn table_stop(alloc: Global, fail: TableFail, name: &str) -> Stop
+    ensures stop { IsTableStop fail name.now result }
+    ensures cause { IsPlainStop result }
+{
+    if let TableFail::NoMemory = fail {
+        return Stop::NoMemory;
+    }
+    refused(alloc, table_answer(fail), name)
 }
 
 // The document of a table.
@@ -121,8 +154,7 @@ fn read_table(alloc: Global, name: &str, bytes: &Secret, now: Stamp) -> Result<D
 {
     match import_csv(alloc, bytes.lend(0, bytes.len()), now) {
         Ok(doc) => Ok(doc),
-        Err(TableFail::NoMemory) => Err(Stop::NoMemory),
-        Err(fail) => Err(refused(alloc, table_answer(fail), name)),
+        Err(fail) => Err(table_stop(alloc, fail, name)),
     }
 }
 
@@ -168,11 +200,8 @@ pub(crate) fn read_source<F: FileStore>(
         (doc_seen doc)) }
     ensures cause { IfErr result (IsFileStop (import.entry.source.now ∷ []) (F.faults files.old)
         (F.faults files.new) (F.absences files.old) (F.absences files.new)) }
-    ensures faults { F.faults files.old ≤ F.faults files.new }
-    ensures absences { F.absences files.old ≤ F.absences files.new }
-    ensures files { F.files files.new ≡ F.files files.old }
-    ensures draft_name { F.draft_name files.new ≡ F.draft_name files.old }
-    ensures draft_bytes { F.draft_bytes files.new ≡ F.draft_bytes files.old }
+    ensures leaves { LeavesFiles F.files F.draft_name F.draft_bytes F.faults F.absences files.old
+        files.new }
 {
     let name = import.source.as_str();
     match read_file(alloc, files, name, FILE_LIMIT) {

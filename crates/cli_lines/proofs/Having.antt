@@ -6,8 +6,7 @@ use Rattle.outside_core.specs.Results.{◌>>=◌}
 use Rattle.cli_answers.specs.declared.answers.Refusal.{Refusal}
 use Rattle.cli_answers.specs.Phases.{StreamAnswer, after_left}
 use Rattle.cli_words.specs.Needs.{Needs, asks_password, asks_passwords_from}
-use Rattle.cli_lines.specs.Lines.{HasLines, Lines, line_if, line_of, lines_from, lines_of, number_after, number_from, number_of_more}
-use Rattle.cli_lines.proofs.Inputs.{after_password, after_passwords}
+use Rattle.cli_lines.specs.Lines.{HasLines, Lines, after_password, after_passwords, line_if, line_of, lines_from, lines_of, number_after, number_from, number_of_more}
 
 ok_is : {A : Type 0} (a b : A) → ◌≡◌ {A = Result A Refusal} (Ok a) (Ok b) → a ≡ b
 ok_is a b h = cc

@@ -1,12 +1,14 @@
 -- What is left of the input, where it reports that or where no line is due.
-use Rattle.std.proofs.Common.{◌≡◌, ℕ, List, [], refl, sym, ◌∙◌, ap, subst, Bool, true, false, ◌||◌, Option, Some, None, option_map, Result, Ok}
+use Rattle.std.proofs.Common.{◌≡◌, ◌≤◌, ℕ, List, refl, inl, inr, sym, ◌∙◌, ap, subst, arith, Bool, true, false, ◌||◌, Option, Some, None, option_map, Result, Ok, Err}
+use Rattle.std.specs.Prelude.{IfErr}
+use Rattle.outside_core.specs.Counts.{Increased}
 use Rattle.cli_answers.specs.declared.answers.Refusal.{Refusal}
 use Rattle.cli_answers.specs.declared.answers.Stop.{Stop}
 use Rattle.cli_answers.specs.declared.answers.Stop.TheVariants.{Refused, FileFault, InputFault, NoMemory}
 use Rattle.outside_core.specs.Results.{◌>>=◌}
-use Rattle.cli_answers.specs.Phases.{StreamAnswer, IsLeft, RefusesAskedStream, RefusesStream, TellsStream, then_left, with_left}
-use Rattle.cli_words.specs.Needs.{Needs, asks_password, asks_passwords_from}
-use Rattle.cli_lines.specs.Lines.{Lines, line_if, line_of, lines_from, lines_of, number_from, number_of_more}
+use Rattle.cli_answers.specs.Phases.{StreamAnswer, IsLeft, IsStreamStop, RefusesAskedStream, RefusesStream, ReturnsAskedStream, TellsStream, then_left, with_left}
+use Rattle.cli_words.specs.Needs.{Needs}
+use Rattle.cli_lines.specs.Lines.{Lines, after_passwords, line_if, line_of, number_of_more}
 
 -- An input that is not read.
 pub left_alone : (asked : Bool) (before : Option (List ℕ)) (input : List ℕ) → TellsStream asked before input → IsLeft before before input
@@ -79,30 +81,37 @@ second_stops stop before mid now taken a next p is h =
     subst (λ (t : StreamAnswer _). RefusesAskedStream stop before now t) (sym (first_gave taken a next p))
     (later_stops stop before mid now taken.left (next a taken.left) is h)
 
--- The last line, after the passwords.
-abbrev pub after_passwords : Needs → Option (List ℕ) → List (Option (List ℕ)) → List ℕ → StreamAnswer Lines
-after_passwords needs password sources later =
-    then_left (line_if needs.has_line (number_of_more needs) later)
-    (λ more end. with_left (Ok (record { password = password; sources = sources; more = more })) end)
+-- A phase after one that gave this gave what is defined, or was refused.
+pub later_returns : {X Y A : Type 0} (seen : X → Y) (result : Result X Stop) (before mid now : Option (List ℕ)) (taken : StreamAnswer A) (a : A)
+    (next : A → List ℕ → StreamAnswer Y) → taken.answer ≡ Ok a → IsLeft before mid taken.left → ReturnsAskedStream seen result mid now (next a taken.left)
+    → ReturnsAskedStream seen result before now (then_left taken next)
+later_returns seen (Ok x) before mid now taken a next p is h =
+    subst (λ (t : StreamAnswer _). ReturnsAskedStream seen (Ok x) before now t) (sym (first_gave taken a next p))
+    (h.0, left_after before mid now taken.left (next a taken.left).left is h.1)
+later_returns seen (Err stop) before mid now taken a next p is h = second_stops stop before mid now taken a next p is h
 
--- The passwords of the sources, and then the last line.
-abbrev pub after_password : Needs → Option (List ℕ) → List ℕ → StreamAnswer Lines
-after_password needs password rest =
-    then_left (lines_from (asks_passwords_from needs) needs.sources (number_from needs) [] rest) (after_passwords needs password)
+-- The line after all passwords was read.
+pub last_line : (needs : Needs) (password : Option (List ℕ)) (sources : List (Option (List ℕ))) (before now : Option (List ℕ)) (input : List ℕ) (more : Option (List ℕ))
+    → (line_if needs.has_line (number_of_more needs) input).answer ≡ Ok more
+    → IsLeft before now (line_if needs.has_line (number_of_more needs) input).left
+    → ((after_passwords needs password sources input).answer ≡ Ok (record { password = password; sources = sources; more = more }))
+    × IsLeft before now (after_passwords needs password sources input).left
+last_line needs password sources before now input more p is =
+    subst (λ (t : StreamAnswer Lines). (t.answer ≡ Ok (record { password = password; sources = sources; more = more })) × IsLeft before now t.left)
+    (sym (first_gave (line_if needs.has_line (number_of_more needs) input) more
+    (λ m end. with_left (Ok (record { password = password; sources = sources; more = m })) end) p)) (refl, is)
 
--- All lines were read, each where it is due.
-pub lines_read : (needs : Needs) (input : List ℕ) (password more : Option (List ℕ)) (sources : List (Option (List ℕ)))
-    → (line_if (asks_password needs.access) 1 input).answer ≡ Ok password
-    → (lines_from (asks_passwords_from needs) needs.sources (number_from needs) [] (line_if (asks_password needs.access) 1 input).left).answer ≡ Ok sources
-    → (line_if needs.has_line (number_of_more needs) (lines_from (asks_passwords_from needs) needs.sources (number_from needs) []
-    (line_if (asks_password needs.access) 1 input).left).left).answer ≡ Ok more
-    → lines_of needs input ≡ with_left (Ok (record { password = password; sources = sources; more = more }))
-    (line_if needs.has_line (number_of_more needs) (lines_from (asks_passwords_from needs) needs.sources (number_from needs) []
-    (line_if (asks_password needs.access) 1 input).left).left).left
-lines_read needs input password more sources p q r =
-    let rest = (line_if (asks_password needs.access) 1 input).left in
-    let taken = lines_from (asks_passwords_from needs) needs.sources (number_from needs) [] rest in
-    first_gave (line_if (asks_password needs.access) 1 input) password (after_password needs) p
-    ∙ first_gave taken sources (after_passwords needs password) q
-    ∙ first_gave (line_if needs.has_line (number_of_more needs) taken.left) more
-    (λ more end. with_left (Ok (record { password = password; sources = sources; more = more })) end) r
+-- ---- causes
+
+rose_before : (before mid now : ℕ) → before ≤ mid → Increased mid now → Increased before now
+rose_before before mid now h (inl less) = inl (omega arith)
+rose_before before mid now h (inr last) = inr last
+
+-- A stop at the input in a later phase.
+pub stops_later : {X : Type 0} (result : Result X Stop) (before mid now : ℕ) → before ≤ mid → IfErr result (IsStreamStop mid now)
+    → IfErr result (IsStreamStop before now)
+stops_later (Ok x) before mid now p h = tt
+stops_later (Err (Refused refusal)) before mid now p h = h
+stops_later (Err (FileFault name)) before mid now p h = h
+stops_later (Err InputFault) before mid now p h = rose_before before mid now p h
+stops_later (Err NoMemory) before mid now p h = tt

@@ -100,14 +100,23 @@ abbrev pub number_of_more : Needs → ℕ
 number_of_more needs =
     number_after_all (asks_passwords_from needs) needs.sources (number_from needs)
 
+-- The line after all passwords, where it is due, and with it all lines.
+abbrev pub after_passwords : Needs → Option (List ℕ) → List (Option (List ℕ)) → List ℕ
+    → StreamAnswer Lines
+after_passwords needs password sources input =
+    then_left (line_if needs.has_line (number_of_more needs) input) (λ more end.
+    with_left (Ok (record { password = password; sources = sources; more = more })) end)
+
+-- The passwords of the sources, and then the line after them.
+abbrev pub after_password : Needs → Option (List ℕ) → List ℕ → StreamAnswer Lines
+after_password needs password input =
+    then_left (lines_from (asks_passwords_from needs) needs.sources (number_from needs) [] input)
+    (after_passwords needs password)
+
 -- The lines that a command asks for, one after another.
 abbrev pub lines_of : Needs → List ℕ → StreamAnswer Lines
 lines_of needs input =
-    then_left (line_if (asks_password needs.access) 1 input) (λ password rest.
-    then_left (lines_from (asks_passwords_from needs) needs.sources (number_from needs) [] rest)
-    (λ sources later.
-    then_left (line_if needs.has_line (number_of_more needs) later) (λ more end.
-    with_left (Ok (record { password = password; sources = sources; more = more })) end)))
+    then_left (line_if (asks_password needs.access) 1 input) (after_password needs)
 
 -- ---- lines that are there
 

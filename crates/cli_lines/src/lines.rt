@@ -1,11 +1,12 @@
 //! The lines that a call takes from its input.
-ghost use Rattle.std.specs.Prelude.{◌≡◌, ◌≢◌, ◌≤◌, ◌<◌, ◌+◌, [], ◌∷◌, ◌++◌, ℕ, List, length, map, IfErr, IfOk, IfSome, OnOk, is_some, Some, true};
+ghost use Rattle.std.specs.Prelude.{◌≡◌, ◌≢◌, ◌≤◌, ◌<◌, ◌+◌, ◌||◌, [], ◌∷◌, ◌++◌, ℕ, List, length, map, IfErr, IfOk, IfSome, OnOk, is_some, Some, true};
 ghost use Rattle.std.specs.Str.{is_utf8};
 ghost use Rattle.outside_core.specs.Counts.{HasCause};
 ghost use Rattle.cli_lines.specs.Cutting.{ComesNext, Cuts, Ends, IsPushed, Puts, cut, weight};
 ghost use Rattle.cli_lines.specs.Lines as spec;
-ghost use Rattle.cli_lines.specs.Lines.{HasLines, IsTextLine, line_from, line_if, line_of, lines_from, lines_of};
+ghost use Rattle.cli_lines.specs.Lines.{HasLines, IsTextLine, after_password, after_passwords, line_from, line_if, line_of, lines_from, lines_of, number_of_more};
 ghost use Rattle.cli_lines.specs.SeenLines.{line_seen, lines_seen};
+ghost use Rattle.cli_words.specs.Needs as words;
 ghost use Rattle.cli_words.specs.Needs.{asks_line, asks_passwords_from};
 ghost use Rattle.cli_words.specs.SeenNeeds.{needs_seen};
 ghost use Rattle.cli_answers.specs.Phases.{IsStreamStop, ReturnsAskedStream, ReturnsStream, TellsStream};
@@ -274,6 +275,64 @@ fn number_from(asks: bool) -> u64
     if asks { 2 } else { 1 }
 }
 
+// Reads the line after all passwords, where it is due: all lines are there then.
+fn read_more<S: Source>(
+    alloc: Global,
+    input: &mut S,
+    needs: Needs<'_>,
+    number: u64,
+    password: Option<Secret>,
+    sources: List<Option<Secret>>,
+) -> Result<Lines, Stop>
+    requires number { number ≡ number_of_more (needs_seen needs) }
+    requires password { is_some (line_seen password) ≡ words.asks_password needs.access.now }
+    requires passwords { map is_some (map line_seen sources)
+        ≡ map (λ name. asks_passwords_from (needs_seen needs)) needs.sources.now }
+    ensures told { (i : List ℕ) → TellsStream needs.entry.has_line (S.left input.old) i
+        → ReturnsAskedStream lines_seen result (S.left input.old) (S.left input.new)
+        (after_passwords (needs_seen needs.entry) (line_seen password) (map line_seen sources) i) }
+    ensures given { IfOk result (λ lines. HasLines (needs_seen needs.entry) (lines_seen lines)) }
+    ensures text { IfOk result (λ lines. IsTextLine (lines_seen lines).more) }
+    ensures cause { IfErr result (IsStreamStop (S.faults input.old) (S.faults input.new)) }
+    ensures faults { S.faults input.old ≤ S.faults input.new }
+{
+    match read_if(alloc, input, needs.has_line, number) {
+        Ok(more) => Ok(Lines {
+            password,
+            sources,
+            more,
+        }),
+        Err(stop) => Err(stop),
+    }
+}
+
+// Reads the lines after the password of the database, of which the first has this number.
+fn read_after<S: Source>(
+    alloc: Global,
+    input: &mut S,
+    needs: Needs<'_>,
+    number: u64,
+    password: Option<Secret>,
+) -> Result<Lines, Stop>
+    requires number { number ≡ spec.number_from (needs_seen needs) }
+    requires password { is_some (line_seen password) ≡ words.asks_password needs.access.now }
+    ensures told { (i : List ℕ)
+        → TellsStream (asks_passwords_from (needs_seen needs.entry) || needs.entry.has_line)
+        (S.left input.old) i
+        → ReturnsAskedStream lines_seen result (S.left input.old) (S.left input.new)
+        (after_password (needs_seen needs.entry) (line_seen password) i) }
+    ensures given { IfOk result (λ lines. HasLines (needs_seen needs.entry) (lines_seen lines)) }
+    ensures text { IfOk result (λ lines. IsTextLine (lines_seen lines).more) }
+    ensures cause { IfErr result (IsStreamStop (S.faults input.old) (S.faults input.new)) }
+    ensures faults { S.faults input.old ≤ S.faults input.new }
+{
+    let mut sources = List::new(alloc);
+    match read_passwords(alloc, input, needs, number, &mut sources) {
+        Ok(next) => read_more(alloc, input, needs, next, password, sources),
+        Err(stop) => Err(stop),
+    }
+}
+
 /// The lines that a command asks for, one after another.
 pub fn read_lines<S: Source>(alloc: Global, input: &mut S, needs: Needs<'_>) -> Result<Lines, Stop>
     ensures told { (i : List ℕ) → TellsStream (asks_line (needs_seen needs.entry))
@@ -285,13 +344,8 @@ pub fn read_lines<S: Source>(alloc: Global, input: &mut S, needs: Needs<'_>) -> 
     ensures faults { S.faults input.old ≤ S.faults input.new }
 {
     let asks = asks_password(needs.access);
-    let password = read_if(alloc, input, asks, 1)?;
-    let mut sources = List::new(alloc);
-    let next = read_passwords(alloc, input, needs, number_from(asks), &mut sources)?;
-    let more = read_if(alloc, input, needs.has_line, next)?;
-    Ok(Lines {
-        password,
-        sources,
-        more,
-    })
+    match read_if(alloc, input, asks, 1) {
+        Ok(password) => read_after(alloc, input, needs, number_from(asks), password),
+        Err(stop) => Err(stop),
+    }
 }

@@ -7,7 +7,7 @@ use Rattle.cli_answers.specs.declared.answers.Refusal.{Refusal}
 use Rattle.cli_answers.specs.declared.answers.Stop.{Stop}
 use Rattle.cli_answers.specs.declared.answers.Stop.TheVariants.{Refused, FileFault, InputFault, NoMemory}
 use Rattle.cli_answers.specs.Phases.{IsCaused, IsCommandStop, IsEarlyStop, IsLeft, Leaves, Stops, StreamAnswer, TellsStream, then_left, with_left}
-use Rattle.cli_databases.proofs.Stops.{rose_before}
+use Rattle.cli_files.proofs.FileStops.{rose_before}
 use Rattle.cli_lines.proofs.Inputs.{left_alone}
 use Rattle.cli_words.specs.Needs.{ImportNeeds, Needs, database_files, file_made, files_by, files_named, files_of, import_of, key_files, needs_of, source_files, target_of}
 use Rattle.cli_words.specs.Words.{command_of}
@@ -16,7 +16,7 @@ use Rattle.cli_writing.specs.Writing.{IsSame, KeepsDraft, KeepsFiles, Store}
 use Rattle.cli_commands.specs.declared.output.Output.{Output}
 use Rattle.call_task.specs.declared.task.Task as memory
 use Rattle.cli_commands.specs.Commands.{may_write}
-use Rattle.cli_databases.proofs.HeldFiles.{in_turn}
+use Rattle.cli_files.proofs.HeldKeys.{in_turn}
 use Rattle.call_carrying.specs.Endings.{Ending, Ends, EndsRefused, IsOfDice, IsOfSomeDice, carried_out}
 use Rattle.cli_pages.specs.Pages.{page_of}
 use Rattle.keepass_call.specs.Outcome.{IsOfSomeFile, IsOfTask, World, answer_of, command_answer, may_write_by, page_or_answer}
@@ -30,7 +30,7 @@ same_store before mid h =
     ∙ ap (λ (n : Option (List ℕ)). record { files = before.files; draft_name = n; draft_bytes = mid.draft_bytes }) h.draft_name
     ∙ ap (λ (b : List ℕ). record { files = before.files; draft_name = before.draft_name; draft_bytes = b }) h.draft_bytes
 
--- What words come to as a command whose task is this.
+-- What words give as a command whose task is this.
 command_is : (words : List (List ℕ)) (time : ℕ) (world : World) (task : Task) → task_of words time world.input world.files ≡ Ok task
     → command_answer words time world ≡ carried_out time task world.dice
 unfolding command_answer
@@ -41,7 +41,7 @@ command_refused : (words : List (List ℕ)) (time : ℕ) (world : World) (refusa
 unfolding command_answer
 command_refused words time world refusal h = ap (λ (r : Result Task Refusal). then_left (with_left r world.dice) (carried_out time)) h
 
--- Words that ask for no page come to what they do as a command.
+-- Words that ask for no page give what they give as a command.
 pub as_command : (words : List (List ℕ)) (time : ℕ) (world : World) → page_of words ≡ None → answer_of words time world ≡ command_answer words time world
 as_command words time world none = ap (λ (p : Option (List ℕ)). page_or_answer p words time world) none
 

@@ -2,7 +2,7 @@
 use Rattle.std.proofs.Common.{◌≡◌, ℕ, List, ◌∙◌, ap, subst, Result, Ok}
 use Rattle.cli_answers.specs.declared.answers.Refusal.{Refusal}
 use Rattle.cli_answers.specs.Phases.{StreamAnswer}
-use Rattle.cli_databases.proofs.HeldFiles.{in_turn}
+use Rattle.cli_files.proofs.HeldKeys.{in_turn}
 use Rattle.cli_opening.proofs.Opened.{databases_follow, databases_hold}
 use Rattle.cli_opening.specs.Opening.{databases_for}
 use Rattle.cli_lines.proofs.Having.{lines_have}

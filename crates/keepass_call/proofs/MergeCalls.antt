@@ -40,7 +40,7 @@ use Rattle.cli_words.specs.Needs.{files_named, target_of}
 use Rattle.cli_words.specs.Words.{command_of}
 use Rattle.cli_pages.specs.Pages.{page_of}
 use Rattle.cli_lines.specs.Lines.{Lines}
-use Rattle.cli_databases.specs.Databases.{Opened, plain_document}
+use Rattle.cli_files.specs.Files.{Opened, plain_document}
 use Rattle.cli_databases.specs.Held.{HoldsBy}
 use Rattle.cli_writing.specs.Writing.{Store, file_or_refusal, write_answer}
 use Rattle.cli_sealing.specs.Draws.{draws_of}

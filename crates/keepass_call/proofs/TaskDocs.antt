@@ -14,7 +14,8 @@ use Rattle.kdbx_open.specs.Opening.{FileContents}
 use Rattle.kdbx_open.specs.Sealed.{Sealed}
 use Rattle.kdbx_open.specs.declared.fail.OpenFail.{OpenFail}
 use Rattle.cli_words.specs.declared.command.Access.{Access}
-use Rattle.cli_databases.specs.Databases.{Opened, password_from, plain_document}
+use Rattle.cli_files.specs.Files.{Opened, plain_document}
+use Rattle.cli_databases.specs.Databases.{password_from}
 use Rattle.cli_databases.specs.Held.{HoldAll, HoldDatabases, HoldsBy}
 use Rattle.cli_opening.specs.Opening.{HoldImportOrDatabases}
 use Rattle.agreed_laws.specs.Merges.{AreDocs}

@@ -14,7 +14,7 @@ use Rattle.kdbx_open.specs.declared.sealings.Sealing.{Sealing}
 use Rattle.cli_words.specs.declared.command.Command.{Command}
 use Rattle.cli_words.specs.declared.command.Command.TheVariants.{Ls, Show, Search, Add, Edit, Move, Remove, MakeGroup, RemoveGroup, Merge, Import, Export, Info}
 use Rattle.cli_words.specs.Needs.{needs_of}
-use Rattle.cli_databases.specs.Databases.{plain_document}
+use Rattle.cli_files.specs.Files.{plain_document}
 use Rattle.cli_writing.specs.Writing.{IsSame, Store}
 use Rattle.keepass_call.specs.Held.{IsTask}
 use Rattle.keepass_call.specs.Outcome.{Gains, Seen, World}

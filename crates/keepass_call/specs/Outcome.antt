@@ -23,14 +23,14 @@ pub record World : Type 0 where
   pub input : List ℕ
   pub dice : List ℕ
 
--- What these words come to at a moment over a world, as a command: what they ask for, and what that
+-- What these words give at a moment over a world, as a command: what they ask for, and what that
 -- is carried out to over the dice. The first refusal ends the call.
 unfoldable pub command_answer : List (List ℕ) → ℕ → World → StreamAnswer Ending
 command_answer words time world =
     then_left (with_left (task_of words time world.input world.files) world.dice)
     (carried_out time)
 
--- What a call gives: the page that its words ask for, or else what they come to as a command.
+-- What a call gives: the page that its words ask for, or else what they give as a command.
 abbrev pub page_or_answer : Option (List ℕ) → List (List ℕ) → ℕ → World → StreamAnswer Ending
 page_or_answer (Some page) words time world = with_left (Ok (ending_without page)) world.dice
 page_or_answer None words time world = command_answer words time world

@@ -2,7 +2,7 @@ use Rattle.cli_lines.specs.SeenLines.{lines_seen}
 use Rattle.cli_words.specs.Needs.{database_files, source_files}
 use Rattle.cli_words.specs.SeenNeeds.{needs_seen}
 use Rattle.cli_databases.proofs.Openable.{can_open_sources}
-use Rattle.cli_databases.proofs.Stops.{later_at_files}
+use Rattle.cli_files.proofs.FileStops.{later_at_files}
 use Rattle.cli_databases.proofs.databases.open.Goals as goal
 
 pub open_all-requires : goal.open_all-requires
@@ -11,4 +11,4 @@ open_all-requires g c = can_open_sources (needs_seen c.args.needs) (lines_seen c
 pub returns-in-Err-clause-cause : goal.returns-in-Err-clause-cause
 returns-in-Err-clause-cause g c =
     later_at_files (database_files c.args.needs.access.now c.args.needs.file.now) (source_files c.args.needs.from.now c.args.needs.sources.now) _ _ _ _ _ _
-    c.in-Err.stop c.in_ok-target.ensures.faults c.in_ok-target.ensures.absences c.in-Err.ensures.cause
+    c.in-Err.stop c.in_ok-target.ensures.leaves.faults c.in_ok-target.ensures.leaves.absences c.in-Err.ensures.cause

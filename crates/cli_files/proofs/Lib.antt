@@ -1,0 +1,2 @@
+pub mod FileStops
+pub mod HeldKeys

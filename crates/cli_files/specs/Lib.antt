@@ -1,0 +1,6 @@
+pub mod Answers
+pub mod Files
+pub mod Held
+pub mod LeavesFiles
+pub mod SeenOpened
+pub mod SomeFiles

@@ -1,0 +1,8 @@
+-- What is seen of a database that was opened: its document without memory.
+use Rattle.vault_model.specs.SeenDoc.{doc_seen}
+use Rattle.cli_files.specs.declared.documents.Opened as declared
+use Rattle.cli_files.specs.Files.{Opened}
+
+-- A database by its document's nodes, and what its file is sealed with.
+abbrev pub opened_seen : declared.Opened → Opened
+opened_seen opened = record { doc = doc_seen opened.doc; sealing = opened.sealing }

@@ -1,0 +1,12 @@
+//! What one file of a call is: a plain document or a key file, or why it cannot be read.
+#![tactic(auto)]
+
+mod documents;
+mod given;
+mod keys;
+mod stops;
+
+pub use documents::{Opened, document_answer, read_plain};
+pub use given::{bytes_in, name_in};
+pub use keys::key_of;
+pub use stops::unread;

@@ -1,0 +1,28 @@
+use Rattle.std.proofs.Common.{[], map}
+use Rattle.cli_words.specs.Needs.{asks_passwords_from}
+use Rattle.cli_words.specs.SeenNeeds.{needs_seen}
+use Rattle.cli_lines.specs.Lines.{after_passwords, lines_from, number_from}
+use Rattle.cli_lines.specs.SeenLines.{line_seen, lines_seen}
+use Rattle.cli_lines.proofs.Inputs.{first_stops, later_returns, stops_later, tells_first, tells_second}
+use Rattle.cli_lines.proofs.lines.read_after.Goals as goal
+
+pub returns-in-Ok-clause-told : goal.returns-in-Ok-clause-told
+returns-in-Ok-clause-told g c = λ i t.
+    let needs = needs_seen c.args.needs in
+    let due = asks_passwords_from needs in
+    let read = rw (c.new-sources.ensures, c.requires.number) at c.in-Ok.ensures.told in
+    let first = read i (tells_first due c.args.needs.has_line _ i t) in
+    let taken = lines_from due needs.sources (number_from needs) [] i in
+    later_returns lines_seen c.read_more.result _ _ _ taken (map line_seen c.read_passwords.new.lines) (after_passwords needs (line_seen c.args.password)) first.0 first.1
+    (c.read_more.ensures.told taken.left (tells_second due c.args.needs.has_line _ _ i taken.left t first.1))
+
+pub returns-in-Ok-clause-cause : goal.returns-in-Ok-clause-cause
+returns-in-Ok-clause-cause g c = stops_later c.read_more.result _ _ _ c.in-Ok.ensures.faults c.read_more.ensures.cause
+
+pub returns-in-Err-clause-told : goal.returns-in-Err-clause-told
+returns-in-Err-clause-told g c = λ i t.
+    let needs = needs_seen c.args.needs in
+    let due = asks_passwords_from needs in
+    let read = rw (c.new-sources.ensures, c.requires.number) at c.in-Err.ensures.told in
+    first_stops c.in-Err.stop _ _ (lines_from due needs.sources (number_from needs) [] i) (after_passwords needs (line_seen c.args.password))
+    (read i (tells_first due c.args.needs.has_line _ i t))

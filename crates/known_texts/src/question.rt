@@ -1,0 +1,75 @@
+//! The texts of a question.
+
+use std::alloc::{AllocError, Global};
+
+/// Why a question is not answered.
+#[derive(Clone, Copy)]
+pub struct Fault(pub &'static str);
+
+/// A text of a question is not spelled as it must be.
+pub const NOT_SPELLED: Fault = Fault("a text is not spelled right");
+
+/// There was no memory left.
+pub const NO_MEMORY: Fault = Fault("no memory");
+
+impl From<AllocError> for Fault {
+    fn from(_none: AllocError) -> Fault {
+        NO_MEMORY
+    }
+}
+
+/// The bytes that a text spells: `-` alone is none, `\n`, `\r` and `\t` are a line feed, a carriage
+/// return and a tab, `\x` and two hexadecimal digits are a byte, and all else is itself.
+pub fn spelled(alloc: Global, text: &str) -> Result<Vec<u8>, Fault> {
+    let mut bytes = Vec::new(alloc);
+    if text == "-" {
+        return Ok(bytes);
+    }
+    for (index, part) in text.split('\\').enumerate() {
+        if index == 0 {
+            bytes.extend_from_slice(part.as_bytes())?;
+        } else {
+            put_escaped(&mut bytes, part)?;
+        }
+    }
+    Ok(bytes)
+}
+
+// Adds the byte that is escaped at the start of this part, and what comes after it.
+fn put_escaped(bytes: &mut Vec<u8>, part: &str) -> Result<(), Fault> {
+    match escaped_byte(part) {
+        Some((byte, rest)) => {
+            bytes.extend_from_slice(&[byte])?;
+            bytes.extend_from_slice(rest.as_bytes())?;
+            Ok(())
+        }
+        None => Err(NOT_SPELLED),
+    }
+}
+
+// The byte that is escaped at the start of this part, and what comes after it.
+fn escaped_byte(part: &str) -> Option<(u8, &str)> {
+    let mut letters = part.chars();
+    let byte = match letters.next()? {
+        'n' => b'\n',
+        'r' => b'\r',
+        't' => b'\t',
+        'x' => byte_of(letters.next()?, letters.next()?)?,
+        _ => return None,
+    };
+    Some((byte, letters.as_str()))
+}
+
+// The byte of two hexadecimal digits.
+fn byte_of(high: char, low: char) -> Option<u8> {
+    let high = high.to_digit(16)?;
+    let low = low.to_digit(16)?;
+    u8::try_from(16 * high + low).ok()
+}
+
+/// Adds a space and a text in quotes.
+pub fn put_quoted(out: &mut String, text: &str) -> Result<(), AllocError> {
+    out.push_str(" \"")?;
+    out.push_str(text)?;
+    out.push_str("\"")
+}
