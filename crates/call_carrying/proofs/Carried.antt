@@ -10,7 +10,7 @@ use Rattle.cli_answers.specs.declared.answers.Refusal.{Refusal}
 use Rattle.cli_answers.specs.declared.answers.Stop.{Stop}
 use Rattle.cli_answers.specs.declared.answers.Stop.TheVariants.{Refused, FileFault, InputFault, NoMemory}
 use Rattle.cli_answers.specs.Phases.{IsCommandStop, IsLeft, IsStreamStop, RefusesAskedStream, StreamAnswer, TellsStream, after_left, then_left, with_left}
-use Rattle.kdbx_open.specs.declared.sealings.Sealing.{Sealing}
+use Rattle.kdbx_frame.specs.declared.sealings.Sealing.{Sealing}
 use Rattle.cli_files.proofs.FileStops.{rose_before}
 use Rattle.cli_lines.proofs.Inputs.{left_alone, left_so}
 use Rattle.cli_lines.specs.Lines.{Lines}

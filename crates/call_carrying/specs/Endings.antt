@@ -7,7 +7,7 @@ use Rattle.cli_answers.specs.declared.answers.Stop.TheVariants.{Refused, FileFau
 use Rattle.cli_answers.specs.Phases.{IsLeft, StreamAnswer, then_left, with_left}
 use Rattle.cli_words.specs.Needs.{target_of}
 use Rattle.kdbx_frame.specs.declared.settings.Settings.{Settings}
-use Rattle.kdbx_open.specs.declared.sealings.Sealing.{Sealing}
+use Rattle.kdbx_frame.specs.declared.sealings.Sealing.{Sealing}
 use Rattle.cli_writing.specs.Held.{HoldsPlain, IsWritten}
 use Rattle.cli_writing.specs.Writing.{HasFile, IsSame, NewFile, RefusesFile, Store, WritesFile, plain_file}
 use Rattle.cli_sealing.specs.Held.{HoldsSealed}

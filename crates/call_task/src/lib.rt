@@ -1,6 +1,6 @@
-//! What a call of the program is to do, from its words, its input and its files.
+//! What a call of the program is to do: its command, its lines and its databases.
 #![tactic(auto)]
 
 mod task;
 
-pub use task::{Task, read_task};
+pub use task::Task;

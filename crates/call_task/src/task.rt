@@ -1,23 +1,8 @@
-//! What a call is to do, from its words, its input and its files.
-ghost use Rattle.std.specs.Prelude.{◌≡◌, ◌≤◌, ℕ, List, Ok, Some, IfErr, IfOk, IfSome, is_some, map, not, string_bytes};
-ghost use Rattle.outside_core.specs.Files.{FileMap};
-ghost use Rattle.kdbx_frame.specs.Settings.{IsInOrder};
-ghost use Rattle.cli_answers.specs.Phases.{IsEarlyStop, Leaves, Returns, TellsStream};
-ghost use Rattle.cli_lines.specs.Lines.{IsTextLine};
-ghost use Rattle.cli_lines.specs.SeenLines.{lines_seen};
-ghost use Rattle.cli_words.specs.Needs.{files_named, needs_of, target_access};
-ghost use Rattle.call_task.specs.SeenTask.{task_seen};
-ghost use Rattle.cli_words.specs.Words.{command_of};
-ghost use Rattle.call_task.specs.Tasks.{HasSomeFile, asked_by, left_of, task_of};
-
-use cli_answers::Stop;
-use cli_databases::Databases;
+//! What a call is to do.
 use cli_files::Opened;
-use cli_lines::{Lines, read_lines};
-use cli_opening::open_for;
-use cli_words::{Command, read_words};
-use outside_core::{FileStore, List, Source};
-use std::alloc::Global;
+use cli_lines::Lines;
+use cli_words::Command;
+use outside_core::List;
 use vault_model::Doc;
 
 /// What a call is to do.
@@ -30,62 +15,4 @@ pub struct Task {
     pub opened: Opened,
     /// The documents of its sources.
     pub sources: List<Doc>,
-}
-
-/// What the words ask for at a moment: their command, its lines, and its databases.
-pub fn read_task<F: FileStore, S: Source>(
-    alloc: Global,
-    words: &[String],
-    files: &mut F,
-    input: &mut S,
-    now: u64,
-) -> Result<Task, Stop>
-    ensures told { (m : FileMap) (i : List ℕ) → F.files files.old ≡ Some m
-        → TellsStream (asked_by (command_of (map string_bytes words.now))) (S.left input.old) i
-        → Returns task_seen result (task_of (map string_bytes words.now) now i m) }
-    ensures command { IfOk result (λ task. command_of (map string_bytes words.now)
-        ≡ Ok task.command) }
-    ensures some_file { IfOk result (λ task. HasSomeFile (map string_bytes words.now) now
-        (task_seen task)) }
-    ensures text { IfOk result (λ task. IsTextLine (lines_seen task.lines).more) }
-    ensures in_order { IfOk result (λ task. IfSome task.opened.sealing (λ s.
-        IsInOrder s.settings)) }
-    ensures sealed { IfOk result (λ task. is_some task.opened.sealing
-        ≡ not (target_access task.command).plain) }
-    ensures left { (i : List ℕ)
-        → TellsStream (asked_by (command_of (map string_bytes words.now))) (S.left input.old) i
-        → Leaves result (S.left input.old) (S.left input.new)
-        (left_of (map string_bytes words.now) i) }
-    ensures cause { IfErr result (IsEarlyStop
-        (files_named (command_of (map string_bytes words.now))) (F.faults files.old)
-        (F.faults files.new) (F.absences files.old) (F.absences files.new) (S.faults input.old)
-        (S.faults input.new)) }
-    ensures faults { F.faults files.old ≤ F.faults files.new }
-    ensures files { F.files files.new ≡ F.files files.old }
-    ensures draft_name { F.draft_name files.new ≡ F.draft_name files.old }
-    ensures draft_bytes { F.draft_bytes files.new ≡ F.draft_bytes files.old }
-{
-    let command = read_words(alloc, words)?;
-    let needs = cli_words::needs_of(&command);
-    let lines = match read_lines(alloc, input, needs) {
-        Ok(lines) => lines,
-        Err(stop) => {
-            drop(command);
-            return Err(stop);
-        }
-    };
-    let Databases { target, sources } = match open_for(alloc, files, &command, &lines, now) {
-        Ok(databases) => databases,
-        Err(stop) => {
-            drop(lines);
-            drop(command);
-            return Err(stop);
-        }
-    };
-    Ok(Task {
-        command,
-        lines,
-        opened: target,
-        sources,
-    })
 }

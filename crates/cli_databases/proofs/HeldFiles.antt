@@ -8,7 +8,7 @@ use Rattle.outside_core.specs.Files.{FileMap}
 use Rattle.key_core.specs.Keys.{composite_key}
 use Rattle.doc_forms.specs.Documents.{DocumentAndHash}
 use Rattle.doc_forms.specs.declared.fails.DocFail.{DocFail}
-use Rattle.kdbx_open.specs.Causes.{file_limit}
+use Rattle.kdbx_frame.specs.Fields.{file_limit}
 use Rattle.kdbx_open.specs.Files.{bytes_of, opening_of}
 use Rattle.kdbx_open.specs.Opening.{FileContents, opening}
 use Rattle.kdbx_open.specs.Sealed.{Sealed}
@@ -17,9 +17,9 @@ use Rattle.kdbx_open.specs.declared.fail.OpenFail.TheVariants.{File}
 use Rattle.kdbx_open.proofs.NamedFiles.{opened_of_held}
 use Rattle.kdbx_open.proofs.SealedFiles.{both, is_sealed}
 use Rattle.secret_core.specs.declared.files.ReadFail.TheVariants.{TooLarge as FileTooLarge}
-use Rattle.cli_files.specs.Files.{Opened, key_of, plain_document}
+use Rattle.cli_files.specs.Files.{Databases, Opened, key_of, plain_document}
 use Rattle.cli_files.proofs.HeldKeys.{given, in_turn, key_given, key_held, used}
-use Rattle.cli_databases.specs.Databases.{Databases, document_in, document_or_refusal, database_of, databases_of, docs_from, held_in, held_under, opened_plain, opened_under, password_from, plain_of, sealed_in, sources_of, vault_or_refusal}
+use Rattle.cli_databases.specs.Databases.{document_in, document_or_refusal, database_of, databases_of, docs_from, held_in, held_under, opened_plain, opened_under, password_from, plain_of, sealed_in, sources_of, vault_or_refusal}
 use Rattle.cli_databases.specs.Held.{HoldAll, HoldDatabases, Holds, HoldsBy, HoldsSource, IsPlain, IsSealed}
 use Rattle.outside_core.specs.Results.{◌>>=◌}
 use Rattle.cli_words.specs.declared.command.Access.{Access}

@@ -29,7 +29,7 @@ use Rattle.cli_answers.specs.Messages.{refusal_of, Refuses}
 use Rattle.outside_core.specs.Results.{◌>>=◌}
 use Rattle.cli_answers.specs.Phases.{IsMemoryStop}
 use Rattle.cli_files.specs.Answers.{IsUnread, document_answer}
-use Rattle.cli_files.specs.Files.{Opened, key_of, of_file, plain_document}
+use Rattle.cli_files.specs.Files.{Databases, Opened, key_of, of_file, plain_document}
 
 -- ---- refusals of the crates below, as answers
 
@@ -129,12 +129,6 @@ database_of needs password files =
     held_in needs.access.plain needs.access.key_file needs.file password files
 
 -- ---- sources
-
--- The databases of a call: the one that its command shows or changes, and the documents of its
--- sources.
-pub record Databases : Type 0 where
-  pub target : Opened
-  pub sources : List BareDoc
 
 -- The password of a source: that of the target, or the source's own line.
 abbrev pub password_from : Bool → (target own : Option (List ℕ)) → Option (List ℕ)

@@ -9,9 +9,9 @@ use Rattle.kdbx_open.specs.Sealed.{Sealed}
 use Rattle.cli_words.specs.declared.command.Access.{Access}
 use Rattle.cli_words.specs.Needs.{Needs}
 use Rattle.cli_lines.specs.Lines.{Lines}
-use Rattle.cli_files.specs.Files.{Opened, plain_document}
+use Rattle.cli_files.specs.Files.{Databases, Opened, plain_document}
 use Rattle.cli_files.specs.Held.{GivesKey, IsThere}
-use Rattle.cli_databases.specs.Databases.{Databases, opened_plain, opened_under, password_from}
+use Rattle.cli_databases.specs.Databases.{opened_plain, opened_under, password_from}
 
 -- The file of this name is a plain document, and the database is that.
 pub record IsPlain (file : List ℕ) (files : FileMap) (opened : Opened) : Type 0 where

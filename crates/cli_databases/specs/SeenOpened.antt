@@ -2,7 +2,7 @@
 use Rattle.std.specs.Prelude.{map}
 use Rattle.vault_model.specs.SeenDoc.{doc_seen}
 use Rattle.cli_databases.specs.declared.databases.Databases as memory
-use Rattle.cli_databases.specs.Databases.{Databases}
+use Rattle.cli_files.specs.Files.{Databases}
 use Rattle.cli_files.specs.SeenOpened.{opened_seen}
 
 -- The databases of a call by the nodes of their documents, and what the file of the first is sealed

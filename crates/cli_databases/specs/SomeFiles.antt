@@ -8,9 +8,9 @@ use Rattle.kdbx_open.specs.Sealed.{IsHeld}
 use Rattle.cli_words.specs.declared.command.Access.{Access}
 use Rattle.cli_words.specs.Needs.{Needs}
 use Rattle.cli_lines.specs.Lines.{Lines}
-use Rattle.cli_files.specs.Files.{Opened, plain_document}
+use Rattle.cli_files.specs.Files.{Databases, Opened, plain_document}
 use Rattle.cli_files.specs.SomeFiles.{SomeKey}
-use Rattle.cli_databases.specs.Databases.{Databases, opened_plain, opened_under, password_from}
+use Rattle.cli_databases.specs.Databases.{opened_plain, opened_under, password_from}
 
 -- Some bytes are a plain document, and the database is that.
 pub record SomePlain (opened : Opened) : Type 0 where

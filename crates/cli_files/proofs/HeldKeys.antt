@@ -6,7 +6,7 @@ use Rattle.outside_core.specs.Files.{FileMap}
 use Rattle.outside_core.specs.Results.{◌>>=◌}
 use Rattle.key_core.specs.KeyFile.{key_file_key}
 use Rattle.key_core.specs.declared.key_file.KeyFileFail.{KeyFileFail}
-use Rattle.kdbx_open.specs.Causes.{file_limit}
+use Rattle.kdbx_frame.specs.Fields.{file_limit}
 use Rattle.cli_answers.specs.Messages.{refusal_of}
 use Rattle.cli_answers.specs.declared.answers.Reason.TheVariants.{TooLarge}
 use Rattle.cli_answers.specs.declared.answers.Refusal.{Refusal}

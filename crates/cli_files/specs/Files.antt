@@ -10,8 +10,8 @@ use Rattle.vault_model.specs.Tree.{BareDoc}
 use Rattle.vault_model.specs.declared.forms.DocForm.TheVariants.{Plain}
 use Rattle.doc_forms.specs.Documents.{DocumentAndHash, document}
 use Rattle.doc_forms.specs.declared.fails.DocFail.{DocFail}
-use Rattle.kdbx_open.specs.Causes.{file_limit}
-use Rattle.kdbx_open.specs.declared.sealings.Sealing.{Sealing}
+use Rattle.kdbx_frame.specs.Fields.{file_limit}
+use Rattle.kdbx_frame.specs.declared.sealings.Sealing.{Sealing}
 use Rattle.cli_answers.specs.Messages.{refusal_of}
 use Rattle.cli_answers.specs.declared.answers.Reason.TheVariants.{NoSuchFile, TooLarge}
 use Rattle.cli_answers.specs.declared.answers.Refusal.{Refusal}
@@ -33,6 +33,12 @@ plain_document text = document (record { form = Plain; keystream = NoKeystream }
 pub record Opened : Type 0 where
   pub doc : BareDoc
   pub sealing : Option Sealing
+
+-- The databases of a call: the one that its command shows or changes, and the documents of its
+-- sources.
+pub record Databases : Type 0 where
+  pub target : Opened
+  pub sources : List BareDoc
 
 -- ---- key files
 

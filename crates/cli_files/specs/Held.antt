@@ -3,7 +3,7 @@ use Rattle.std.specs.Prelude.{◌≡◌, ◌≤◌, ℕ, List, length, Option, N
 use Rattle.std.specs.FinMap as map
 use Rattle.outside_core.specs.Files.{FileMap}
 use Rattle.key_core.specs.KeyFile.{key_file_key}
-use Rattle.kdbx_open.specs.Causes.{file_limit}
+use Rattle.kdbx_frame.specs.Fields.{file_limit}
 
 -- The file of this name is there and within the limit, and these are its bytes.
 pub record IsThere (files : FileMap) (name bytes : List ℕ) : Type 0 where

@@ -7,7 +7,7 @@ ghost use Rattle.cli_files.specs.Files.{plain_document};
 
 use cli_answers::Reason;
 use doc_read::{DocFail, ReadDoc, read_parts, resolve};
-use kdbx_open::Sealing;
+use kdbx_frame::Sealing;
 use outside_core::List;
 use secret_core::Secret;
 use std::alloc::Global;

@@ -13,7 +13,7 @@ ghost use Rattle.cli_files.specs.SomeFiles.{IsSomeKey, SomeKey};
 
 use crate::stops::unread;
 use cli_answers::{Reason, Stop, refused};
-use kdbx_open::FILE_LIMIT;
+use kdbx_frame::FILE_LIMIT;
 use key_core::{KeyFileFail, read_key_file};
 use outside_core::FileStore;
 use secret_core::{Key, Secret, read_file};

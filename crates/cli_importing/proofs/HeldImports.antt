@@ -10,7 +10,7 @@ use Rattle.vault_model.specs.Tree.{BareDoc}
 use Rattle.vault_model.specs.declared.documents.Doc.{Doc}
 use Rattle.doc_forms.specs.Documents.{DocumentAndHash}
 use Rattle.doc_forms.specs.declared.fails.DocFail.{DocFail}
-use Rattle.kdbx_open.specs.declared.sealings.Sealing.{Sealing}
+use Rattle.kdbx_frame.specs.declared.sealings.Sealing.{Sealing}
 use Rattle.psafe_core.specs.Outcome.{psafe_outcome}
 use Rattle.psafe_file.specs.declared.fails.PsafeFail.{PsafeFail}
 use Rattle.table_reading.specs.Documents.{csv_document}

@@ -4,7 +4,7 @@ use Rattle.std.specs.FinMap as finmap
 use Rattle.outside_core.specs.Files.{FileMap}
 use Rattle.outside_core.specs.Results.{◌>>=◌}
 use Rattle.vault_model.specs.Tree.{BareDoc}
-use Rattle.kdbx_open.specs.declared.sealings.Sealing.{Sealing}
+use Rattle.kdbx_frame.specs.declared.sealings.Sealing.{Sealing}
 use Rattle.cli_answers.specs.Phases.{IsFileStop, Stops}
 use Rattle.cli_answers.specs.declared.answers.Stop.{Stop}
 use Rattle.cli_answers.specs.declared.answers.Stop.TheVariants.{Refused, FileFault, InputFault, NoMemory}

@@ -1,7 +1,7 @@
 -- What a new file is sealed with.
 use Rattle.std.proofs.Common.{◌≡◌, ℕ, List, refl, ap, Bool, true, false, Option}
 use Rattle.std.specs.Prelude.{is_some, not}
-use Rattle.kdbx_open.specs.declared.sealings.Sealing.{Sealing}
+use Rattle.kdbx_frame.specs.declared.sealings.Sealing.{Sealing}
 use Rattle.kdbx_frame.specs.Settings.{IsInOrder}
 use Rattle.cli_importing.specs.Held.{SomeSealing}
 use Rattle.cli_importing.specs.Imports.{new_settings}

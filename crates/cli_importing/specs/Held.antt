@@ -5,7 +5,7 @@ use Rattle.outside_core.specs.Files.{FileMap}
 use Rattle.time_core.specs.Times.{last_stamp}
 use Rattle.vault_model.specs.Tree.{BareDoc}
 use Rattle.doc_forms.specs.Documents.{DocumentAndHash}
-use Rattle.kdbx_open.specs.declared.sealings.Sealing.{Sealing}
+use Rattle.kdbx_frame.specs.declared.sealings.Sealing.{Sealing}
 use Rattle.psafe_core.specs.Outcome.{psafe_outcome}
 use Rattle.table_reading.specs.Documents.{csv_document}
 use Rattle.cli_words.specs.Needs.{ImportNeeds}

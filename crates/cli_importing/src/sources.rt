@@ -18,7 +18,7 @@ use cli_answers::{Reason, Stop, refused};
 use cli_files::{document_answer, read_plain, unread};
 use cli_words::{ImportFormat, ImportNeeds};
 use doc_read::{DocFail, ReadDoc};
-use kdbx_open::FILE_LIMIT;
+use kdbx_frame::FILE_LIMIT;
 use outside_core::FileStore;
 use psafe_core::import_psafe;
 use psafe_file::PsafeFail;

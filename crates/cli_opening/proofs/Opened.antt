@@ -11,8 +11,8 @@ use Rattle.cli_words.specs.Needs.{HasKey, HasKeys, ImportNeeds, Needs, access_ma
 use Rattle.cli_words.specs.declared.command.Command.{Command}
 use Rattle.cli_words.specs.declared.command.Command.TheVariants.{Ls, Show, Search, Add, Edit, Move, Remove, MakeGroup, RemoveGroup, Merge, Import, Export, Info}
 use Rattle.cli_lines.specs.Lines.{CanOpen, HasLines, Lines}
-use Rattle.cli_files.specs.Files.{Opened}
-use Rattle.cli_databases.specs.Databases.{Databases, databases_of}
+use Rattle.cli_files.specs.Files.{Databases, Opened}
+use Rattle.cli_databases.specs.Databases.{databases_of}
 use Rattle.cli_databases.specs.SeenOpened.{databases_seen}
 use Rattle.cli_databases.specs.SomeFiles.{SomeDatabases}
 use Rattle.cli_databases.specs.declared.databases.Databases as memory

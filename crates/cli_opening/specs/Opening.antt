@@ -6,8 +6,8 @@ use Rattle.cli_answers.specs.declared.answers.Refusal.{Refusal}
 use Rattle.cli_words.specs.declared.command.Command.{Command}
 use Rattle.cli_words.specs.Needs.{ImportNeeds, Needs, import_of, needs_of}
 use Rattle.cli_lines.specs.Lines.{Lines}
-use Rattle.cli_files.specs.Files.{Opened}
-use Rattle.cli_databases.specs.Databases.{Databases, databases_of}
+use Rattle.cli_files.specs.Files.{Databases, Opened}
+use Rattle.cli_databases.specs.Databases.{databases_of}
 use Rattle.cli_databases.specs.Held.{HoldDatabases}
 use Rattle.cli_databases.specs.SomeFiles.{SomeDatabases}
 use Rattle.cli_importing.specs.Held.{HoldsImport, SomeImport}

@@ -15,8 +15,7 @@ ghost use Rattle.cli_sealing.specs.Sealing as spec;
 ghost use Rattle.cli_sealing.specs.Sealing.{IsUnsealed, Seals, file_by, sealed_file, settings_for};
 
 use cli_answers::{Reason, Stop, refused};
-use kdbx_frame::Settings;
-use kdbx_open::Sealing;
+use kdbx_frame::{Sealing, Settings};
 use kdbx_seal::{Draws, SealFail, draw, seal_file};
 use outside_core::{Dice, DiceFail, FileStore, NoMemory, Text};
 use std::alloc::Global;

@@ -15,6 +15,9 @@ use sha2::{Digest, Sha256};
 use std::alloc::Global;
 use vault_model::FileVersion;
 
+/// How many bytes a file may have.
+pub const FILE_LIMIT: u64 = 134_217_728;
+
 /// How many bytes of a file its header may reach into, in version 4 with its hash and its HMAC.
 pub const HEADER_LIMIT: usize = 65_536;
 

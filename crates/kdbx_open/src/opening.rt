@@ -4,7 +4,8 @@ ghost use Rattle.std.specs.Prelude.{◌≡◌, ◌≤◌, IfOk, IfSome, length};
 ghost use Rattle.std.specs.FinMap as map;
 ghost use Rattle.vault_model.specs.SeenDoc.{doc_seen};
 ghost use Rattle.kdbx_frame.specs.Settings.{IsInOrder};
-ghost use Rattle.kdbx_open.specs.Causes.{HasOpenCause, file_limit};
+ghost use Rattle.kdbx_frame.specs.Fields.{file_limit};
+ghost use Rattle.kdbx_open.specs.Causes.{HasOpenCause};
 ghost use Rattle.kdbx_open.specs.Files.{ReturnsOfSomeFile, opening_of};
 ghost use Rattle.kdbx_open.specs.Opening.{opening};
 ghost use Rattle.kdbx_open.specs.Results.{Returns, ReturnsFromStore};
@@ -14,15 +15,12 @@ ghost use Rattle.kdbx_open.specs.Seen.{opened_seen, unsealed_seen};
 use crate::OpenFail;
 use crate::documents::{check_hash, document_of};
 use doc_read::ReadDoc;
-use kdbx_frame::{Settings, form_of};
+use kdbx_frame::{FILE_LIMIT, Settings, form_of};
 use kdbx_payload::{Payload, open_payload};
 use outside_core::FileStore;
 use secret_core::{Key, Secret, read_file};
 use std::alloc::Global;
 use vault_model::Doc;
-
-/// How many bytes a file may have.
-pub const FILE_LIMIT: u64 = 134_217_728;
 
 /// A file that was opened, with the composite key that opened it, which must be spent.
 pub struct Opened {

@@ -22,7 +22,8 @@ use Rattle.cli_pages.specs.Pages.{page_of}
 use Rattle.keepass_call.specs.Outcome.{IsOfSomeFile, IsOfTask, World, answer_of, command_answer, may_write_by, page_or_answer}
 use Rattle.keepass_call.proofs.Pages.{no_page}
 use Rattle.cli_commands.specs.SeenChange.{output_text}
-use Rattle.call_task.specs.Tasks.{HasSomeFile, Task, draws, draws_by, task_of}
+use Rattle.call_task.specs.Tasks.{Task, draws, draws_by}
+use Rattle.call_reading.specs.Reading.{HasSomeFile, task_of}
 
 same_store : (before mid : Store) → IsSame before mid → mid ≡ before
 same_store before mid h =

@@ -12,9 +12,10 @@ use Rattle.call_carrying.specs.Endings.{Ending}
 use Rattle.keepass_call.specs.Held.{IsCarried, IsTask}
 use Rattle.keepass_call.specs.Outcome.{World, answer_of}
 use Rattle.cli_words.specs.Words.{command_of}
-use Rattle.call_task.specs.Tasks.{Task, databases_in, task_of, task_with}
+use Rattle.call_task.specs.Tasks.{Task, databases_in, task_with}
+use Rattle.call_reading.specs.Reading.{task_of}
 use Rattle.keepass_call.proofs.Answered.{answer_is}
-use Rattle.call_task.proofs.Tasks.{task_is}
+use Rattle.call_reading.proofs.Reading.{task_is}
 
 ok_is : {A : Type 0} (a b : A) → ◌≡◌ {A = Result A Refusal} (Ok a) (Ok b) → a ≡ b
 ok_is a b h = cc

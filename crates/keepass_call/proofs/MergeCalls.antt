@@ -25,7 +25,7 @@ use Rattle.doc_write.specs.Written.{write_outcome}
 use Rattle.doc_write.specs.declared.writing.WriteFail.{WriteFail}
 use Rattle.doc_write.specs.declared.writing.WriteFail.TheVariants as write
 use Rattle.kdbx_frame.specs.declared.settings.Settings.{Settings}
-use Rattle.kdbx_open.specs.declared.sealings.Sealing.{Sealing}
+use Rattle.kdbx_frame.specs.declared.sealings.Sealing.{Sealing}
 use Rattle.kdbx_seal.specs.Answers.{size_refusal}
 use Rattle.kdbx_seal.specs.Made.{made_file}
 use Rattle.kdbx_seal.specs.declared.fail.SealFail.{SealFail}

@@ -1,5 +1,5 @@
 //! What a file is sealed with.
-use kdbx_frame::Settings;
+use crate::settings::Settings;
 use secret_core::Key;
 
 /// What a file is sealed with, once it was opened.
