@@ -15,7 +15,7 @@ use Rattle.cli_words.specs.Words.{command_of}
 use Rattle.call_task.specs.Tasks.{Task, databases_in, task_with}
 use Rattle.call_reading.specs.Reading.{task_of}
 use Rattle.keepass_call.proofs.Answered.{answer_is}
-use Rattle.call_reading.proofs.Reading.{task_is}
+use Rattle.call_reading.proofs.ReadTasks.{task_is}
 
 ok_is : {A : Type 0} (a b : A) → ◌≡◌ {A = Result A Refusal} (Ok a) (Ok b) → a ≡ b
 ok_is a b h = cc

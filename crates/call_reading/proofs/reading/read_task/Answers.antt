@@ -5,7 +5,7 @@ use Rattle.cli_databases.specs.SeenOpened.{databases_seen}
 use Rattle.cli_lines.specs.SeenLines.{lines_seen}
 use Rattle.cli_words.specs.SeenNeeds.{needs_seen}
 use Rattle.cli_words.specs.Words.{command_of}
-use Rattle.call_reading.proofs.Reading.{asked_needs, at_words, database_refused, has_file_by_needs, input_early, lines_by_needs, lines_refused, needs_leave, needs_left, sealed_for, stops_left, task_by_needs, words_early, words_leave, words_refused}
+use Rattle.call_reading.proofs.ReadTasks.{asked_needs, at_words, database_refused, has_file_by_needs, input_early, lines_by_needs, lines_refused, needs_leave, needs_left, sealed_for, stops_left, task_by_needs, words_early, words_leave, words_refused}
 use Rattle.call_reading.proofs.reading.read_task.Goals as goal
 
 pub open_for-requires-clause-lines : goal.open_for-requires-clause-lines
