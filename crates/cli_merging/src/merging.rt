@@ -1,8 +1,9 @@
 //! What `merge` makes of its target.
-ghost use Rattle.std.specs.Prelude.{◌≡◌, ◌≢◌, IfErr, IfOk, OnErr, map, true, false};
+ghost use Rattle.std.specs.Prelude.{◌≡◌, ◌≢◌, ◌&&◌, not, if◌then◌else◌, None, Some, IfErr, IfOk, OnErr, map, true, false};
 ghost use Rattle.vault_model.specs.SeenDoc.{doc_seen};
 ghost use Rattle.cli_answers.specs.Messages.{Refuses, refusal_of};
 ghost use Rattle.cli_answers.specs.Phases.{IsPlainStop};
+ghost use Rattle.merge_reports.specs.Reports.{merge_report};
 ghost use Rattle.cli_merging.specs.Merging as spec;
 ghost use Rattle.cli_merging.specs.Merging.{IsUnmerged, MergeChanges, after_merge};
 
@@ -61,6 +62,60 @@ fn unmerged(alloc: Global, fail: MergeFail, file: &str) -> Stop
     }
 }
 
+// Puts a merged document in the place of another.
+fn replace(doc: &mut Doc, merged: Merged)
+    ensures { doc_seen doc.new ≡ doc_seen merged.doc }
+{
+    *doc = merged.doc;
+}
+
+// The report of a merge with this text, which puts the merged document in the place of its target,
+// if that is to be written.
+fn written(doc: &mut Doc, merged: Merged, dry: bool, text: Secret) -> MergeReport
+    ensures told { spec.report_seen result (doc_seen doc.new) ≡ record {
+      text = text.bytes;
+      doc = if merged.changed && not dry then Some (doc_seen merged.doc) else None;
+    } }
+    ensures dry { dry ≡ true → result.is_written ≡ false }
+{
+    if merged.changed && !dry {
+        replace(doc, merged);
+        MergeReport {
+            text,
+            is_written: true,
+        }
+    } else {
+        MergeReport {
+            text,
+            is_written: false,
+        }
+    }
+}
+
+// What a merge prints.
+fn text_of(
+    alloc: Global,
+    doc: &Doc,
+    merged: &Merged,
+    given: MergeGiven<'_>,
+) -> Result<Secret, NoMemory>
+    ensures { IfOk result (λ text. text.bytes ≡ merge_report given.entry.quiet
+        (not merged.now.changed) given.entry.file.now given.entry.sources.now (doc_seen doc.now)
+        (doc_seen merged.now.doc) merged.now.changes) }
+{
+    let files = MergeFiles {
+        target: given.file,
+        sources: given.sources,
+    };
+    let made = MergeOutcome {
+        same: !merged.changed,
+        old: doc,
+        new: &merged.doc,
+        changes: merged.changes.as_slice(),
+    };
+    report(alloc, given.quiet, files, made)
+}
+
 // The report of a merge, and its target, if that is to be written.
 fn finished(
     alloc: Global,
@@ -75,27 +130,10 @@ fn finished(
     ensures dry { IfOk result (λ report. given.entry.dry ≡ true → report.is_written ≡ false) }
     ensures kept { OnErr result (doc_seen doc.new ≡ doc_seen doc.old) }
 {
-    let files = MergeFiles {
-        target: given.file,
-        sources: given.sources,
-    };
-    let made = MergeOutcome {
-        same: !merged.changed,
-        old: doc,
-        new: &merged.doc,
-        changes: merged.changes.as_slice(),
-    };
-    let text = report(alloc, given.quiet, files, made)?;
-    let Merged {
-        doc: new,
-        changed,
-        changes: _,
-    } = merged;
-    let is_written = changed && !given.dry;
-    if is_written {
-        *doc = new;
+    match text_of(alloc, doc, &merged, given) {
+        Ok(text) => Ok(written(doc, merged, given.dry, text)),
+        Err(fail) => Err(fail),
     }
-    Ok(MergeReport { text, is_written })
 }
 
 /// Merges sources into a document, which is changed in place where it is to be written; a refusal
