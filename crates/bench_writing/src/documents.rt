@@ -8,11 +8,13 @@ use doc_write::{WriteFail, pool_of, write_doc};
 use outside_core::List;
 use secret_core::Secret;
 use std::alloc::Global;
+use std::rc::Rc;
 use stream_core::InnerStream;
 use time_core::Stamp;
 use tree_changes::Values;
 use tree_edits::add;
 use uuid::Uuid;
+use vault_making::copy_version;
 use vault_model::{Doc, DocForm};
 
 /// The key of the stream that hides values.
@@ -115,5 +117,18 @@ pub fn write_with_another(alloc: Global, doc: &mut Doc) -> Result<Secret, Fault>
     ) {
         Ok(()) => Ok(write(alloc, doc, PLAIN)?),
         Err(_) => Err(Fault::NotAdded),
+    }
+}
+
+/// How many own the bytes of the first attachment of the root's first entry once its current version
+/// is copied.
+pub fn owners_with_copy(alloc: Global, doc: &Doc) -> Result<usize, Fault> {
+    let Some(entry) = doc.root.entries.get(0) else {
+        return Err(Fault::NothingAttached);
+    };
+    let copy = copy_version(alloc, &entry.current)?;
+    match copy.content.attachments.get(0) {
+        Some(file) => Ok(Rc::strong_count(&file.bytes)),
+        None => Err(Fault::NothingAttached),
     }
 }

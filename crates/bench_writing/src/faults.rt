@@ -11,6 +11,8 @@ pub enum Fault {
     NotRead(DocFail),
     /// The document takes no further entry.
     NotAdded,
+    /// The root has no entry, or nothing is attached to its first one.
+    NothingAttached,
     /// The document is not written.
     NotWritten(WriteFail),
     /// Memory ran out.

@@ -11,6 +11,7 @@
 //! | `v3-hidden`, `v4-hidden` | the same under ChaCha20 |
 //! | `again` | the document by itself, once it was written as by `v4-hidden`, and read again |
 //! | `another` | the document by itself, with one entry more |
+//! | `owners` | nothing; how many own the bytes of an attachment that is copied is printed |
 //!
 //! Of those that print nothing else, the length of the text and its SHA-256 are printed.
 #![tactic(auto)]
@@ -18,7 +19,9 @@
 mod documents;
 mod faults;
 
-use crate::documents::{Manner, PLAIN, read, write, write_again, write_with_another};
+use crate::documents::{
+    Manner, PLAIN, owners_with_copy, read, write, write_again, write_with_another,
+};
 use crate::faults::Fault;
 use anyhow::bail;
 use secret_core::Secret;
@@ -93,8 +96,25 @@ fn print(
     Ok(())
 }
 
+/// How many own the bytes of an attachment of the document in a file, once its version is copied.
+fn owners(alloc: Global, file: Vec<u8>) -> Result<usize, Fault> {
+    let doc = read(alloc, file)?;
+    owners_with_copy(alloc, &doc)
+}
+
+/// Prints that number for the document of a name.
+fn print_owners(rt: &(impl Files + Print + AllocGlobal), name: &str) -> anyhow::Result<()> {
+    match owners(rt.alloc(), fs::read(rt, name)?) {
+        Ok(count) => Ok(println!(rt; "{name}, owners: {count}")?),
+        Err(fault) => bail!("{name}: {fault:?}"),
+    }
+}
+
 /// Does what a word asks for with the document of a name.
 fn run(rt: &(impl Files + Print + AllocGlobal), word: &str, name: &str) -> anyhow::Result<()> {
+    if word == "owners" {
+        return print_owners(rt, name);
+    }
     let Some(task) = task_of(word) else {
         bail!("no task {word}");
     };
