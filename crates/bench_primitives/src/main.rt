@@ -1,5 +1,7 @@
-//! Does the work that `bench/primitives` times: one primitive, over as many pieces of a MiB as its
-//! arguments ask for. It prints the first bytes of what was made, so that the work can be compared.
+//! Does the work that `bench/primitives`, `bench/key` and `bench/markup` time. Its arguments are
+//! pairs: a primitive and how many pieces of a MiB it goes over, or `markup` and a document that is
+//! read to its end. For each pair it prints the first bytes of what was made, or how many pieces of
+//! markup there are, so that the work can be compared.
 #![tactic(auto)]
 
 ghost use Rattle.std.specs.Prelude.{◌≡◌, ◌%◌, ◌≤◌, ◌^◌, length};
@@ -8,10 +10,12 @@ use argon_core::{ArgonKind, ArgonParams, argon2};
 use block_core::{Aes256, Block16, Twofish256, cbc_decrypt, cbc_encrypt};
 use key_core::{Kdf, check_kdf, transform};
 use mac_core::Hmac256;
+use markup_core::{Piece, Reader};
 use secret_core::Key;
 use std::alloc::AllocGlobal;
-use std::env;
 use std::process::ExitCode;
+use std::rt::Files;
+use std::{env, fs};
 use stream_core::{ChaCha20, Salsa20};
 
 /// The length of a piece.
@@ -144,21 +148,59 @@ fn work(rt: &impl AllocGlobal, name: &str, text: &mut [u8], turns: u32) -> bool 
     true
 }
 
-fn main(rt: HostRuntime) -> anyhow::Result<ExitCode> {
-    let words: Vec<String> = env::args(&rt)?.skip(1).collect(rt.alloc())?;
-    let [name, turns] = words.as_slice() else {
-        println!(rt; "usage: bench_primitives NAME TURNS")?;
-        return Ok(ExitCode::from(1));
-    };
-    let turns: u32 = turns.parse()?;
+// Does the work of this name over as many pieces as asked, and prints the first bytes of what was
+// made; false where there is none of the name.
+fn compute(rt: &(impl AllocGlobal + Print), name: &str, turns: u32) -> anyhow::Result<bool> {
     let mut text = vec![in rt.alloc(); 0; PIECE]?;
-    if !work(&rt, name.as_str(), &mut text, turns) {
-        println!(rt; "no work of this name")?;
-        return Ok(ExitCode::from(1));
+    if !work(rt, name, &mut text, turns) {
+        return Ok(false);
     }
     for byte in text.iter().take(16) {
         print!(rt; "{byte:02x}")?;
     }
     println!(rt;)?;
+    Ok(true)
+}
+
+// How many pieces of markup the text has; none where it is none of the grammar.
+fn piece_count(text: &[u8]) -> Option<usize> {
+    let mut reader = Reader::new(text);
+    for pieces in 0..text.len() {
+        match reader.next() {
+            Ok(Piece::Finish) => return Some(pieces),
+            Ok(_) => {}
+            Err(_) => return None,
+        }
+    }
+    None
+}
+
+// Reads the document of this name to its end, and prints how many pieces of markup it has; false
+// where it is malformed.
+fn read(rt: &(impl AllocGlobal + Files + Print), name: &str) -> anyhow::Result<bool> {
+    let text = fs::read(rt, name)?;
+    let Some(pieces) = piece_count(text.as_slice()) else {
+        return Ok(false);
+    };
+    println!(rt; "{pieces}")?;
+    Ok(true)
+}
+
+fn main(rt: HostRuntime) -> anyhow::Result<ExitCode> {
+    let words: Vec<String> = env::args(&rt)?.skip(1).collect(rt.alloc())?;
+    for pair in words.chunks(2) {
+        let [name, object] = pair else {
+            println!(rt; "usage: bench_primitives NAME TURNS, or bench_primitives markup FILE")?;
+            return Ok(ExitCode::from(1));
+        };
+        let done = match name.as_str() {
+            "markup" => read(&rt, object.as_str())?,
+            name => compute(&rt, name, object.parse::<u32>()?)?,
+        };
+        if !done {
+            println!(rt; "no work of this name, or a malformed document")?;
+            return Ok(ExitCode::from(1));
+        }
+    }
     Ok(ExitCode::SUCCESS)
 }

@@ -2,7 +2,7 @@
 
 ghost use Rattle.std.specs.Prelude.{◌≡◌, ◌%◌, length};
 
-use crate::question::{Fault, Question};
+use crate::question::{Fault, NOT_UNDONE, Question};
 use block_core::{Aes256, Block16, Twofish256, cbc_decrypt, cbc_encrypt, pad_len, unpad};
 use secret_core::Key;
 use std::alloc::Global;
@@ -37,7 +37,7 @@ fn enciphered<B: Block16>(
     let enciphered = hex::encode(alloc, &block)?;
     cipher.decrypt(&mut block);
     if block != plain {
-        return Err(Fault::NotUndone);
+        return Err(NOT_UNDONE);
     }
     Ok(enciphered)
 }
@@ -58,11 +58,11 @@ fn chained<B: Block16>(
     cbc_encrypt(cipher, &iv, &mut text);
     let enciphered = hex::encode(alloc, text.as_slice())?;
     if text.len() % 16 != 0 {
-        return Err(Fault::NotUndone);
+        return Err(NOT_UNDONE);
     }
     cbc_decrypt(cipher, &iv, &mut text);
     if text != plain {
-        return Err(Fault::NotUndone);
+        return Err(NOT_UNDONE);
     }
     Ok(enciphered)
 }

@@ -2,7 +2,7 @@
 
 ghost use Rattle.std.specs.Prelude.{◌≡◌};
 
-use crate::question::{Fault, Question};
+use crate::question::{Fault, NO_MEMORY, NO_QUESTION, Question};
 use key_core::{
     ArgonKind, FileKeys, Kdf, KeyFileFail, check_kdf, composite, file_keys, read_key_file,
     transform,
@@ -34,7 +34,7 @@ pub fn computed(alloc: Global, name: &str, question: &Question<'_>) -> Result<St
             )
         }
         "file-keys" => keys_of_file(alloc, question),
-        _ => Err(Fault::NoPrimitive),
+        _ => Err(NO_QUESTION),
     }
 }
 
@@ -73,7 +73,7 @@ fn key_of_file(alloc: Global, question: &Question<'_>) -> Result<String, Fault> 
             let found = hex::encode(alloc, &found)?;
             Ok(format!(in alloc; "hash {kept}, found {found}")?)
         }
-        Err(KeyFileFail::NoMemory) => Err(Fault::NoMemory),
+        Err(KeyFileFail::NoMemory) => Err(NO_MEMORY),
     }
 }
 
@@ -98,7 +98,7 @@ fn argon_kdf(
     let text = question.bytes(alloc, index.saturating_add(3))?;
     let mut salt = Bytes::new(alloc);
     let Ok(()) = salt.add(&text) else {
-        return Err(Fault::NoMemory);
+        return Err(NO_MEMORY);
     };
     Ok(Kdf::Argon {
         kind,
@@ -128,7 +128,7 @@ fn transformed(alloc: Global, question: &Question<'_>, kdf: &Kdf) -> Result<Stri
     key.release();
     match transformed {
         Ok(key) => spent(alloc, key),
-        Err(_) => Err(Fault::NoMemory),
+        Err(_) => Err(NO_MEMORY),
     }
 }
 

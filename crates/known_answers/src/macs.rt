@@ -2,10 +2,13 @@
 
 ghost use Rattle.std.specs.Prelude.{◌≡◌, ℕ, ◌+◌, ◌<◌, ◌≤◌, ◌^◌, length};
 
-use crate::question::{Fault, Question};
+use crate::question::{Fault, NO_MEMORY, Question};
 use mac_core::{BlockFail, BlockReader, BlockWriter, Hmac256};
 use secret_core::{Key64, Secret};
 use std::alloc::Global;
+
+/// A damaged file is not refused as it must be.
+const NOT_REFUSED: Fault = Fault::Because("not refused");
 
 /// The offset of the first block in the file that is read.
 const OFFSET: u64 = 1000;
@@ -57,7 +60,7 @@ fn written_and_read(alloc: Global, base: &Key64, question: &Question<'_>) -> Res
     };
     write(alloc, base, question, &mut file)?;
     let Ok(mut out) = Secret::with_room(alloc, file.bytes.len().saturating_add(4)) else {
-        return Err(Fault::NoMemory);
+        return Err(NO_MEMORY);
     };
     read_at_cuts(base, &file, &mut out)?;
     read_damaged(base, &mut file, &mut out)?;
@@ -175,12 +178,12 @@ fn read_at_cuts(base: &Key64, file: &File, out: &mut Secret) -> Result<(), Fault
 fn read_damaged(base: &Key64, file: &mut File, out: &mut Secret) -> Result<(), Fault> {
     let len = file.bytes.len();
     if len < 36 || len > 1_000_000 {
-        return Err(Fault::NotRefused);
+        return Err(NOT_REFUSED);
     }
     file.bytes[len - 32] ^= 4;
     for size in SIZES {
         if !is_refused(base, file, size, out) {
-            return Err(Fault::NotRefused);
+            return Err(NOT_REFUSED);
         }
     }
     Ok(())

@@ -1,4 +1,4 @@
-//! The words of a question: a primitive's name, and what it is computed of.
+//! A question: its name, and what it is asked of.
 
 ghost use Rattle.std.specs.Prelude.{◌≤◌, IfOk, vec_len};
 
@@ -8,25 +8,42 @@ use std::alloc::{AllocError, Global};
 const WORD_LIMIT: usize = 65_536;
 
 /// Why a question is not answered.
-#[derive(Clone, Copy, Debug, PartialEq, Eq)]
+#[derive(Clone, Copy)]
 pub enum Fault {
-    /// There is no primitive of this name.
-    NoPrimitive,
+    /// For this reason.
+    Because(&'static str),
     /// The word of this index is missing, or is not written as it must be.
     BadWord(usize),
-    /// What was deciphered again is not what was enciphered.
-    NotUndone,
     /// Cut at this offset, or by pieces of this length, it gives another result.
     NotTheSameCut(usize),
-    /// A damaged file is not refused as it must be.
-    NotRefused,
-    /// There was no memory left.
-    NoMemory,
 }
+
+/// There is no question of this name.
+pub const NO_QUESTION: Fault = Fault::Because("no question of this name");
+
+/// A text of a question is not spelled as it must be.
+pub const NOT_SPELLED: Fault = Fault::Because("a text is not spelled right");
+
+/// Undone again, a result is not what it was made of.
+pub const NOT_UNDONE: Fault = Fault::Because("not undone");
+
+/// There was no memory left.
+pub const NO_MEMORY: Fault = Fault::Because("no memory");
 
 impl From<AllocError> for Fault {
     fn from(_none: AllocError) -> Fault {
-        Fault::NoMemory
+        NO_MEMORY
+    }
+}
+
+impl Fault {
+    /// The fault in words.
+    pub fn words(self, alloc: Global) -> Result<String, AllocError> {
+        match self {
+            Fault::Because(why) => String::from_str(alloc, why),
+            Fault::BadWord(index) => format!(in alloc; "word {index} is not written right"),
+            Fault::NotTheSameCut(place) => format!(in alloc; "another result, cut at {place}"),
+        }
     }
 }
 
@@ -34,14 +51,19 @@ impl From<AllocError> for Fault {
 /// numbers in decimal ones.
 #[derive(Drop)]
 pub struct Question<'a> {
+    text: &'a str,
     words: Vec<&'a str>,
 }
 
 impl<'a> Question<'a> {
-    /// The words of a text, white space between them.
-    pub fn new(alloc: Global, text: &'a str) -> Result<Question<'a>, AllocError> {
-        let words = text.split_whitespace().collect(alloc)?;
-        Ok(Question { words })
+    /// The question that is asked by this text, white space between its words.
+    pub fn new(alloc: Global, asked: &'a str) -> Result<Question<'a>, AllocError> {
+        let text = match asked.split_once(' ') {
+            Some((_, text)) => text,
+            None => "",
+        };
+        let words = asked.split_whitespace().collect(alloc)?;
+        Ok(Question { text, words })
     }
 
     /// How many words there are, the name among them.
@@ -49,9 +71,14 @@ impl<'a> Question<'a> {
         self.words.len()
     }
 
-    /// The primitive's name, which is the first word.
+    /// The question's name, which is the first word.
     pub fn name(&self) -> &'a str {
         self.word(0)
+    }
+
+    /// What comes after the name, as it is spelled.
+    pub fn text(&self) -> &'a str {
+        self.text
     }
 
     /// The word of this index, which is empty where it is missing.

@@ -2,7 +2,8 @@
 
 ghost use Rattle.std.specs.Prelude.{◌≡◌, IfOk};
 
-use crate::question::{Fault, NO_MEMORY, NOT_SPELLED, put_quoted, spelled};
+use crate::question::{Fault, NO_MEMORY, NOT_SPELLED};
+use crate::spelling::{put_quoted, spelled};
 use markup_core::Attrs;
 use markup_escapes::{escape, escaped_len, unescape, unescaped_len};
 use secret_core::Secret;
@@ -74,7 +75,7 @@ fn room(alloc: Global, len: usize) -> Result<Secret, Fault>
 // The text that is in this room, which it must fill.
 fn filled(alloc: Global, room: &Secret) -> Result<String, Fault> {
     if room.spare() != 0 {
-        return Err(Fault("not of the length that was reported"));
+        return Err(Fault::Because("not of the length that was reported"));
     }
     let text = text_of(room.lend(0, room.len()))?;
     Ok(String::from_str(alloc, text)?)

@@ -1,9 +1,10 @@
-//! Bytes that a row of words stands for.
-use sha2::{Digest, Sha256};
-use std::alloc::Global;
-use std::test::Fail;
+//! Bytes that the words of a question stand for.
 
-// The pieces that rows are composed of, in hexadecimal: signature, version, fields, the
+use crate::question::{Fault, NOT_SPELLED, Question};
+use sha2::{Digest, Sha256};
+use std::alloc::{AllocError, Global};
+
+// The pieces that headers are composed of, in hexadecimal: signature, version, fields, the
 // dictionary's version, its items and its end, and 32 bytes in the place of an HMAC. A field is its
 // id, its length and its content. The length has four bytes, and two in the fields of version 3.1,
 // whose names begin with `3-`.
@@ -49,46 +50,6 @@ i 050100000049080000000300000000000000
 v 0401000000560400000013000000
 0 00";
 
-// The value of a hexadecimal digit.
-fn digit_value(digit: u8) -> Option<u8> {
-    match digit {
-        b'0'..=b'9' => Some(digit - b'0'),
-        b'a'..=b'f' => Some(digit - b'a' + 10),
-        _ => None,
-    }
-}
-
-// The byte of two hexadecimal digits.
-fn byte_of(pair: &[u8]) -> Option<u8> {
-    match pair {
-        [high, low] => Some((digit_value(*high)? << 4) | digit_value(*low)?),
-        _ => None,
-    }
-}
-
-// The bytes of hexadecimal digits.
-fn put_digits(out: &mut Vec<u8>, digits: &[u8]) -> Result<(), Fail> {
-    for pair in digits.chunks(2) {
-        match byte_of(pair) {
-            Some(byte) => out.push(byte)?,
-            None => return Err("not hexadecimal".into()),
-        }
-    }
-    Ok(())
-}
-
-/// Whether these bytes are those of the hexadecimal digits.
-pub fn are_digits(bytes: &[u8], digits: &str) -> bool {
-    let mut rest = bytes;
-    for pair in digits.as_bytes().chunks(2) {
-        match rest {
-            [byte, after @ ..] if byte_of(pair) == Some(*byte) => rest = after,
-            _ => return false,
-        }
-    }
-    rest.is_empty()
-}
-
 // The digits of the piece of this name, or the word itself.
 fn digits_of(word: &str) -> &str {
     for line in PIECES.lines() {
@@ -101,72 +62,94 @@ fn digits_of(word: &str) -> &str {
     word
 }
 
-// This many bytes 0.
-fn put_zeros(out: &mut Vec<u8>, count: &str) -> Result<(), Fail> {
+// Adds the bytes of hexadecimal digits.
+fn put_decoded(alloc: Global, out: &mut Vec<u8>, digits: &str) -> Result<(), Fault> {
+    match hex::decode(alloc, digits) {
+        Ok(bytes) => Ok(out.extend_from_slice(&bytes)?),
+        Err(_) => Err(NOT_SPELLED),
+    }
+}
+
+// Adds this many bytes 0.
+fn put_zeros(out: &mut Vec<u8>, count: &str) -> Result<(), Fault> {
     let Ok(count) = count.parse::<u32>() else {
-        return Err("not a number".into());
+        return Err(NOT_SPELLED);
     };
     for _ in 0..count {
-        out.push(0)?;
+        out.extend_from_slice(&[0])?;
     }
     Ok(())
 }
 
-// The SHA-256 of the bytes so far.
-fn put_hash(out: &mut Vec<u8>) -> Result<(), Fail> {
+// Adds the SHA-256 of the bytes so far.
+fn put_hash(out: &mut Vec<u8>) -> Result<(), Fault> {
     let hash = Sha256::digest(out.as_slice());
-    out.extend_from_slice(&hash)?;
-    Ok(())
+    Ok(out.extend_from_slice(&hash)?)
 }
 
-// One word of a row.
-fn put_word(out: &mut Vec<u8>, word: &str) -> Result<(), Fail> {
-    if word == "#" {
-        return put_hash(out);
-    }
-    match word.strip_prefix("*") {
-        Some(count) => put_zeros(out, count),
-        None => put_digits(out, digits_of(word).as_bytes()),
+// Adds what one word stands for.
+fn put_word(alloc: Global, out: &mut Vec<u8>, word: &str) -> Result<(), Fault> {
+    match word {
+        "-" => Ok(()),
+        "#" => put_hash(out),
+        _ => match word.strip_prefix("*") {
+            Some(count) => put_zeros(out, count),
+            None => put_decoded(alloc, out, digits_of(word)),
+        },
     }
 }
 
-// The field of the dictionary.
-fn put_dictionary(out: &mut Vec<u8>, content: &[u8]) -> Result<(), Fail> {
+// Adds the field of the dictionary.
+fn put_dictionary(out: &mut Vec<u8>, content: &[u8]) -> Result<(), Fault> {
     let Ok(len) = u32::try_from(content.len()) else {
-        return Err("too long".into());
+        return Err(NOT_SPELLED);
     };
-    out.push(11)?;
+    out.extend_from_slice(&[11])?;
     out.extend_from_slice(&len.to_le_bytes())?;
-    out.extend_from_slice(content)?;
-    Ok(())
+    Ok(out.extend_from_slice(content)?)
 }
 
-// A row's words. The content of a dictionary is gathered on its own.
-fn put_row(out: &mut Vec<u8>, dictionary: &mut Vec<u8>, row: &str) -> Result<(), Fail> {
+// Adds what the words of a question stand for. The content of a dictionary is gathered on its own.
+fn put_words(
+    alloc: Global,
+    out: &mut Vec<u8>,
+    dictionary: &mut Vec<u8>,
+    question: &Question<'_>,
+) -> Result<(), Fault> {
     let mut inside = false;
-    for word in row.split(" ") {
-        match word {
+    for index in 1..question.len() {
+        match question.word(index) {
             "[" => inside = true,
             "]" => {
                 inside = false;
                 put_dictionary(out, dictionary.as_slice())?;
                 dictionary.clear();
             }
-            _ if inside => put_word(dictionary, word)?,
-            _ => put_word(out, word)?,
+            word if inside => put_word(alloc, dictionary, word)?,
+            word => put_word(alloc, out, word)?,
         }
     }
     Ok(())
 }
 
-/// The bytes of a row. It is written in the pieces' names and in hexadecimal; `[` and `]` enclose
-/// the content of the field of the dictionary, `*N` is N bytes 0, `#` is the SHA-256 of all bytes
-/// so far.
-pub fn bytes_of(alloc: Global, row: &str) -> Result<Vec<u8>, Fail> {
+/// The bytes that the words after a question's name stand for: pieces by their names, hexadecimal
+/// digits, `[` and `]` around the content of the field of the dictionary, `*N` for N bytes 0, `#`
+/// for the SHA-256 of all bytes so far, and `-` for none.
+pub fn bytes_of(alloc: Global, question: &Question<'_>) -> Result<Vec<u8>, Fault> {
     let mut out = Vec::new(alloc);
     let mut dictionary = Vec::new(alloc);
-    match put_row(&mut out, &mut dictionary, row) {
+    match put_words(alloc, &mut out, &mut dictionary, question) {
         Ok(()) => Ok(out),
-        Err(fail) => Err(fail),
+        Err(fault) => Err(fault),
     }
+}
+
+/// Adds a space and the hexadecimal digits of bytes, `-` where there are none.
+pub fn put_digits(alloc: Global, out: &mut String, bytes: &[u8]) -> Result<(), AllocError> {
+    if bytes.is_empty() {
+        return out.push_str(" -");
+    }
+    let digits = hex::encode(alloc, bytes)?;
+    out.push_str(" ")?;
+    out.push_str(digits.as_str())
 }

@@ -1,6 +1,7 @@
 //! Texts of markup.
 
-use crate::question::{Fault, NOT_SPELLED, put_quoted, spelled};
+use crate::question::{Fault, NOT_SPELLED};
+use crate::spelling::{put_quoted, spelled};
 use markup_core::{MarkupFail, Piece, Reader};
 use std::alloc::{AllocError, Global};
 
@@ -8,10 +9,10 @@ use std::alloc::{AllocError, Global};
 const PIECES: usize = 10_000;
 
 /// A reader answers otherwise after its last answer.
-const ANSWERED_AGAIN: Fault = Fault("another answer after the last one");
+const ANSWERED_AGAIN: Fault = Fault::Because("another answer after the last one");
 
 /// A reader gives more pieces than any text here has.
-const NOT_ENDED: Fault = Fault("too many pieces");
+const NOT_ENDED: Fault = Fault::Because("too many pieces");
 
 /// What a reader answers: a piece, the end of the text, or its refusal.
 type Answer<'a> = Result<Piece<'a>, MarkupFail>;

@@ -1,22 +1,7 @@
-//! The texts of a question.
+//! Texts as they are spelled in a question and its answer.
 
+use crate::question::{Fault, NOT_SPELLED};
 use std::alloc::{AllocError, Global};
-
-/// Why a question is not answered.
-#[derive(Clone, Copy)]
-pub struct Fault(pub &'static str);
-
-/// A text of a question is not spelled as it must be.
-pub const NOT_SPELLED: Fault = Fault("a text is not spelled right");
-
-/// There was no memory left.
-pub const NO_MEMORY: Fault = Fault("no memory");
-
-impl From<AllocError> for Fault {
-    fn from(_none: AllocError) -> Fault {
-        NO_MEMORY
-    }
-}
 
 /// The bytes that a text spells: `-` alone is none, `\n`, `\r` and `\t` are a line feed, a carriage
 /// return and a tab, `\x` and two hexadecimal digits are a byte, and all else is itself.

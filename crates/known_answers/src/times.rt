@@ -1,12 +1,10 @@
 //! Times and their texts.
 
-use crate::question::{Fault, NOT_SPELLED, spelled};
+use crate::question::{Fault, NOT_SPELLED, NOT_UNDONE};
+use crate::spelling::spelled;
 use std::alloc::Global;
 use std::str;
 use time_core::{Stamp, iso_of, stamp_of_iso};
-
-/// Written again, or read again, a time is another one.
-const NOT_UNDONE: Fault = Fault("not undone");
 
 /// The seconds of the time that a text names, or `none`. The time must be written as the same text.
 pub fn seconds(alloc: Global, text: &str) -> Result<String, Fault> {
