@@ -1,7 +1,7 @@
 # What is sealed of documents, for tests/run: it sources this file, and has `top`, `program`, `passed` and `failed`.
 
 # The program that seals documents, as the gate leaves it.
-sealer=$(ls -t "$top"/crates/bench_sealing/out/bench_sealing "$top"/crates/bench_sealing/out/bench_sealing.by-rattle 2>/dev/null | head -1)
+sealer=$(ls -t "$top"/crates/bench_files/out/bench_files "$top"/crates/bench_files/out/bench_files.by-rattle 2>/dev/null | head -1)
 sealing=$top/tests/sealing
 
 # holds NAME COMMAND...: the command ends with status 0.
@@ -24,7 +24,7 @@ listed_alike() {
 sealed() {
   local name="a document sealed as $1 under $2 and $3" document=$4 other
   rm -f sealed.kdbx
-  holds "$name" "$sealer" 1 "$1" "$2" "$3" - "$password" "$document" sealed.kdbx
+  holds "$name" "$sealer" seal-file "$1" "$2" "$3" - "$password" "$document" sealed.kdbx 1
   holds "$name, listed" listed_alike "$document"
   for other in "${others[@]}"; do
     holds "$name, in $other" "$sealing/compare" "$other" "$document" sealed.kdbx "$password"
@@ -74,7 +74,7 @@ within_a_block() (
 
 # not_sealed: seals on the disk that cannot be published, or not be written whole.
 not_sealed() {
-  local words=("$sealer" 1 4.0 aes aes/1 - "$password" "$sealing/document.xml" sealed.kdbx)
+  local words=("$sealer" seal-file 4.0 aes aes/1 - "$password" "$sealing/document.xml" sealed.kdbx 1)
   unpublished 'a draft that cannot be written whole' within_a_block "${words[@]}"
   rm -f sealed.kdbx
   mkdir sealed.kdbx
@@ -88,7 +88,7 @@ sealed_rows() {
   rm -rf limits
   mkdir limits
   "$top/tests/writing/make" limits
-  cp "$top/crates/bench_sealing/data/small.xml" .
+  cp "$top/crates/bench_files/data/small.xml" .
   "$sealer" <"$sealing/rows" >report.txt 2>&1
   if [ "$(wc -l <report.txt)" != "$(grep -c '^[^#].* = ' "$sealing/rows")" ]; then echo 'a row has no line' >>report.txt; fi
   while IFS= read -r line; do
@@ -106,9 +106,9 @@ sealed_rows() {
 # sealed_documents: one document as KDBX 4.0 under each cipher with each key derivation, as KDBX 3.1 under each cipher, and what KDBX
 # 4.1 added as 4.1 under each cipher and each key derivation.
 sealed_documents() {
-  local password='one two three é' others=() cipher kdf rich=$top/crates/bench_sealing/data/rich.xml
+  local password='one two three é' others=() cipher kdf rich=$top/crates/bench_files/data/rich.xml
   if [ -z "$sealer" ]; then
-    echo 'skipped: what is sealed; run `rt run` in crates/bench_sealing to build its program'
+    echo 'skipped: what is sealed; run `rt run` in crates/bench_files to build its program'
     return
   fi
   if [ -n "$(command -v keepassxc-cli)" ]; then others+=(keepassxc); else echo 'skipped: sealed documents in KeePassXC, which is not installed'; fi

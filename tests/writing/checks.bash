@@ -1,7 +1,7 @@
 # What is written of documents, for tests/run: it sources this file, and has `top`, `passed` and `failed`.
 
 # The program that writes documents, as the gate leaves it.
-writer=$(ls -t "$top"/crates/bench_writing/out/bench_writing "$top"/crates/bench_writing/out/bench_writing.by-rattle 2>/dev/null | head -1)
+writer=$(ls -t "$top"/crates/bench_files/out/bench_files "$top"/crates/bench_files/out/bench_files.by-rattle 2>/dev/null | head -1)
 compare=$top/tests/writing/compare
 
 # The first Python that has pykeepass, which Debian installs for its own.
@@ -30,8 +30,8 @@ keepassxc_import() {
 written() {
   local name=$1 document=$2
   rm -f written.xml again.xml written.kdbx
-  check "$name is written" sh -c '"$1" text "$2" >written.xml' sh "$writer" "$document"
-  check "$name, written twice, is the same" sh -c '"$1" text written.xml >again.xml && cmp written.xml again.xml' sh "$writer"
+  check "$name is written" sh -c '"$1" write text "$2" >written.xml' sh "$writer" "$document"
+  check "$name, written twice, is the same" sh -c '"$1" write text written.xml >again.xml && cmp written.xml again.xml' sh "$writer"
   check "$name, read again by the reader in Python" python3 "$compare" documents "$document" written.xml
   if [ -n "$xmllint" ]; then check "$name, well formed by xmllint" xmllint --noout written.xml; fi
   if [ -z "$keepassxc" ]; then return; fi
@@ -44,7 +44,7 @@ written() {
 
 # unwritten NAME FILE: a document that is refused is not written, and one line reports it.
 unwritten() {
-  "$writer" text "$2" >out.txt 2>err.txt </dev/null
+  "$writer" write text "$2" >out.txt 2>err.txt </dev/null
   if [ $? != 0 ] && [ ! -s out.txt ] && [ "$(wc -l <err.txt)" = 1 ]; then passed=$((passed + 1)); else
     failed=$((failed + 1))
     echo "FAILED: $1 is written"
@@ -68,11 +68,11 @@ at_the_limits() {
   mkdir limits
   "$top/tests/writing/make" limits
   while IFS=$'\t' read -r number task wanted name; do
-    "$writer" "$task" "limits/$number.xml" >out.txt 2>err.txt </dev/null
+    "$writer" write "$task" "limits/$number.xml" >out.txt 2>err.txt </dev/null
     got=$?
     case $wanted in
-      Not*) [ $got != 0 ] && [ ! -s out.txt ] && [ "$(cat err.txt)" = "Error: limits/$number.xml: $wanted" ] ;;
-      *) [ $got = 0 ] && [ ! -s err.txt ] && [ "$(cat out.txt)" = "limits/$number.xml, $task: $wanted" ] ;;
+      Not*) [ $got != 0 ] && [ ! -s out.txt ] && [ "$(cat err.txt)" = "$wanted" ] ;;
+      *) [ $got = 0 ] && [ ! -s err.txt ] && [ "$(cat out.txt)" = "$wanted" ] ;;
     esac
     if [ $? = 0 ]; then passed=$((passed + 1)); else
       failed=$((failed + 1))
@@ -87,7 +87,7 @@ at_the_limits() {
 written_documents() {
   local xmllint keepassxc
   if [ -z "$writer" ]; then
-    echo 'skipped: what is written; run `rt run` in crates/bench_writing to build its program'
+    echo 'skipped: what is written; run `rt run` in crates/bench_files to build its program'
     return
   fi
   xmllint=$(command -v xmllint) || echo 'skipped: written documents by xmllint, which is not installed'
@@ -96,7 +96,7 @@ written_documents() {
   written 'an export of KeePassXC' "$1/keepassxc-export.xml"
   written 'an export of KeePassXC with what KDBX 4.1 added' "$1/keepassxc-4.1-export.xml"
   written 'the example' "$top/examples/family.xml"
-  written 'a document with everything' "$top/crates/bench_writing/data/rich.xml"
+  written 'a document with everything' "$top/crates/bench_files/data/rich.xml"
   unwritten 'an export of KeePassXC without its binaries' "$1/keepassxc-attachment.xml"
   # The same document with the binary that KeePassXC left out.
   sed 's|^\t\t<SettingsChanged>|\t\t<Binaries><Binary ID="0">YmluYXJ5AAEC/w==</Binary></Binaries>\n&|' "$1/keepassxc-attachment.xml" >attachment.xml

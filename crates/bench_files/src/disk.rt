@@ -1,4 +1,4 @@
-//! Files on the disk.
+//! Files on the disk, which are sealed and opened as often as asked.
 
 ghost use Rattle.std.specs.Prelude.{◌≡◌};
 ghost use Rattle.kdbx_frame.specs.Settings.{IsInOrder};
@@ -9,12 +9,12 @@ use kdbx_frame::Settings;
 use outside_core::FileStore;
 use outside_host::{HostDice, HostFiles};
 use std::alloc::Global;
-use std::fs::{File, Files};
+use std::fs::{self, File, Files};
 use std::random::RandomSource;
 use vault_model::Doc;
 
-/// Seals a document as a file under a password, as often as asked.
-pub fn seal_often(
+// Seals a document as a file under a password, as often as asked.
+fn seal_often(
     rt: &(impl Files<File = File> + RandomSource + AllocGlobal),
     doc: &Doc,
     settings: &Settings,
@@ -29,6 +29,38 @@ pub fn seal_often(
         seal(rt.alloc(), doc, settings, target, &mut files, &mut dice)?;
     }
     Ok(())
+}
+
+// How many bytes of memory the process holds, by the system's count; 0 where it gives none.
+fn resident(rt: &(impl Files<File = File> + AllocGlobal)) -> u64 {
+    let Ok(text) = fs::read_to_string(rt, "/proc/self/statm") else {
+        return 0;
+    };
+    match text.as_str().split_whitespace().nth(1) {
+        Some(pages) => pages.parse::<u64>().unwrap_or(0).saturating_mul(4096),
+        None => 0,
+    }
+}
+
+/// Seals the document that was read as often as asked, and gives how many bytes of memory the process
+/// held before.
+pub fn seal_read(
+    rt: &(impl Files<File = File> + RandomSource + AllocGlobal),
+    doc: &Result<Doc, Fault>,
+    settings: &Settings,
+    target: &Target<'_>,
+    times: u32,
+) -> Result<u64, Fault>
+    requires { IsInOrder settings.now }
+{
+    match doc {
+        Ok(doc) => {
+            let held = resident(rt);
+            seal_often(rt, doc, settings, target, times)?;
+            Ok(held)
+        }
+        Err(fault) => Err(*fault),
+    }
 }
 
 // Why a file was not opened, if it was not.
