@@ -65,15 +65,26 @@ both_made (Err e) first a is kept = tt
 -- ---- binaries by their order
 
 -- what is numbered with what is left to number, once one binary more is numbered
-pub numbered_more : (given : List PoolItem) (at : ℕ) (item : PoolItem) (binaries more : List Binary) (number : ℕ) (binary : Binary) (whole : List ReadBinary)
+one_numbered : (given : List PoolItem) (at : ℕ) (item : PoolItem) (binaries more : List Binary) (number : ℕ) (binary : Binary) (whole : List ReadBinary)
     → at < length given → item ≡ get_or given at item
     → map binary_seen binaries ++ binaries_from number (map pool_item (drop at given)) ≡ whole
-    → more ≡ binaries ++ binary ∷ []
     → binary_seen binary ≡ record { number = number; bytes = (pool_item item).0; hidden = (pool_item item).1 }
+    → binaries ++ binary ∷ [] ≡ more
     → map binary_seen more ++ binaries_from (number + 1) (map pool_item (drop (at + 1) given)) ≡ whole
-numbered_more given at item binaries more number binary whole within is known added is_binary =
+one_numbered given at item binaries more number binary whole within is known is_binary added =
     let left : drop at given ≡ item ∷ drop (at + 1) given = one_left given at item within is in
-    ap (λ l. map binary_seen l ++ binaries_from (number + 1) (map pool_item (drop (at + 1) given))) added
+    ap (λ l. map binary_seen l ++ binaries_from (number + 1) (map pool_item (drop (at + 1) given))) (sym added)
     ∙ (one_after binary_seen binaries binary (binaries_from (number + 1) (map pool_item (drop (at + 1) given)))
     ∙ (ap (λ b. map binary_seen binaries ++ (b ∷ binaries_from (number + 1) (map pool_item (drop (at + 1) given)))) is_binary
     ∙ (ap (λ l. map binary_seen binaries ++ binaries_from number (map pool_item l)) (sym left) ∙ known)))
+
+-- the same of what may have been refused
+pub numbered_more : {E : Type 0} (given : List PoolItem) (at : ℕ) (item : PoolItem) (binaries more : List Binary) (number : ℕ) (made : Result Binary E) (whole : List ReadBinary)
+    → at < length given → item ≡ get_or given at item
+    → map binary_seen binaries ++ binaries_from number (map pool_item (drop at given)) ≡ whole
+    → IfOk made (λ b. binary_seen b ∷ [] ≡ binaries_from number (pool_item item ∷ []))
+    → IsPushed binaries made more
+    → map binary_seen more ++ binaries_from (number + 1) (map pool_item (drop (at + 1) given)) ≡ whole
+numbered_more given at item binaries more number (Ok binary) whole within is known is_binary pushed =
+    one_numbered given at item binaries more number binary whole within is known (cc is_binary) (cc pushed)
+numbered_more given at item binaries more number (Err e) whole within is known is_binary pushed = absurd (cc pushed)

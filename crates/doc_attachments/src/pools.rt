@@ -3,6 +3,7 @@
 ghost use Rattle.doc_forms.specs.Attachments as spec;
 ghost use Rattle.doc_forms.specs.SeenDocuments.{pool_item};
 ghost use Rattle.doc_forms.specs.SeenDrafts.{binary_seen};
+ghost use Rattle.doc_attachments.specs.Lists.{IsPushed};
 ghost use Rattle.doc_attachments.specs.Pools.{Finds};
 ghost use Rattle.std.specs.Option.{option_copied};
 ghost use Rattle.std.specs.Prelude.{◌≡◌, ◌++◌, [], ◌∷◌, IfOk, OnOk, length, map, option_map};
@@ -36,6 +37,34 @@ pub(crate) fn share_bytes(bytes: &Rc<Secret>) -> Result<Rc<Secret>, NoMemory>
     }
 }
 
+/// Puts what was made after the others, or else refuses.
+pub(crate) fn push_made<T: Drop>(
+    list: &mut List<T>,
+    made: Result<T, NoMemory>,
+) -> Result<(), NoMemory>
+    ensures { OnOk result (IsPushed list.old made list.new) }
+{
+    match made {
+        Ok(item) => push(list, item),
+        Err(refusal) => Err(refusal),
+    }
+}
+
+/// The binary of this number that a file keeps apart. Its bytes are shared.
+fn numbered(number: u64, item: &PoolItem) -> Result<Binary, NoMemory>
+    ensures { IfOk result (λ b. binary_seen b ∷ []
+        ≡ spec.binaries_from number (pool_item item.now ∷ [])) }
+{
+    match share_bytes(&item.bytes) {
+        Ok(bytes) => Ok(Binary {
+            number,
+            bytes,
+            hidden: item.hidden,
+        }),
+        Err(refusal) => Err(refusal),
+    }
+}
+
 /// The binaries that a file keeps apart, by their order from 0 on. Their bytes are shared.
 pub(crate) fn number_binaries(alloc: Global, given: &[PoolItem]) -> Result<List<Binary>, NoMemory>
     ensures { IfOk result (λ l. map binary_seen l ≡ spec.binaries_from 0
@@ -44,12 +73,7 @@ pub(crate) fn number_binaries(alloc: Global, given: &[PoolItem]) -> Result<List<
     let mut binaries = List::new(alloc);
     let mut number = 0;
     for item in given {
-        let binary = Binary {
-            number,
-            bytes: share_bytes(&item.bytes)?,
-            hidden: item.hidden,
-        };
-        push(&mut binaries, binary)?;
+        push_made(&mut binaries, numbered(number, item))?;
         number += 1;
     }
     Ok(binaries)

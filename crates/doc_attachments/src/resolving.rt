@@ -2,13 +2,12 @@
 
 ghost use Rattle.doc_forms.specs.Attachments as spec;
 ghost use Rattle.doc_forms.specs.SeenDrafts.{attachment_seen, draft_seen, entry_seen, version_seen};
-ghost use Rattle.doc_attachments.specs.Lists.{IsPushed};
 ghost use Rattle.doc_attachments.specs.Trees.{with_attachments};
-ghost use Rattle.std.specs.Prelude.{◌≡◌, [], IfOk, Ok, OnOk, map};
+ghost use Rattle.std.specs.Prelude.{◌≡◌, [], IfOk, Ok, map};
 ghost use Rattle.vault_model.specs.Seen.{bare_attachment};
 ghost use Rattle.vault_model.specs.SeenNodes.{bare_version, entry_row, tree_seen};
 
-use crate::pools::{Pool, push, share_bytes};
+use crate::pools::{Pool, push_made, share_bytes};
 use doc_forms::{AttachmentDraft, EntryDraft, GroupDraft, SourceDraft, VersionDraft};
 use outside_core::{List, NoMemory, Text};
 use secret_core::Secret;
@@ -51,16 +50,6 @@ fn own_bytes(alloc: Global, bytes: Secret) -> Result<Rc<Secret>, NoMemory>
     match Rc::new(alloc, bytes) {
         Ok(bytes) => Ok(bytes),
         Err(_) => Err(NoMemory),
-    }
-}
-
-/// Puts what was made after the others, or else refuses.
-fn push_made<T: Drop>(list: &mut List<T>, made: Result<T, NoMemory>) -> Result<(), NoMemory>
-    ensures { OnOk result (IsPushed list.old made list.new) }
-{
-    match made {
-        Ok(item) => push(list, item),
-        Err(refusal) => Err(refusal),
     }
 }
 

@@ -15,7 +15,9 @@ ghost use Rattle.doc_walk.specs.Steps.{Steps};
 ghost use Rattle.doc_walk.specs.Tags.{child_step, contents_step};
 
 use doc_forms::{AttachmentDraft, DocFail, ElementText, SourceDraft};
-use doc_values::{Kind, SecretBytes, TextValue, is_hidden, is_marked, no_text, number64, resolved};
+use doc_values::{
+    Kind, SecretBytes, TextValue, bytes_of, is_hidden, is_marked, no_text, number64, resolved,
+};
 use doc_walk::{Parts, Tag, Walk, read_whole};
 use markup_core::Attrs;
 use outside_core::Text;
@@ -61,7 +63,7 @@ fn source_in_pool(alloc: Global, offset: usize, raw: &str) -> Result<Option<Sour
         (Ok (option_map (spec.pool_number offset) (number64 (unescaped raw.now)))) }
 {
     match resolved(alloc, raw) {
-        Ok(digits) => Ok(source_of_number(offset, number64(digits.lend(0, digits.len())))),
+        Ok(digits) => Ok(source_of_number(offset, number64(bytes_of(&digits)))),
         Err(refusal) => Err(refusal),
     }
 }

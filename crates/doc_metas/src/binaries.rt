@@ -13,7 +13,7 @@ ghost use Rattle.doc_walk.specs.Steps.{Steps};
 ghost use Rattle.doc_walk.specs.Tags.{child_step, contents_step};
 
 use doc_forms::{Binary, DocFail, ElementText};
-use doc_values::{Kind, SecretBytes, is_hidden, is_marked, number64, resolved};
+use doc_values::{Kind, SecretBytes, bytes_of, is_hidden, is_marked, number64, resolved};
 use doc_walk::{Parts, Tag, Walk, read_whole};
 use markup_core::Attrs;
 use outside_core::List;
@@ -30,7 +30,7 @@ fn own_number(alloc: Global, attrs: &Attrs<'_>) -> Result<Option<u64>, DocFail>
         return Ok(None);
     };
     let text = resolved(alloc, raw)?;
-    Ok(number64(text.lend(0, text.len())))
+    Ok(number64(bytes_of(&text)))
 }
 
 /// Bytes that several may share.

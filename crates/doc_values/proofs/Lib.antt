@@ -1,4 +1,5 @@
 mod Numbers
+mod Positions
 mod Puts
 mod RisingLists
 mod TimeTexts

@@ -73,9 +73,12 @@ fn position_in<T: Keyed>(list: &[T], key: &[u8]) -> usize
     ensures position { result ≡ spec.position_of T.key key.now list.now }
     ensures within { result ≤ length list.now }
 {
-    list.iter()
-        .take_while(|item| comes_after(key, item.key()))
-        .count()
+    for (position, item) in list.iter().enumerate() {
+        if !comes_after(key, item.key()) {
+            return position;
+        }
+    }
+    list.len()
 }
 
 /// A list whose keys rise. Contracts see it as the list of its items.

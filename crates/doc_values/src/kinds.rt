@@ -1,6 +1,6 @@
 //! The kinds of values: how the text of an element is read.
 
-ghost use Rattle.std.specs.Prelude.{◌≡◌, ℕ, ℤ, ◌<◌, List, [], length, Bool, true, false, Ok, Option, Some, None, IfOk, OnOk, MatchOption, option_map};
+ghost use Rattle.std.specs.Prelude.{◌≡◌, ◌==◌, if◌then◌else◌, ℕ, ℤ, ◌<◌, List, [], length, Bool, true, false, Ok, Option, Some, None, IfOk, OnOk, MatchOption, option_map};
 ghost use Rattle.std.specs.Str.{is_utf8};
 ghost use Rattle.vault_model.specs.Db.{NodeId, nil_id};
 ghost use Rattle.vault_model.specs.declared.contents.Tri.TheVariants.{Inherit};
@@ -11,7 +11,7 @@ ghost use Rattle.doc_forms.specs.Entries.{id_or_none};
 ghost use Rattle.doc_forms.specs.Refusals.{Returns};
 ghost use Rattle.doc_forms.specs.SeenTexts.{text_seen};
 
-use crate::marks::base64_bytes;
+use crate::marks::{base64_bytes, bytes_of};
 use crate::values;
 use doc_forms::{DocFail, ElementText};
 use outside_core::{Bytes, Text};
@@ -44,7 +44,14 @@ pub trait Kind {
 fn trimmed_text(text: &ElementText) -> &[u8]
     ensures { result.now ≡ texts.trim (text_bytes (text_seen text.now)) }
 {
-    trim(text.bytes.lend(0, text.bytes.len()))
+    trim(bytes_of(&text.bytes))
+}
+
+/// The value that a text writes, or this one where the text is empty.
+fn unless_empty<T: Copy>(text: &[u8], empty: T, value: Option<T>) -> Option<T>
+    ensures { result ≡ if length text.now == 0 then Some empty else value }
+{
+    if text.is_empty() { Some(empty) } else { value }
 }
 
 /// The text that bytes spell in UTF-8.
@@ -81,7 +88,7 @@ impl Kind for TextValue {
     ghost rule = { spec.text_in };
 
     fn from_text(alloc: Global, text: ElementText) -> Result<Option<Text>, DocFail> {
-        match text_of(text.bytes.lend(0, text.bytes.len())) {
+        match text_of(bytes_of(&text.bytes)) {
             Some(text) => Ok(Some(own_text(alloc, text)?)),
             None => Ok(None),
         }
@@ -101,7 +108,7 @@ impl Kind for SecretText {
     ghost rule = { spec.text_in };
 
     fn from_text(_alloc: Global, text: ElementText) -> Result<Option<Secret>, DocFail> {
-        if text_of(text.bytes.lend(0, text.bytes.len())).is_none() {
+        if text_of(bytes_of(&text.bytes)).is_none() {
             return Ok(None);
         }
         Ok(Some(text.bytes))
@@ -122,10 +129,7 @@ impl Kind for TrueUnlessFalse {
 
     fn from_text(_alloc: Global, text: ElementText) -> Result<Option<bool>, DocFail> {
         let text = trimmed_text(&text);
-        if text.is_empty() {
-            return Ok(Some(true));
-        }
-        Ok(values::boolean(text))
+        Ok(unless_empty(text, true, values::boolean(text)))
     }
 }
 
@@ -143,10 +147,7 @@ impl Kind for FalseUnlessTrue {
 
     fn from_text(_alloc: Global, text: ElementText) -> Result<Option<bool>, DocFail> {
         let text = trimmed_text(&text);
-        if text.is_empty() {
-            return Ok(Some(false));
-        }
-        Ok(values::boolean(text))
+        Ok(unless_empty(text, false, values::boolean(text)))
     }
 }
 
@@ -164,10 +165,7 @@ impl<const EMPTY: u32> Kind for Number32<EMPTY> {
 
     fn from_text(_alloc: Global, text: ElementText) -> Result<Option<u32>, DocFail> {
         let text = trimmed_text(&text);
-        if text.is_empty() {
-            return Ok(Some(EMPTY));
-        }
-        Ok(values::number32(text))
+        Ok(unless_empty(text, EMPTY, values::number32(text)))
     }
 }
 
@@ -185,10 +183,7 @@ impl Kind for Number64 {
 
     fn from_text(_alloc: Global, text: ElementText) -> Result<Option<u64>, DocFail> {
         let text = trimmed_text(&text);
-        if text.is_empty() {
-            return Ok(Some(0));
-        }
-        Ok(values::number64(text))
+        Ok(unless_empty(text, 0, values::number64(text)))
     }
 }
 
@@ -206,10 +201,7 @@ impl<const EMPTY: i32> Kind for Signed32<EMPTY> {
 
     fn from_text(_alloc: Global, text: ElementText) -> Result<Option<i32>, DocFail> {
         let text = trimmed_text(&text);
-        if text.is_empty() {
-            return Ok(Some(EMPTY));
-        }
-        Ok(values::signed32(text))
+        Ok(unless_empty(text, EMPTY, values::signed32(text)))
     }
 }
 
@@ -227,10 +219,7 @@ impl<const EMPTY: i64> Kind for Signed64<EMPTY> {
 
     fn from_text(_alloc: Global, text: ElementText) -> Result<Option<i64>, DocFail> {
         let text = trimmed_text(&text);
-        if text.is_empty() {
-            return Ok(Some(EMPTY));
-        }
-        Ok(values::signed64(text))
+        Ok(unless_empty(text, EMPTY, values::signed64(text)))
     }
 }
 
@@ -248,10 +237,7 @@ impl Kind for IdValue {
 
     fn from_text(_alloc: Global, text: ElementText) -> Result<Option<Uuid>, DocFail> {
         let text = trimmed_text(&text);
-        if text.is_empty() {
-            return Ok(Some(Uuid::nil()));
-        }
-        Ok(values::id(text))
+        Ok(unless_empty(text, Uuid::nil(), values::id(text)))
     }
 }
 
@@ -312,10 +298,7 @@ impl Kind for ChoiceValue {
 
     fn from_text(_alloc: Global, text: ElementText) -> Result<Option<Tri>, DocFail> {
         let text = trimmed_text(&text);
-        if text.is_empty() {
-            return Ok(Some(Tri::Inherit));
-        }
-        Ok(values::choice(text))
+        Ok(unless_empty(text, Tri::Inherit, values::choice(text)))
     }
 }
 
@@ -395,6 +378,16 @@ fn open_bytes(alloc: Global, piece: &[u8]) -> Result<Bytes, DocFail>
     }
 }
 
+/// A copy of bytes that others may see.
+fn open_copy(alloc: Global, bytes: &Secret) -> Result<Option<Bytes>, DocFail>
+    ensures { Returns (λ o. option_map (λ b. b) o) result (Ok (Some bytes.now.bytes)) }
+{
+    match open_bytes(alloc, bytes_of(bytes)) {
+        Ok(bytes) => Ok(Some(bytes)),
+        Err(refusal) => Err(refusal),
+    }
+}
+
 /// The same bytes, which are no secret.
 pub struct OpenBytes;
 
@@ -409,10 +402,10 @@ impl Kind for OpenBytes {
 
     fn from_text(alloc: Global, text: ElementText) -> Result<Option<Bytes>, DocFail> {
         if text.is_hidden {
-            return Ok(Some(open_bytes(alloc, text.bytes.lend(0, text.bytes.len()))?));
+            return open_copy(alloc, &text.bytes);
         }
         match base64_bytes(alloc, trimmed_text(&text))? {
-            Some(bytes) => Ok(Some(open_bytes(alloc, bytes.lend(0, bytes.len()))?)),
+            Some(bytes) => open_copy(alloc, &bytes),
             None => Ok(None),
         }
     }

@@ -13,5 +13,5 @@ pub use kinds::{
     OpenBytes, OwnId, SecretBytes, SecretText, Signed32, Signed64, TextValue, TimeValue,
     TrueUnlessFalse,
 };
-pub use marks::{appended, base64_bytes, is_hidden, is_marked, no_text, resolved};
+pub use marks::{appended, base64_bytes, bytes_of, is_hidden, is_marked, no_text, resolved};
 pub use values::number64;

@@ -1,6 +1,6 @@
 //! Texts of markup in memory, with their escapes resolved, and what attributes mark.
 
-ghost use Rattle.std.specs.Prelude.{◌++◌, [], Ok, option_map};
+ghost use Rattle.std.specs.Prelude.{◌≡◌, ◌++◌, [], Ok, option_map};
 ghost use Rattle.markup_grammar.specs.Escapes as escapes;
 ghost use Rattle.text_forms.specs.Texts as texts;
 ghost use Rattle.doc_forms.specs.ElementTexts as spec;
@@ -11,6 +11,13 @@ use markup_core::Attrs;
 use secret_core::Secret;
 use std::alloc::Global;
 use text_core::{append_unescaped, decode_base64, spells_word, unescaped};
+
+/// All bytes of a text in memory.
+pub fn bytes_of(text: &Secret) -> &[u8]
+    ensures { result.now ≡ text.now.bytes }
+{
+    text.lend(0, text.len())
+}
 
 /// A text, and after it the text that raw markup stands for.
 pub fn appended(alloc: Global, text: Secret, raw: &str) -> Result<Secret, DocFail>

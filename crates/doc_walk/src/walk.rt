@@ -11,7 +11,7 @@ ghost use Rattle.doc_walk.specs.Steps.{Steps, course_of};
 ghost use Rattle.doc_walk.specs.Tags.{text_step, check_step, value_step, pass_step};
 
 use doc_forms::{Cursor, DocFail, ElementText};
-use doc_values::{Kind, appended, base64_bytes, is_hidden, is_marked, no_text};
+use doc_values::{Kind, appended, base64_bytes, bytes_of, is_hidden, is_marked, no_text};
 use markup_core::{Attrs, MarkupFail, Piece, Reader};
 use secret_core::Secret;
 use std::alloc::Global;
@@ -161,7 +161,7 @@ impl<'t> Walk<'t> {
         if matches!(self.form, DocForm::Plain) {
             return Err(DocFail::BadValue(tag.offset));
         }
-        match base64_bytes(self.alloc, trim(text.lend(0, text.len())))? {
+        match base64_bytes(self.alloc, trim(bytes_of(&text)))? {
             Some(bytes) => self.revealed(bytes),
             None => Err(DocFail::BadValue(tag.offset)),
         }

@@ -1,4 +1,4 @@
-use Rattle.std.proofs.Common.{◌≡◌, [], ◌++◌, refl, ◌∙◌, sym, Ok, Err}
+use Rattle.std.proofs.Common.{◌≡◌, [], ◌++◌, refl, ◌∙◌, sym, ap, arith, length, Ok, Err}
 use Rattle.markup_grammar.specs.Escapes.{unescaped}
 use Rattle.std.proofs.lemmas.Result.{err_from_is_err_and}
 use Rattle.doc_forms.specs.SeenTexts.{text_seen}
@@ -143,3 +143,23 @@ group_children-returns-in_err-text-in-Ok-Words t c =
 pub group_children-returns-in-Ok-Finish : goal.group_children-returns-in-Ok-Finish
 group_children-returns-in-Ok-Finish t c =
     refused _ c.args.walk.now c.next_piece.new.self _ NoMemory tt (c.next_piece.ensures.setting ∙ c.pieces.invariant.goes.setting)
+
+pub group_children-pieces-smaller-in-Continue-branch-3 : goal.group_children-pieces-smaller-in-Continue-branch-3
+group_children-pieces-smaller-in-Continue-branch-3 t c =
+    let e = rw c.in-Ok-Start.field-0-is at c.in-Ok-Start.ensures.answers in
+    omega (arith, ap length e, c.in_ok-group_child-in-Ok-Start.ensures.shorter)
+
+pub group_children-pieces-smaller-then-hides : goal.group_children-pieces-smaller-then-hides
+group_children-pieces-smaller-then-hides t c =
+    let e = rw c.in-Ok-Words.field-0-is at c.in-Ok-Words.ensures.answers in
+    omega (arith, ap length e)
+
+pub group_children-pieces-smaller : goal.group_children-pieces-smaller
+group_children-pieces-smaller t c =
+    let e = rw c.in-Ok-Words.field-0-is at c.in-Ok-Words.ensures.answers in
+    omega (arith, ap length e)
+
+pub group_children-group_child-requires : goal.group_children-group_child-requires
+group_children-group_child-requires t c =
+    let e = rw c.in-Ok-Start.field-0-is at c.in-Ok-Start.ensures.answers in
+    (omega (arith, ap length e, c.pieces.invariant.goes.shorter, c.decreases), tt)

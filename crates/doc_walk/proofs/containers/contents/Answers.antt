@@ -1,4 +1,4 @@
-use Rattle.std.proofs.Common.{◌≡◌, ℕ, List, [], ◌++◌, ◌∙◌, refl, sym}
+use Rattle.std.proofs.Common.{◌≡◌, ℕ, List, [], ◌++◌, ◌∙◌, refl, sym, ap, arith, length}
 use Rattle.markup_grammar.specs.Escapes.{unescaped}
 use Rattle.std.proofs.lemmas.Result.{err_from_is_err_and}
 use Rattle.doc_forms.specs.SeenTexts.{text_seen}
@@ -102,3 +102,18 @@ returns-in_err-text-in-Ok-Words g c =
 
 pub returns-in-Ok-Finish : goal.returns-in-Ok-Finish
 returns-in-Ok-Finish g c = ran_out (c.next_piece.ensures.setting ∙ c.pieces.invariant.goes.setting)
+
+pub pieces-smaller-in-Continue-branch-3 : goal.pieces-smaller-in-Continue-branch-3
+pieces-smaller-in-Continue-branch-3 g c =
+    let e = rw c.in-Ok-Start.field-0-is at c.in-Ok-Start.ensures.answers in
+    omega (arith, ap length e, c.in_ok-read_child-in-Ok-Start.ensures.shorter)
+
+pub pieces-smaller-then-hides : goal.pieces-smaller-then-hides
+pieces-smaller-then-hides g c =
+    let e = rw c.in-Ok-Words.field-0-is at c.in-Ok-Words.ensures.answers in
+    omega (arith, ap length e)
+
+pub pieces-smaller : goal.pieces-smaller
+pieces-smaller g c =
+    let e = rw c.in-Ok-Words.field-0-is at c.in-Ok-Words.ensures.answers in
+    omega (arith, ap length e)
