@@ -1,12 +1,18 @@
 //! Documents merged into one.
 ghost use Rattle.std.specs.Prelude.{◌≡◌, ◌∷◌, None, Ok, Err, IfOk, map, true};
+ghost use Rattle.std.specs.FinMap.{contains_key};
+ghost use Rattle.vault_model.specs.Db.{Sound};
 ghost use Rattle.vault_model.specs.Join.{join};
 ghost use Rattle.vault_model.specs.Proper.{rises};
 ghost use Rattle.vault_model.specs.SeenDoc.{doc_seen};
-ghost use Rattle.vault_model.specs.Tree.{LEVELS, db_in, lay_doc};
+ghost use Rattle.vault_model.specs.Shape.{lay};
+ghost use Rattle.vault_model.specs.Tree.{IsDoc, LEVELS, db_in, doc_of, lay_doc};
+ghost use Rattle.document_equality.specs.Equality.{same_all, same_meta, same_tomb};
+ghost use Rattle.merge_changes.specs.Changes.{all_changes};
 ghost use Rattle.merge_laws.specs.Marking.{strays};
 ghost use Rattle.merge_laws.specs.Refusals.{CanMerge, kind_clashes, least, members, root_clashes};
 ghost use Rattle.reference_tables.specs.Databases.{database, databases};
+ghost use Rattle.reference_shapes.specs.Shapes.{shape};
 ghost use Rattle.merge_join.specs.Marks.{AreKept, AreKnown};
 ghost use Rattle.document_merge.specs.Merging.{HandsBack, IsFailOf, IsMergeCall, IsMergeResult, level_stage, kind_stage, merge_result, path_stage};
 
@@ -24,6 +30,7 @@ use merge_join::marking::{JoinRefusal, kept_marks};
 use merge_shapes::shapes::shape_of;
 use outside_core::{List, NoMemory};
 use reference_lay::laying::lay;
+use reference_shapes::shapes::Shape;
 use reference_tables::databases::Database;
 use reference_tables::tables::Table;
 use std::alloc::Global;
@@ -71,6 +78,24 @@ pub struct Refused {
     pub target: Option<Doc>,
 }
 
+/// What changed between the target and the document that is laid over it.
+fn changes_of(
+    alloc: Global,
+    target: &Doc,
+    before: &Database,
+    joined: &Database,
+    doc: &Doc,
+    is_same: bool,
+) -> Result<List<Change>, NoMemory>
+    ensures { IfOk result (λ cs. cs ≡ all_changes (database before.now) (database joined.now)
+        (same_meta (doc_seen target.now).meta (doc_seen doc.now).meta)
+        (same_all same_tomb (doc_seen target.now).tombs (doc_seen doc.now).tombs) is_same) }
+{
+    let is_meta_same = same_meta(&target.meta, &doc.meta);
+    let are_tombs_same = same_tombs(target.tombs.as_slice(), doc.tombs.as_slice());
+    changes(alloc, before, joined, is_meta_same, are_tombs_same, is_same)
+}
+
 /// A merged document with what changed.
 fn report<'a>(
     alloc: Global,
@@ -86,15 +111,41 @@ fn report<'a>(
     ensures { IsMergeResult (Ok (doc_seen doc)) (doc_seen target.now) (map doc_seen _sources.now)
         result }
 {
-    let is_meta_same = same_meta(&target.meta, &doc.meta);
-    let are_tombs_same = same_tombs(target.tombs.as_slice(), doc.tombs.as_slice());
     let is_same = same_doc(target, &doc);
-    let changes = changes(alloc, before, joined, is_meta_same, are_tombs_same, is_same)?;
-    Ok(Merged {
-        doc,
-        changed: !is_same,
-        changes,
-    })
+    match changes_of(alloc, target, before, joined, &doc, is_same) {
+        Ok(changes) => Ok(Merged {
+            doc,
+            changed: !is_same,
+            changes,
+        }),
+        Err(_failed) => {
+            drop(doc);
+            Err(MergeFail::NoMemory)
+        }
+    }
+}
+
+/// The document of a shape that is one.
+fn built(alloc: Global, from: &Shape) -> Result<Doc, NoMemory>
+    requires doc { IsDoc (doc_of LEVELS (shape from.now)) }
+    requires root { contains_key (shape from.now).groups (shape from.now).root ≡ true }
+    ensures { IfOk result (λ d. doc_seen d ≡ doc_of LEVELS (shape from.now)) }
+{
+    let meta = made_meta(alloc, &from.meta)?;
+    laid_doc(alloc, from, meta)
+}
+
+/// A database laid over an older document.
+fn laid_over<'a>(alloc: Global, joined: &Database<'a>, older: &Shape<'a>) -> Result<Doc, NoMemory>
+    requires joined { Sound (database joined.now) }
+    requires laid { IsDoc (doc_of LEVELS (lay (database joined.now) (shape older.now))) }
+    ensures { IfOk result (λ d. doc_seen d
+        ≡ doc_of LEVELS (lay (database joined.now) (shape older.now))) }
+{
+    let newer = lay(alloc, joined, older)?;
+    let doc = built(alloc, &newer);
+    drop(newer);
+    doc
 }
 
 /// The joined database laid over the target.
@@ -111,10 +162,9 @@ fn laid<'a>(
         (join (members (doc_seen target.now) (map doc_seen _sources.now))) (doc_seen target.now)) }
 {
     let older = shape_of(alloc, target)?;
-    let newer = lay(alloc, joined, &older)?;
-    let meta = made_meta(alloc, &newer.meta)?;
-    let doc = laid_doc(alloc, &newer, meta)?;
-    Ok(doc)
+    let doc = laid_over(alloc, joined, &older);
+    drop(older);
+    doc
 }
 
 /// The join of the members laid over the target, where no kept node is too deep.
@@ -135,6 +185,30 @@ fn merge_joined<'a>(
 {
     let doc = laid(alloc, target, sources, joined)?;
     report(alloc, target, sources, &copies[0], joined, doc)
+}
+
+/// Documents merged that no refusal is about; the kept nodes are marked.
+fn merge_allowed<'a>(
+    alloc: Global,
+    target: &'a Doc,
+    sources: &[Doc],
+    copies: &[Database<'a>],
+    known: &[Uuid],
+    marked: &Table<bool>,
+) -> Result<Merged, MergeFail>
+    requires copies { databases copies.now
+        ≡ members (doc_seen target.now) (map doc_seen sources.now) }
+    requires can_merge { CanMerge (doc_seen target.now) (map doc_seen sources.now) }
+    requires known { AreKnown (databases copies.now) known.now }
+    requires kept { AreKept (databases copies.now) marked.now }
+    ensures { IsMergeResult (Ok (lay_doc LEVELS
+        (join (members (doc_seen target.now) (map doc_seen sources.now))) (doc_seen target.now)))
+        (doc_seen target.now) (map doc_seen sources.now) result }
+{
+    let joined = join_marked(alloc, copies, marked, known)?;
+    let merged = merge_joined(alloc, target, sources, copies, &joined);
+    drop(joined);
+    merged
 }
 
 /// Documents merged whose own nodes all have a path to the root; the kept nodes are marked.
@@ -161,8 +235,7 @@ fn merge_marked<'a>(
     if let Some(id) = found {
         return Err(MergeFail::TooDeep(id));
     }
-    let joined = join_marked(alloc, copies, marked, known)?;
-    merge_joined(alloc, target, sources, copies, &joined)
+    merge_allowed(alloc, target, sources, copies, known, marked)
 }
 
 /// Why documents are not merged, where their databases are not joined.
@@ -201,6 +274,27 @@ fn merge_kinds<'a>(
     }
 }
 
+/// Documents merged in which no node but a root has a root's id, with their databases.
+fn merge_copies<'a>(
+    alloc: Global,
+    target: &'a Doc,
+    sources: &[Doc],
+    copies: &[Database<'a>],
+) -> Result<Merged, MergeFail>
+    requires clear { least (root_clashes (doc_seen target.now ∷ map doc_seen sources.now)) ≡ None }
+    requires copies { databases copies.now
+        ≡ members (doc_seen target.now) (map doc_seen sources.now) }
+    ensures { IsMergeResult (kind_stage (doc_seen target.now) (map doc_seen sources.now))
+        (doc_seen target.now) (map doc_seen sources.now) result }
+{
+    let known = rising_known_ids(alloc, copies)?;
+    let found = kind_clash(copies, known.as_slice());
+    if let Some(id) = found {
+        return Err(MergeFail::KindClash(id));
+    }
+    merge_kinds(alloc, target, sources, copies, known.as_slice())
+}
+
 /// Documents merged in which no node but a root has a root's id.
 fn merge_members(alloc: Global, target: &Doc, sources: &[Doc]) -> Result<Merged, MergeFail>
     requires clear { least (root_clashes (doc_seen target.now ∷ map doc_seen sources.now)) ≡ None }
@@ -208,12 +302,9 @@ fn merge_members(alloc: Global, target: &Doc, sources: &[Doc]) -> Result<Merged,
         (doc_seen target.now) (map doc_seen sources.now) result }
 {
     let copies = members_of(alloc, target, sources)?;
-    let known = rising_known_ids(alloc, copies.as_slice())?;
-    let found = kind_clash(copies.as_slice(), known.as_slice());
-    if let Some(id) = found {
-        return Err(MergeFail::KindClash(id));
-    }
-    merge_kinds(alloc, target, sources, copies.as_slice(), known.as_slice())
+    let merged = merge_copies(alloc, target, sources, copies.as_slice());
+    drop(copies);
+    merged
 }
 
 /// Documents merged, all of them lent.
@@ -234,7 +325,10 @@ fn handing_back(why: MergeFail, target: Doc) -> Refused
     ensures target { HandsBack (doc_seen target) why result.target }
 {
     let target = match &why {
-        MergeFail::NoMemory => None,
+        MergeFail::NoMemory => {
+            drop(target);
+            None
+        }
         _ => Some(target),
     };
     Refused { why, target }
@@ -247,7 +341,10 @@ pub fn merge(alloc: Global, target: Doc, sources: &[Doc]) -> Result<Merged, Refu
         (doc_seen target) (map doc_seen sources.now) result }
 {
     match merge_lent(alloc, &target, sources) {
-        Ok(merged) => Ok(merged),
+        Ok(merged) => {
+            drop(target);
+            Ok(merged)
+        }
         Err(why) => Err(handing_back(why, target)),
     }
 }

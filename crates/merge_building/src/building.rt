@@ -18,6 +18,7 @@ use vault_model::{Entry, Group, GroupContent, GroupState, Version};
 fn copy_group_content(alloc: Global, content: &GroupContent) -> Result<GroupContent, NoMemory>
     ensures { IfOk result (λ copy. copy ≡ content.now) }
 {
+    let items = copy_items(alloc, content.items.as_slice())?;
     Ok(GroupContent {
         created: content.created,
         expiry: content.expiry,
@@ -29,7 +30,7 @@ fn copy_group_content(alloc: Global, content: &GroupContent) -> Result<GroupCont
         sequence: copy_text(alloc, &content.sequence)?,
         auto_type: content.auto_type,
         searching: content.searching,
-        items: copy_items(alloc, content.items.as_slice())?,
+        items,
         tags: copy_text(alloc, &content.tags)?,
     })
 }
@@ -61,8 +62,8 @@ fn made_history(alloc: Global, history: &[LentVersion]) -> Result<List<Version>,
 fn made_entry(alloc: Global, id: Uuid, entry: &LentEntry) -> Result<Entry, NoMemory>
     ensures { IfOk result (λ e. entry_row e ≡ (id, entry.now)) }
 {
-    let current = made_version(alloc, entry.current())?;
     let history = made_history(alloc, entry.history())?;
+    let current = made_version(alloc, entry.current())?;
     let stay = entry.stay();
     Ok(Entry {
         id,
@@ -144,7 +145,6 @@ pub fn group_at(
 ) -> Result<Group, NoMemory>
     ensures { IfOk result (λ g. tree_seen g ≡ tree_of (shape from.now) levels id row.now) }
 {
-    let state = made_state(alloc, row.state())?;
     let entries = made_entries(alloc, from, entries_of(from, &id))?;
     let mut groups = List::new(alloc);
     if levels > 0 {
@@ -155,6 +155,7 @@ pub fn group_at(
             }
         }
     }
+    let state = made_state(alloc, row.state())?;
     let stay = row.stay();
     Ok(Group {
         id,

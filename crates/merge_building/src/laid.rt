@@ -34,6 +34,29 @@ fn tombs_in(alloc: Global, table: &Table<Stamp>) -> Result<List<Tombstone>, NoMe
     Ok(tombs)
 }
 
+/// The document of a shape that is one, of what it says of itself and its tombstones.
+fn with_root(
+    alloc: Global,
+    from: &Shape,
+    meta: Meta,
+    tombs: List<Tombstone>,
+) -> Result<Doc, NoMemory>
+    requires doc { IsDoc (doc_of LEVELS (shape from.now)) }
+    requires root { contains_key (shape from.now).groups (shape from.now).root ≡ true }
+    requires meta { meta ≡ (shape from.now).meta }
+    requires tombs { tombs ≡ map tomb_of (entries (shape from.now).tombs) }
+    ensures { IfOk result (λ d. doc_seen d ≡ doc_of LEVELS (shape from.now)) }
+{
+    let row = from.groups.get(&from.root).unwrap();
+    match group_at(alloc, from, BELOW, from.root, row) {
+        Ok(root) => Ok(Doc { meta, root, tombs }),
+        Err(failed) => {
+            drop(meta);
+            Err(failed)
+        }
+    }
+}
+
 /// The document of a shape that is one.
 pub fn laid_doc(alloc: Global, from: &Shape, meta: Meta) -> Result<Doc, NoMemory>
     requires doc { IsDoc (doc_of LEVELS (shape from.now)) }
@@ -41,8 +64,11 @@ pub fn laid_doc(alloc: Global, from: &Shape, meta: Meta) -> Result<Doc, NoMemory
     requires meta { meta ≡ (shape from.now).meta }
     ensures { IfOk result (λ d. doc_seen d ≡ doc_of LEVELS (shape from.now)) }
 {
-    let row = from.groups.get(&from.root).unwrap();
-    let root = group_at(alloc, from, BELOW, from.root, row)?;
-    let tombs = tombs_in(alloc, &from.tombs)?;
-    Ok(Doc { meta, root, tombs })
+    match tombs_in(alloc, &from.tombs) {
+        Ok(tombs) => with_root(alloc, from, meta, tombs),
+        Err(failed) => {
+            drop(meta);
+            Err(failed)
+        }
+    }
 }

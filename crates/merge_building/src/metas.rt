@@ -111,6 +111,8 @@ fn made_items(alloc: Global, items: &[LentItem]) -> Result<List<Item>, NoMemory>
 pub fn made_meta(alloc: Global, meta: &ShapeMeta) -> Result<Meta, NoMemory>
     ensures { IfOk result (λ m. m ≡ meta_of meta.now) }
 {
+    let icons = made_icons(alloc, meta.icons.as_slice())?;
+    let items = made_items(alloc, meta.items.as_slice())?;
     Ok(Meta {
         name: made_text(alloc, meta.name)?,
         description: made_text(alloc, meta.description)?,
@@ -118,8 +120,8 @@ pub fn made_meta(alloc: Global, meta: &ShapeMeta) -> Result<Meta, NoMemory>
         bin: made_bin(meta.bin),
         templates: made_id(meta.templates),
         settings: made_settings(alloc, meta.settings)?,
-        icons: made_icons(alloc, meta.icons.as_slice())?,
-        items: made_items(alloc, meta.items.as_slice())?,
+        icons,
+        items,
         view: meta.view,
     })
 }

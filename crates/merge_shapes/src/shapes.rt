@@ -24,8 +24,13 @@ fn nodes_of<'a>(alloc: Global, doc: &'a Doc) -> Result<NodeTables<'a>, NoMemory>
         groups: Table::new(alloc),
         children: Table::new(alloc),
     };
-    add_group(alloc, &doc.root, &mut nodes)?;
-    Ok(nodes)
+    match add_group(alloc, &doc.root, &mut nodes) {
+        Ok(()) => Ok(nodes),
+        Err(failed) => {
+            drop(nodes);
+            Err(failed)
+        }
+    }
 }
 
 /// The tombstones of a document by their ids.
@@ -84,9 +89,9 @@ fn lent_meta<'a>(alloc: Global, meta: &'a Meta) -> Result<ShapeMeta<'a>, NoMemor
 pub fn shape_of<'a>(alloc: Global, doc: &'a Doc) -> Result<Shape<'a>, NoMemory>
     ensures { IfOk result (λ s. shape s ≡ shape_of (doc_seen doc.now)) }
 {
-    let nodes = nodes_of(alloc, doc)?;
     let tombs = tombs_of(alloc, doc.tombs.as_slice())?;
     let meta = lent_meta(alloc, &doc.meta)?;
+    let nodes = nodes_of(alloc, doc)?;
     Ok(Shape {
         root: doc.root.id,
         entries: nodes.entries,

@@ -14,10 +14,7 @@ least_too_deep-found-requires-clause-allowed c =
 pub least_too_deep-found-requires-clause-sound : goal.least_too_deep-found-requires-clause-sound
 least_too_deep-found-requires-clause-sound c = all_sound c.args.target.now c.args.sources.now (databases c.args.copies.now) c.requires.copies c.requires.clear
 
-pub join_marked-requires-clause-some : goal.join_marked-requires-clause-some
-join_marked-requires-clause-some c = some_members c.args.copies.now _ _ c.requires.copies
-
-pub merge_joined-requires-clause-can_merge : goal.merge_joined-requires-clause-can_merge
-merge_joined-requires-clause-can_merge c =
+pub merge_allowed-requires-clause-can_merge : goal.merge_allowed-requires-clause-can_merge
+merge_allowed-requires-clause-can_merge c =
     all_merge c.args.target.now c.args.sources.now (databases c.args.copies.now) c.requires.copies c.requires.clear c.requires.kinds c.requires.strays
     (sym c.least_too_deep-found.ensures ∙ c.in_default.is)

@@ -3,13 +3,13 @@ use Rattle.std.proofs.Common.{ap, sym, subst, ◌∙◌, option_copied}
 use Rattle.vault_model.specs.Tree.{IsDoc, LEVELS}
 use Rattle.reference_shapes.specs.Shapes.{shape}
 use Rattle.merge_building.proofs.LaidParts.{assembled}
-use Rattle.merge_building.proofs.laid.laid_doc.Goals as goal
+use Rattle.merge_building.proofs.laid.with_root.Goals as goal
 
 pub invariant_of-result : goal.invariant_of-result
 invariant_of-result c =
     let s = shape c.args.from.now in
     let there = sym c.get.ensures ∙ ap option_copied c.unwrap-row.ensures in
-    let same = assembled LEVELS s c.args.meta c.in_ok-root.root c.in_ok-tombs.tombs c.unwrap-row.result.now there c.in_ok-root.ensures c.in_ok-tombs.ensures c.requires.meta in
+    let same = assembled LEVELS s c.args.meta c.in-Ok.root c.args.tombs c.unwrap-row.result.now there c.in-Ok.ensures c.requires.tombs c.requires.meta in
     let is = subst IsDoc (sym same) c.requires.doc in
     record {
       distinct = is.distinct;
@@ -24,8 +24,8 @@ invariant_of-result c =
       meta_texts = is.meta_texts;
     }
 
-pub returns : goal.returns
-returns c =
+pub returns-in-Ok : goal.returns-in-Ok
+returns-in-Ok c =
     let s = shape c.args.from.now in
     let there = sym c.get.ensures ∙ ap option_copied c.unwrap-row.ensures in
-    assembled LEVELS s c.args.meta c.in_ok-root.root c.in_ok-tombs.tombs c.unwrap-row.result.now there c.in_ok-root.ensures c.in_ok-tombs.ensures c.requires.meta
+    assembled LEVELS s c.args.meta c.in-Ok.root c.args.tombs c.unwrap-row.result.now there c.in-Ok.ensures c.requires.tombs c.requires.meta
