@@ -186,18 +186,27 @@ fn read(rt: &(impl AllocGlobal + Files + Print), name: &str) -> anyhow::Result<b
     Ok(true)
 }
 
+// Does the work of a pair of words; false where there is none of the name, or the document is
+// malformed.
+fn perform(rt: &(impl AllocGlobal + Files + Print), name: &str, of: &str) -> anyhow::Result<bool> {
+    match name {
+        "markup" => read(rt, of),
+        _ => compute(rt, name, of.parse::<u32>()?),
+    }
+}
+
 fn main(rt: HostRuntime) -> anyhow::Result<ExitCode> {
     let words: Vec<String> = env::args(&rt)?.skip(1).collect(rt.alloc())?;
+    if words.is_empty() {
+        println!(rt; "usage: bench_primitives (NAME TURNS | markup FILE)...")?;
+        return Ok(ExitCode::from(1));
+    }
     for pair in words.chunks(2) {
-        let [name, object] = pair else {
-            println!(rt; "usage: bench_primitives NAME TURNS, or bench_primitives markup FILE")?;
+        let [name, of] = pair else {
+            println!(rt; "a word is missing")?;
             return Ok(ExitCode::from(1));
         };
-        let done = match name.as_str() {
-            "markup" => read(&rt, object.as_str())?,
-            name => compute(&rt, name, object.parse::<u32>()?)?,
-        };
-        if !done {
+        if !perform(&rt, name.as_str(), of.as_str())? {
             println!(rt; "no work of this name, or a malformed document")?;
             return Ok(ExitCode::from(1));
         }

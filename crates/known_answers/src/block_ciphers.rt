@@ -3,6 +3,7 @@
 ghost use Rattle.std.specs.Prelude.{◌≡◌, ◌%◌, length};
 
 use crate::question::{Fault, NOT_UNDONE, Question};
+use crate::spelling::{debugged, decimal};
 use block_core::{Aes256, Block16, Twofish256, cbc_decrypt, cbc_encrypt, pad_len, unpad};
 use secret_core::Key;
 use std::alloc::Global;
@@ -90,13 +91,13 @@ pub fn chained_twofish(alloc: Global, question: &Question<'_>) -> Result<String,
 /// How many bytes of padding a text of this length is given.
 pub fn padding_length(alloc: Global, question: &Question<'_>) -> Result<String, Fault> {
     let count = pad_len(question.short_number(1)? as usize);
-    Ok(format!(in alloc; "{count}")?)
+    decimal(alloc, count as u64)
 }
 
 /// The length of a text without its padding.
 pub fn unpadded_length(alloc: Global, question: &Question<'_>) -> Result<String, Fault> {
     match unpad(&question.bytes(alloc, 1)?) {
-        Ok(len) => Ok(format!(in alloc; "{len}")?),
-        Err(fail) => Ok(format!(in alloc; "{fail:?}")?),
+        Ok(len) => decimal(alloc, len as u64),
+        Err(fail) => debugged(alloc, &fail),
     }
 }

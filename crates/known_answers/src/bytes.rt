@@ -2,7 +2,7 @@
 
 use crate::question::{Fault, NOT_SPELLED, Question};
 use sha2::{Digest, Sha256};
-use std::alloc::{AllocError, Global};
+use std::alloc::Global;
 
 // The pieces that headers are composed of, in hexadecimal: signature, version, fields, the
 // dictionary's version, its items and its end, and 32 bytes in the place of an HMAC. A field is its
@@ -142,14 +142,4 @@ pub fn bytes_of(alloc: Global, question: &Question<'_>) -> Result<Vec<u8>, Fault
         Ok(()) => Ok(out),
         Err(fault) => Err(fault),
     }
-}
-
-/// Adds a space and the hexadecimal digits of bytes, `-` where there are none.
-pub fn put_digits(alloc: Global, out: &mut String, bytes: &[u8]) -> Result<(), AllocError> {
-    if bytes.is_empty() {
-        return out.push_str(" -");
-    }
-    let digits = hex::encode(alloc, bytes)?;
-    out.push_str(" ")?;
-    out.push_str(digits.as_str())
 }

@@ -1,7 +1,8 @@
 //! Headers of KDBX files.
 
-use crate::bytes::{bytes_of, put_digits};
+use crate::bytes::bytes_of;
 use crate::question::{Fault, Question};
+use crate::spelling::{debugged, put_digits, put_number};
 use kdbx_frame::{Cipher, FileVersion, FrameFail, Header, read_header};
 use key_core::{ArgonKind, Kdf};
 use std::alloc::{AllocError, Global};
@@ -61,7 +62,7 @@ fn summary(alloc: Global, header: &Header) -> Result<String, Fault> {
 fn refusal(alloc: Global, fail: FrameFail) -> Result<String, Fault> {
     match fail {
         FrameFail::HeaderHash { kept, found } => wrong_hash(alloc, &kept, &found),
-        _ => Ok(format!(in alloc; "{fail:?}")?),
+        _ => debugged(alloc, &fail),
     }
 }
 
@@ -117,9 +118,4 @@ fn argon_name(kind: ArgonKind) -> &'static str {
         ArgonKind::D => "argon2d",
         ArgonKind::Id => "argon2id",
     }
-}
-
-// Adds a space and a number.
-fn put_number(out: &mut String, number: u64) -> Result<(), AllocError> {
-    write!(out, " {number}")
 }

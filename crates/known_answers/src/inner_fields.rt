@@ -1,7 +1,8 @@
 //! Inner fields of KDBX 4.
 
-use crate::bytes::{bytes_of, put_digits};
+use crate::bytes::bytes_of;
 use crate::question::{Fault, Question};
+use crate::spelling::{debugged, put_digits};
 use kdbx_inner::{FrameFail, Inner, read_inner};
 use std::alloc::{AllocError, Global};
 use vault_model::PoolItem;
@@ -11,7 +12,7 @@ pub fn inner_fields(alloc: Global, question: &Question<'_>) -> Result<String, Fa
     let bytes = bytes_of(alloc, question)?;
     match read(alloc, &bytes) {
         Ok(inner) => summary(alloc, &inner),
-        Err(fail) => refusal(alloc, fail),
+        Err(fail) => debugged(alloc, &fail),
     }
 }
 
@@ -20,7 +21,7 @@ pub fn inner_parts(alloc: Global, question: &Question<'_>) -> Result<String, Fau
     let bytes = bytes_of(alloc, question)?;
     match read(alloc, &bytes) {
         Ok(inner) => parts(alloc, &inner),
-        Err(fail) => refusal(alloc, fail),
+        Err(fail) => debugged(alloc, &fail),
     }
 }
 
@@ -35,11 +36,6 @@ fn summary(alloc: Global, inner: &Inner) -> Result<String, Fault> {
     let stream = inner.stream_id;
     let size = inner.size;
     Ok(format!(in alloc; "Ok({stream}, {size})")?)
-}
-
-// A refusal.
-fn refusal(alloc: Global, fail: FrameFail) -> Result<String, Fault> {
-    Ok(format!(in alloc; "{fail:?}")?)
 }
 
 // The stream key of inner fields, and their files.

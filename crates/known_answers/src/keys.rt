@@ -3,6 +3,7 @@
 ghost use Rattle.std.specs.Prelude.{◌≡◌};
 
 use crate::question::{Fault, NO_MEMORY, NO_QUESTION, Question};
+use crate::spelling::{debugged, put_digits};
 use key_core::{
     ArgonKind, FileKeys, Kdf, KeyFileFail, check_kdf, composite, file_keys, read_key_file,
     transform,
@@ -48,18 +49,21 @@ pub fn spent(alloc: Global, mut key: Key) -> Result<String, Fault> {
 
 // The composite key: password, key of the key file; `none` stands for one that is missing.
 fn composite_key(alloc: Global, question: &Question<'_>) -> Result<String, Fault> {
-    let password = question.word(1);
-    let key_file = question.word(2);
-    if password == "none" {
+    if question.word(1) == "none" {
         let key: [u8; 32] = question.array(2)?;
         return spent(alloc, composite(None, Some(Key::of(&key))));
     }
     let password = question.bytes(alloc, 1)?;
-    if key_file == "none" {
-        return spent(alloc, composite(Some(&password), None));
+    composite_of(alloc, &password, question)
+}
+
+// The composite key of this password and of the key of the key file, if there is one.
+fn composite_of(alloc: Global, password: &[u8], question: &Question<'_>) -> Result<String, Fault> {
+    if question.word(2) == "none" {
+        return spent(alloc, composite(Some(password), None));
     }
     let key: [u8; 32] = question.array(2)?;
-    spent(alloc, composite(Some(&password), Some(Key::of(&key))))
+    spent(alloc, composite(Some(password), Some(Key::of(&key))))
 }
 
 // The key of a key file, or why it has none: the file's bytes.
@@ -67,14 +71,26 @@ fn key_of_file(alloc: Global, question: &Question<'_>) -> Result<String, Fault> 
     let file = question.bytes(alloc, 1)?;
     match read_key_file(alloc, &file) {
         Ok(key) => spent(alloc, key),
-        Err(KeyFileFail::KeyFileForm(offset)) => Ok(format!(in alloc; "no form at {offset}")?),
-        Err(KeyFileFail::KeyFileHash { kept, found }) => {
-            let kept = hex::encode(alloc, &kept)?;
-            let found = hex::encode(alloc, &found)?;
-            Ok(format!(in alloc; "hash {kept}, found {found}")?)
-        }
-        Err(KeyFileFail::NoMemory) => Err(NO_MEMORY),
+        Err(fail) => refusal_of_file(alloc, fail),
     }
+}
+
+// Why a key file has no key.
+fn refusal_of_file(alloc: Global, fail: KeyFileFail) -> Result<String, Fault> {
+    match fail {
+        KeyFileFail::KeyFileForm(offset) => Ok(format!(in alloc; "no form at {offset}")?),
+        KeyFileFail::KeyFileHash { kept, found } => wrong_hash(alloc, &kept, &found),
+        KeyFileFail::NoMemory => Err(NO_MEMORY),
+    }
+}
+
+// The hash that a key file has and the one that it should have.
+fn wrong_hash(alloc: Global, kept: &[u8], found: &[u8]) -> Result<String, Fault> {
+    let mut out = String::from_str(alloc, "hash")?;
+    put_digits(alloc, &mut out, kept)?;
+    out.push_str(", found")?;
+    put_digits(alloc, &mut out, found)?;
+    Ok(out)
 }
 
 // AES with the rounds and the seed that begin at this word.
@@ -112,8 +128,8 @@ fn argon_kdf(
 // Whether all numbers of a key derivation function are allowed, or the first that is not.
 fn limits(alloc: Global, kdf: &Kdf) -> Result<String, Fault> {
     match check_kdf(kdf) {
-        Ok(()) => Ok(format!(in alloc; "allowed")?),
-        Err(fail) => Ok(format!(in alloc; "{fail:?}")?),
+        Ok(()) => Ok(String::from_str(alloc, "allowed")?),
+        Err(fail) => debugged(alloc, &fail),
     }
 }
 
@@ -134,9 +150,9 @@ fn transformed(alloc: Global, question: &Question<'_>, kdf: &Kdf) -> Result<Stri
 
 // The digits of a file's keys, cipher key and MAC base, which are lent.
 fn digits(alloc: Global, keys: &FileKeys) -> Result<String, Fault> {
-    let cipher = hex::encode(alloc, keys.cipher.bytes())?;
-    let base = hex::encode(alloc, keys.base.bytes())?;
-    Ok(format!(in alloc; "{cipher} {base}")?)
+    let mut digits = hex::encode(alloc, keys.cipher.bytes())?;
+    put_digits(alloc, &mut digits, keys.base.bytes())?;
+    Ok(digits)
 }
 
 // The keys of a file, cipher key and MAC base: transformed key, master seed.

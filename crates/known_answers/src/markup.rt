@@ -1,7 +1,7 @@
 //! Texts of markup.
 
 use crate::question::{Fault, NOT_SPELLED};
-use crate::spelling::{put_quoted, spelled};
+use crate::spelling::{decimal, put_number, put_quoted, spelled};
 use markup_core::{MarkupFail, Piece, Reader};
 use std::alloc::{AllocError, Global};
 
@@ -47,7 +47,8 @@ pub fn nested(alloc: Global, question: &str) -> Result<String, Fault> {
     let mut text = opened(alloc, depth, inner)?;
     put_often(&mut text, depth, b"</a>")?;
     let (count, last) = read_through(&text)?;
-    let mut out = format!(in alloc; "{count} pieces, ")?;
+    let mut out = decimal(alloc, count as u64)?;
+    out.push_str(" pieces, ")?;
     put_answer(&mut out, last)?;
     Ok(out)
 }
@@ -153,5 +154,6 @@ fn put_piece(out: &mut String, piece: Piece<'_>) -> Result<(), AllocError> {
 
 // Adds what is at a place, and the place.
 fn put_place(out: &mut String, what: &str, place: usize) -> Result<(), AllocError> {
-    write!(out, "{what} {place}")
+    out.push_str(what)?;
+    put_number(out, place as u64)
 }

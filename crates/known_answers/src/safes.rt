@@ -1,13 +1,9 @@
 //! Files of Password Safe V3.
 
 use crate::question::{Fault, Question};
-use psafe_file::{OpenedSafe, PsafeFail, check_mac, open_safe};
+use crate::spelling::debugged;
+use psafe_file::{OpenedSafe, check_mac, open_safe};
 use std::alloc::Global;
-
-// The refusal of a file.
-fn refused(alloc: Global, fail: PsafeFail) -> Result<String, Fault> {
-    Ok(format!(in alloc; "{fail:?}")?)
-}
 
 /// The deciphered bytes of a file, or why it is refused: file, password, contents of its fields.
 pub fn opened(alloc: Global, question: &Question<'_>) -> Result<String, Fault> {
@@ -24,9 +20,9 @@ pub fn opened(alloc: Global, question: &Question<'_>) -> Result<String, Fault> {
             computed.update(&contents);
             match check_mac(&mac, computed) {
                 Ok(()) => Ok(hex::encode(alloc, bytes.lend(0, bytes.len()))?),
-                Err(fail) => refused(alloc, fail),
+                Err(fail) => debugged(alloc, &fail),
             }
         }
-        Err(fail) => refused(alloc, fail),
+        Err(fail) => debugged(alloc, &fail),
     }
 }

@@ -2,6 +2,7 @@
 
 use crate::question::{Fault, NOT_SPELLED};
 use std::alloc::{AllocError, Global};
+use std::fmt::Debug;
 
 /// The bytes that a text spells: `-` alone is none, `\n`, `\r` and `\t` are a line feed, a carriage
 /// return and a tab, `\x` and two hexadecimal digits are a byte, and all else is itself.
@@ -50,6 +51,31 @@ fn byte_of(high: char, low: char) -> Option<u8> {
     let high = high.to_digit(16)?;
     let low = low.to_digit(16)?;
     u8::try_from(16 * high + low).ok()
+}
+
+/// A value as it is printed for a programmer.
+pub fn debugged<T: Debug>(alloc: Global, value: &T) -> Result<String, Fault> {
+    Ok(format!(in alloc; "{value:?}")?)
+}
+
+/// A number in decimal digits.
+pub fn decimal(alloc: Global, number: u64) -> Result<String, Fault> {
+    Ok(number.to_string(alloc)?)
+}
+
+/// Adds a space and a number.
+pub fn put_number(out: &mut String, number: u64) -> Result<(), AllocError> {
+    write!(out, " {number}")
+}
+
+/// Adds a space and the hexadecimal digits of bytes, `-` where there are none.
+pub fn put_digits(alloc: Global, out: &mut String, bytes: &[u8]) -> Result<(), AllocError> {
+    if bytes.is_empty() {
+        return out.push_str(" -");
+    }
+    let digits = hex::encode(alloc, bytes)?;
+    out.push_str(" ")?;
+    out.push_str(digits.as_str())
 }
 
 /// Adds a space and a text in quotes.

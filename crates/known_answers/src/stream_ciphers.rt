@@ -4,6 +4,7 @@ ghost use Rattle.std.specs.Prelude.{◌≡◌, ◌+◌, ◌≤◌, ◌^◌, leng
 ghost use Rattle.stream_core.specs.InnerStream.{IsAt};
 
 use crate::question::{Fault, Question};
+use crate::spelling::debugged;
 use std::alloc::Global;
 use stream_core::{ChaCha20, InnerStream, Salsa20};
 
@@ -89,6 +90,6 @@ pub fn inner_stream(alloc: Global, question: &Question<'_>) -> Result<String, Fa
     let key = question.bytes(alloc, 2)?;
     match (InnerStream::new(id, &key), InnerStream::new(id, &key)) {
         (Ok(whole), Ok(cut)) => enciphered(alloc, question, 3, whole, cut),
-        (Err(unknown), _) | (_, Err(unknown)) => Ok(format!(in alloc; "{unknown:?}")?),
+        (Err(unknown), _) | (_, Err(unknown)) => debugged(alloc, &unknown),
     }
 }

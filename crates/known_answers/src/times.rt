@@ -1,7 +1,7 @@
 //! Times and their texts.
 
 use crate::question::{Fault, NOT_SPELLED, NOT_UNDONE};
-use crate::spelling::spelled;
+use crate::spelling::{decimal, spelled};
 use std::alloc::Global;
 use std::str;
 use time_core::{Stamp, iso_of, stamp_of_iso};
@@ -14,8 +14,7 @@ pub fn seconds(alloc: Global, text: &str) -> Result<String, Fault> {
             if iso_of(stamp).as_slice() != text.as_slice() {
                 return Err(NOT_UNDONE);
             }
-            let seconds = stamp.seconds();
-            Ok(format!(in alloc; "{seconds}")?)
+            decimal(alloc, stamp.seconds())
         }
         None => Ok(String::from_str(alloc, "none")?),
     }
