@@ -1,5 +1,5 @@
 use Rattle.std.specs.Prelude.{option_map}
-use Rattle.std.proofs.Common.{◌∙◌, sym, subst}
+use Rattle.std.proofs.Common.{◌∙◌, sym, subst, ap, arith, length}
 use Rattle.std.proofs.lemmas.Result.{err_from_is_err_and}
 use Rattle.doc_forms.specs.Refusals.{Fails}
 use Rattle.doc_forms.specs.SeenDrafts.{file_parts}
@@ -49,3 +49,13 @@ pub returns-in-Err-Depth : goal.returns-in-Err-Depth
 returns-in-Err-Depth c =
     let e = rw c.in-Err-Depth.field-0-is at c.in-Err-Depth.ensures.answers in
     sym c.pieces.invariant.gives ∙ at_depth c.args.walk.now.setting c.pieces.walk.answers (option_map file_parts c.pieces.known) c.pieces.walk.cursor c.in-Err-Depth.at e.0
+
+pub pieces-smaller-in-Continue-1 : goal.pieces-smaller-in-Continue-1
+pieces-smaller-in-Continue-1 c =
+    let e = rw c.in-Ok-Start.field-0-is at c.in-Ok-Start.ensures.answers in
+    omega (arith, ap length e, c.in_ok-document_child-in-Ok-Start.ensures.shorter)
+
+pub pieces-smaller : goal.pieces-smaller
+pieces-smaller c =
+    let e = rw c.in-Ok-Words.field-0-is at c.in-Ok-Words.ensures.answers in
+    omega (arith, ap length e)
