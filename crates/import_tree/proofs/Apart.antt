@@ -67,7 +67,7 @@ name_kept : (now : ℕ) (names : List (List ℕ)) (row : NodeId × EntryRecord) 
 name_kept now [] row (node id r es ts) = refl
 name_kept now (name ∷ names) row (node id r es ts) = refl
 
-new_is : (now : ℕ) (parent : NodeId) (name : List ℕ) (names : List (List ℕ)) (row : NodeId × EntryRecord)
+pub new_is : (now : ℕ) (parent : NodeId) (name : List ℕ) (names : List (List ℕ)) (row : NodeId × EntryRecord)
     → new_groups now parent name names row ≡ with_entry now names row (node (named_id parent name) (new_group name now) [] none)
 new_is now parent name [] row = refl
 new_is now parent name (next ∷ names) row = refl

@@ -20,10 +20,10 @@ use Rattle.tree_changes.specs.Changes.{with_group, with_last}
 use Rattle.tree_changes.specs.NewNodes.{empty_group}
 use Rattle.tree_groups.proofs.GroupPuts.{group_put}
 use Rattle.tree_steps.proofs.InPlace.{entry_put, record_seen, seen_with_groups, trees, with_entries, with_groups}
-use Rattle.vault_model.specs.Empty.{new_group}
 use Rattle.vault_model.specs.declared.nodes.Entry.{Entry}
 use Rattle.import_tree.specs.Entries.{named_id}
 use Rattle.import_tree.specs.Trees.{new_groups, with_entry, with_entry_among}
+use Rattle.import_tree.proofs.Apart.{new_is}
 
 -- a group has a name
 abbrev pub has : List ℕ → Group → Bool
@@ -115,13 +115,12 @@ module _ (now : ℕ) (name : List ℕ) (names : List (List ℕ)) (e : NodeId × 
       kept (x ∷ xs) zero old new is same = ap (λ t. beside t (trees xs)) (same ∙ ap tree_seen (sym (same_Some x old is)))
       kept (x ∷ xs) (suc at) old new is same = ap (λ ts. beside (tree_seen x) ts) (kept xs at old new is same)
 
-  -- an entry is put into a new group
-  pub put_new : (new : Group) (after : List Group) → position (has name) gs ≡ None → tree_seen new ≡ new_groups now (out-Group g).id name names e → after ≡ gs ++ new ∷ []
-      → tree_seen (with_groups g after) ≡ with_entry now (name ∷ names) e (tree_seen g)
-  put_new new after way made is =
-      group_put g after new is
-      ∙ ap (with_group (tree_seen new)) (seen_group g)
-      ∙ ap (node (out-Group g).id (record_seen g) (map entry_row (out-Group g).entries)) (put_last now (out-Group g).id name names e gs (tree_seen new) (no_place name gs way) made)
+  -- where no group has the name, a new group is the last
+  pub put_new : position (has name) gs ≡ None → with_group (new_groups now (out-Group g).id name names e) (tree_seen g) ≡ with_entry now (name ∷ names) e (tree_seen g)
+  put_new way =
+      let new = new_groups now (out-Group g).id name names e in
+      ap (with_group new) (seen_group g)
+      ∙ ap (node (out-Group g).id (record_seen g) (map entry_row (out-Group g).entries)) (put_last now (out-Group g).id name names e gs new (no_place name gs way) refl)
       ∙ ap (with_entry now (name ∷ names) e) (sym (seen_group g))
 
   -- an entry that no names lead to is put into the group itself
@@ -133,16 +132,17 @@ module _ (now : ℕ) (name : List ℕ) (names : List (List ℕ)) (e : NodeId × 
 
 -- ---- a new group
 
-module _ (now : ℕ) (parent : NodeId) (name : List ℕ) (g : Group) (made : tree_seen g ≡ empty_group (named_id parent name) name now) where
-  pub made_here : (entry : Entry) (es : List Entry) → es ≡ (out-Group g).entries ++ entry ∷ [] → tree_seen (with_entries g es) ≡ new_groups now parent name [] (entry_row entry)
-  made_here entry es is = entry_put g es entry is ∙ ap (changes.with_entry (entry_row entry)) made
+-- an empty group of this name into which an entry is put
+pub filled : (now : ℕ) (parent id : NodeId) (name : List ℕ) (names : List (List ℕ)) (e : NodeId × EntryRecord) (empty new : Tree) → id ≡ named_id parent name → empty ≡ empty_group id name now
+    → new ≡ with_entry now names e empty → new ≡ new_groups now parent name names e
+filled now parent id name names e empty new i m n =
+    n
+    ∙ ap (with_entry now names e) (m ∙ ap (λ (u : NodeId). empty_group u name now) i)
+    ∙ sym (new_is now parent name names e)
 
-  pub made_below : (next : List ℕ) (names : List (List ℕ)) (e : NodeId × EntryRecord) (below : Group) (after : List Group) → tree_seen below ≡ new_groups now (named_id parent name) next names e
-      → after ≡ (out-Group g).groups ++ below ∷ [] → tree_seen (with_groups g after) ≡ new_groups now parent name (next ∷ names) e
-  made_below next names e below after is put =
-      group_put g after below put
-      ∙ ap (with_group (tree_seen below)) made
-      ∙ ap (λ t. node (named_id parent name) (new_group name now) [] (beside t none)) is
+-- it is the last of the groups of a group
+pub made_last : (g : Group) (gs : List Group) (x : Group) (t : Tree) → gs ≡ (out-Group g).groups ++ x ∷ [] → tree_seen x ≡ t → tree_seen (with_groups g gs) ≡ with_group t (tree_seen g)
+made_last g gs x t is made = group_put g gs x is ∙ ap (λ (u : Tree). with_group u (tree_seen g)) made
 
 -- ---- names, and what was answered
 

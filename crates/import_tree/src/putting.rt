@@ -4,8 +4,10 @@ ghost use Rattle.std.specs.Prelude.{◌≡◌, [], IfOk, OnErr, OnOk, position, 
 ghost use Rattle.std.specs.List.{list_all};
 ghost use Rattle.std.specs.Str.{is_utf8};
 ghost use Rattle.import_tree.specs.Trees as spec;
+ghost use Rattle.tree_changes.specs.Changes.{with_group};
 ghost use Rattle.vault_model.specs.SeenNodes.{entry_row, tree_seen};
 ghost use Rattle.vault_model.specs.Walk.{name_of};
+ghost use Rattle.vault_model.specs.declared.nodes.Group.{out-Group};
 
 use outside_core::{NoMemory, Text};
 use std::alloc::Global;
@@ -28,33 +30,58 @@ fn place_of(groups: &[Group], name: &str) -> Option<usize>
     groups.iter().position(|group| has_name(group, name))
 }
 
-// A new group of a name in the group of this id, with an entry in it, or in the group to which more
-// names lead from it.
-fn new_groups(
+// Puts a new group after the other groups of a group, with an entry put into it by its names. The
+// only refusal is that memory ran out; it changes nothing.
+#[cycle(putting)]
+fn put_filled(
     alloc: Global,
-    parent: Uuid,
+    group: &mut Group,
+    mut new: Group,
+    names: &[Text],
+    now: Stamp,
+    entry: Entry,
+) -> Result<(), NoMemory>
+    ensures ok { OnOk result (tree_seen group.new ≡ with_group
+        (spec.with_entry now names.now (entry_row entry) (tree_seen new)) (tree_seen group.old)) }
+    ensures err { OnErr result (tree_seen group.new ≡ tree_seen group.old) }
+{
+    match put_entry(alloc, &mut new, names, now, entry) {
+        Ok(()) => put_last(&mut group.groups, new),
+        Err(fail) => {
+            drop(new);
+            Err(fail)
+        }
+    }
+}
+
+// Puts a new group of a name after the other groups of a group, with an entry in it, or in the group
+// to which more names lead from it. The only refusal is that memory ran out; it changes nothing.
+#[cycle(putting)]
+fn put_new(
+    alloc: Global,
+    group: &mut Group,
     name: &str,
     names: &[Text],
     now: Stamp,
     entry: Entry,
-) -> Result<Group, NoMemory>
-    ensures { IfOk result (λ group. tree_seen group
-        ≡ spec.new_groups now parent name.now names.now (entry_row entry)) }
+) -> Result<(), NoMemory>
+    ensures ok { OnOk result (tree_seen group.new ≡ with_group (spec.new_groups now
+        (out-Group group.old).id name.now names.now (entry_row entry)) (tree_seen group.old)) }
+    ensures err { OnErr result (tree_seen group.new ≡ tree_seen group.old) }
 {
-    let id = Uuid::new_v5(&parent, name.as_bytes());
-    let mut group = new_group(alloc, id, name, now)?;
-    match names {
-        [next, names @ ..] => {
-            let below = new_groups(alloc, id, next.as_str(), names, now, entry)?;
-            put_last(&mut group.groups, below)?;
+    let id = Uuid::new_v5(&group.id, name.as_bytes());
+    match new_group(alloc, id, name, now) {
+        Ok(new) => put_filled(alloc, group, new, names, now, entry),
+        Err(fail) => {
+            drop(entry);
+            Err(fail)
         }
-        [] => put_last(&mut group.entries, entry)?,
     }
-    Ok(group)
 }
 
 /// Puts an entry after the others of the group to which names lead. Groups that are not there are
 /// made, each as the last in its group. The only refusal is that memory ran out; it changes nothing.
+#[cycle(putting)]
 pub(crate) fn put_entry(
     alloc: Global,
     group: &mut Group,
@@ -71,12 +98,14 @@ pub(crate) fn put_entry(
     };
     let name = name.as_str();
     let Some(at) = place_of(group.groups.as_slice(), name) else {
-        let new = new_groups(alloc, group.id, name, names, now, entry)?;
-        return put_last(&mut group.groups, new);
+        return put_new(alloc, group, name, names, now, entry);
     };
     match group.groups.get_mut(at) {
         Some(below) => put_entry(alloc, below, names, now, entry),
-        None => Err(NoMemory),
+        None => {
+            drop(entry);
+            Err(NoMemory)
+        }
     }
 }
 

@@ -1,5 +1,0 @@
-use Rattle.std.proofs.Common.{length}
-use Rattle.import_tree.proofs.putting.+put_entry.Given as goal
-
-abbrev pub decreases-put_entry : goal.decreases-put_entry
-decreases-put_entry l = length l.names.now
