@@ -1,5 +1,5 @@
 -- Groups below the last level, and the least of some ids.
-use Rattle.std.proofs.Common.{◌≡◌, ◌≤◌, ◌-◌, true, Ok, append_assoc, append-nil, ℕ, suc, zero, List, [], ◌∷◌, ◌++◌, Option, None, Some, map, refl, sym, ap, ◌∙◌, arith}
+use Rattle.std.proofs.Common.{◌≡◌, ◌≤◌, ◌-◌, true, Result, Ok, Err, OnOk, append_assoc, append-nil, ℕ, suc, zero, List, [], ◌∷◌, ◌++◌, Option, None, Some, map, refl, sym, ap, ◌∙◌, arith}
 use Rattle.doc_forms.specs.Ids.{least_duplicate}
 use Rattle.doc_resolving.proofs.ResolvedTrees.{distinct_ids}
 use Rattle.outside_core.specs.Results.{◌>>=◌}
@@ -8,7 +8,8 @@ use Rattle.vault_model.specs.SeenNodes.{tree_seen}
 use Rattle.vault_model.specs.Tree.{LEVELS, Tree, Trees, all_trees, are_distinct, beside, height, height_all, node, node_ids, none}
 use Rattle.vault_model.specs.declared.nodes.Group.{Group, out-Group}
 use Rattle.vault_model.proofs.SeenGroups.{seen_group}
-use Rattle.import_tree.specs.Outcome.{sound_tree, groups_below, groups_below_among, least_id, refuse_depth, refuse_duplicate}
+use Rattle.import_tree.specs.declared.fails.TreeFail.{TreeFail}
+use Rattle.import_tree.specs.Outcome.{Returns, sound_tree, groups_below, groups_below_among, least_id, refuse_depth, refuse_duplicate}
 
 -- where no group is below so many levels, the tree has no more
 none_below : {A : Type 0} (xs ys : List A) → xs ++ ys ≡ [] → (xs ≡ []) × (ys ≡ [])
@@ -85,3 +86,7 @@ fine t u e =
       distinct = distinct_ids (node_ids t) facts.0;
       levels = no_higher LEVELS t (no_least (groups_below LEVELS t) facts.1);
     }
+
+pub fits : (t : Tree) (result : Result (Unit {0}) TreeFail) → Returns (λ (u : Unit {0}). u) result (sound_tree t) → OnOk result (height t ≤ LEVELS)
+fits t (Ok u) e = (fine t u e).levels
+fits t (Err fail) e = tt

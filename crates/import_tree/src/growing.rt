@@ -1,9 +1,10 @@
 //! The tree of a draft in memory.
 
-ghost use Rattle.std.specs.Prelude.{◌≡◌, ◌≤◌, [], IfOk, OnOk, true};
+ghost use Rattle.std.specs.Prelude.{◌≡◌, ◌≤◌, [], IfOk, OnOk, map, true};
 ghost use Rattle.import_tree.specs.SeenDrafts.{draft_seen, placed_seen};
-ghost use Rattle.import_tree.specs.Trees.{with_placed};
+ghost use Rattle.import_tree.specs.Trees.{root_id, with_all_placed, with_placed};
 ghost use Rattle.vault_model.specs.Db.{nil_id};
+ghost use Rattle.vault_model.specs.Empty.{empty_bare};
 ghost use Rattle.vault_model.specs.Proper.{is_text_meta};
 ghost use Rattle.vault_model.specs.SeenNodes.{are_entries_proper, are_groups_proper, icons_rise, items_rise, tree_seen, document_of};
 ghost use Rattle.vault_model.specs.Tree.{LEVELS, height, is_elsewhere};
@@ -14,7 +15,7 @@ use outside_core::NoMemory;
 use std::alloc::Global;
 use uuid::Uuid;
 use vault_making::empty_doc;
-use vault_model::{Group, Meta};
+use vault_model::{Doc, Group, Meta, Stamp};
 
 /// The tree that entries of a draft give. It is no document yet: two of its nodes may have one id.
 #[derive(Drop)]
@@ -43,19 +44,68 @@ fn put_placed(alloc: Global, tree: &mut DraftTree, placed: PlacedEntry) -> Resul
     put_entry(alloc, &mut tree.root, names.as_slice(), moment, entry)
 }
 
+// Puts entries of a draft into its tree, one after another.
+fn put_all(
+    alloc: Global,
+    tree: &mut DraftTree,
+    entries: Vec<PlacedEntry>,
+) -> Result<(), NoMemory>
+    ensures tree { OnOk result (tree_seen tree.new.root
+        ≡ with_all_placed (map placed_seen entries.items) (tree_seen tree.old.root)) }
+    ensures meta { tree.new.meta ≡ tree.old.meta }
+{
+    for placed in entries {
+        put_placed(alloc, tree, placed)?;
+    }
+    Ok(())
+}
+
+// The root and the meta data of a document.
+fn tree_in(doc: Doc) -> DraftTree
+    ensures root { result.root ≡ doc.root }
+    ensures meta { result.meta ≡ doc.meta }
+{
+    DraftTree {
+        root: doc.root,
+        meta: doc.meta,
+    }
+}
+
+// The tree of no entries: an empty root, all of whose times are this moment.
+fn new_tree(alloc: Global, moment: Stamp) -> Result<DraftTree, NoMemory>
+    ensures { IfOk result (λ tree. document_of tree.meta tree.root [] ≡ empty_bare root_id moment) }
+{
+    let doc = empty_doc(alloc, Uuid::from_bytes(ROOT), moment)?;
+    Ok(tree_in(doc))
+}
+
+// A tree with the entries of a draft more.
+fn grown(
+    alloc: Global,
+    mut tree: DraftTree,
+    entries: Vec<PlacedEntry>,
+) -> Result<DraftTree, NoMemory>
+    ensures tree { IfOk result (λ grown. tree_seen grown.root
+        ≡ with_all_placed (map placed_seen entries.items) (tree_seen tree.root)) }
+    ensures meta { IfOk result (λ grown. grown.meta ≡ tree.meta) }
+{
+    match put_all(alloc, &mut tree, entries) {
+        Ok(()) => Ok(tree),
+        Err(fail) => {
+            drop(tree);
+            Err(fail)
+        }
+    }
+}
+
 /// The tree that the entries of a draft give. It takes memory of the stack for each level, so it
 /// has no more of them than a document.
 pub(crate) fn tree_of(alloc: Global, draft: ImportDraft) -> Result<DraftTree, NoMemory>
     requires { height (draft_seen draft).tree ≤ LEVELS }
     ensures { IfOk result (λ tree. document_of tree.meta tree.root [] ≡ draft_seen draft) }
 {
-    let doc = empty_doc(alloc, Uuid::from_bytes(ROOT), draft.moment)?;
-    let mut tree = DraftTree {
-        root: doc.root,
-        meta: doc.meta,
-    };
-    for placed in draft.entries {
-        put_placed(alloc, &mut tree, placed)?;
+    match new_tree(alloc, draft.moment) {
+        Ok(tree) => grown(alloc, tree, draft.entries),
+        Err(fail) => Err(fail),
     }
-    Ok(tree)
 }

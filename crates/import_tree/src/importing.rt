@@ -1,20 +1,24 @@
 //! A document that is made of imported entries, one after another.
 
-ghost use Rattle.std.specs.Prelude.{◌≡◌, ◌≢◌, [], IfOk, OnErr, OnOk};
+ghost use Rattle.std.specs.Prelude.{◌≡◌, ◌≢◌, ◌≤◌, [], IfErr, IfOk, OnErr, OnOk, true};
 ghost use Rattle.std.specs.List.{list_any};
 ghost use Rattle.import_tree.specs.Entries.{AreTexts};
-ghost use Rattle.import_tree.specs.Outcome.{Returns, sound_document};
+ghost use Rattle.import_tree.specs.Outcome.{Returns, meaning_of, sound_document, sound_tree};
 ghost use Rattle.import_tree.specs.SeenDrafts.{draft_seen, has_more_names};
 ghost use Rattle.import_tree.specs.SeenEntries.{imported_seen};
 ghost use Rattle.import_tree.specs.Trees.{document_of, with_imported};
+ghost use Rattle.outside_core.specs.Results.{Fails};
 ghost use Rattle.vault_model.specs.Db.{nil_id};
 ghost use Rattle.vault_model.specs.SeenDoc.{doc_seen};
+ghost use Rattle.vault_model.specs.SeenNodes as seen;
+ghost use Rattle.vault_model.specs.SeenNodes.{tree_seen};
+ghost use Rattle.vault_model.specs.Tree.{LEVELS, are_distinct, height, node_ids};
 
 use crate::depths::refuse_draft;
 use crate::drafts::{ImportDraft, PlacedEntry};
 use crate::entries::{ImportedEntry, entry_of};
 use crate::fails::TreeFail;
-use crate::growing::tree_of;
+use crate::growing::{DraftTree, tree_of};
 use crate::outcome::refusal_of;
 use crate::putting::names_are_utf8;
 use outside_core::{List, NoMemory};
@@ -73,6 +77,52 @@ fn is_deep(draft: &ImportDraft) -> bool
         .any(|placed| placed.names.len() > MOST_NAMES)
 }
 
+// Refuses a draft to an entry of which more names lead than to any of a document, as it is defined.
+fn refuse_deep(alloc: Global, draft: &ImportDraft) -> Result<(), TreeFail>
+    ensures fits { OnOk result (height (draft_seen draft.now).tree ≤ LEVELS) }
+    ensures stops { IfErr result (λ fail. Fails (meaning_of fail)
+        (sound_document (draft_seen draft.now))) }
+{
+    if is_deep(draft) {
+        refuse_draft(alloc, draft)
+    } else {
+        Ok(())
+    }
+}
+
+// The document that has this tree.
+fn document_with(alloc: Global, tree: DraftTree) -> Doc
+    requires distinct { are_distinct (node_ids (tree_seen tree.root)) ≡ true }
+    requires levels { height (tree_seen tree.root) ≤ LEVELS }
+    ensures { doc_seen result ≡ seen.document_of tree.meta tree.root [] }
+{
+    Doc {
+        meta: tree.meta,
+        root: tree.root,
+        tombs: List::new(alloc),
+    }
+}
+
+// Refuses a tree as it is defined.
+fn refuse_tree(alloc: Global, tree: &DraftTree) -> Result<(), TreeFail>
+    ensures { Returns (λ u. u) result (sound_tree (tree_seen tree.now.root)) }
+{
+    refusal_of(alloc, &tree.root)
+}
+
+// The document that has this tree, unless the tree is refused.
+fn sound_with(alloc: Global, tree: DraftTree) -> Result<Doc, TreeFail>
+    ensures { Returns doc_seen result (sound_document (seen.document_of tree.meta tree.root [])) }
+{
+    match refuse_tree(alloc, &tree) {
+        Ok(()) => Ok(document_with(alloc, tree)),
+        Err(fail) => {
+            drop(tree);
+            Err(fail)
+        }
+    }
+}
+
 /// The document of a draft.
 ///
 /// # Errors
@@ -82,14 +132,9 @@ fn is_deep(draft: &ImportDraft) -> bool
 pub fn finish_import(alloc: Global, draft: ImportDraft) -> Result<Doc, TreeFail>
     ensures { Returns doc_seen result (sound_document (draft_seen draft)) }
 {
-    if is_deep(&draft) {
-        refuse_draft(alloc, &draft)?;
+    refuse_deep(alloc, &draft)?;
+    match tree_of(alloc, draft) {
+        Ok(tree) => sound_with(alloc, tree),
+        Err(NoMemory) => Err(TreeFail::NoMemory),
     }
-    let tree = tree_of(alloc, draft)?;
-    refusal_of(alloc, &tree.root)?;
-    Ok(Doc {
-        meta: tree.meta,
-        root: tree.root,
-        tombs: List::new(alloc),
-    })
 }

@@ -30,6 +30,30 @@ fn place_of(groups: &[Group], name: &str) -> Option<usize>
     groups.iter().position(|group| has_name(group, name))
 }
 
+// Puts a new group after the other groups of a group, with an entry put into it by its names. The
+// only refusal is that memory ran out; it changes nothing.
+#[cycle(putting)]
+fn put_filled(
+    alloc: Global,
+    group: &mut Group,
+    mut new: Group,
+    names: &[Text],
+    now: Stamp,
+    entry: Entry,
+) -> Result<(), NoMemory>
+    ensures ok { OnOk result (tree_seen group.new ≡ with_group
+        (spec.with_entry now names.now (entry_row entry) (tree_seen new)) (tree_seen group.old)) }
+    ensures err { OnErr result (tree_seen group.new ≡ tree_seen group.old) }
+{
+    match put_entry(alloc, &mut new, names, now, entry) {
+        Ok(()) => put_last(&mut group.groups, new),
+        Err(fail) => {
+            drop(new);
+            Err(fail)
+        }
+    }
+}
+
 // Puts a new group of a name after the other groups of a group, with an entry in it, or in the group
 // to which more names lead from it. The only refusal is that memory ran out; it changes nothing.
 #[cycle(putting)]
@@ -46,9 +70,13 @@ fn put_new(
     ensures err { OnErr result (tree_seen group.new ≡ tree_seen group.old) }
 {
     let id = Uuid::new_v5(&group.id, name.as_bytes());
-    let mut new = new_group(alloc, id, name, now)?;
-    put_entry(alloc, &mut new, names, now, entry)?;
-    put_last(&mut group.groups, new)
+    match new_group(alloc, id, name, now) {
+        Ok(new) => put_filled(alloc, group, new, names, now, entry),
+        Err(fail) => {
+            drop(entry);
+            Err(fail)
+        }
+    }
 }
 
 /// Puts an entry after the others of the group to which names lead. Groups that are not there are
@@ -74,7 +102,10 @@ pub(crate) fn put_entry(
     };
     match group.groups.get_mut(at) {
         Some(below) => put_entry(alloc, below, names, now, entry),
-        None => Err(NoMemory),
+        None => {
+            drop(entry);
+            Err(NoMemory)
+        }
     }
 }
 

@@ -1,8 +1,9 @@
-use Rattle.std.proofs.Common.{◌≡◌, [], ◌∷◌, List, ℕ, None, Some, sym, ap, ◌∙◌}
+use Rattle.std.proofs.Common.{◌≡◌, [], ◌∷◌, List, ℕ, None, Some, refl, sym, ap, ◌∙◌}
 use Rattle.std.specs.List.{position}
 use Rattle.std.specs.Option.{option_copied_mut}
 use Rattle.std.specs.Prelude.{slice_get}
 use Rattle.vault_model.specs.SeenNodes.{entry_row, tree_seen}
+use Rattle.vault_model.specs.Tree.{Tree}
 use Rattle.vault_model.specs.declared.nodes.Group.{Group, out-Group}
 use Rattle.tree_changes.specs.Changes.{with_group}
 use Rattle.import_tree.specs.Entries.{named_id}
@@ -67,8 +68,16 @@ put_entry-returns-in-Some-get_mut-clause-err t c =
     (λ same. kept_below c.args.now c.name-item.result (after_first names) (entry_row c.args.entry) g c.in-Some.at c.in-Some-get_mut.below.now c.put_entry.new.group is same)
     c.put_entry.ensures.err
 
-pub put_new-returns-clause-ok : goal.put_new-returns-clause-ok
-put_new-returns-clause-ok t c =
+pub put_filled-returns-in-Ok-clause-ok : goal.put_filled-returns-in-Ok-clause-ok
+put_filled-returns-in-Ok-clause-ok t c =
+    let g = c.args.group.now in
+    let filled = with_entry c.args.now c.args.names.now (entry_row c.args.entry) (tree_seen c.args.new) in
+    ok_then c.put_last.result
+    (λ put. made_last g c.put_last.new.list c.put_entry.new.group filled put c.in-Ok.ensures.ok)
+    c.put_last.ensures.ok
+
+pub put_new-returns-in-Ok-clause-ok : goal.put_new-returns-in-Ok-clause-ok
+put_new-returns-in-Ok-clause-ok t c =
     let now = c.args.now in
     let name = c.args.name.now in
     let names = c.args.names.now in
@@ -76,7 +85,8 @@ put_new-returns-clause-ok t c =
     let g = c.args.group.now in
     let parent = (out-Group g).id in
     let id : c.new_v5-id.result ≡ named_id parent name = c.new_v5-id.ensures.value ∙ ap (named_id parent) c.as_bytes.ensures.value in
-    let made = filled now parent c.new_v5-id.result name names e (tree_seen c.in_ok-new.new) (tree_seen c.put_entry.new.group) id c.in_ok-new.ensures c.in_ok-put_entry.ensures.ok in
-    ok_then c.put_last.result
-    (λ put. made_last g c.put_last.new.list c.put_entry.new.group (new_groups now parent name names e) put made)
-    c.put_last.ensures.ok
+    let made : with_entry now names e (tree_seen c.in-Ok.new) ≡ new_groups now parent name names e =
+    filled now parent c.new_v5-id.result name names e (tree_seen c.in-Ok.new) _ id c.in-Ok.ensures refl in
+    ok_then c.put_filled.result
+    (λ put. put ∙ ap (λ (u : Tree). with_group u (tree_seen g)) made)
+    c.put_filled.ensures.ok
