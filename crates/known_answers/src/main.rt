@@ -1,7 +1,7 @@
-//! Answers questions about primitives, keys, files, markup and times, and compares its answers with
-//! what is known. Each line of standard input asks a question, its name and what it is asked of, and
-//! gives the answer after ` = `; for each a line is printed that ends in `ok`, or says what was found
-//! instead. Empty lines and lines that begin with `#` are passed over.
+//! Answers questions about primitives, keys, files, markup and times, and compares its answers
+//! with what is known. Each line of standard input asks a question, its name and what it is asked
+//! of, and gives the answer after ` = `; for each a line is printed that ends in `ok`, or says what
+//! was found instead. Empty lines and lines that begin with `#` are passed over.
 #![tactic(auto)]
 
 mod argon;
