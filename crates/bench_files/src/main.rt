@@ -105,6 +105,19 @@ fn judge_lines(
     Ok(ExitCode::SUCCESS)
 }
 
+// Prints what comes of the command line, and gives the status of the process.
+fn report(rt: &impl Print, text: &str) -> io::Result<ExitCode> {
+    println!(rt; "{text}")?;
+    Ok(ExitCode::SUCCESS)
+}
+
+// Prints a refusal as an error, and gives the status of the process.
+fn refuse(rt: &(impl Eprint + AllocGlobal), fault: Fault) -> io::Result<ExitCode> {
+    let text = refusal(rt.alloc(), fault)?;
+    eprintln!(rt; "{text}")?;
+    Ok(ExitCode::from(1))
+}
+
 // Does what the words of the command line ask for, and gives the status of the process.
 fn obey(
     rt: &(impl Files<File = File> + RandomSource + Print + Eprint + AllocGlobal),
@@ -112,15 +125,8 @@ fn obey(
 ) -> io::Result<ExitCode> {
     let row = Row::of_words(rt.alloc(), words)?;
     match answer(rt, &row) {
-        Ok(text) => {
-            println!(rt; "{text}")?;
-            Ok(ExitCode::SUCCESS)
-        }
-        Err(fault) => {
-            let text = refusal(rt.alloc(), fault)?;
-            eprintln!(rt; "{text}")?;
-            Ok(ExitCode::from(1))
-        }
+        Ok(text) => report(rt, text.as_str()),
+        Err(fault) => refuse(rt, fault),
     }
 }
 
