@@ -1,5 +1,5 @@
 -- A thing put into a list that rises by keys, and what is seen of it.
-use Rattle.std.proofs.Common.{◌≡◌, ℕ, List, [], ◌∷◌, ◌++◌, map, refl, ap, sym, ◌∙◌}
+use Rattle.std.proofs.Common.{◌≡◌, ℕ, List, [], ◌∷◌, ◌++◌, map, refl, ap, sym, ◌∙◌, Result, Ok, Err}
 use Rattle.std.specs.declared.cmp.Ordering.{Ordering}
 use Rattle.std.specs.declared.cmp.Ordering.TheVariants.{Less, Equal, Greater}
 use Rattle.vault_model.specs.Orders.{bytes_cmp}
@@ -7,11 +7,21 @@ use Rattle.vault_model.specs.Bare.{BareField}
 use Rattle.vault_model.specs.Seen.{bare_content, bare_field}
 use Rattle.vault_model.specs.declared.contents.Field.{Field}
 use Rattle.doc_forms.specs.declared.drafts.AttachmentDraft.{AttachmentDraft}
+use Rattle.doc_forms.specs.declared.fails.DocFail.{DocFail}
 use Rattle.doc_forms.specs.Entries.{ReadAttachment, with_field, with_attachment}
+use Rattle.doc_forms.specs.Refusals.{Returns}
 use Rattle.doc_forms.specs.SeenDrafts.{attachment_seen}
 use Rattle.doc_forms.specs.Tables.{put_beside, put}
+use Rattle.doc_walk.proofs.Pieces.{carried}
 use Rattle.doc_entries.specs.declared.builders.EntryBuilder.{EntryBuilder}
 use Rattle.doc_entries.specs.SeenBuilders.{entry_known}
+
+-- what a call gives of which a value is defined, seen in another way
+pub seen_after : {X A B : Type 0} (r : Result X DocFail) (defined given : A) (other seen : B) → (defined ≡ given → other ≡ seen)
+    → Returns (λ _. given) r (Ok defined) → Returns (λ _. seen) r (Ok other)
+seen_after (Ok x) defined given other seen same gives = ap Ok (same (cc gives))
+seen_after {A = A} (Err e) defined given other seen same fails =
+    carried e (let r : Result A DocFail = Ok defined in r) _ (λ (never : Ok defined ≡ Err e). cc) fails
 
 placed_seen : {A B : Type 0} (seen : A → B) (o : Ordering) (x y : A) (ys after : List A) → map seen (put_beside o x y ys after) ≡ put_beside o (seen x) (seen y) (map seen ys) (map seen after)
 placed_seen seen Less x y ys after = refl

@@ -72,8 +72,7 @@ pub(crate) fn put_field(known: &mut EntryBuilder, field: Field) -> Result<(), Do
     ensures { Returns (λ _. entry_known known.new) result
         (Ok (spec.with_field (entry_known known.old) (bare_field field))) }
 {
-    known.fields.put(field)?;
-    Ok(())
+    known.fields.put(field)
 }
 
 /// Puts an attachment into an entry, in the place of that of its name.
@@ -84,8 +83,7 @@ pub(crate) fn put_attachment(
     ensures { Returns (λ _. entry_known known.new) result
         (Ok (spec.with_attachment (entry_known known.old) (attachment_seen attachment))) }
 {
-    known.attachments.put(attachment)?;
-    Ok(())
+    known.attachments.put(attachment)
 }
 
 /// The version that an entry or a history item makes. Its fields take no more memory than they need.

@@ -73,8 +73,7 @@ fn add_version(versions: &mut Vec<VersionDraft>, version: VersionDraft) -> Resul
     ensures { Returns (λ _. map version_seen versions.new.items) result
         (Ok (map version_seen versions.old.items ++ version_seen version ∷ [])) }
 {
-    append(versions, version)?;
-    Ok(())
+    append(versions, version)
 }
 
 /// What is known of a `History` before its end.

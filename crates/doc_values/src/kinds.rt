@@ -54,6 +54,16 @@ fn unless_empty<T: Copy>(text: &[u8], empty: T, value: Option<T>) -> Option<T>
     if text.is_empty() { Some(empty) } else { value }
 }
 
+/// A value that was read, as one that might have been left out.
+fn in_option<T: Copy>(value: Option<T>) -> Option<Option<T>>
+    ensures { result ≡ option_map Some value }
+{
+    match value {
+        Some(value) => Some(Some(value)),
+        None => None,
+    }
+}
+
 /// The text that bytes spell in UTF-8.
 fn text_of(bytes: &[u8]) -> Option<&str>
     ensures { MatchOption result (is_utf8 bytes.now ≡ false) (λ text. (is_utf8 bytes.now ≡ true)
@@ -255,13 +265,7 @@ impl Kind for IdOrNone {
 
     fn from_text(_alloc: Global, text: ElementText) -> Result<Option<Option<Uuid>>, DocFail> {
         let text = trimmed_text(&text);
-        if text.is_empty() {
-            return Ok(Some(None));
-        }
-        match values::id(text) {
-            Some(id) => Ok(Some(Some(id))),
-            None => Ok(None),
-        }
+        Ok(unless_empty(text, None, in_option(values::id(text))))
     }
 }
 
@@ -337,13 +341,7 @@ impl Kind for HashOrNone {
 
     fn from_text(_alloc: Global, text: ElementText) -> Result<Option<Option<[u8; 32]>>, DocFail> {
         let text = trimmed_text(&text);
-        if text.is_empty() {
-            return Ok(Some(None));
-        }
-        match decode_base64_array::<32>(text) {
-            Some(hash) => Ok(Some(Some(hash))),
-            None => Ok(None),
-        }
+        Ok(unless_empty(text, None, in_option(decode_base64_array::<32>(text))))
     }
 }
 
