@@ -254,6 +254,28 @@ pub fn joined_meta<'a>(alloc: Global, members: &[Database<'a>]) -> Result<LentMe
     Ok(joined)
 }
 
+/// Copies of one database made one, of which all held and all known ids are given.
+fn join_known<'a>(
+    alloc: Global,
+    members: &[Database<'a>],
+    held: &[Uuid],
+    known: &[Uuid],
+) -> Result<Database<'a>, NoMemory>
+    requires some { 0 < length members.now }
+    requires held { held.now ≡ ids (databases members.now) }
+    requires known { known.now ≡ known_ids (databases members.now) }
+    ensures { IfOk result (λ d. database d ≡ join (databases members.now)) }
+{
+    Ok(Database {
+        root: members[0].root,
+        entries: joined_entries(alloc, members, held, known)?,
+        groups: joined_groups(alloc, members, held, known)?,
+        places: joined_places(alloc, members, held, known)?,
+        tombs: joined_tombs(alloc, members, held, known)?,
+        meta: joined_meta(alloc, members)?,
+    })
+}
+
 /// Copies of one database made one: the nodes are the kept ones, each with all that the members
 /// have of it, at its latest place, and what is not kept has its latest tombstone. The only refusal
 /// is that memory ran out.
@@ -263,14 +285,7 @@ pub fn join<'a>(alloc: Global, members: &[Database<'a>]) -> Result<Database<'a>,
 {
     let held = all_ids(alloc, members)?;
     let known = known_ids(alloc, members)?;
-    Ok(Database {
-        root: members[0].root,
-        entries: joined_entries(alloc, members, &held, &known)?,
-        groups: joined_groups(alloc, members, &held, &known)?,
-        places: joined_places(alloc, members, &held, &known)?,
-        tombs: joined_tombs(alloc, members, &held, &known)?,
-        meta: joined_meta(alloc, members)?,
-    })
+    join_known(alloc, members, held.as_slice(), known.as_slice())
 }
 
 /// Whether the latest parents of a node lead to the root, in as many steps as ids are held. The

@@ -1,16 +1,30 @@
 -- What is laid over the target's shape is laid over the target.
-use Rattle.std.proofs.Common.{sym, map, subst}
-use Rattle.vault_model.specs.Db.{Db}
+use Rattle.std.proofs.Common.{◌≡◌, sym, map, subst}
+use Rattle.std.specs.Prelude.{IfOk}
+use Rattle.vault_model.specs.declared.documents.Doc.{Doc}
+use Rattle.vault_model.specs.Db.{Sound}
 use Rattle.vault_model.specs.Join.{join}
 use Rattle.vault_model.specs.SeenDoc.{doc_seen}
-use Rattle.vault_model.specs.Shape.{Shape, lay}
-use Rattle.vault_model.specs.Tree.{IsDoc, LEVELS, doc_of}
+use Rattle.vault_model.specs.Shape.{lay}
+use Rattle.vault_model.specs.Tree.{BareDoc, IsDoc, LEVELS, doc_of, lay_doc}
 use Rattle.merge_laws.specs.Refusals.{members}
+use Rattle.reference_tables.specs.Databases.{database}
 use Rattle.reference_shapes.specs.Shapes.{shape}
 use Rattle.document_merge.proofs.merging.laid.Goals as goal
+
+pub laid_over-doc-requires-clause-joined : goal.laid_over-doc-requires-clause-joined
+laid_over-doc-requires-clause-joined c = subst Sound (sym c.requires.joined) c.requires.can_merge.joined
 
 pub laid_over-doc-requires-clause-laid : goal.laid_over-doc-requires-clause-laid
 laid_over-doc-requires-clause-laid c =
     let joined = join (members (doc_seen c.args.target.now) (map doc_seen c.args._sources.now)) in
-    subst (λ (m : Db). IsDoc (doc_of LEVELS (lay m (shape c.in_ok-older.older)))) (sym c.requires.joined)
-    (subst (λ (s : Shape). IsDoc (doc_of LEVELS (lay joined s))) (sym c.in_ok-older.ensures) c.requires.can_merge.laid)
+    let same : doc_of LEVELS (lay (database c.args.joined.now) (shape c.in_ok-older.older)) ≡ lay_doc LEVELS joined (doc_seen c.args.target.now) =
+    λ i. doc_of LEVELS (lay (c.requires.joined i) (c.in_ok-older.ensures i)) in
+    subst IsDoc (sym same) c.requires.can_merge.laid
+
+pub returns : goal.returns
+returns c =
+    let joined = join (members (doc_seen c.args.target.now) (map doc_seen c.args._sources.now)) in
+    let same : doc_of LEVELS (lay (database c.args.joined.now) (shape c.in_ok-older.older)) ≡ lay_doc LEVELS joined (doc_seen c.args.target.now) =
+    λ i. doc_of LEVELS (lay (c.requires.joined i) (c.in_ok-older.ensures i)) in
+    subst (λ (x : BareDoc). IfOk c.laid_over-doc.result (λ (d : Doc). doc_seen d ≡ x)) same c.laid_over-doc.ensures
