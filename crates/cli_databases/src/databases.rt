@@ -264,6 +264,20 @@ fn open_source<F: FileStore>(
     }
 }
 
+// Puts the document of a source after those of others.
+fn put_document(docs: &mut List<Doc>, doc: Doc) -> Result<(), Stop>
+    ensures ok { OnOk result (docs.new ≡ docs.old ++ doc ∷ []) }
+    ensures err { IfErr result (λ stop. stop ≡ Stop.NoMemory) }
+{
+    match docs.push(doc) {
+        Ok(()) => Ok(()),
+        Err(doc) => {
+            drop(doc);
+            Err(Stop::NoMemory)
+        }
+    }
+}
+
 // Opens the sources that are left, one after another, with their lines.
 #[tactic(auto, unfolding(crate::specs::Databases::docs_from))]
 fn open_sources<F: FileStore>(
@@ -296,10 +310,10 @@ fn open_sources<F: FileStore>(
         return Ok(());
     };
     let password = password_from(needs.same, target, own);
-    let doc = open_source(alloc, files, needs.from, name, password)?;
-    let Ok(()) = docs.push(doc) else {
-        return Err(Stop::NoMemory);
-    };
+    match open_source(alloc, files, needs.from, name, password) {
+        Ok(doc) => put_document(docs, doc)?,
+        Err(stop) => return Err(stop),
+    }
     let rest = Needs {
         sources: names,
         ..needs

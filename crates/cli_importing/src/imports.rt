@@ -136,7 +136,15 @@ pub fn import<F: FileStore>(
         files.new }
 {
     let doc = read_source(alloc, files, import, bytes_in(&lines.password), now)?;
-    refuse_existing(alloc, files, import.file.as_str())?;
-    let sealing = new_sealing(alloc, files, import.access, bytes_in(&lines.more))?;
-    Ok(Opened { doc, sealing })
+    if let Err(stop) = refuse_existing(alloc, files, import.file.as_str()) {
+        drop(doc);
+        return Err(stop);
+    }
+    match new_sealing(alloc, files, import.access, bytes_in(&lines.more)) {
+        Ok(sealing) => Ok(Opened { doc, sealing }),
+        Err(stop) => {
+            drop(doc);
+            Err(stop)
+        }
+    }
 }
