@@ -13,7 +13,7 @@ mod words;
 use crate::fault::Fault;
 use crate::scene::Scene;
 use crate::words::first_word;
-use std::io::{self, BufRead, BufReader};
+use std::io;
 use std::process::ExitCode;
 
 // Does what a line says.
@@ -28,18 +28,24 @@ fn obey(rt: &impl Print, scene: &mut Scene, line: &str) -> Result<(), Fault> {
     }
 }
 
-fn main(rt: HostRuntime) -> io::Result<ExitCode> {
-    let alloc = rt.alloc();
-    let mut scene = Scene::new(alloc);
-    for (index, line) in BufReader::new(alloc, rt.reader())?.lines(alloc).enumerate() {
+// Obeys the lines of standard input, and gives the status of the process.
+fn obey_lines(rt: &(impl Input + Print + AllocGlobal), scene: &mut Scene) -> io::Result<ExitCode> {
+    for (index, line) in rt.lines(rt.alloc()).enumerate() {
         let line = line?;
         if line.is_empty() || line.starts_with('#') {
             continue;
         }
-        if let Err(fault) = obey(&rt, &mut scene, &line) {
+        if let Err(fault) = obey(rt, scene, &line) {
             println!(rt; "line {}: {fault:?}", index.saturating_add(1))?;
             return Ok(ExitCode::from(1));
         }
     }
     Ok(ExitCode::SUCCESS)
+}
+
+fn main(rt: HostRuntime) -> io::Result<ExitCode> {
+    let mut scene = Scene::new(rt.alloc());
+    let status = obey_lines(&rt, &mut scene);
+    drop(scene);
+    status
 }
