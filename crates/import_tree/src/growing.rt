@@ -45,11 +45,7 @@ fn put_placed(alloc: Global, tree: &mut DraftTree, placed: PlacedEntry) -> Resul
 }
 
 // Puts entries of a draft into its tree, one after another.
-fn put_all(
-    alloc: Global,
-    tree: &mut DraftTree,
-    entries: Vec<PlacedEntry>,
-) -> Result<(), NoMemory>
+fn put_all(alloc: Global, tree: &mut DraftTree, entries: Vec<PlacedEntry>) -> Result<(), NoMemory>
     ensures tree { OnOk result (tree_seen tree.new.root
         ≡ with_all_placed (map placed_seen entries.items) (tree_seen tree.old.root)) }
     ensures meta { tree.new.meta ≡ tree.old.meta }
