@@ -85,6 +85,7 @@ fn written(doc: &mut Doc, merged: Merged, dry: bool, text: Secret) -> MergeRepor
             is_written: true,
         }
     } else {
+        drop(merged);
         MergeReport {
             text,
             is_written: false,
@@ -132,7 +133,10 @@ fn finished(
 {
     match text_of(alloc, doc, &merged, given) {
         Ok(text) => Ok(written(doc, merged, given.dry, text)),
-        Err(fail) => Err(fail),
+        Err(fail) => {
+            drop(merged);
+            Err(fail)
+        }
     }
 }
 
