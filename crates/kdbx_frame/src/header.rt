@@ -4,10 +4,11 @@ ghost use Rattle.std.specs.Prelude.{ℕ, List, ◌≡◌, ◌+◌, ◌≤◌, �
 ghost use Rattle.outside_core.specs.Results.{Returns};
 ghost use Rattle.kdbx_parts.specs.Results.{meaning_of};
 ghost use Rattle.kdbx_frame.specs.Fields.{header_limit};
-ghost use Rattle.kdbx_frame.specs.Header.{check_hash, check_sums, header_at, header_of, sums_len, version_and_rest, version_of};
+ghost use Rattle.kdbx_frame.specs.Header.{check_hash, check_sums, header_at, header_of, sums_len, version_and_rest, version_of, with_size};
+ghost use Rattle.kdbx_frame.specs.Seen.{checked_header_seen};
 ghost use Rattle.kdbx_frame.specs.Settings.{IsInOrder};
 
-use crate::fields::{FieldsRead, fields_from};
+use crate::fields::fields_from;
 use crate::settings::{CheckedHeader, Settings, checked_header};
 use kdbx_parts::{FrameFail, array_of, out_of_bounds, same, split_bytes, u32_of};
 use outside_core::Bytes;
@@ -125,6 +126,29 @@ fn check_sums(version: FileVersion, size: u64, header: &[u8], rest: &[u8]) -> Re
     }
 }
 
+// The header that its fields give, with its size.
+fn with_size(checked: CheckedHeader, size: usize) -> Header
+    ensures { result ≡ with_size (checked_header_seen checked) size }
+{
+    let CheckedHeader {
+        settings,
+        seed,
+        iv,
+        stream_id,
+        stream_key,
+        start,
+    } = checked;
+    Header {
+        settings,
+        seed,
+        iv,
+        stream_id,
+        stream_key,
+        start,
+        size,
+    }
+}
+
 // The header at the start of these bytes, with which a file of this size begins.
 #[tactic(auto, unfolding(crate::specs::Header::header_at))]
 fn header_at(alloc: Global, size: u64, text: &[u8]) -> Result<Header, FrameFail>
@@ -134,26 +158,11 @@ fn header_at(alloc: Global, size: u64, text: &[u8]) -> Result<Header, FrameFail>
     ensures within { IfOk result (λ h. h.size + sums_len h.settings.version ≤ length text.now) }
 {
     let (version, rest) = version_and_rest(size, text)?;
-    let FieldsRead { found, rest } = fields_from(version, size, text.len(), rest)?;
-    let len = text.len() - rest.len();
-    check_sums(version, size, &text[..len], rest)?;
-    let CheckedHeader {
-        settings,
-        seed,
-        iv,
-        stream_id,
-        stream_key,
-        start,
-    } = checked_header(alloc, version, found)?;
-    Ok(Header {
-        settings,
-        seed,
-        iv,
-        stream_id,
-        stream_key,
-        start,
-        size: len,
-    })
+    let read = fields_from(version, size, text.len(), rest)?;
+    let len = text.len() - read.rest.len();
+    check_sums(version, size, &text[..len], read.rest)?;
+    let checked = checked_header(alloc, version, read.found)?;
+    Ok(with_size(checked, len))
 }
 
 // The bytes of a file that its header may reach into.

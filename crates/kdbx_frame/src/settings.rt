@@ -161,8 +161,13 @@ fn kdf_of(alloc: Global, described: KdfDescription) -> Result<Kdf, FrameFail>
             }
         }
     };
-    check_kdf(&kdf)?;
-    Ok(kdf)
+    match check_kdf(&kdf) {
+        Ok(()) => Ok(kdf),
+        Err(fail) => {
+            drop(kdf);
+            Err(fail.into())
+        }
+    }
 }
 
 // The public data in memory of its own, if any.
@@ -200,14 +205,21 @@ fn settings_and_iv(
     let iv = iv_of(cipher, iv)?;
     refuse_compression(flag)?;
     let kdf = kdf_of(alloc, described)?;
-    let public = public_of(alloc, public)?;
-    let settings = Settings {
-        version,
-        cipher,
-        kdf,
-        public,
-    };
-    Ok((settings, iv))
+    match public_of(alloc, public) {
+        Ok(public) => {
+            let settings = Settings {
+                version,
+                cipher,
+                kdf,
+                public,
+            };
+            Ok((settings, iv))
+        }
+        Err(fail) => {
+            drop(kdf);
+            Err(fail)
+        }
+    }
 }
 
 // The settings and the IV that required fields of version 3.1 give.
@@ -228,14 +240,21 @@ fn settings_and_iv_31(
     let iv = iv_of(cipher, iv)?;
     refuse_compression(flag)?;
     let kdf = Kdf::Aes { rounds, seed };
-    check_kdf(&kdf)?;
-    let settings = Settings {
-        version: FileVersion::V31,
-        cipher,
-        kdf,
-        public: None,
-    };
-    Ok((settings, iv))
+    match check_kdf(&kdf) {
+        Ok(()) => {
+            let settings = Settings {
+                version: FileVersion::V31,
+                cipher,
+                kdf,
+                public: None,
+            };
+            Ok((settings, iv))
+        }
+        Err(fail) => {
+            drop(kdf);
+            Err(fail.into())
+        }
+    }
 }
 
 // What the fields of a header of version 4 give.
@@ -286,15 +305,20 @@ fn checked_header_31(alloc: Global, found: HeaderFields) -> Result<CheckedHeader
     let start = required(9, found.start)?;
     let stream_id = required(10, found.stream_id)?;
     let (settings, iv) = settings_and_iv_31(id, flag, iv, rounds, kdf_seed)?;
-    let stream_key = copy_of(alloc, stream_key)?;
-    Ok(CheckedHeader {
-        settings,
-        seed,
-        iv,
-        stream_id,
-        stream_key,
-        start,
-    })
+    match copy_of(alloc, stream_key) {
+        Ok(stream_key) => Ok(CheckedHeader {
+            settings,
+            seed,
+            iv,
+            stream_id,
+            stream_key,
+            start,
+        }),
+        Err(fail) => {
+            drop(settings);
+            Err(fail)
+        }
+    }
 }
 
 /// What the fields of a header of this version give. The refusals are FieldMissing, CipherUnknown,
