@@ -9,7 +9,7 @@ use stream_core::InnerStream;
 use time_core::Stamp;
 use tree_changes::Values;
 use tree_edits::add;
-use uuid::Uuid;
+use uuid_core::Uuid;
 use vault_model::{Doc, DocForm};
 
 // The parts of the document that a text by itself is. The text is dropped.

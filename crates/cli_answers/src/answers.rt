@@ -6,7 +6,7 @@ ghost use Rattle.cli_answers.specs.Messages.{status_of, reason_text, error_line,
 
 use outside_core::{Bytes, List, NoMemory, Text};
 use std::alloc::{AllocError, Global};
-use uuid::Uuid;
+use uuid_core::Uuid;
 
 /// Why a call of the program is refused. A place is in bytes from the start of the file, or of its
 /// deciphered text.

@@ -19,7 +19,7 @@ use tree_changes::{TreeFail, Values};
 use tree_core::{find_entry, title};
 use tree_edits::{add, edit};
 use tree_steps::{entry_of, holder, name_after};
-use uuid::Uuid;
+use uuid_core::Uuid;
 use vault_model::{Doc, Stamp};
 
 /// What a command is given beside its document and its entry.

@@ -2,7 +2,7 @@
 ghost use Rattle.std.specs.Prelude.{◌≡◌};
 ghost use Rattle.cli_changes.specs.Ids as spec;
 
-use uuid::Uuid;
+use uuid_core::Uuid;
 
 /// The id that 16 drawn bytes make: of version 4, and of the variant that has such versions. The
 /// other bits are those that were drawn.

@@ -11,7 +11,7 @@ use cli_drawing::draw_id;
 use cli_words::Command;
 use outside_core::{Dice, DiceFail};
 use tree_moves::needs_bin;
-use uuid::Uuid;
+use uuid_core::Uuid;
 use vault_model::Doc;
 
 /// Reports whether a command makes a node in a document, whose id has to be drawn.

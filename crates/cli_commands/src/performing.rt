@@ -28,7 +28,7 @@ use kdbx_frame::Settings;
 use outside_core::{Bytes, Dice, NoMemory, Text};
 use secret_core::Secret;
 use std::alloc::Global;
-use uuid::Uuid;
+use uuid_core::Uuid;
 use vault_model::Doc;
 
 /// Reports whether a command may write a file.

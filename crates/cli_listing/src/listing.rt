@@ -8,7 +8,7 @@ ghost use Rattle.cli_listing.specs.Listing.{group_lines, title_lines, tree_liste
 use outside_core::{Bytes, NoMemory, Text};
 use std::alloc::Global;
 use tree_core::{find_group, title};
-use uuid::Uuid;
+use uuid_core::Uuid;
 use vault_model::{Doc, Entry, Group};
 
 /// How groups are listed.

@@ -14,7 +14,7 @@ use secret_core::Secret;
 use std::alloc::Global;
 use std::collections::BTreeSet;
 use tree_core::title;
-use uuid::Uuid;
+use uuid_core::Uuid;
 use vault_model::{Doc, Entry, Group};
 
 // The set of some ids.

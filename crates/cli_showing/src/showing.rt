@@ -54,7 +54,7 @@ fn append_id_and_tags(alloc: Global, text: &mut Secret, entry: &Entry) -> Result
     ensures { OnOk result (text.new.bytes ≡ text.old.bytes ++ id_and_tags (entry_row entry.now)) }
 {
     let mut digits = [0; 36];
-    let id = entry.id.hyphenated().encode_lower(&mut digits);
+    let id = entry.id.encode_hyphenated(&mut digits);
     append(alloc, text, b"Uuid: {")?;
     append(alloc, text, id.as_bytes())?;
     append(alloc, text, b"}\nTags: ")?;

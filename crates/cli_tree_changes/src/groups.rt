@@ -17,7 +17,7 @@ use tree_changes::TreeFail;
 use tree_core::find_group;
 use tree_groups::{make_group, name_of_new};
 use tree_steps::group_of;
-use uuid::Uuid;
+use uuid_core::Uuid;
 use vault_model::{Doc, Group};
 
 // The name of a group.

@@ -18,7 +18,7 @@ use std::alloc::Global;
 use tree_changes::{Removed, TreeFail};
 use tree_group_removals::remove_group;
 use tree_removals::remove_entry;
-use uuid::Uuid;
+use uuid_core::Uuid;
 use vault_model::Doc;
 
 // The reports of a removal, of which one will be told.

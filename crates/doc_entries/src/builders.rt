@@ -14,7 +14,7 @@ use doc_values::KeyedList;
 use doc_walk::{never, no_times};
 use outside_core::{List, Text};
 use std::alloc::Global;
-use uuid::Uuid;
+use uuid_core::Uuid;
 use vault_model::{Content, Field, Stats, Version};
 
 /// What is known of an entry, or of a history item, before its end. Its content has neither times

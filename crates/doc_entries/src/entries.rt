@@ -17,7 +17,7 @@ use crate::versions::version_child;
 use doc_forms::{DocFail, EntryDraft};
 use doc_values::{IdValue, OwnId};
 use doc_walk::{Parts, Tag, Walk, kept_with, read_counted};
-use uuid::Uuid;
+use uuid_core::Uuid;
 
 /// What is known of an `Entry` before its end.
 #[derive(Drop)]

@@ -5,7 +5,7 @@ ghost use Rattle.doc_forms.specs.Entries as entries_of;
 ghost use Rattle.doc_forms.specs.Refusals.{Returns};
 
 use doc_forms::{DocFail, RequiredElement};
-use uuid::Uuid;
+use uuid_core::Uuid;
 
 /// This id of a group or an entry that begins at the offset: it must not be the nil id.
 fn unless_nil(offset: usize, id: Uuid) -> Result<Uuid, DocFail>

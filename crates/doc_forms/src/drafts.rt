@@ -4,7 +4,7 @@ use crate::times::Times;
 use outside_core::{List, Text};
 use secret_core::Secret;
 use std::rc::Rc;
-use uuid::Uuid;
+use uuid_core::Uuid;
 use vault_model::{GroupContent, GroupState, GroupView, Meta, Stamp, Tombstone, Version};
 
 /// Where an attachment's bytes are.

@@ -1,6 +1,6 @@
 //! Why a text is no document.
 
-use uuid::Uuid;
+use uuid_core::Uuid;
 
 /// An element that a document must have.
 #[derive(Clone, Copy, Debug, PartialEq, Eq)]

@@ -15,7 +15,7 @@ use doc_forms::{DocFail, GroupBuilder, GroupDraft};
 use doc_values::{appended, is_marked, no_text};
 use doc_walk::{Tag, Walk, kept_with};
 use markup_core::{MarkupFail, Piece};
-use uuid::Uuid;
+use uuid_core::Uuid;
 
 /// The id of a group that begins at the offset, when all that is in it has been read. A group that
 /// does not fit where it is is refused.

@@ -9,7 +9,7 @@ use doc_forms::{DocFail, GroupBuilder, GroupDraft};
 use doc_walk::{append, no_times};
 use outside_core::{List, Text};
 use std::alloc::Global;
-use uuid::Uuid;
+use uuid_core::Uuid;
 use vault_model::{GroupContent, GroupState, GroupView, Stats, Tri};
 
 /// A group of which nothing is known yet.

@@ -11,7 +11,7 @@ use doc_forms::DocFail;
 use doc_values::{IdValue, TimeValue};
 use doc_walk::{Parts, Tag, Walk, never, read_whole};
 use outside_core::List;
-use uuid::Uuid;
+use uuid_core::Uuid;
 use vault_model::Tombstone;
 
 /// What is known of a `DeletedObject` before its end.

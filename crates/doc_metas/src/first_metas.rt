@@ -10,7 +10,7 @@ use doc_forms::MetaBuilder;
 use doc_walk::never;
 use outside_core::{List, Text};
 use std::alloc::Global;
-use uuid::Uuid;
+use uuid_core::Uuid;
 use vault_model::{Bin, Meta, MetaSettings, MetaView, Timed};
 
 /// The age of a key that is not limited.

@@ -11,7 +11,7 @@ use doc_values::{IdValue, KeyedList, OpenBytes, TextValue, TimeValue};
 use doc_walk::{Parts, Tag, Walk, never, read_whole};
 use outside_core::{Bytes, List, Text};
 use std::alloc::Global;
-use uuid::Uuid;
+use uuid_core::Uuid;
 use vault_model::Icon;
 
 /// What is known of an `Icon` before its end.

@@ -12,7 +12,7 @@ ghost use Rattle.vault_model.specs.Tree.{node_ids};
 use outside_core::NoMemory;
 use std::alloc::Global;
 use std::collections::BTreeSet;
-use uuid::Uuid;
+use uuid_core::Uuid;
 use vault_model::{Entry, Group};
 
 /// Adds the ids of some entries.

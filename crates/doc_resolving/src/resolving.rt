@@ -22,7 +22,7 @@ use doc_forms::{
 };
 use outside_core::{List, NoMemory};
 use std::alloc::Global;
-use uuid::Uuid;
+use uuid_core::Uuid;
 use vault_model::{Doc, DocForm, Group, PoolItem, Tombstone};
 
 /// What was kept with what was made, or else a refusal.

@@ -10,7 +10,7 @@ ghost use Rattle.vault_model.specs.Db.{id_cmp};
 use outside_core::{List, NoMemory};
 use std::alloc::Global;
 use std::collections::{BTreeMap, BTreeSet};
-use uuid::Uuid;
+use uuid_core::Uuid;
 use vault_model::{Stamp, Tombstone};
 
 /// The later of a time and another, or the first where there is no other.

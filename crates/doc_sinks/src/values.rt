@@ -14,7 +14,7 @@ use base64::engine::general_purpose::STANDARD;
 use itoa::Buffer;
 use outside_core::Text;
 use secret_core::Secret;
-use uuid::Uuid;
+use uuid_core::Uuid;
 use vault_model::{DocForm, Stamp, Tri, iso_of};
 
 /// Puts an element with at most 16 bytes in base64.

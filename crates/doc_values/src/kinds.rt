@@ -19,7 +19,7 @@ use secret_core::Secret;
 use std::alloc::Global;
 use std::str;
 use text_core::{decode_base64_array, trim};
-use uuid::Uuid;
+use uuid_core::Uuid;
 use vault_model::{Stamp, Tri};
 
 /// A kind of value.

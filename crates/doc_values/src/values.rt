@@ -5,7 +5,7 @@ ghost use Rattle.markup_escapes.specs.Fronts.{DiffersFirst};
 ghost use Rattle.doc_forms.specs.Values as spec;
 
 use text_core::{decode_base64_array, is_word};
-use uuid::Uuid;
+use uuid_core::Uuid;
 use vault_model::{Stamp, Tri, stamp_of_iso};
 
 /// `True` or `False`, in any case of their letters.

@@ -11,7 +11,7 @@ ghost use Rattle.doc_spelling.specs.Ranges.{fits_icon, fits_u32, is_uuid, is_uui
 use crate::items::put_change;
 use doc_sinks::{Mark, TextSink, close, open, put_coded, put_id, put_number, put_text};
 use outside_core::Text;
-use uuid::Uuid;
+use uuid_core::Uuid;
 use vault_model::{DocForm, Icon};
 
 /// Puts a text, where it is not empty.

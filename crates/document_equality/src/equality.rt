@@ -12,7 +12,7 @@ ghost use Rattle.document_equality.specs.Equality.{same_all, same_choices, same_
 use outside_core::Text;
 use reference_tables::icons::compare_icons;
 use reference_tables::metas::{compare_bins, compare_settings};
-use uuid::Uuid;
+use uuid_core::Uuid;
 use vault_model::{
     Bin, Doc, Entry, Group, GroupState, GroupView, Icon, Item, Meta, MetaSettings, MetaView, Stats,
     Timed, Tombstone, Version, compare_content, compare_group,

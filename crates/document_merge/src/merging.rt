@@ -34,7 +34,7 @@ use reference_shapes::shapes::Shape;
 use reference_tables::databases::Database;
 use reference_tables::tables::Table;
 use std::alloc::Global;
-use uuid::Uuid;
+use uuid_core::Uuid;
 use vault_model::Doc;
 
 /// Why documents are not merged.

@@ -16,7 +16,7 @@ use find_terms::{FindFail, Term, Terms};
 use outside_core::{List, NoMemory, Text};
 use secret_core::Secret;
 use std::alloc::Global;
-use uuid::Uuid;
+use uuid_core::Uuid;
 use vault_model::{Doc, Entry, Group, Tri};
 
 /// Ids of entries.

@@ -10,7 +10,7 @@ ghost use Rattle.vault_model.specs.SeenNodes.{entry_row};
 ghost use Rattle.vault_model.specs.Walk.{value_of};
 
 use crate::parts::{Part, Place};
-use uuid::Uuid;
+use uuid_core::Uuid;
 use vault_model::{Entry, Field};
 
 /// The value of the field of this key in an entry's current version, and empty where there is none.
@@ -63,7 +63,7 @@ fn is_id(id: Uuid, text: &[u8]) -> bool
     ensures { result ≡ str_eq_ignore_ascii_case (simple_text upper id) text.now }
 {
     let mut buffer = [0; 32];
-    let digits = id.simple().encode_upper(&mut buffer);
+    let digits = id.encode_simple(&mut buffer);
     is_word(digits.as_bytes(), text)
 }
 

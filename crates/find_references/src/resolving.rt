@@ -102,7 +102,7 @@ fn add_resolved(
         match entry_in(root, reference.place, reference.text) {
             Some(entry) => {
                 let mut buffer = [0; 32];
-                let digits = entry.id.simple().encode_upper(&mut buffer);
+                let digits = entry.id.encode_simple(&mut buffer);
                 let value = part_value(reference.wanted, entry, digits.as_bytes());
                 count(made)?;
                 add_resolved(alloc, made, root, levels - 1, value)?;

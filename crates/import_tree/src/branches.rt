@@ -8,7 +8,7 @@ ghost use Rattle.import_tree.specs.SeenBranches.{way_seen, ways_seen};
 use crate::drafts::PlacedEntry;
 use outside_core::{NoMemory, Text};
 use std::alloc::Global;
-use uuid::Uuid;
+use uuid_core::Uuid;
 
 /// An entry, and the names that still lead to it.
 #[derive(Clone, Copy)]

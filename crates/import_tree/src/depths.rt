@@ -16,7 +16,7 @@ use doc_resolving::lesser;
 use outside_core::NoMemory;
 use std::alloc::Global;
 use std::collections::BTreeSet;
-use uuid::Uuid;
+use uuid_core::Uuid;
 
 /// The most levels of groups below the root.
 const LEVELS_BELOW: usize = 127;

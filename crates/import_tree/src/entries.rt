@@ -10,7 +10,7 @@ use outside_core::{List, NoMemory, Text};
 use secret_core::Secret;
 use std::alloc::Global;
 use tree_steps::put_last;
-use uuid::Uuid;
+use uuid_core::Uuid;
 use vault_model::{AutoType, Content, Entry, Field, Stamp, Stats, Version};
 
 /// An entry of an imported file. `groups` are the names of the groups that lead to it, from below

@@ -3,7 +3,7 @@
 ghost use Rattle.std.specs.Prelude.{◌≡◌};
 
 use outside_core::NoMemory;
-use uuid::Uuid;
+use uuid_core::Uuid;
 
 /// Why imported entries give no document.
 #[derive(Clone, Copy, Debug, PartialEq, Eq)]

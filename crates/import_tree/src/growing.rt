@@ -13,7 +13,7 @@ use crate::drafts::{ImportDraft, PlacedEntry, ROOT};
 use crate::putting::put_entry;
 use outside_core::NoMemory;
 use std::alloc::Global;
-use uuid::Uuid;
+use uuid_core::Uuid;
 use vault_making::empty_doc;
 use vault_model::{Doc, Group, Meta, Stamp};
 

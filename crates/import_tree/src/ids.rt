@@ -4,7 +4,7 @@ ghost use Rattle.std.specs.Prelude.{◌≡◌};
 ghost use Rattle.import_tree.specs.Entries as spec;
 
 use itoa::Buffer;
-use uuid::Uuid;
+use uuid_core::Uuid;
 
 /// The namespace of the ids of entries without an id.
 const ENTRY_SPACE: [u8; 16] = [

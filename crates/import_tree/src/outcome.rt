@@ -10,7 +10,7 @@ use crate::fails::TreeFail;
 use doc_resolving::{ids_of, lesser};
 use outside_core::NoMemory;
 use std::alloc::Global;
-use uuid::Uuid;
+use uuid_core::Uuid;
 use vault_model::Group;
 
 /// The most levels of groups.

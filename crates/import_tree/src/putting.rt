@@ -13,7 +13,7 @@ use outside_core::{NoMemory, Text};
 use std::alloc::Global;
 use tree_groups::new_group;
 use tree_steps::put_last;
-use uuid::Uuid;
+use uuid_core::Uuid;
 use vault_model::{Entry, Group, Stamp};
 
 // Reports whether a group has this name.

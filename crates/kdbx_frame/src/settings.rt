@@ -17,7 +17,7 @@ use kdbx_parts::{FrameFail, copy_of, required, same};
 use key_core::{Kdf, check_kdf};
 use outside_core::Bytes;
 use std::alloc::Global;
-use uuid::Uuid;
+use uuid_core::Uuid;
 use vault_model::FileVersion;
 
 /// The cipher of a file's content.

@@ -6,7 +6,7 @@ ghost use Rattle.kdbx_parts.specs.declared.fail.FrameFail.TheVariants as frame;
 
 use key_core::{KdfFail, KdfField};
 use outside_core::NoMemory;
-use uuid::Uuid;
+use uuid_core::Uuid;
 
 /// Why a header or the inner fields are refused: the first fault in the order of these variants,
 /// but for Truncated to Dictionary, of which the one that is first in the bytes comes.

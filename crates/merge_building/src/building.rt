@@ -10,7 +10,7 @@ use outside_core::{List, NoMemory};
 use reference_shapes::shapes::{LentEntry, LentGroup, LentVersion, Shape};
 use reference_tables::states::LentState;
 use std::alloc::Global;
-use uuid::Uuid;
+use uuid_core::Uuid;
 use vault_making::copies::{copy_content, copy_items, copy_text, put_last};
 use vault_model::{Entry, Group, GroupContent, GroupState, Version};
 

@@ -6,7 +6,7 @@ use outside_core::{Bytes, List, NoMemory, Text};
 use reference_shapes::shapes::ShapeMeta;
 use reference_tables::icons::{LentIcon, LentItem};
 use std::alloc::Global;
-use uuid::Uuid;
+use uuid_core::Uuid;
 use vault_making::copies::{copy_item, copy_text, put_last};
 use vault_model::{Bin, Icon, Item, Meta, MetaSettings, Timed};
 

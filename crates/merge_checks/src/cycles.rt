@@ -11,7 +11,7 @@ use outside_core::{List, NoMemory};
 use reference_join::nodes::{above, all_ids};
 use reference_tables::databases::Database;
 use std::alloc::Global;
-use uuid::Uuid;
+use uuid_core::Uuid;
 use vault_making::copies::put_last;
 
 /// The node that so many steps up lead to.

@@ -8,7 +8,7 @@ ghost use Rattle.merge_checks.specs.Clashes.{is_of_two_kinds};
 ghost use Rattle.merge_join.specs.Marks.{AreKnown};
 
 use reference_tables::databases::Database;
-use uuid::Uuid;
+use uuid_core::Uuid;
 
 /// Whether some member has the id for an entry.
 pub fn is_entry(copies: &[Database], id: &Uuid) -> bool

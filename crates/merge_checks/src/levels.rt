@@ -13,7 +13,7 @@ use crate::kinds::is_entry;
 use reference_join::nodes::is_on_trail;
 use reference_tables::databases::Database;
 use reference_tables::tables::Table;
-use uuid::Uuid;
+use uuid_core::Uuid;
 
 /// The most levels of groups.
 const MOST_LEVELS: usize = 128;

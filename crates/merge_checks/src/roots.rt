@@ -13,7 +13,7 @@ ghost use Rattle.merge_checks.specs.Clashes.{clash_below, clash_in_docs, least_w
 use outside_core::NoMemory;
 use reference_tables::tables::Table;
 use std::alloc::Global;
-use uuid::Uuid;
+use uuid_core::Uuid;
 use vault_model::{Doc, Group};
 
 /// The lesser of two ids.

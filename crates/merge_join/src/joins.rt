@@ -16,7 +16,7 @@ use reference_tables::states::LentState;
 use reference_tables::tables::{Table, put_some};
 use reference_tables::versions::VersionTable;
 use std::alloc::Global;
-use uuid::Uuid;
+use uuid_core::Uuid;
 use vault_model::Stamp;
 
 /// Whether a node is kept.

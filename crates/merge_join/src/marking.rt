@@ -11,7 +11,7 @@ use reference_join::nodes::{above, is_own};
 use reference_tables::databases::Database;
 use reference_tables::tables::Table;
 use std::alloc::Global;
-use uuid::Uuid;
+use uuid_core::Uuid;
 
 /// Why members are not joined.
 #[derive(Clone, Copy, Debug, PartialEq, Eq)]

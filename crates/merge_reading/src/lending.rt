@@ -16,7 +16,7 @@ use reference_tables::ids::is_same;
 use reference_tables::metas::LentMeta;
 use reference_tables::tables::Table;
 use std::alloc::Global;
-use uuid::Uuid;
+use uuid_core::Uuid;
 use vault_model::{Doc, Icon, Item, Meta, Stamp, Tombstone};
 
 /// Puts a tombstone where it is not the root's. A refusal means that memory ran out.

@@ -16,7 +16,7 @@ use reference_tables::tables::Table;
 use reference_tables::version_keys::VersionKey;
 use reference_tables::versions::VersionTable;
 use std::alloc::Global;
-use uuid::Uuid;
+use uuid_core::Uuid;
 use vault_model::{Doc, Entry, Group, Version};
 
 /// What a document has of each of its nodes.

@@ -10,7 +10,7 @@ use reference_tables::tables::Table;
 use std::alloc::Global;
 use std::marker::Model;
 use tree_core::title;
-use uuid::Uuid;
+use uuid_core::Uuid;
 use vault_model::{Doc, Entry, Group};
 
 /// A name or a title, which a document lends.

@@ -15,7 +15,7 @@ use reference_tables::tables::Table;
 use secret_core::Secret;
 use secret_texts::append;
 use std::alloc::Global;
-use uuid::Uuid;
+use uuid_core::Uuid;
 use vault_model::Doc;
 
 // What a node is.

@@ -12,7 +12,7 @@ use reference_tables::states::LentState;
 use reference_tables::tables::Table;
 use reference_tables::version_keys::VersionKey;
 use std::alloc::Global;
-use uuid::Uuid;
+use uuid_core::Uuid;
 use vault_model::{Entry, Group, Version};
 
 /// The nodes of a document, and the children of its groups.

@@ -7,7 +7,7 @@ ghost use Rattle.psafe_fields.specs.Seen.{field_seen, fields_seen};
 
 use import_tree::numbered_id;
 use psafe_fields::{SafeField, kind, moment_of, text_of};
-use uuid::Uuid;
+use uuid_core::Uuid;
 use vault_model::Stamp;
 
 // The text that a field of this type says.

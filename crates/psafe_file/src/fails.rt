@@ -4,7 +4,7 @@ ghost use Rattle.std.specs.Prelude.{◌≡◌};
 ghost use Rattle.psafe_file.specs.declared.fails.PsafeFail.TheVariants as fail;
 
 use outside_core::NoMemory;
-use uuid::Uuid;
+use uuid_core::Uuid;
 
 /// Why a file of Password Safe V3 is not imported: the first that holds, in the order of these
 /// variants. A place is one in the deciphered bytes.

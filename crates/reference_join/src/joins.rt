@@ -17,7 +17,7 @@ use reference_tables::states::LentState;
 use reference_tables::tables::{Table, put_some};
 use reference_tables::versions::VersionTable;
 use std::alloc::Global;
-use uuid::Uuid;
+use uuid_core::Uuid;
 use vault_model::Stamp;
 
 /// An entry's versions so far with those of one more member.

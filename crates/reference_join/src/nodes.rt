@@ -13,7 +13,7 @@ use reference_tables::databases::Database;
 use reference_tables::ids::{is_same, push_both};
 use reference_tables::placements::{Placement, later_placement};
 use std::alloc::Global;
-use uuid::Uuid;
+use uuid_core::Uuid;
 
 /// Whether a database holds a node.
 fn holds(member: &Database, id: &Uuid) -> bool

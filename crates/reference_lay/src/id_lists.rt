@@ -4,7 +4,7 @@ ghost use Rattle.std.specs.Prelude.{◌≡◌, ◌++◌, [], ◌∷◌, OnOk, On
 use outside_core::NoMemory;
 use std::alloc::Global;
 use std::marker::Model;
-use uuid::Uuid;
+use uuid_core::Uuid;
 
 /// Ids in a row, which contracts see as their list.
 #[derive(Drop)]

@@ -24,7 +24,7 @@ use reference_tables::tables::{Table, put_some};
 use reference_tables::version_keys::VersionKey;
 use reference_tables::versions::VersionTable;
 use std::alloc::Global;
-use uuid::Uuid;
+use uuid_core::Uuid;
 use vault_model::{GroupView, Stamp, Stats};
 
 /// Appends an id where it is wanted. A refusal means that memory ran out.

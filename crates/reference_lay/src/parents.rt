@@ -12,7 +12,7 @@ use outside_core::NoMemory;
 use reference_tables::placements::Placement;
 use reference_tables::tables::Table;
 use std::alloc::Global;
-use uuid::Uuid;
+use uuid_core::Uuid;
 
 /// The ids that are in a group, taken out of the table.
 fn take_ids(alloc: Global, children: &mut Table<IdList>, parent: &Uuid) -> IdList

@@ -8,7 +8,7 @@ use reference_tables::states::LentState;
 use reference_tables::tables::Table;
 use reference_tables::version_keys::VersionKey;
 use std::marker::Model;
-use uuid::Uuid;
+use uuid_core::Uuid;
 use vault_model::{Bin, GroupView, MetaSettings, MetaView, Stamp, Stats, Timed};
 
 /// Since when a node is in its group, and in which group it was before, the nil id where in none.

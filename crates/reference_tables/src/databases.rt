@@ -4,7 +4,7 @@ use crate::placements::Placement;
 use crate::states::LentState;
 use crate::tables::Table;
 use crate::versions::VersionTable;
-use uuid::Uuid;
+use uuid_core::Uuid;
 use vault_model::Stamp;
 
 /// A database. Each node but the root has a place.

@@ -15,7 +15,7 @@ use outside_core::{NoMemory, Text};
 use std::alloc::Global;
 use std::cmp::Ordering;
 use std::marker::Model;
-use uuid::Uuid;
+use uuid_core::Uuid;
 use vault_model::{Icon, Item};
 
 /// An icon that a document lends.

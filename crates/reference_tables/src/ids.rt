@@ -8,7 +8,7 @@ ghost use Rattle.vault_model.specs.Join.{is_id};
 use crate::tables::Table;
 use outside_core::NoMemory;
 use std::alloc::Global;
-use uuid::Uuid;
+use uuid_core::Uuid;
 
 /// Whether two ids are the same.
 pub fn is_same(first: &Uuid, second: &Uuid) -> bool

@@ -9,7 +9,7 @@ use crate::tables::Table;
 use outside_core::{NoMemory, Text};
 use std::alloc::Global;
 use std::cmp::Ordering;
-use uuid::Uuid;
+use uuid_core::Uuid;
 use vault_model::{Bin, MetaSettings, Protection, Timed};
 
 /// The values that every copy of a database shares.

@@ -5,7 +5,7 @@ ghost use Rattle.vault_model.specs.Unite.{greater, join_options};
 
 use std::cmp::Ordering;
 use std::marker::Model;
-use uuid::Uuid;
+use uuid_core::Uuid;
 use vault_model::Stamp;
 
 /// Where a node is: since when, in which group, and in which it was before, the nil id where in

@@ -9,7 +9,7 @@ use std::alloc::Global;
 use std::collections::BTreeMap;
 use std::collections::btree_map::Iter;
 use std::marker::Model;
-use uuid::Uuid;
+use uuid_core::Uuid;
 
 /// A finite map from ids, which contracts see as that map.
 #[derive(Drop)]

@@ -5,7 +5,7 @@ ghost use Rattle.table_reading.specs.Refusals as spec;
 
 use import_tree::TreeFail;
 use outside_core::NoMemory;
-use uuid::Uuid;
+use uuid_core::Uuid;
 
 /// Why a table gives no document. Rows are numbered from 1, which is the one after the first row;
 /// that one names the columns.

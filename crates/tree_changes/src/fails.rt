@@ -4,7 +4,7 @@ ghost use Rattle.std.specs.Prelude.{◌≡◌};
 ghost use Rattle.tree_changes.specs.declared.fails.TreeFail.TheVariants as fail;
 
 use outside_core::NoMemory;
-use uuid::Uuid;
+use uuid_core::Uuid;
 
 /// Why a document is not changed. Where several hold, the first of this list is the answer;
 /// NoMemory may come in the place of any.

@@ -8,7 +8,7 @@ ghost use Rattle.tree_core.specs.Finding.{entry_found, group_found, has_entry_pa
 ghost use Rattle.tree_core.specs.Path as spec;
 
 use crate::path::{is_exactly, strip_component, strip_prefix, without_slashes};
-use uuid::Uuid;
+use uuid_core::Uuid;
 use vault_model::{Doc, Entry, Group};
 
 /// An entry's title: the value of the field `Title` of its current version, and empty where there

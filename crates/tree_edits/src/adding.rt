@@ -12,7 +12,7 @@ use std::alloc::Global;
 use tree_changes::{TreeFail, Values};
 use tree_core::{find_group_of, is_entry_path};
 use tree_steps::{before_last, is_free, name_after, path_of_new, put_entry};
-use uuid::Uuid;
+use uuid_core::Uuid;
 use vault_model::{Doc, Stamp};
 
 /// Puts a new entry after the others of a group: the group that the part of the path before its last

@@ -11,7 +11,7 @@ use crate::fields::new_field;
 use outside_core::{List, NoMemory, Text};
 use std::alloc::Global;
 use tree_changes::Values;
-use uuid::Uuid;
+use uuid_core::Uuid;
 use vault_model::{AutoType, Content, Entry, Field, Protection, Stamp, Stats, Version};
 
 // The bytes of a text, none where it is not given.

@@ -11,7 +11,7 @@ ghost use Rattle.tree_group_moves.specs.GroupPlaces.{groups_filled, group_at};
 use outside_core::List;
 use std::mem;
 use tree_steps::{Change, change_at, is_same};
-use uuid::Uuid;
+use uuid_core::Uuid;
 use vault_model::Group;
 
 // The place of the first group of this id.

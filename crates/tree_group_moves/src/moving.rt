@@ -17,7 +17,7 @@ use tree_changes::TreeFail;
 use tree_core::find_group;
 use tree_groups::{LEVELS, fits, levels_below, new_group, put_group};
 use tree_steps::{group_of, has_group, is_same, time_after};
-use uuid::Uuid;
+use uuid_core::Uuid;
 use vault_model::{Doc, Group, Stamp};
 
 /// Moves a group from one group to the place that is kept for it in another. Takes no memory.

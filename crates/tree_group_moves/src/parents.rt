@@ -6,7 +6,7 @@ ghost use Rattle.vault_model.specs.Tree.{all_trees};
 ghost use Rattle.tree_changes.specs.Changes as spec;
 
 use tree_steps::is_same;
-use uuid::Uuid;
+use uuid_core::Uuid;
 use vault_model::Group;
 
 // Reports whether one of some groups has this id.

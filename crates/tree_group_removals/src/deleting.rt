@@ -16,7 +16,7 @@ use std::alloc::Global;
 use tree_changes::{Removed, TreeFail};
 use tree_group_moves::take_group;
 use tree_steps::group_of;
-use uuid::Uuid;
+use uuid_core::Uuid;
 use vault_model::{Doc, Group, Stamp, Tombstone};
 
 // Takes the group of this id out of the group that holds it, and puts the tombstones of all its

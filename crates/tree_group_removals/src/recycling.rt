@@ -17,7 +17,7 @@ use tree_changes::{Removed, TreeFail};
 use tree_group_moves::{move_found, move_group_to_place};
 use tree_groups::{LEVELS, fits, new_bin, new_group, put_group};
 use tree_steps::{group_of, is_free, time_after};
-use uuid::Uuid;
+use uuid_core::Uuid;
 use vault_model::{Bin, Doc, Group, Stamp, Timed};
 
 /// Puts the group of this id, which another holds, into the bin that is there.

@@ -12,7 +12,7 @@ use tree_changes::{Removed, TreeFail};
 use tree_core::find_group;
 use tree_group_moves::parent_of;
 use tree_removals::is_recycled;
-use uuid::Uuid;
+use uuid_core::Uuid;
 use vault_model::{Doc, Stamp};
 
 /// Removes the group that a path names, and all that is in it. Where recycling is enabled and the

@@ -6,7 +6,7 @@ ghost use Rattle.tree_changes.specs.Changes.{changed_at, has_group, with_group};
 
 use outside_core::NoMemory;
 use tree_steps::{Change, change_at};
-use uuid::Uuid;
+use uuid_core::Uuid;
 use vault_model::Group;
 
 // A group is put after the others of a group.

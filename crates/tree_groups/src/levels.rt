@@ -6,7 +6,7 @@ ghost use Rattle.vault_model.specs.Tree.{height};
 ghost use Rattle.tree_changes.specs.Changes.{level_of};
 
 use tree_steps::{has_group, is_same};
-use uuid::Uuid;
+use uuid_core::Uuid;
 use vault_model::Group;
 
 /// The most levels of groups.

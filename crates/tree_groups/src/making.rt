@@ -14,7 +14,7 @@ use std::alloc::Global;
 use tree_changes::TreeFail;
 use tree_core::find_group_of;
 use tree_steps::{before_last, is_free, name_after, path_of_new};
-use uuid::Uuid;
+use uuid_core::Uuid;
 use vault_model::{Doc, Stamp};
 
 // A path without one slash at its start and one at its end.

@@ -8,7 +8,7 @@ ghost use Rattle.tree_changes.specs.NewNodes.{empty_bin, empty_group};
 
 use outside_core::{List, NoMemory, Text};
 use std::alloc::Global;
-use uuid::Uuid;
+use uuid_core::Uuid;
 use vault_model::{Group, GroupContent, GroupState, GroupView, Stamp, Stats, Tri};
 
 // What a new group of this name says of itself.

@@ -9,7 +9,7 @@ ghost use Rattle.tree_moves.specs.Places.{entries_filled};
 use outside_core::List;
 use std::mem;
 use tree_steps::{Change, change_at, is_same};
-use uuid::Uuid;
+use uuid_core::Uuid;
 use vault_model::{Entry, Group};
 
 // The place of the first entry of this id.

@@ -15,7 +15,7 @@ use std::alloc::Global;
 use tree_changes::TreeFail;
 use tree_core::{find_entry, find_group};
 use tree_steps::{entry_of, holder, is_same, put_entry, time_after};
-use uuid::Uuid;
+use uuid_core::Uuid;
 use vault_model::{AutoType, Content, Doc, Entry, Group, Stamp, Stats, Version};
 
 // What a version says that says nothing.

@@ -12,7 +12,7 @@ use outside_core::{List, NoMemory};
 use tree_changes::{Removed, TreeFail};
 use tree_moves::take_entry;
 use tree_steps::entry_of;
-use uuid::Uuid;
+use uuid_core::Uuid;
 use vault_model::{Doc, Group, Stamp, Tombstone, entry_stamp};
 
 // Takes the entry of this id out of the group of another, and puts its tombstone among the others. A

@@ -17,7 +17,7 @@ use tree_changes::{Removed, TreeFail};
 use tree_groups::{new_bin, put_group};
 use tree_moves::{move_in, move_to_place, no_entry};
 use tree_steps::{entry_of, group_of, has_group, is_free, put_entry, time_after};
-use uuid::Uuid;
+use uuid_core::Uuid;
 use vault_model::{Bin, Doc, Group, Stamp, Timed};
 
 // Reports whether a group is another, or below it, where the other is there.

@@ -11,7 +11,7 @@ use std::alloc::Global;
 use tree_changes::{Removed, TreeFail};
 use tree_core::find_entry;
 use tree_steps::{entry_of, holder};
-use uuid::Uuid;
+use uuid_core::Uuid;
 use vault_model::{Doc, Stamp};
 
 /// Removes the entry that a path names. Where recycling is enabled and the entry is not in the bin or

@@ -7,7 +7,7 @@ ghost use Rattle.vault_model.specs.Db.{id_cmp};
 ghost use Rattle.tree_changes.specs.Changes.{with_tomb};
 
 use outside_core::{List, NoMemory};
-use uuid::Uuid;
+use uuid_core::Uuid;
 use vault_model::{Stamp, Tombstone};
 
 /// The later of two times.

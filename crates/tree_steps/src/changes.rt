@@ -7,7 +7,7 @@ ghost use Rattle.tree_changes.specs.Changes.{has_group};
 ghost use Rattle.tree_steps.specs.ChangedAt.{ChangedAt};
 
 use crate::searches::{is_same, way_to};
-use uuid::Uuid;
+use uuid_core::Uuid;
 use vault_model::Group;
 
 /// What is done to one group.

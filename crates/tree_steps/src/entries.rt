@@ -9,7 +9,7 @@ use crate::changes::{Change, change_at};
 use crate::searches::is_same;
 use outside_core::{List, NoMemory};
 use std::mem;
-use uuid::Uuid;
+use uuid_core::Uuid;
 use vault_model::{Entry, Group, Version};
 
 /// Puts an item after the others of a list. A refusal means that memory ran out, and changes nothing.

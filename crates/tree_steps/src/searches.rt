@@ -9,7 +9,7 @@ ghost use Rattle.vault_model.specs.Tree.{node_ids};
 ghost use Rattle.vault_model.specs.declared.nodes.Group.{out-Group};
 ghost use Rattle.tree_changes.specs.Changes as spec;
 
-use uuid::Uuid;
+use uuid_core::Uuid;
 use vault_model::{Doc, Entry, Group};
 
 /// Reports whether two ids are the same.

@@ -8,7 +8,7 @@ ghost use Rattle.vault_model.specs.SeenNodes.{tree_seen};
 
 use outside_core::{List, NoMemory, Text};
 use std::alloc::Global;
-use uuid::Uuid;
+use uuid_core::Uuid;
 use vault_model::{
     Bin, Doc, Group, GroupContent, GroupState, GroupView, Meta, MetaSettings, MetaView, Protection,
     Stamp, Stats, Timed, Tri,

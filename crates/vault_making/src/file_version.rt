@@ -6,7 +6,7 @@ ghost use Rattle.vault_model.specs.SeenDoc.{doc_seen};
 ghost use Rattle.vault_model.specs.SeenNodes.{bare_version, entry_row, tree_seen};
 ghost use Rattle.vault_making.specs.NeededVersion as spec;
 
-use uuid::Uuid;
+use uuid_core::Uuid;
 use vault_model::{Doc, Entry, FileVersion, Group, GroupContent, Icon, Item, Stamp, Version};
 
 /// The later of two versions.

@@ -15,7 +15,7 @@ use secret_core::Secret;
 use std::cmp::Ordering;
 use std::rc::Rc;
 use time_core::Stamp;
-use uuid::Uuid;
+use uuid_core::Uuid;
 
 /// A custom item: a key with its value, and when it was changed.
 #[derive(PartialEq, Eq, PartialOrd, Ord, Drop)]

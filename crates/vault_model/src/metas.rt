@@ -3,7 +3,7 @@
 use crate::contents::Item;
 use outside_core::{Bytes, List, Text};
 use time_core::Stamp;
-use uuid::Uuid;
+use uuid_core::Uuid;
 
 /// A value with the time of its last change.
 #[derive(Drop)]

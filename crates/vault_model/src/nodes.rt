@@ -6,7 +6,7 @@ ghost use Rattle.vault_model.specs.SeenNodes.{entry_record, entry_time};
 use crate::contents::{Content, GroupContent, Stats};
 use outside_core::List;
 use time_core::Stamp;
-use uuid::Uuid;
+use uuid_core::Uuid;
 
 /// What a group is at one moment: when it was changed, what it says, and how it was used.
 #[derive(Drop)]
