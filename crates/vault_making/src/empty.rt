@@ -127,9 +127,12 @@ pub fn empty_doc(alloc: Global, root: Uuid, now: Stamp) -> Result<Doc, NoMemory>
     requires { root ≢ nil_id }
     ensures { IfOk result (λ doc. doc_seen doc ≡ empty_bare root now) }
 {
-    Ok(Doc {
-        meta: first_meta(alloc),
-        root: empty_root(alloc, root, now)?,
-        tombs: List::new(alloc),
-    })
+    match empty_root(alloc, root, now) {
+        Ok(root) => Ok(Doc {
+            meta: first_meta(alloc),
+            root,
+            tombs: List::new(alloc),
+        }),
+        Err(refusal) => Err(refusal),
+    }
 }

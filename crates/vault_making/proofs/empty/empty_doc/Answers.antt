@@ -8,8 +8,8 @@ use Rattle.vault_making.proofs.empty.empty_doc.Goals as goal
 
 pub invariant_of-result : goal.invariant_of-result
 invariant_of-result c =
-    let seen : document_of c.first_meta.result c.in_ok-empty_root.field-0 c.new.result ≡ empty_bare c.args.root c.args.now =
-    λ i. record { tree = c.in_ok-empty_root.ensures i; tombs = c.new.ensures i; meta = c.first_meta.ensures i } in
+    let seen : document_of c.first_meta.result c.in-Ok.root c.new.result ≡ empty_bare c.args.root c.args.now =
+    λ i. record { tree = c.in-Ok.ensures i; tombs = c.new.ensures i; meta = c.first_meta.ensures i } in
     let h = subst IsDoc (sym seen) (empty_is_doc c.args.root c.args.now c.requires) in
     record {
       distinct = h.distinct;
