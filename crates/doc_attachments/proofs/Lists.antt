@@ -57,11 +57,6 @@ module _ {X Y Z W : Type 0} (view : X → Y) (made_of : Y → W) (seen : Z → W
   all_made rest made known none =
       sym (no_more (map seen made)) ∙ (ap (λ t. map seen made ++ map made_of (map view t)) (sym none) ∙ known)
 
--- both of two that were made
-pub both_made : {A B E : Type 0} (both : Result (A × B) E) (first : Result A E) (a : A) → first ≡ Ok a → IfOk both (λ p. p.0 ≡ a) → IfOk both (λ p. first ≡ Ok p.0)
-both_made (Ok p) first a is kept = is ∙ ap Ok (sym kept)
-both_made (Err e) first a is kept = tt
-
 -- ---- binaries by their order
 
 -- what is numbered with what is left to number, once one binary more is numbered

@@ -73,7 +73,10 @@ pub(crate) fn number_binaries(alloc: Global, given: &[PoolItem]) -> Result<List<
     let mut binaries = List::new(alloc);
     let mut number = 0;
     for item in given {
-        push_made(&mut binaries, numbered(number, item))?;
+        if let Err(refusal) = push_made(&mut binaries, numbered(number, item)) {
+            drop(binaries);
+            return Err(refusal);
+        }
         number += 1;
     }
     Ok(binaries)

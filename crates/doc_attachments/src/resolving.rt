@@ -15,20 +15,6 @@ use std::alloc::Global;
 use std::rc::Rc;
 use vault_model::{Attachment, Entry, Group, Version};
 
-/// What was kept with what was made, or else a refusal.
-pub(crate) fn kept_with<A: Drop, B: Drop>(
-    kept: A,
-    made: Result<B, NoMemory>,
-) -> Result<(A, B), NoMemory>
-    ensures kept { IfOk result (λ both. both.0 ≡ kept) }
-    ensures made { IfOk result (λ both. made ≡ Ok both.1) }
-{
-    match made {
-        Ok(made) => Ok((kept, made)),
-        Err(refusal) => Err(refusal),
-    }
-}
-
 /// Both of two that were made, or else a refusal.
 fn both<A: Drop, B: Drop>(
     first: Result<A, NoMemory>,
@@ -37,9 +23,19 @@ fn both<A: Drop, B: Drop>(
     ensures first { IfOk result (λ both. first ≡ Ok both.0) }
     ensures second { IfOk result (λ both. second ≡ Ok both.1) }
 {
-    match first {
-        Ok(first) => kept_with(first, second),
-        Err(refusal) => Err(refusal),
+    let first = match first {
+        Ok(first) => first,
+        Err(refusal) => {
+            drop(second);
+            return Err(refusal);
+        }
+    };
+    match second {
+        Ok(second) => Ok((first, second)),
+        Err(refusal) => {
+            drop(first);
+            Err(refusal)
+        }
     }
 }
 
@@ -127,7 +123,10 @@ fn resolved_attachments(
 {
     let mut resolved = List::new(alloc);
     for draft in drafts {
-        push_made(&mut resolved, resolved_attachment(alloc, pool, draft))?;
+        if let Err(refusal) = push_made(&mut resolved, resolved_attachment(alloc, pool, draft)) {
+            drop(resolved);
+            return Err(refusal);
+        }
     }
     Ok(resolved)
 }
@@ -164,9 +163,12 @@ fn resolved_version(
         ≡ spec.resolved_version pool.now (version_seen draft)) }
 {
     let attachments = attachments_of(alloc, pool, &draft);
-    match kept_with(draft, attachments) {
-        Ok((draft, attachments)) => Ok(version_of(draft, attachments)),
-        Err(refusal) => Err(refusal),
+    match attachments {
+        Ok(attachments) => Ok(version_of(draft, attachments)),
+        Err(refusal) => {
+            drop(draft);
+            Err(refusal)
+        }
     }
 }
 
@@ -181,7 +183,10 @@ fn resolved_versions(
 {
     let mut resolved = List::new(alloc);
     for draft in drafts {
-        push_made(&mut resolved, resolved_version(alloc, pool, draft))?;
+        if let Err(refusal) = push_made(&mut resolved, resolved_version(alloc, pool, draft)) {
+            drop(resolved);
+            return Err(refusal);
+        }
     }
     Ok(resolved)
 }
@@ -222,7 +227,10 @@ fn resolved_entries(
 {
     let mut resolved = List::new(alloc);
     for draft in drafts {
-        push_made(&mut resolved, resolved_entry(alloc, pool, draft))?;
+        if let Err(refusal) = push_made(&mut resolved, resolved_entry(alloc, pool, draft)) {
+            drop(resolved);
+            return Err(refusal);
+        }
     }
     Ok(resolved)
 }
@@ -247,9 +255,8 @@ pub(crate) fn resolved_tree(
     } = draft;
     let entries = resolved_entries(alloc, pool, entries);
     let groups = resolved_groups(alloc, pool, groups);
-    match kept_with(state, both(entries, groups)) {
-        Ok(parts) => {
-            let (state, nodes) = parts;
+    match both(entries, groups) {
+        Ok(nodes) => {
             let (entries, groups) = nodes;
             Ok(Group {
                 id,
@@ -261,7 +268,10 @@ pub(crate) fn resolved_tree(
                 groups,
             })
         }
-        Err(refusal) => Err(refusal),
+        Err(refusal) => {
+            drop(state);
+            Err(refusal)
+        }
     }
 }
 
@@ -277,7 +287,10 @@ fn resolved_groups(
 {
     let mut resolved = List::new(alloc);
     for draft in drafts {
-        push_made(&mut resolved, resolved_tree(alloc, pool, draft))?;
+        if let Err(refusal) = push_made(&mut resolved, resolved_tree(alloc, pool, draft)) {
+            drop(resolved);
+            return Err(refusal);
+        }
     }
     Ok(resolved)
 }

@@ -8,7 +8,7 @@ ghost use Rattle.std.specs.Prelude.{◌≡◌, IfOk, map};
 
 use crate::missing::{Missing, missing_in};
 use crate::pools::{Pool, number_binaries};
-use crate::resolving::{kept_with, resolved_tree};
+use crate::resolving::resolved_tree;
 use doc_forms::{Binary, GroupDraft};
 use outside_core::{List, NoMemory};
 use std::alloc::Global;
@@ -43,12 +43,12 @@ fn resolve_among(
     ensures { IfOk result (λ tree. tree_and_missing tree
         ≡ resolved_in (map binary_seen binaries.now) (draft_seen draft)) }
 {
-    match kept_with(draft, Pool::new(alloc, binaries)) {
-        Ok(both) => {
-            let (draft, pool) = both;
-            resolve_in(alloc, &pool, draft)
+    match Pool::new(alloc, binaries) {
+        Ok(pool) => resolve_in(alloc, &pool, draft),
+        Err(refusal) => {
+            drop(draft);
+            Err(refusal)
         }
-        Err(refusal) => Err(refusal),
     }
 }
 
@@ -61,13 +61,12 @@ fn resolve_given(
     ensures { IfOk result (λ tree. tree_and_missing tree
         ≡ resolved_in (binaries_from 0 (map pool_item given.now)) (draft_seen draft)) }
 {
-    let binaries = number_binaries(alloc, given.as_slice());
-    match kept_with(draft, binaries) {
-        Ok(both) => {
-            let (draft, binaries) = both;
-            resolve_among(alloc, binaries.as_slice(), draft)
+    match number_binaries(alloc, given.as_slice()) {
+        Ok(binaries) => resolve_among(alloc, binaries.as_slice(), draft),
+        Err(refusal) => {
+            drop(draft);
+            Err(refusal)
         }
-        Err(refusal) => Err(refusal),
     }
 }
 

@@ -8,5 +8,5 @@ loop-item-preserved c =
     record {
       number = omega (arith, known.number);
       made = numbered_more c.args.given.now c.loop-item.item-index c.item-item.result c.loop-item.binaries c.push_made.new.list c.loop-item.number c.numbered.result _
-          c.loop-item-test.true c.item-item.is known.made c.numbered.ensures c.in_ok-push_made.ensures;
+          c.loop-item-test.true c.item-item.is known.made c.numbered.ensures c.in_default.ensures;
     }

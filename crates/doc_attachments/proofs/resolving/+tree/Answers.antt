@@ -11,19 +11,17 @@ use Rattle.doc_attachments.proofs.resolving.+tree.Goals as goal
 pub resolved_tree-returns-in-Ok : goal.resolved_tree-returns-in-Ok
 resolved_tree-returns-in-Ok t c =
     let draft = out-GroupDraft c.args.draft in
-    let first = rw c.in-Ok.ensures.made at c.both.ensures.first in
-    let second = rw c.in-Ok.ensures.made at c.both.ensures.second in
-    let entries = rw first at c.resolved_entries-entries.ensures in
-    let groups = rw second at c.resolved_groups-groups.ensures in
+    let entries = rw c.in-Ok.ensures.first at c.resolved_entries-entries.ensures in
+    let groups = rw c.in-Ok.ensures.second at c.resolved_groups-groups.ensures in
     tree_made c.args.pool.now c.args.draft
-    (record { id = draft.id; placed = draft.placed; previous = draft.previous; state = c.in-Ok.parts.0; view = draft.view; entries = c.in-Ok.parts.1.0; groups = c.in-Ok.parts.1.1 })
-    (λ i. draft.id) (λ i. draft.placed) (λ i. draft.previous) c.in-Ok.ensures.kept (λ i. draft.view) entries groups
+    (record { id = draft.id; placed = draft.placed; previous = draft.previous; state = draft.state; view = draft.view; entries = c.in-Ok.nodes.0; groups = c.in-Ok.nodes.1 })
+    (λ i. draft.id) (λ i. draft.placed) (λ i. draft.previous) (λ i. draft.state) (λ i. draft.view) entries groups
 
 pub resolved_groups-loop-draft-preserved : goal.resolved_groups-loop-draft-preserved
 resolved_groups-loop-draft-preserved t c =
     pushed_more draft_seen (spec.resolved_tree c.args.pool.now) tree_seen _
     (into_iter_items c.loop-draft.draft-iterator) (into_iter_items c.next.new.self) c.in-Some.draft c.loop-draft.resolved c.push_made.new.list c.resolved_tree.result
-    c.loop-draft.invariant c.in-Some.ensures.steps.0 c.resolved_tree.ensures c.in_ok-push_made.ensures
+    c.loop-draft.invariant c.in-Some.ensures.steps.0 c.resolved_tree.ensures c.in_default.ensures
 
 pub resolved_groups-returns : goal.resolved_groups-returns
 resolved_groups-returns t c =

@@ -12,7 +12,7 @@ loop-draft-preserved c =
     let at = c.loop-draft.draft-index in
     pushed_more attachment_seen (spec.resolved_attachment c.args.pool.now) bare_attachment _
     (drop at drafts) (drop (at + 1) drafts) c.draft-item.result c.loop-draft.resolved c.push_made.new.list c.resolved_attachment.result
-    c.loop-draft.invariant (one_left drafts at c.draft-item.result c.loop-draft-test.true c.draft-item.is) c.resolved_attachment.ensures c.in_ok-push_made.ensures
+    c.loop-draft.invariant (one_left drafts at c.draft-item.result c.loop-draft-test.true c.draft-item.is) c.resolved_attachment.ensures c.in_default.ensures
 
 pub returns : goal.returns
 returns c =

@@ -10,7 +10,7 @@ pub loop-draft-preserved : goal.loop-draft-preserved
 loop-draft-preserved c =
     pushed_more version_seen (spec.resolved_version c.args.pool.now) bare_version _
     (into_iter_items c.loop-draft.draft-iterator) (into_iter_items c.next.new.self) c.in-Some.draft c.loop-draft.resolved c.push_made.new.list c.resolved_version.result
-    c.loop-draft.invariant c.in-Some.ensures.steps.0 c.resolved_version.ensures c.in_ok-push_made.ensures
+    c.loop-draft.invariant c.in-Some.ensures.steps.0 c.resolved_version.ensures c.in_default.ensures
 
 pub returns : goal.returns
 returns c =
