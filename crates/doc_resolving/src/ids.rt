@@ -86,6 +86,11 @@ pub fn ids_of(alloc: Global, root: &Group) -> Result<IdSet, NoMemory>
         → contains id_cmp s.ids u ≡ list_any (is_id u) (node_ids (tree_seen root.now))) }
 {
     let mut ids = Vec::new(alloc);
-    push_group_ids(&mut ids, root)?;
-    set_of(alloc, ids.as_slice())
+    match push_group_ids(&mut ids, root) {
+        Ok(()) => set_of(alloc, ids.as_slice()),
+        Err(refusal) => {
+            drop(ids);
+            Err(refusal)
+        }
+    }
 }

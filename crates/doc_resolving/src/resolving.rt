@@ -25,27 +25,6 @@ use std::alloc::Global;
 use uuid_core::Uuid;
 use vault_model::{Doc, DocForm, Group, PoolItem, Tombstone};
 
-/// What was kept with what was made, or else a refusal.
-fn kept_with<A: Drop, B: Drop, E: Drop>(kept: A, made: Result<B, E>) -> Result<(A, B), E>
-    ensures { MatchResult result (λ both. (both.0 ≡ kept) × (made ≡ Ok both.1))
-        (λ e. made ≡ Err e) }
-{
-    match made {
-        Ok(made) => Ok((kept, made)),
-        Err(refusal) => Err(refusal),
-    }
-}
-
-/// What was kept with what was found, where there is such a thing.
-fn found_with<A: Drop, B: Drop>(kept: A, found: Option<B>) -> Option<(A, B)>
-    ensures { MatchOption result (found ≡ None) (λ both. (both.0 ≡ kept) × (found ≡ Some both.1)) }
-{
-    match found {
-        Some(found) => Some((kept, found)),
-        None => None,
-    }
-}
-
 /// What is known of a tree before the document is made: the tree, the least id that two of its
 /// nodes have, the first reference to a binary that does not exist, and the tombstones that name no
 /// node.
@@ -87,18 +66,17 @@ fn parts_of(
 ) -> Result<TreeParts, NoMemory>
     ensures { IfOk result (λ parts. AreTreeParts tree tombs.now parts) }
 {
-    let nodes = node_parts(alloc, &tree.root, tombs.as_slice());
-    match kept_with(tree, nodes) {
-        Ok(both) => {
-            let (tree, nodes) = both;
-            Ok(TreeParts {
-                root: tree.root,
-                duplicate: nodes.duplicate,
-                missing: tree.missing,
-                tombs: nodes.tombs,
-            })
+    match node_parts(alloc, &tree.root, tombs.as_slice()) {
+        Ok(nodes) => Ok(TreeParts {
+            root: tree.root,
+            duplicate: nodes.duplicate,
+            missing: tree.missing,
+            tombs: nodes.tombs,
+        }),
+        Err(refusal) => {
+            drop(tree);
+            Err(refusal)
         }
-        Err(refusal) => Err(refusal),
     }
 }
 
@@ -145,16 +123,15 @@ struct SoundTree {
 fn sound_parts(parts: TreeParts) -> Result<SoundTree, DocFail>
     ensures { Returns (λ tree. (tree_seen tree.root, tree.tombs)) result (tree_of_parts parts) }
 {
-    let refused = refuse(parts.duplicate, parts.missing);
-    match kept_with(parts, refused) {
-        Ok(both) => {
-            let (parts, _) = both;
-            Ok(SoundTree {
-                root: parts.root,
-                tombs: parts.tombs,
-            })
+    match refuse(parts.duplicate, parts.missing) {
+        Ok(()) => Ok(SoundTree {
+            root: parts.root,
+            tombs: parts.tombs,
+        }),
+        Err(refusal) => {
+            drop(parts);
+            Err(refusal)
         }
-        Err(refusal) => Err(refusal),
     }
 }
 
@@ -203,10 +180,8 @@ fn resolved_tree(
         tombs.now) }
 {
     let header_hash = hash_of(form, &meta);
-    let tree = sound_tree(alloc, form, given, &meta.binaries, draft, tombs);
-    match kept_with(meta, tree) {
-        Ok(both) => {
-            let (meta, tree) = both;
+    match sound_tree(alloc, form, given, &meta.binaries, draft, tombs) {
+        Ok(tree) => {
             let doc = Doc {
                 meta: meta.meta,
                 root: tree.root,
@@ -214,7 +189,10 @@ fn resolved_tree(
             };
             Ok(ReadDoc { doc, header_hash })
         }
-        Err(refusal) => Err(refusal),
+        Err(refusal) => {
+            drop(meta);
+            Err(refusal)
+        }
     }
 }
 
@@ -233,9 +211,12 @@ fn resolved_root(
         (Some (record { meta = meta_parts meta; root = Some (root_parts root) }))) }
 {
     let RootBuilder { tree, tombs } = root;
-    match found_with(meta, tree) {
-        Some(both) => resolved_tree(alloc, form, given, both.0, both.1, &tombs),
-        None => Err(DocFail::MissingElement(RequiredElement::Group, 0)),
+    match tree {
+        Some(draft) => resolved_tree(alloc, form, given, meta, draft, &tombs),
+        None => {
+            drop(meta);
+            Err(DocFail::MissingElement(RequiredElement::Group, 0))
+        }
     }
 }
 
@@ -251,9 +232,12 @@ fn resolved_file(
         (Some (file_parts file))) }
 {
     let FileBuilder { meta, root } = file;
-    match found_with(meta, root) {
-        Some(both) => resolved_root(alloc, form, given, both.0, both.1),
-        None => Err(DocFail::MissingElement(RequiredElement::Root, 0)),
+    match root {
+        Some(root) => resolved_root(alloc, form, given, meta, root),
+        None => {
+            drop(meta);
+            Err(DocFail::MissingElement(RequiredElement::Root, 0))
+        }
     }
 }
 

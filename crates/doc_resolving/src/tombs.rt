@@ -33,7 +33,10 @@ fn latest_of(alloc: Global, tombs: &[Tombstone]) -> Result<BTreeMap<Uuid, Stamp>
         at -= 1;
         let tomb = tombs[at];
         let deleted = later(tomb.deleted, latest.get(&tomb.id).copied());
-        latest.insert(tomb.id, deleted)?;
+        if let Err(_full) = latest.insert(tomb.id, deleted) {
+            drop(latest);
+            return Err(NoMemory);
+        }
     }
     Ok(latest)
 }
@@ -63,7 +66,10 @@ pub(crate) fn tombs_without(
                 id: *id,
                 deleted: *deleted,
             };
-            push(&mut others, tomb)?;
+            if let Err(refusal) = push(&mut others, tomb) {
+                drop(others);
+                return Err(refusal);
+            }
         }
     }
     Ok(others)

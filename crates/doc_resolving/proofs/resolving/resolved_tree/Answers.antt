@@ -1,10 +1,8 @@
-use Rattle.std.proofs.Common.{◌≡◌, ℕ, List, Ok, Option, Result, ap, map, subst, sym, true, ◌∙◌}
+use Rattle.std.proofs.Common.{ℕ, List, Ok, Option, Result, ap, map, sym, ◌∙◌}
 use Rattle.vault_model.specs.SeenNodes.{tree_seen}
-use Rattle.doc_forms.specs.declared.drafts.MetaBuilder.{MetaBuilder}
 use Rattle.doc_forms.specs.declared.fails.DocFail.{DocFail}
 use Rattle.doc_forms.specs.Attachments.{pool_from}
 use Rattle.doc_forms.specs.Documents.{DocumentAndHash}
-use Rattle.doc_forms.specs.KeptParts.{is_kept_meta}
 use Rattle.doc_forms.specs.SeenDocuments.{pool_item}
 use Rattle.doc_forms.specs.SeenDrafts.{binary_seen, draft_seen, meta_parts}
 use Rattle.doc_resolving.proofs.ResolvedDocuments.{resolved_doc}
@@ -13,13 +11,11 @@ use Rattle.doc_resolving.proofs.resolving.resolved_tree.Goals as goal
 
 pub invariant_of-doc : goal.invariant_of-doc
 invariant_of-doc c =
-    let tree = c.in-Ok.both.1 in
+    let tree = c.in-Ok.tree in
     let pool = pool_from c.args.form (map pool_item c.args.given.now) (map binary_seen c.args.meta.binaries) in
-    let gives = rw c.in-Ok.ensures.1 at c.sound_tree-tree.ensures in
-    let sound = is_sound pool (draft_seen c.args.draft) c.args.tombs.now (tree_seen tree.root) tree.tombs gives in
-    let kept : is_kept_meta c.in-Ok.both.0.meta ≡ true = subst (λ (m : MetaBuilder). is_kept_meta m.meta ≡ true) (sym c.in-Ok.ensures.0) c.requires.meta in
-    let doc = resolved_doc pool (draft_seen c.args.draft) (tree_seen tree.root) c.args.tombs.now tree.tombs c.in-Ok.both.0.meta
-    kept c.requires.tree sound.tree_is sound.distinct sound.tombs_are in
+    let sound = is_sound pool (draft_seen c.args.draft) c.args.tombs.now (tree_seen tree.root) tree.tombs c.in-Ok.ensures in
+    let doc = resolved_doc pool (draft_seen c.args.draft) (tree_seen tree.root) c.args.tombs.now tree.tombs c.args.meta.meta
+    c.requires.meta c.requires.tree sound.tree_is sound.distinct sound.tombs_are in
     record {
       distinct = doc.distinct;
       no_nil = doc.no_nil;
@@ -35,15 +31,12 @@ invariant_of-doc c =
 
 pub returns-in-Ok : goal.returns-in-Ok
 returns-in-Ok c =
-    let tree = c.in-Ok.both.1 in
+    let tree = c.in-Ok.tree in
     let pool = pool_from c.args.form (map pool_item c.args.given.now) (map binary_seen c.args.meta.binaries) in
-    let gives = rw c.in-Ok.ensures.1 at c.sound_tree-tree.ensures in
-    resolved_sound c.args.form pool (meta_parts c.args.meta) (draft_seen c.args.draft) c.args.tombs.now (tree_seen tree.root) tree.tombs gives
-    ∙ (ap (λ (hash : Option (List ℕ)). let r : Result DocumentAndHash DocFail = Ok (record { tree = tree_seen tree.root; tombs = tree.tombs; meta = c.args.meta.meta }, hash) in r) (sym c.hash_of-header_hash.ensures)
-    ∙ ap (λ (m : MetaBuilder). let r : Result DocumentAndHash DocFail = Ok (record { tree = tree_seen tree.root; tombs = tree.tombs; meta = m.meta }, c.hash_of-header_hash.result) in r) (sym c.in-Ok.ensures.0))
+    resolved_sound c.args.form pool (meta_parts c.args.meta) (draft_seen c.args.draft) c.args.tombs.now (tree_seen tree.root) tree.tombs c.in-Ok.ensures
+    ∙ ap (λ (hash : Option (List ℕ)). let r : Result DocumentAndHash DocFail = Ok (record { tree = tree_seen tree.root; tombs = tree.tombs; meta = c.args.meta.meta }, hash) in r) (sym c.hash_of-header_hash.ensures)
 
 pub returns-in-Err : goal.returns-in-Err
 returns-in-Err c =
-    let fails = rw c.in-Err.ensures at c.sound_tree-tree.ensures in
     let pool = pool_from c.args.form (map pool_item c.args.given.now) (map binary_seen c.args.meta.binaries) in
-    resolved_refused c.args.form pool (meta_parts c.args.meta) (draft_seen c.args.draft) c.args.tombs.now c.in-Err.refusal fails
+    resolved_refused c.args.form pool (meta_parts c.args.meta) (draft_seen c.args.draft) c.args.tombs.now c.in-Err.refusal c.in-Err.ensures

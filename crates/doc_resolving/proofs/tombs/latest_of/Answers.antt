@@ -10,5 +10,5 @@ loop-at-preserved c =
     record {
       within = omega arith;
       buried = bury_before c.args.tombs.now c.loop-at.at tomb c.loop-at.latest.entries c.insert.new.self.entries c.later-deleted.result
-          c.loop-at.invariant.buried c.loop-at-test.true c.loop-at.invariant.within c.index-tombs-at.is c.insert.ensures.was_ordered time c.in_ok-insert.ensures.entries;
+          c.loop-at.invariant.buried c.loop-at-test.true c.loop-at.invariant.within c.index-tombs-at.is c.insert.ensures.was_ordered time c.in_default.ensures.entries;
     }

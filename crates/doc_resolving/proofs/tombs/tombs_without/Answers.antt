@@ -11,8 +11,8 @@ loop-id-preserved c =
     c.loop-id.id-iterator c.next.new.self c.loop-id.invariant c.in-Some.ensures.steps
     (ap not (sym c.contains.ensures ∙ c.if-not-contains.false))
 
-pub loop-id-preserved-in-Continue-branch-2 : goal.loop-id-preserved-in-Continue-branch-2
-loop-id-preserved-in-Continue-branch-2 c =
+pub loop-id-preserved-in_default : goal.loop-id-preserved-in_default
+loop-id-preserved-in_default c =
     one_kept (λ (t : Tombstone). not (contains id_cmp c.args.ids.now t.id)) _ c.loop-id.others (c.in-Some.id.now, c.in-Some.deleted.now)
     c.loop-id.id-iterator c.next.new.self c.push.new.tombs c.loop-id.invariant c.in-Some.ensures.steps
-    (ap not (sym c.contains.ensures ∙ c.if-not-contains.true)) c.in_ok-push.ensures
+    (ap not (sym c.contains.ensures ∙ c.if-not-contains.true)) c.in_default.ensures
