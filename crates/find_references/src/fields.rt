@@ -67,16 +67,24 @@ fn is_id(id: Uuid, text: &[u8]) -> bool
     is_word(digits.as_bytes(), text)
 }
 
+// Reports whether the value of the field of this key is a text.
+fn is_value(entry: &Entry, key: &str, text: &[u8]) -> bool
+    ensures { result ≡ bytes_eq (value_of key.now (map bare_field entry.now.current.content.fields))
+        text.now }
+{
+    field_value(entry, key) == text
+}
+
 // Reports whether a part of an entry is a text.
 fn is_part(part: Part, text: &[u8], entry: &Entry) -> bool
     ensures { result ≡ is_part part text.now (entry_row entry.now) }
 {
     match part {
-        Part::Title => field_value(entry, "Title") == text,
-        Part::UserName => field_value(entry, "UserName") == text,
-        Part::Password => field_value(entry, "Password") == text,
-        Part::Url => field_value(entry, "URL") == text,
-        Part::Notes => field_value(entry, "Notes") == text,
+        Part::Title => is_value(entry, "Title", text),
+        Part::UserName => is_value(entry, "UserName", text),
+        Part::Password => is_value(entry, "Password", text),
+        Part::Url => is_value(entry, "URL", text),
+        Part::Notes => is_value(entry, "Notes", text),
         Part::Id => is_id(entry.id, text),
     }
 }
