@@ -1,6 +1,6 @@
 -- The records of a text, one after another, are the rows of the whole text.
-use Rattle.std.proofs.Common.{◌≡◌, ◌<◌, ◌≤◌, ◌+◌, ℕ, suc, zero, Bool, true, false, true≢false, cond, List, [], ◌∷◌, ◌++◌, Some, inl, inr, length, refl, sym, ap, subst, ◌∙◌, arith}
-use Rattle.std.specs.Prelude.{◌==◌, ◌||◌}
+use Rattle.std.proofs.Common.{◌≡◌, ◌<◌, ◌≤◌, ◌+◌, ℕ, suc, zero, Bool, true, false, true≢false, cond, List, [], ◌∷◌, ◌++◌, Some, inl, inr, length, refl, sym, ap, subst, ◌∙◌, arith, Result, Ok, Err}
+use Rattle.std.specs.Prelude.{◌==◌, ◌||◌, IsOkAnd}
 use Rattle.vault_model.proofs.Tests.{decide}
 use Rattle.csv.specs.Machine.{Read, ends_at_end, fields_after, field_after, in_field, is_end, next_record, start_field, start_record, step}
 use Rattle.csv.specs.Reading.{AreRecords, Reached, default_config, records, records_from, records_next}
@@ -8,6 +8,11 @@ use Rattle.csv.specs.declared.parser.Action.{Action}
 use Rattle.csv.specs.declared.parser.Action.TheVariants as act
 use Rattle.csv.specs.declared.parser.State.{State}
 use Rattle.csv.specs.declared.parser.State.TheVariants as st
+
+-- what was made, with what is known of it
+pub made_row : {A E : Type 0} {Q : A → Type 0} (r : Result A E) → IsOkAnd r Q → (y : A) × (r ≡ Ok y) × Q y
+made_row (Ok y) is = (y, refl, is)
+made_row (Err e) is = absurd is
 
 -- after a record the machine is at a start
 abbrev EndsWell : State × Action → Type 0

@@ -1,10 +1,10 @@
-use Rattle.std.proofs.Common.{Bor, List, ℕ, ◌∙◌, sym, refl, inl, inr, map, Some, ◌∷◌, []}
+use Rattle.std.proofs.Common.{Bor, List, ℕ, ◌∙◌, ap, subst, sym, refl, inl, inr, map, Some, ◌∷◌, []}
 use Rattle.std.proofs.lemmas.List.{map-append}
 use Rattle.csv.specs.Reading.{Reached, default_config, strip_bom}
 use Rattle.csv.specs.Records.{fields_of}
 use Rattle.csv.specs.declared.parser.State.TheVariants as st
 use Rattle.csv.proofs.ReadFacts.{rows-end, rows-more}
-use Rattle.table_reading.proofs.RecordRows.{are_rows}
+use Rattle.table_reading.proofs.RecordRows.{are_rows, made_row}
 use Rattle.table_reading.proofs.records.rows_of.Goals as goal
 
 pub loop-row-init : goal.loop-row-init
@@ -29,10 +29,11 @@ loop-row-init c =
 pub loop-row-preserved : goal.loop-row-preserved
 loop-row-preserved c =
     let inv = c.loop-row.invariant in
-    let s = rw (c.in-Some.is, c.in-Ok.is) at ((c.next.ensures.steps inv.2 inv.0).0 inv.1) in
-    let items = c.in_ok-push-in-Ok.ensures.items in
-    let m = rows-more (λ (s : Bor (List ℕ)). Some s.now) c.loop-row.row-iterator.rdr c.next.new.self.rdr (fields_of c.in-Ok.row) default_config st.StartRecord (strip_bom c.args.text.now) inv.4 (map fields_of c.loop-row.rows.items) inv.3 inv.5 inv.6 s.0 in
-    (s.0.3 ∙ inv.0, inl s.1, s.3, s.0.2 ∙ inv.3, m.0, m.1, rw (items, map-append fields_of c.loop-row.rows.items (c.in-Ok.row ∷ [])) m.2)
+    let put = made_row c.in-Some.row c.in_default.ensures in
+    let s = rw (c.in-Some.is, put.1) at ((c.next.ensures.steps inv.2 inv.0).0 inv.1) in
+    let items = ap (map fields_of) put.2 ∙ map-append fields_of c.loop-row.rows.items (put.0 ∷ []) in
+    let m = rows-more (λ (s : Bor (List ℕ)). Some s.now) c.loop-row.row-iterator.rdr c.next.new.self.rdr (fields_of put.0) default_config st.StartRecord (strip_bom c.args.text.now) inv.4 (map fields_of c.loop-row.rows.items) inv.3 inv.5 inv.6 s.0 in
+    (s.0.3 ∙ inv.0, inl s.1, s.3, s.0.2 ∙ inv.3, m.0, m.1, subst (λ (rows : List (List (List ℕ))). Reached default_config st.StartRecord (strip_bom c.args.text.now) rows c.next.new.self.rdr.state m.0) (sym items) m.2)
 
 pub returns : goal.returns
 returns c =
