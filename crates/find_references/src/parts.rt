@@ -1,7 +1,7 @@
 //! The parts of an entry that references name.
 
 /// A part of an entry: the value of a field, or the id in digits.
-#[derive(Clone, Copy, PartialEq, Eq)]
+#[derive(Clone, Copy)]
 pub enum Part {
     Title,
     UserName,
@@ -12,7 +12,7 @@ pub enum Part {
 }
 
 /// Where an entry is to have a text.
-#[derive(Clone, Copy, PartialEq, Eq)]
+#[derive(Clone, Copy)]
 pub enum Place {
     /// A part of it is the text.
     In(Part),

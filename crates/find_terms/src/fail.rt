@@ -6,7 +6,7 @@ ghost use Rattle.find_terms.specs.declared.fail.FindFail.TheVariants as find;
 use outside_core::NoMemory;
 
 /// Why a search, or the resolving of references, is refused.
-#[derive(Clone, Copy, Debug, PartialEq, Eq)]
+#[derive(Clone, Copy)]
 pub enum FindFail {
     /// More references are replaced than may be, or the resolved text is longer than it may be: the
     /// first count that passes its limit.

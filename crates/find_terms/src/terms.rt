@@ -3,7 +3,7 @@
 use outside_core::{List, Text};
 
 /// Which values of an entry a term is compared with.
-#[derive(Clone, Copy, PartialEq, Eq)]
+#[derive(Clone, Copy)]
 pub enum SearchField {
     /// Title, user name, URL, notes and tags.
     Any,

@@ -13,7 +13,7 @@ use std::alloc::Global;
 use vault_model::Doc;
 
 /// Why a table was not read or written.
-#[derive(Clone, Copy, Debug, PartialEq, Eq)]
+#[derive(Clone, Copy)]
 pub enum TableFail {
     /// Memory ran out.
     NoMemory,
@@ -64,6 +64,11 @@ pub fn export_csv(alloc: Global, doc: &Doc) -> Result<Secret, TableFail>
     ensures { IfOk result (λ text. text.bytes ≡ table_of (doc_seen doc.now)) }
 {
     let mut text = Secret::with_room(alloc, table_len(alloc, doc)?)?;
-    put_table(alloc, &mut text, doc)?;
-    Ok(text)
+    match put_table(alloc, &mut text, doc) {
+        Ok(()) => Ok(text),
+        Err(_none) => {
+            drop(text);
+            Err(TableFail::NoMemory)
+        }
+    }
 }

@@ -9,7 +9,7 @@ use uuid_core::Uuid;
 
 /// Why a table gives no document. Rows are numbered from 1, which is the one after the first row;
 /// that one names the columns.
-#[derive(Clone, Copy, Debug, PartialEq, Eq)]
+#[derive(Clone, Copy)]
 pub enum TableFail {
     /// The bytes are not UTF-8: the length of their longest prefix that is.
     NotUtf8(u64),
