@@ -1,5 +1,5 @@
 -- The rows of a group: those of its entries, and then those of its groups.
-use Rattle.std.proofs.Common.{◌≡◌, ℕ, List, ◌++◌, map, sym, ap, ◌∙◌}
+use Rattle.std.proofs.Common.{◌≡◌, ℕ, List, [], ◌∷◌, ◌++◌, map, sym, ap, ◌∙◌}
 use Rattle.std.proofs.lemmas.Grind.{flat_map-append}
 use Rattle.vault_model.proofs.SeenGroups.{seen_group}
 use Rattle.vault_model.specs.SeenNodes.{entry_row, tree_seen}
@@ -39,3 +39,13 @@ group_put {s = s} {step = step} laws names group entries groups es gs one more =
 -- The name of a group in memory.
 pub name_seen : (group : Group) → name_of (tree_seen group) ≡ (out-Group group).state.content.name
 name_seen group = ap name_of (seen_group group)
+
+-- The rows of a group in a group to which these names lead.
+abbrev pub below_text : List (List ℕ) → Group → List ℕ
+below_text names group = rows_text (rows_in (names ++ (out-Group group).state.content.name ∷ []) (tree_seen group))
+
+pub one_group_more : (names : List (List ℕ)) (group : Group) (groups : List Group)
+    → group_rows_text names (group ∷ groups) ≡ below_text names group ++ group_rows_text names groups
+one_group_more names group groups =
+    flat_map-append row_of (rows_in (names ++ name_of (tree_seen group) ∷ []) (tree_seen group)) (rows_among names (all_trees (map tree_seen groups)))
+    ∙ ap (λ (name : List ℕ). rows_text (rows_in (names ++ name ∷ []) (tree_seen group)) ++ group_rows_text names groups) (name_seen group)
