@@ -1,6 +1,7 @@
 -- The entry that has a text at a place, from group to group and along all entries.
-use Rattle.std.proofs.Common.{◌≡◌, ◌<◌, ℕ, suc, Bool, true, false, cond, List, [], ◌∷◌, ◌++◌, length, drop, get_or, map, Option, Some, None, refl, sym, ap, ◌∙◌}
+use Rattle.std.proofs.Common.{◌≡◌, ◌<◌, ℕ, suc, Bool, true, false, cond, List, [], ◌∷◌, ◌++◌, length, drop, get_or, map, Option, Some, None, refl, sym, ap, ◌∙◌, ◌+◌, ◌≤◌, add-one}
 use Rattle.std.proofs.Math.Seq.{drop-cons}
+use Rattle.std.proofs.lemmas.List.{drop_all}
 use Rattle.std.specs.List.{find}
 use Rattle.find_references.specs.declared.parts.Place.{Place}
 use Rattle.find_references.specs.Fields.{has_at}
@@ -54,6 +55,31 @@ found_below g place text gs at child x other is below here invariant found =
     let front : drop at gs ≡ child ∷ rest = drop-cons gs at child below ∙ ap (λ (c : Group). c ∷ rest) (sym here) in
     ap (λ (o : Option Row). or_else o (sought_among place text (all_trees (map tree_seen rest)))) (sym found)
     ∙ ap (λ (l : List Group). sought_among place text (all_trees (map tree_seen l))) (sym front)
+    ∙ invariant
+    ∙ ap (λ (l : List Group). sought_among place text (all_trees (map tree_seen l))) is
+    ∙ ap (λ (o : Option Row). or_else o (sought_among place text (all_trees (map tree_seen (out-Group g).groups)))) (sym other)
+    ∙ ap (sought_in place text) (sym (seen_group g))
+
+-- what is not found in one of a group's groups is found among the rest of them
+pub passed_by : (place : Place) (text : List ℕ) (gs : List Group) (at : ℕ) (child : Group) (whole : Option Row)
+    → at < length gs → child ≡ get_or gs at child → sought_in place text (tree_seen child) ≡ None
+    → sought_among place text (all_trees (map tree_seen (drop at gs))) ≡ whole
+    → sought_among place text (all_trees (map tree_seen (drop (at + 1) gs))) ≡ whole
+passed_by place text gs at child whole below here other invariant =
+    let rest : List Group = drop (suc at) gs in
+    let front : drop at gs ≡ child ∷ rest = drop-cons gs at child below ∙ ap (λ (c : Group). c ∷ rest) (sym here) in
+    ap (λ (n : ℕ). sought_among place text (all_trees (map tree_seen (drop n gs)))) (add-one at)
+    ∙ ap (λ (o : Option Row). or_else o (sought_among place text (all_trees (map tree_seen rest)))) (sym other)
+    ∙ ap (λ (l : List Group). sought_among place text (all_trees (map tree_seen l))) (sym front)
+    ∙ invariant
+
+-- what is found neither among a group's own entries nor in its groups is not found in the group
+pub found_nowhere : (g : Group) (place : Place) (text : List ℕ) (gs : List Group) (at : ℕ)
+    → find (has_at place text) (map entry_row (out-Group g).entries) ≡ None → gs ≡ (out-Group g).groups → length gs ≤ at
+    → sought_among place text (all_trees (map tree_seen (drop at gs))) ≡ sought_among place text (all_trees (map tree_seen gs))
+    → None ≡ sought_in place text (tree_seen g)
+found_nowhere g place text gs at other is past invariant =
+    ap (λ (l : List Group). sought_among place text (all_trees (map tree_seen l))) (sym (drop_all at gs past))
     ∙ invariant
     ∙ ap (λ (l : List Group). sought_among place text (all_trees (map tree_seen l))) is
     ∙ ap (λ (o : Option Row). or_else o (sought_among place text (all_trees (map tree_seen (out-Group g).groups)))) (sym other)
