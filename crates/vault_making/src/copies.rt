@@ -18,7 +18,7 @@ pub fn put_last<T: Drop>(list: &mut List<T>, item: T) -> Result<(), NoMemory>
     }
 }
 
-/// Puts what was made at the end of a list.
+// Puts what was made at the end of a list.
 fn put_next<T: Drop>(list: &mut List<T>, made: Result<T, NoMemory>) -> Result<(), NoMemory>
     ensures { OnOk result (IsOkAnd made (λ item. list.new ≡ list.old ++ item ∷ [])) }
 {
@@ -154,7 +154,7 @@ fn copy_attachments(alloc: Global, attachments: &[Attachment]) -> Result<List<At
     Ok(copy)
 }
 
-/// Puts what was made in its place. A refusal leaves what was there.
+// Puts what was made in its place. A refusal leaves what was there.
 fn put_made<T: Drop>(place: &mut T, made: Result<T, NoMemory>) -> Result<(), NoMemory>
     ensures { OnOk result (made ≡ Ok place.new) }
 {
@@ -167,7 +167,7 @@ fn put_made<T: Drop>(place: &mut T, made: Result<T, NoMemory>) -> Result<(), NoM
     }
 }
 
-/// What a version says, without its lists and texts.
+// What a version says, without its lists and texts.
 fn bare_copy(alloc: Global, content: &Content) -> Content
     ensures { bare_content result ≡ record (bare_content content.now) {
       fields = [];
@@ -203,7 +203,7 @@ fn bare_copy(alloc: Global, content: &Content) -> Content
     }
 }
 
-/// Copies the texts of a version into a copy of it.
+// Copies the texts of a version into a copy of it.
 fn fill_texts(alloc: Global, content: &Content, copy: &mut Content) -> Result<(), NoMemory>
     ensures { OnOk result (bare_content copy.new ≡ record (bare_content copy.old) {
       tags = content.now.tags;
@@ -221,7 +221,7 @@ fn fill_texts(alloc: Global, content: &Content, copy: &mut Content) -> Result<()
     )
 }
 
-/// Copies the lists of a version into a copy of it, and how it is typed.
+// Copies the lists of a version into a copy of it, and how it is typed.
 fn fill_lists(alloc: Global, content: &Content, copy: &mut Content) -> Result<(), NoMemory>
     ensures { OnOk result (bare_content copy.new ≡ record (bare_content copy.old) {
       fields = (bare_content content.now).fields;
@@ -245,7 +245,7 @@ fn fill_lists(alloc: Global, content: &Content, copy: &mut Content) -> Result<()
     put_made(&mut copy.items, copy_items(alloc, content.items.as_slice()))
 }
 
-/// Copies the lists and the texts of a version into a copy of it.
+// Copies the lists and the texts of a version into a copy of it.
 fn fill(alloc: Global, content: &Content, copy: &mut Content) -> Result<(), NoMemory>
     ensures { OnOk result (bare_content copy.new ≡ record (bare_content copy.old) {
       fields = (bare_content content.now).fields;
