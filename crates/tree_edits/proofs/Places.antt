@@ -28,6 +28,11 @@ insert_seen see xs at x =
     ∙ ap (λ ys. ys ++ see x ∷ map see (drop at xs)) (sym (take-map see at xs))
     ∙ ap (λ ys. take at (map see xs) ++ see x ∷ ys) (sym (drop-map see at xs))
 
+pub inserted_seen : {A B E : Type 0} (see : A → B) (xs ys : List A) (at : ℕ) (x : A) (y : B) (o : Result (Unit {0}) E) → see x ≡ y
+    → OnOk o (ys ≡ insert xs at x) → OnOk o (map see ys ≡ insert (map see xs) at y)
+inserted_seen see xs ys at x y (Ok u) same e = ap (map see) e ∙ insert_seen see xs at x ∙ ap (insert (map see xs) at) same
+inserted_seen see xs ys at x y (Err u) same e = tt
+
 module _ {A : Type 0} (order : A → Ordering) (new : A) (joined : A → A) where
   abbrev pub at_spot : List A → Result ℕ ℕ → List A
   at_spot xs (Ok n) = changed_nth n joined xs
@@ -87,8 +92,9 @@ module _ {A B : Type 0} (see : A → B) (order : B → Ordering) (new : B) (join
   put_at_spot xs ys at (Ok x) is h = h ∙ ap (at_spot order new joined (map see xs)) (sym is) ∙ put_at order new joined (map see xs)
   put_at_spot xs ys at (Err x) is h = tt
 
-  pub inserted_at_spot : (xs ys : List A) (at : ℕ) (x : A) → see x ≡ new → spot order (map see xs) ≡ Err at
-      → ys ≡ insert xs at x → map see ys ≡ put_in_order order new joined (map see xs)
-  inserted_at_spot xs ys at x same is e =
+  pub inserted_at_spot : {E : Type 0} (xs ys : List A) (at : ℕ) (x : A) (o : Result (Unit {0}) E) → see x ≡ new → spot order (map see xs) ≡ Err at
+      → OnOk o (ys ≡ insert xs at x) → OnOk o (map see ys ≡ put_in_order order new joined (map see xs))
+  inserted_at_spot xs ys at x (Err u) same is e = tt
+  inserted_at_spot xs ys at x (Ok u) same is e =
       ap (map see) e ∙ insert_seen see xs at x ∙ ap (insert (map see xs) at) same
       ∙ ap (at_spot order new joined (map see xs)) (sym is) ∙ put_at order new joined (map see xs)

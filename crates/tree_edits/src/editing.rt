@@ -119,7 +119,10 @@ fn edited_version(
     let mut version = copy_version(alloc, old)?;
     match change_version(alloc, &mut version, protect, values, time) {
         Ok(()) => Ok(version),
-        Err(fail) => Err(fail),
+        Err(fail) => {
+            drop(version);
+            Err(fail)
+        }
     }
 }
 
@@ -161,7 +164,10 @@ fn edited_versions(
     let protect = &meta.settings.value.protect;
     match edited_version(alloc, &entry.current, protect, values, time) {
         Ok(current) => Ok(Versions { current, history }),
-        Err(fail) => Err(fail),
+        Err(fail) => {
+            drop(history);
+            Err(fail)
+        }
     }
 }
 

@@ -1,6 +1,6 @@
 //! Fields, new and with other values.
 
-ghost use Rattle.std.specs.Prelude.{◌≡◌, [], ◌∷◌, ◌++◌, IfOk, OnOk, map, slice_get, true};
+ghost use Rattle.std.specs.Prelude.{◌≡◌, [], ◌∷◌, ◌++◌, ◌≤◌, IfOk, OnOk, insert, length, map, slice_get, true};
 ghost use Rattle.std.specs.Option.{option_map, unwrap_or};
 ghost use Rattle.vault_model.specs.Orders.{bytes_cmp};
 ghost use Rattle.vault_model.specs.Seen.{bare_field};
@@ -71,6 +71,17 @@ fn replace_value(
     Ok(())
 }
 
+/// Puts an item before the one at an index. A refusal means that memory ran out.
+pub(crate) fn insert_at<T: Drop>(list: &mut List<T>, at: usize, item: T) -> Result<(), NoMemory>
+    requires { at ≤ length list.old }
+    ensures { OnOk result (list.new ≡ insert list.old at item) }
+{
+    match list.insert(at, item) {
+        Ok(()) => Ok(()),
+        Err(_) => Err(NoMemory),
+    }
+}
+
 /// Gives the field of a key another value; a field that was not there is put in its place by rising
 /// key.
 pub(crate) fn set_value(
@@ -87,10 +98,7 @@ pub(crate) fn set_value(
         Ok(at) => replace_value(alloc, fields, at, value),
         Err(at) => {
             let field = new_field(alloc, key, value, hidden)?;
-            match fields.insert(at, field) {
-                Ok(()) => Ok(()),
-                Err(_) => Err(NoMemory),
-            }
+            insert_at(fields, at, field)
         }
     }
 }

@@ -1,6 +1,6 @@
 //! The versions of an entry in rising order.
 
-ghost use Rattle.std.specs.Prelude.{◌≡◌, ◌≤◌, IfOk, OnOk, insert, length, map};
+ghost use Rattle.std.specs.Prelude.{◌≡◌, ◌≤◌, [], IfOk, OnOk, insert, length, map};
 ghost use Rattle.vault_model.specs.Db.{mark_cmp};
 ghost use Rattle.vault_model.specs.Join.{stats_join};
 ghost use Rattle.vault_model.specs.SeenNodes.{bare_version, entry_record};
@@ -10,6 +10,7 @@ ghost use Rattle.tree_edits.specs.Versions as order;
 ghost use Rattle.tree_edits.specs.Versions.{AreRising, put_version};
 ghost use Rattle.tree_edits.specs.Spots.{changed_nth, spot};
 
+use crate::fields::insert_at;
 use outside_core::{List, NoMemory};
 use std::alloc::Global;
 use std::cmp::Ordering;
@@ -97,10 +98,7 @@ fn insert_copy(
         ≡ insert (map bare_version versions.old) at (bare_version version.now)) }
 {
     let copy = copy_version(alloc, version)?;
-    match versions.insert(at, copy) {
-        Ok(()) => Ok(()),
-        Err(_) => Err(NoMemory),
-    }
+    insert_at(versions, at, copy)
 }
 
 // Puts a copy of a version in its place among versions that rise; of one mark they are made one.
@@ -118,15 +116,30 @@ fn add_copy(alloc: Global, versions: &mut List<Version>, version: &Version) -> R
     }
 }
 
+// Puts copies of all versions of an entry where none are, in rising order.
+fn add_copies(alloc: Global, rising: &mut List<Version>, entry: &Entry) -> Result<(), NoMemory>
+    requires { rising.old ≡ [] }
+    ensures { OnOk result (map bare_version rising.new
+        ≡ spec.rising_versions (entry_record entry.now)) }
+{
+    for version in entry.history.as_slice() {
+        add_copy(alloc, rising, version)?;
+    }
+    add_copy(alloc, rising, &entry.current)?;
+    Ok(())
+}
+
 /// Copies of all versions of an entry in rising order; those of one mark are one.
 pub(crate) fn rising_versions(alloc: Global, entry: &Entry) -> Result<List<Version>, NoMemory>
     ensures { IfOk result (λ versions. map bare_version versions
         ≡ spec.rising_versions (entry_record entry.now)) }
 {
     let mut rising = List::new(alloc);
-    for version in entry.history.as_slice() {
-        add_copy(alloc, &mut rising, version)?;
+    match add_copies(alloc, &mut rising, entry) {
+        Ok(()) => Ok(rising),
+        Err(fail) => {
+            drop(rising);
+            Err(fail)
+        }
     }
-    add_copy(alloc, &mut rising, &entry.current)?;
-    Ok(rising)
 }

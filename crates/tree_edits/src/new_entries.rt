@@ -11,6 +11,7 @@ use crate::fields::new_field;
 use outside_core::{List, NoMemory, Text};
 use std::alloc::Global;
 use tree_changes::Values;
+use tree_steps::put_last;
 use uuid_core::Uuid;
 use vault_model::{AutoType, Content, Entry, Field, Protection, Stamp, Stats, Version};
 
@@ -45,25 +46,21 @@ fn add_field(
     ensures { OnOk result (map bare_field fields.new
         ≡ map bare_field fields.old ++ spec.field key.now value.now hidden ∷ []) }
 {
-    let field = new_field(alloc, key, value, hidden)?;
-    match fields.push(field) {
-        Ok(()) => Ok(()),
-        Err(_) => Err(NoMemory),
-    }
+    put_last(fields, new_field(alloc, key, value, hidden)?)
 }
 
-/// The five fields of a new entry, by rising key.
-pub(crate) fn new_fields(
+// Puts the five fields of a new entry where none are, by rising key.
+fn add_fields(
     alloc: Global,
+    list: &mut List<Field>,
     protect: &Protection,
     title: &str,
     values: &Values<'_>,
-) -> Result<List<Field>, NoMemory>
-    ensures { IfOk result (λ fields. map bare_field fields
+) -> Result<(), NoMemory>
+    requires { list.old ≡ [] }
+    ensures { OnOk result (map bare_field list.new
         ≡ spec.new_fields protect.now title.now (spec.given_values values.now)) }
 {
-    let mut fields = List::new(alloc);
-    let list = &mut fields;
     add_field(
         alloc,
         list,
@@ -81,8 +78,27 @@ pub(crate) fn new_fields(
         "UserName",
         text_or_empty(values.user),
         protect.user,
-    )?;
-    Ok(fields)
+    )
+}
+
+/// The five fields of a new entry, by rising key.
+pub(crate) fn new_fields(
+    alloc: Global,
+    protect: &Protection,
+    title: &str,
+    values: &Values<'_>,
+) -> Result<List<Field>, NoMemory>
+    ensures { IfOk result (λ fields. map bare_field fields
+        ≡ spec.new_fields protect.now title.now (spec.given_values values.now)) }
+{
+    let mut fields = List::new(alloc);
+    match add_fields(alloc, &mut fields, protect, title, values) {
+        Ok(()) => Ok(fields),
+        Err(fail) => {
+            drop(fields);
+            Err(fail)
+        }
+    }
 }
 
 // What a new entry says that has these fields.

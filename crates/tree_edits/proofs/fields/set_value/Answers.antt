@@ -7,11 +7,10 @@ use Rattle.tree_changes.specs.NewNodes.{field}
 use Rattle.tree_edits.specs.Spots.{spot}
 use Rattle.tree_edits.proofs.Places.{inserted_at_spot, joined_at_spot, spot_end, spot_seen}
 use Rattle.std.proofs.Common.{List}
-use Rattle.tree_edits.proofs.fields.set_value.Goals.{in-Ok-insert, in-Err-insert}
 use Rattle.tree_edits.proofs.fields.set_value.Goals as goal
 
-pub insert-requires : goal.insert-requires
-insert-requires c =
+pub insert_at-requires : goal.insert_at-requires
+insert_at-requires c =
     spot_end (λ (f : Field). bytes_cmp c.args.key.now f.key) c.args.fields.now c.in-Err.at c.field_spot.result
     (c.field_spot.ensures ∙ ap (λ (fs : List Field). spot (λ (f : Field). bytes_cmp c.args.key.now f.key) fs) c.as_slice.ensures) c.in-Err.is
 
@@ -22,14 +21,10 @@ returns-in-Ok c =
     c.args.fields.now c.replace_value.new.fields c.in-Ok.at c.replace_value.result
     (spot_seen bare_field (λ (f : BareField). bytes_cmp c.args.key.now f.key) c.args.fields.now ∙ sym place ∙ c.in-Ok.is) c.replace_value.ensures
 
-pub returns-after-insert : goal.returns-after-insert
-returns-after-insert c =
+pub returns-in_ok-field-in-Err : goal.returns-in_ok-field-in-Err
+returns-in_ok-field-in-Err c =
     let place = c.field_spot.ensures ∙ ap (λ (fs : List Field). spot (λ (f : Field). bytes_cmp c.args.key.now f.key) fs) c.as_slice.ensures in
-    elim c.match-insert.branch [
-      | in-Ok-insert w ↦
-          rw w.result-is (inserted_at_spot bare_field (λ (f : BareField). bytes_cmp c.args.key.now f.key) (field c.args.key.now c.args.value.now c.args.hidden) (λ (f : BareField). record f { value = c.args.value.now })
-          c.args.fields.now c.insert.new.self c.in-Err.at c.in_ok-field-in-Err.field c.in_ok-field-in-Err.ensures
-          (spot_seen bare_field (λ (f : BareField). bytes_cmp c.args.key.now f.key) c.args.fields.now ∙ sym place ∙ c.in-Err.is)
-          (rw w.in-Ok-insert.is at c.insert.ensures.ok))
-      | in-Err-insert w ↦ rw w.result-is tt
-    ]
+    inserted_at_spot bare_field (λ (f : BareField). bytes_cmp c.args.key.now f.key) (field c.args.key.now c.args.value.now c.args.hidden) (λ (f : BareField). record f { value = c.args.value.now })
+    c.args.fields.now c.insert_at.new.list c.in-Err.at c.in_ok-field-in-Err.field c.insert_at.result c.in_ok-field-in-Err.ensures
+    (spot_seen bare_field (λ (f : BareField). bytes_cmp c.args.key.now f.key) c.args.fields.now ∙ sym place ∙ c.in-Err.is)
+    c.insert_at.ensures

@@ -1,10 +1,10 @@
 use Rattle.std.proofs.Common.{map, sym, ap, ◌∙◌}
 use Rattle.vault_model.specs.SeenNodes.{bare_version, entry_record}
 use Rattle.tree_edits.proofs.RisingVersions.{all_rising, are_rising, rises_first, rises_last, rises_next}
-use Rattle.tree_edits.proofs.histories.rising_versions.Goals as goal
+use Rattle.tree_edits.proofs.histories.add_copies.Goals as goal
 
 pub loop-version-init : goal.loop-version-init
-loop-version-init c = rises_first (map bare_version c.as_slice-version-items.result.now) (map bare_version c.new-rising.result) (ap (map bare_version) c.new-rising.ensures)
+loop-version-init c = rises_first (map bare_version c.as_slice-version-items.result.now) (map bare_version c.args.rising.now) (ap (map bare_version) c.requires)
 
 pub loop-version-preserved : goal.loop-version-preserved
 loop-version-preserved c =
