@@ -1,20 +1,15 @@
-//! What the members hold of each node that stays, made one.
-ghost use Rattle.std.specs.Prelude.{◌≡◌, ◌<◌, length, IfOk, OnOk, max, map};
+//! What the members hold of each node, made one.
+ghost use Rattle.std.specs.Prelude.{◌≡◌, ◌<◌, Some, length, IfOk, OnOk, max, map};
 ghost use Rattle.std.specs.Option.{option_copied};
 ghost use Rattle.std.specs.FinMap as table;
-ghost use Rattle.std.specs.List.{list_any};
-ghost use Rattle.vault_model.specs.Join.{is_id, path, ids, join, root_of, state_join, stats_join};
+ghost use Rattle.vault_model.specs.Join.{join, meta_join, state_join, stats_join};
 ghost use Rattle.vault_model.specs.Unite.{gather, join_options, unite};
-ghost use Rattle.reference_tables.specs.Databases.{database, databases, shared_meta};
-ghost use Rattle.reference_join.specs.KnownIds.{known_ids};
+ghost use Rattle.reference_tables.specs.Databases.{databases, shared_meta};
 
-use crate::nodes::{all_ids, is_kept, is_on_trail, known_ids, latest};
 use outside_core::NoMemory;
 use reference_tables::databases::Database;
 use reference_tables::metas::LentMeta;
-use reference_tables::placements::Placement;
 use reference_tables::states::LentState;
-use reference_tables::tables::{Table, put_some};
 use reference_tables::versions::VersionTable;
 use std::alloc::Global;
 use uuid_core::Uuid;
@@ -36,8 +31,13 @@ fn join_versions<'a>(
         Some(all) => all,
         None => VersionTable::new(alloc),
     };
-    all.add_all(more)?;
-    Ok(Some(all))
+    match all.add_all(more) {
+        Ok(()) => Ok(Some(all)),
+        Err(fail) => {
+            drop(all);
+            Err(fail)
+        }
+    }
 }
 
 /// All versions that the members have of an entry.
@@ -104,142 +104,16 @@ pub fn latest_tomb(members: &[Database], id: &Uuid) -> Option<Stamp>
     latest
 }
 
-/// The versions of an entry in the join.
-fn joined_entry<'a>(
-    alloc: Global,
-    members: &[Database<'a>],
-    held: &[Uuid],
-    id: &Uuid,
-) -> Result<Option<VersionTable<'a>>, NoMemory>
-    requires some { 0 < length members.now }
-    requires held { held.now ≡ ids (databases members.now) }
-    ensures { IfOk result (λ v. v ≡ table.get (join (databases members.now)).entries id.now) }
+/// Takes in the shared values of some members. A refusal means that memory ran out.
+fn absorb_all<'a>(joined: &mut LentMeta<'a>, members: &[Database<'a>]) -> Result<(), NoMemory>
+    ensures { OnOk result (Some (shared_meta joined.new) ≡ join_options meta_join
+        (Some (shared_meta joined.old))
+        (gather meta_join (map (λ m. Some m.meta) (databases members.now)))) }
 {
-    if is_kept(members, held, id) {
-        let versions = all_versions(alloc, members, id)?;
-        Ok(versions)
-    } else {
-        Ok(None)
+    for member in members {
+        joined.absorb(&member.meta)?;
     }
-}
-
-/// The state of a group in the join.
-fn joined_group<'a>(members: &[Database<'a>], held: &[Uuid], id: &Uuid) -> Option<LentState<'a>>
-    requires some { 0 < length members.now }
-    requires held { held.now ≡ ids (databases members.now) }
-    ensures { result ≡ table.get (join (databases members.now)).groups id.now }
-{
-    if is_kept(members, held, id) {
-        joined_state(members, id)
-    } else {
-        None
-    }
-}
-
-/// The place of a node in the join.
-fn joined_place(members: &[Database], held: &[Uuid], id: &Uuid) -> Option<Placement>
-    requires some { 0 < length members.now }
-    requires held { held.now ≡ ids (databases members.now) }
-    ensures { result ≡ table.get (join (databases members.now)).places id.now }
-{
-    if is_kept(members, held, id) {
-        latest(members, id)
-    } else {
-        None
-    }
-}
-
-/// The tombstone of an id in the join: the latest, unless the node is kept.
-fn joined_tomb(members: &[Database], held: &[Uuid], id: &Uuid) -> Option<Stamp>
-    requires some { 0 < length members.now }
-    requires held { held.now ≡ ids (databases members.now) }
-    ensures { result ≡ table.get (join (databases members.now)).tombs id.now }
-{
-    if is_kept(members, held, id) {
-        None
-    } else {
-        latest_tomb(members, id)
-    }
-}
-
-/// The entries of the join.
-fn joined_entries<'a>(
-    alloc: Global,
-    members: &[Database<'a>],
-    held: &[Uuid],
-    known: &[Uuid],
-) -> Result<Table<VersionTable<'a>>, NoMemory>
-    requires some { 0 < length members.now }
-    requires held { held.now ≡ ids (databases members.now) }
-    requires known { known.now ≡ known_ids (databases members.now) }
-    ensures { IfOk result (λ t. t ≡ (join (databases members.now)).entries) }
-{
-    let mut entries = Table::new(alloc);
-    for id in known {
-        let joined = joined_entry(alloc, members, held, id)?;
-        put_some(&mut entries, *id, joined)?;
-    }
-    Ok(entries)
-}
-
-/// The groups of the join.
-fn joined_groups<'a>(
-    alloc: Global,
-    members: &[Database<'a>],
-    held: &[Uuid],
-    known: &[Uuid],
-) -> Result<Table<LentState<'a>>, NoMemory>
-    requires some { 0 < length members.now }
-    requires held { held.now ≡ ids (databases members.now) }
-    requires known { known.now ≡ known_ids (databases members.now) }
-    ensures { IfOk result (λ t. t ≡ (join (databases members.now)).groups) }
-{
-    let mut groups = Table::new(alloc);
-    for id in known {
-        let joined = joined_group(members, held, id);
-        put_some(&mut groups, *id, joined)?;
-    }
-    Ok(groups)
-}
-
-/// The places of the join.
-fn joined_places(
-    alloc: Global,
-    members: &[Database],
-    held: &[Uuid],
-    known: &[Uuid],
-) -> Result<Table<Placement>, NoMemory>
-    requires some { 0 < length members.now }
-    requires held { held.now ≡ ids (databases members.now) }
-    requires known { known.now ≡ known_ids (databases members.now) }
-    ensures { IfOk result (λ t. t ≡ (join (databases members.now)).places) }
-{
-    let mut places = Table::new(alloc);
-    for id in known {
-        let joined = joined_place(members, held, id);
-        put_some(&mut places, *id, joined)?;
-    }
-    Ok(places)
-}
-
-/// The tombstones of the join.
-fn joined_tombs(
-    alloc: Global,
-    members: &[Database],
-    held: &[Uuid],
-    known: &[Uuid],
-) -> Result<Table<Stamp>, NoMemory>
-    requires some { 0 < length members.now }
-    requires held { held.now ≡ ids (databases members.now) }
-    requires known { known.now ≡ known_ids (databases members.now) }
-    ensures { IfOk result (λ t. t ≡ (join (databases members.now)).tombs) }
-{
-    let mut tombs = Table::new(alloc);
-    for id in known {
-        let joined = joined_tomb(members, held, id);
-        put_some(&mut tombs, *id, joined)?;
-    }
-    Ok(tombs)
+    Ok(())
 }
 
 /// The shared values of all members, made one.
@@ -248,54 +122,11 @@ pub fn joined_meta<'a>(alloc: Global, members: &[Database<'a>]) -> Result<LentMe
     ensures { IfOk result (λ m. shared_meta m ≡ (join (databases members.now)).meta) }
 {
     let mut joined = members[0].meta.again(alloc)?;
-    for member in &members[1..] {
-        joined.absorb(&member.meta)?;
+    match absorb_all(&mut joined, &members[1..]) {
+        Ok(()) => Ok(joined),
+        Err(fail) => {
+            drop(joined);
+            Err(fail)
+        }
     }
-    Ok(joined)
-}
-
-/// Copies of one database made one, of which all held and all known ids are given.
-fn join_known<'a>(
-    alloc: Global,
-    members: &[Database<'a>],
-    held: &[Uuid],
-    known: &[Uuid],
-) -> Result<Database<'a>, NoMemory>
-    requires some { 0 < length members.now }
-    requires held { held.now ≡ ids (databases members.now) }
-    requires known { known.now ≡ known_ids (databases members.now) }
-    ensures { IfOk result (λ d. database d ≡ join (databases members.now)) }
-{
-    Ok(Database {
-        root: members[0].root,
-        entries: joined_entries(alloc, members, held, known)?,
-        groups: joined_groups(alloc, members, held, known)?,
-        places: joined_places(alloc, members, held, known)?,
-        tombs: joined_tombs(alloc, members, held, known)?,
-        meta: joined_meta(alloc, members)?,
-    })
-}
-
-/// Copies of one database made one: the nodes are the kept ones, each with all that the members
-/// have of it, at its latest place, and what is not kept has its latest tombstone. The only refusal
-/// is that memory ran out.
-pub fn join<'a>(alloc: Global, members: &[Database<'a>]) -> Result<Database<'a>, NoMemory>
-    requires { 0 < length members.now }
-    ensures { IfOk result (λ d. database d ≡ join (databases members.now)) }
-{
-    let held = all_ids(alloc, members)?;
-    let known = known_ids(alloc, members)?;
-    join_known(alloc, members, held.as_slice(), known.as_slice())
-}
-
-/// Whether the latest parents of a node lead to the root, in as many steps as ids are held. The
-/// only refusal is that memory ran out.
-pub fn is_rooted(alloc: Global, members: &[Database], id: &Uuid) -> Result<bool, NoMemory>
-    requires { 0 < length members.now }
-    ensures { IfOk result (λ b. b ≡ list_any (is_id (root_of (databases members.now)))
-        (path (databases members.now) id.now)) }
-{
-    let held = all_ids(alloc, members)?;
-    let root = members[0].root;
-    Ok(is_on_trail(members, held.len(), *id, &root))
 }

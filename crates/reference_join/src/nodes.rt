@@ -1,9 +1,9 @@
 //! Which nodes stay, and where each is, all members looked at together.
-ghost use Rattle.std.specs.Prelude.{◌≡◌, ◌<◌, length, IfOk, OnOk, ◌++◌};
+ghost use Rattle.std.specs.Prelude.{◌≡◌, ◌<◌, [], length, IfOk, OnOk, ◌++◌};
 ghost use Rattle.std.specs.FinMap as table;
 ghost use Rattle.std.specs.List.{list_any};
 ghost use Rattle.vault_model.specs.Db.{holds, stamp_in, place_cmp};
-ghost use Rattle.vault_model.specs.Join.{is_id, latest, above, path, stamp, is_from, is_held, buried, own, ids, trail, kept};
+ghost use Rattle.vault_model.specs.Join.{is_id, latest, above, path, stamp, is_from, is_held, buried, own, ids, trail};
 ghost use Rattle.vault_model.specs.Unite.{gather, greater, join_options};
 ghost use Rattle.reference_tables.specs.Databases.{database, databases};
 ghost use Rattle.reference_join.specs.KnownIds.{known_ids};
@@ -115,15 +115,41 @@ pub fn is_own(members: &[Database], id: &Uuid) -> bool
     is_same(id, &members[0].root) || is_held(members, id) && !is_buried(members, id)
 }
 
+/// Puts all ids that a member holds where none are. A refusal means that memory ran out.
+fn push_held(held: &mut Vec<Uuid>, members: &[Database]) -> Result<(), NoMemory>
+    requires { held.old.items ≡ [] }
+    ensures { OnOk result (held.new.items ≡ ids (databases members.now)) }
+{
+    for member in members {
+        push_both(held, &member.entries, &member.groups)?;
+    }
+    Ok(())
+}
+
 /// All ids that a member holds, those of entries before those of groups, member by member.
 pub fn all_ids(alloc: Global, members: &[Database]) -> Result<Vec<Uuid>, NoMemory>
     ensures { IfOk result (λ us. us.items ≡ ids (databases members.now)) }
 {
     let mut held = Vec::new(alloc);
-    for member in members {
-        push_both(&mut held, &member.entries, &member.groups)?;
+    match push_held(&mut held, members) {
+        Ok(()) => Ok(held),
+        Err(fail) => {
+            drop(held);
+            Err(fail)
+        }
     }
-    Ok(held)
+}
+
+/// Puts all ids that a member knows of where none are. A refusal means that memory ran out.
+fn push_known(known: &mut Vec<Uuid>, members: &[Database]) -> Result<(), NoMemory>
+    requires { known.old.items ≡ [] }
+    ensures { OnOk result (known.new.items ≡ known_ids (databases members.now)) }
+{
+    for member in members {
+        push_both(known, &member.entries, &member.groups)?;
+        push_both(known, &member.places, &member.tombs)?;
+    }
+    Ok(())
 }
 
 /// All ids that a member knows of, those of nodes, of places and of tombstones.
@@ -131,11 +157,13 @@ pub fn known_ids(alloc: Global, members: &[Database]) -> Result<Vec<Uuid>, NoMem
     ensures { IfOk result (λ us. us.items ≡ known_ids (databases members.now)) }
 {
     let mut known = Vec::new(alloc);
-    for member in members {
-        push_both(&mut known, &member.entries, &member.groups)?;
-        push_both(&mut known, &member.places, &member.tombs)?;
+    match push_known(&mut known, members) {
+        Ok(()) => Ok(known),
+        Err(fail) => {
+            drop(known);
+            Err(fail)
+        }
     }
-    Ok(known)
 }
 
 /// Whether a node is among another one and those that so many steps up lead to.
@@ -152,19 +180,4 @@ pub fn is_on_trail(members: &[Database], steps: usize, from: Uuid, id: &Uuid) ->
         left -= 1;
     }
     is_same(id, &at)
-}
-
-/// Whether a node is kept: it is on the path of an own node.
-#[tactic(auto, unfolding(vault_model::specs::Join::kept))]
-pub(crate) fn is_kept(members: &[Database], held: &[Uuid], id: &Uuid) -> bool
-    requires some { 0 < length members.now }
-    requires held { held.now ≡ ids (databases members.now) }
-    ensures { result ≡ kept (databases members.now) id.now }
-{
-    for own in held {
-        if is_own(members, own) && is_on_trail(members, held.len(), *own, id) {
-            return true;
-        }
-    }
-    false
 }

@@ -8,14 +8,14 @@ use Rattle.reference_join.proofs.GatherMembers.{merge_in, merge_first}
 use Rattle.reference_join.proofs.joins.join_versions.Goals as goal
 use Rattle.reference_join.proofs.joins.join_versions.Goals.{in-Some-so_far, in-None}
 
-pub returns : goal.returns
-returns c =
+pub returns-in-Ok : goal.returns-in-Ok
+returns-in-Ok c =
     (elim c.match-so_far.branch [
       | in-Some-so_far w ↦
           merge_in mark_order.total mark_order.same stats_join c.in-Some.more.now c.match-so_far.all c.add_all.new.self c.args.so_far
-          c.in_ok-add_all.ensures (w.in-Some-so_far.is ∙ ap Some (sym w.all-is))
+          c.in-Ok.ensures (w.in-Some-so_far.is ∙ ap Some (sym w.all-is))
       | in-None w ↦
           merge_first mark_order.total mark_order.same stats_join c.in-Some.more.now c.match-so_far.all c.add_all.new.self c.args.so_far
-          c.in_ok-add_all.ensures w.in-None.is (w.all-is ∙ w.new-all.ensures)
+          c.in-Ok.ensures w.in-None.is (w.all-is ∙ w.new-all.ensures)
     ])
     ∙ ap (λ o. join_options (unite stats_join) (option_copied o) c.args.so_far) (sym c.in-Some.is)

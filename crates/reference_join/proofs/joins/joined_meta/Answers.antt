@@ -1,46 +1,21 @@
--- What was joined so far takes in the next.
-use Rattle.std.proofs.Common.{◌<◌, ◌≤◌, ◌+◌, ◌-◌, List, Some, length, drop, take, map, arith, ap, sym, ◌∙◌}
+-- The first takes in the rest.
+use Rattle.std.proofs.Common.{◌-◌, List, Some, length, drop, take, map, ap, sym, ◌∙◌}
 use Rattle.std.specs.Option.{unwrap_or}
 use Rattle.vault_model.specs.Db.{Db, SharedMeta}
 use Rattle.vault_model.specs.Join.{meta_join, no_meta}
 use Rattle.vault_model.specs.Unite.{gather, join_options}
-use Rattle.join_laws.proofs.Joins.{meta_joins}
 use Rattle.join_laws.proofs.SoundJoin.{join_meta}
 use Rattle.reference_tables.specs.declared.databases.Database.{Database}
-use Rattle.reference_tables.specs.Databases.{databases, shared_meta}
-use Rattle.reference_join.proofs.GatherMembers.{gather_next}
-use Rattle.reference_tables.proofs.ListSteps.{drop_next, drop_end}
+use Rattle.reference_tables.specs.Databases.{databases}
 use Rattle.reference_join.proofs.Members.{first_and_rest}
 use Rattle.reference_join.proofs.joins.joined_meta.Goals as goal
 
-pub loop-member-init : goal.loop-member-init
-loop-member-init c =
+pub returns-in-Ok : goal.returns-in-Ok
+returns-in-Ok c =
     let members = c.args.members.now in
-    let items = take (length members - 1) (drop 1 members) in
-    ap (λ (ms : List Database). gather meta_join (map (λ (m : Db). Some m.meta) (databases ms))) (first_and_rest members c.index-members-0.result c.requires)
-    ∙ ap (λ (s : SharedMeta). join_options meta_join (Some s) (gather meta_join (map (λ (m : Db). Some m.meta) (databases items)))) (sym c.in_ok-joined.ensures)
-
-pub loop-member-preserved : goal.loop-member-preserved
-loop-member-preserved c =
-    let members = c.args.members.now in
-    let items = take (length members - 1) (drop 1 members) in
-    let i = c.loop-member.member-index in
-    let m = c.member-item.result in
-    let joined = shared_meta c.loop-member.joined in
-    let lt : i < length items = omega arith in
-    let rest = gather meta_join (map (λ (n : Db). Some n.meta) (databases (drop (i + 1) items))) in
-    c.loop-member.invariant
-    ∙ ap (λ (ms : List Database). join_options meta_join (Some joined) (gather meta_join (map (λ (n : Db). Some n.meta) (databases ms)))) (drop_next items i m lt c.member-item.is)
-    ∙ gather_next meta_joins (Some joined) (Some (shared_meta m.meta)) rest
-    ∙ ap (λ (s : SharedMeta). join_options meta_join (Some s) rest) (sym c.in_ok-absorb.ensures)
-
-pub returns : goal.returns
-returns c =
-    let members = c.args.members.now in
-    let items = take (length members - 1) (drop 1 members) in
-    let joined = shared_meta c.loop-member.joined in
-    let end : length items ≤ c.loop-member.member-index = omega arith in
+    let rest = gather meta_join (map (λ (m : Db). Some m.meta) (databases (take (length members - 1) (drop 1 members)))) in
     sym (join_meta (databases members)
     ∙ ap (λ o. unwrap_or o no_meta)
-    (c.loop-member.invariant
-    ∙ ap (λ (ms : List Database). join_options meta_join (Some joined) (gather meta_join (map (λ (n : Db). Some n.meta) (databases ms)))) (drop_end items c.loop-member.member-index end)))
+    (ap (λ (ms : List Database). gather meta_join (map (λ (m : Db). Some m.meta) (databases ms))) (first_and_rest members c.index-members-0.result c.requires)
+    ∙ ap (λ (s : SharedMeta). join_options meta_join (Some s) rest) (sym c.in_ok-joined.ensures)
+    ∙ sym c.in-Ok.ensures))

@@ -3,9 +3,9 @@ use Rattle.vault_model.specs.Db.{Db}
 use Rattle.vault_model.specs.Join.{meta_join}
 use Rattle.vault_model.specs.Unite.{gather, join_options}
 use Rattle.reference_tables.specs.Databases.{databases, shared_meta}
-use Rattle.reference_join.proofs.joins.joined_meta.Given as goal
+use Rattle.reference_join.proofs.joins.absorb_all.Given as goal
 
 abbrev pub invariant-loop-member : goal.invariant-loop-member
 invariant-loop-member l =
-    gather meta_join (map (λ (m : Db). Some m.meta) (databases l.members))
-    ≡ join_options meta_join (Some (shared_meta l.joined)) (gather meta_join (map (λ (m : Db). Some m.meta) (databases (drop l.member-index l.member-items))))
+    join_options meta_join (Some (shared_meta l.fn.joined)) (gather meta_join (map (λ (m : Db). Some m.meta) (databases l.members)))
+    ≡ join_options meta_join (Some (shared_meta l.joined)) (gather meta_join (map (λ (m : Db). Some m.meta) (databases (drop l.member-index l.members))))
