@@ -1,9 +1,9 @@
 //! Copies of one database made one.
-ghost use Rattle.std.specs.Prelude.{◌≡◌, ◌<◌, true, length, IfOk};
+ghost use Rattle.std.specs.Prelude.{◌≡◌, ◌<◌, true, length, IfOk, OnOk};
 ghost use Rattle.std.specs.FinMap as table;
 ghost use Rattle.vault_model.specs.Proper.{rises};
 ghost use Rattle.vault_model.specs.Join.{kept, join};
-ghost use Rattle.reference_tables.specs.Databases.{database, databases};
+ghost use Rattle.reference_tables.specs.Databases.{database, databases, shared_meta};
 ghost use Rattle.merge_join.specs.Marks.{AreKept, AreKnown};
 
 use outside_core::NoMemory;
@@ -50,8 +50,7 @@ fn joined_entry<'a>(
     ensures { IfOk result (λ v. v ≡ table.get (join (databases members.now)).entries id.now) }
 {
     if is_kept(members, marked, id) {
-        let versions = all_versions(alloc, members, id)?;
-        Ok(versions)
+        all_versions(alloc, members, id)
     } else {
         Ok(None)
     }
@@ -97,80 +96,108 @@ fn joined_tomb(members: &[Database], marked: &Table<bool>, id: &Uuid) -> Option<
     }
 }
 
-/// The entries of the join.
-fn joined_entries<'a>(
+/// Puts the entries of the join into a table that has none. A refusal means that memory ran out.
+fn put_entries<'a>(
     alloc: Global,
+    entries: &mut Table<VersionTable<'a>>,
     members: &[Database<'a>],
     marked: &Table<bool>,
     known: &[Uuid],
-) -> Result<Table<VersionTable<'a>>, NoMemory>
+) -> Result<(), NoMemory>
+    requires none { entries.old ≡ table.empty }
     requires marked { AreKept (databases members.now) marked.now }
     requires known { AreKnown (databases members.now) known.now }
-    ensures { IfOk result (λ t. t ≡ (join (databases members.now)).entries) }
+    ensures { OnOk result (entries.new ≡ (join (databases members.now)).entries) }
 {
-    let mut entries = Table::new(alloc);
     for id in known {
         let joined = joined_entry(alloc, members, marked, id)?;
-        put_some(&mut entries, *id, joined)?;
+        put_some(entries, *id, joined)?;
     }
-    Ok(entries)
+    Ok(())
 }
 
-/// The groups of the join.
-fn joined_groups<'a>(
-    alloc: Global,
+/// Puts the groups of the join into a table that has none. A refusal means that memory ran out.
+fn put_groups<'a>(
+    groups: &mut Table<LentState<'a>>,
     members: &[Database<'a>],
     marked: &Table<bool>,
     known: &[Uuid],
-) -> Result<Table<LentState<'a>>, NoMemory>
+) -> Result<(), NoMemory>
+    requires none { groups.old ≡ table.empty }
     requires marked { AreKept (databases members.now) marked.now }
     requires known { AreKnown (databases members.now) known.now }
-    ensures { IfOk result (λ t. t ≡ (join (databases members.now)).groups) }
+    ensures { OnOk result (groups.new ≡ (join (databases members.now)).groups) }
 {
-    let mut groups = Table::new(alloc);
     for id in known {
         let joined = joined_group(members, marked, id);
-        put_some(&mut groups, *id, joined)?;
+        put_some(groups, *id, joined)?;
     }
-    Ok(groups)
+    Ok(())
 }
 
-/// The places of the join.
-fn joined_places(
-    alloc: Global,
+/// Puts the places of the join into a table that has none. A refusal means that memory ran out.
+fn put_places(
+    places: &mut Table<Placement>,
     members: &[Database],
     marked: &Table<bool>,
     known: &[Uuid],
-) -> Result<Table<Placement>, NoMemory>
+) -> Result<(), NoMemory>
+    requires none { places.old ≡ table.empty }
     requires marked { AreKept (databases members.now) marked.now }
     requires known { AreKnown (databases members.now) known.now }
-    ensures { IfOk result (λ t. t ≡ (join (databases members.now)).places) }
+    ensures { OnOk result (places.new ≡ (join (databases members.now)).places) }
 {
-    let mut places = Table::new(alloc);
     for id in known {
         let joined = joined_place(members, marked, id);
-        put_some(&mut places, *id, joined)?;
+        put_some(places, *id, joined)?;
     }
-    Ok(places)
+    Ok(())
 }
 
-/// The tombstones of the join.
-fn joined_tombs(
-    alloc: Global,
+/// Puts the tombstones of the join into a table that has none. A refusal means that memory ran out.
+fn put_tombs(
+    tombs: &mut Table<Stamp>,
     members: &[Database],
     marked: &Table<bool>,
     known: &[Uuid],
-) -> Result<Table<Stamp>, NoMemory>
+) -> Result<(), NoMemory>
+    requires none { tombs.old ≡ table.empty }
     requires marked { AreKept (databases members.now) marked.now }
     requires known { AreKnown (databases members.now) known.now }
-    ensures { IfOk result (λ t. t ≡ (join (databases members.now)).tombs) }
+    ensures { OnOk result (tombs.new ≡ (join (databases members.now)).tombs) }
 {
-    let mut tombs = Table::new(alloc);
     for id in known {
         let joined = joined_tomb(members, marked, id);
-        put_some(&mut tombs, *id, joined)?;
+        put_some(tombs, *id, joined)?;
     }
-    Ok(tombs)
+    Ok(())
+}
+
+/// Puts the nodes and the tombstones of the join into a database that has none. A refusal means that
+/// memory ran out.
+fn put_nodes<'a>(
+    alloc: Global,
+    joined: &mut Database<'a>,
+    members: &[Database<'a>],
+    marked: &Table<bool>,
+    known: &[Uuid],
+) -> Result<(), NoMemory>
+    requires entries { joined.old.entries ≡ table.empty }
+    requires groups { joined.old.groups ≡ table.empty }
+    requires places { joined.old.places ≡ table.empty }
+    requires tombs { joined.old.tombs ≡ table.empty }
+    requires marked { AreKept (databases members.now) marked.now }
+    requires known { AreKnown (databases members.now) known.now }
+    ensures { OnOk result (database joined.new ≡ record (join (databases members.now)) {
+      root = joined.old.root;
+      meta = shared_meta joined.old.meta;
+    }) }
+{
+    put_entries(alloc, &mut joined.entries, members, marked, known)?;
+    put_groups(&mut joined.groups, members, marked, known)?;
+    put_places(&mut joined.places, members, marked, known)?;
+    put_tombs(&mut joined.tombs, members, marked, known)?;
+    Ok(())
 }
 
 /// Copies of one database made one: the nodes are the kept ones, which are marked, each with all
@@ -187,12 +214,20 @@ pub fn join_marked<'a>(
     requires known { AreKnown (databases members.now) known.now }
     ensures { IfOk result (λ d. database d ≡ join (databases members.now)) }
 {
-    Ok(Database {
+    let meta = joined_meta(alloc, members)?;
+    let mut joined = Database {
         root: members[0].root,
-        entries: joined_entries(alloc, members, marked, known)?,
-        groups: joined_groups(alloc, members, marked, known)?,
-        places: joined_places(alloc, members, marked, known)?,
-        tombs: joined_tombs(alloc, members, marked, known)?,
-        meta: joined_meta(alloc, members)?,
-    })
+        entries: Table::new(alloc),
+        groups: Table::new(alloc),
+        places: Table::new(alloc),
+        tombs: Table::new(alloc),
+        meta,
+    };
+    match put_nodes(alloc, &mut joined, members, marked, known) {
+        Ok(()) => Ok(joined),
+        Err(fail) => {
+            drop(joined);
+            Err(fail)
+        }
+    }
 }

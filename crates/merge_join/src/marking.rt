@@ -14,7 +14,7 @@ use std::alloc::Global;
 use uuid_core::Uuid;
 
 /// Why members are not joined.
-#[derive(Clone, Copy, Debug, PartialEq, Eq)]
+#[derive(Clone, Copy)]
 pub enum JoinRefusal {
     /// The way up from this own node does not lead to the root.
     Stray(Uuid),

@@ -3,8 +3,8 @@ use Rattle.std.specs.FinMap.{empty, get}
 use Rattle.vault_model.specs.Join.{join}
 use Rattle.reference_tables.specs.Databases.{databases}
 use Rattle.reference_tables.proofs.FillTables.{fill}
-use Rattle.merge_join.proofs.joins.joined_tombs.Given as goal
+use Rattle.merge_join.proofs.joins.put_places.Given as goal
 
 abbrev pub invariant-loop-id : goal.invariant-loop-id
 invariant-loop-id l =
-    let J = (join (databases l.members)).tombs in fill (get J) empty l.known ≡ fill (get J) l.tombs (drop l.id-index l.known)
+    let J = (join (databases l.members)).places in fill (get J) empty l.known ≡ fill (get J) l.places (drop l.id-index l.known)

@@ -6,7 +6,7 @@ use Rattle.reference_tables.specs.Databases.{databases}
 use Rattle.reference_tables.proofs.FillTables.{fill, fill_whole}
 use Rattle.reference_tables.proofs.ListSteps.{drop_end}
 use Rattle.reference_join.proofs.JoinKnown.{places_known}
-use Rattle.merge_join.proofs.joins.joined_places.Goals as goal
+use Rattle.merge_join.proofs.joins.put_places.Goals as goal
 
 pub returns : goal.returns
 returns c =

@@ -5,15 +5,15 @@ use Rattle.vault_model.specs.Join.{join}
 use Rattle.reference_tables.specs.Databases.{databases}
 use Rattle.reference_tables.proofs.FillTables.{fill, fill_whole}
 use Rattle.reference_tables.proofs.ListSteps.{drop_end}
-use Rattle.reference_join.proofs.JoinKnown.{tombs_known}
-use Rattle.merge_join.proofs.joins.joined_tombs.Goals as goal
+use Rattle.reference_join.proofs.JoinKnown.{entries_known}
+use Rattle.merge_join.proofs.joins.put_entries.Goals as goal
 
 pub returns : goal.returns
 returns c =
     let S = databases c.args.members.now in
-    let J = (join S).tombs in
+    let J = (join S).entries in
     let known = c.args.known.now in
     let end : length known ≤ c.loop-id.id-index = omega arith in
-    sym (ap (fill (get J) c.loop-id.tombs) (drop_end known c.loop-id.id-index end))
+    sym (ap (fill (get J) c.loop-id.entries) (drop_end known c.loop-id.id-index end))
     ∙ sym c.loop-id.invariant
-    ∙ fill_whole J known (λ q h. tombs_known S q (sym (c.requires.known q) ∙ h))
+    ∙ fill_whole J known (λ q h. entries_known S q (sym (c.requires.known q) ∙ h))

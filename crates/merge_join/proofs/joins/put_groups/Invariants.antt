@@ -3,7 +3,7 @@ use Rattle.std.specs.FinMap.{empty, get}
 use Rattle.vault_model.specs.Join.{join}
 use Rattle.reference_tables.specs.Databases.{databases}
 use Rattle.reference_tables.proofs.FillTables.{fill}
-use Rattle.merge_join.proofs.joins.joined_groups.Given as goal
+use Rattle.merge_join.proofs.joins.put_groups.Given as goal
 
 abbrev pub invariant-loop-id : goal.invariant-loop-id
 invariant-loop-id l =
