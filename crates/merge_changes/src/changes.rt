@@ -18,14 +18,14 @@ use uuid_core::Uuid;
 use vault_model::{Stats, compare_group};
 
 /// What a node is.
-#[derive(Clone, Copy, Debug, PartialEq, Eq)]
+#[derive(Clone, Copy)]
 pub enum Kind {
     Entry,
     Group,
 }
 
 /// A change of a node, or of the document.
-#[derive(Clone, Copy, Debug, PartialEq, Eq)]
+#[derive(Clone, Copy)]
 pub enum Change {
     /// The node is there only now.
     Created(Kind, Uuid),
