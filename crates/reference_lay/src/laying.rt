@@ -2,7 +2,8 @@
 ghost use Rattle.std.specs.Prelude.{◌≡◌, ◌++◌, [], ◌∷◌, Some, cond, not, IfOk, OnOk, map};
 ghost use Rattle.std.specs.Option.{option_map, unwrap_or};
 ghost use Rattle.std.specs.FinMap as table;
-ghost use Rattle.std.specs.List.{filter};
+ghost use Rattle.std.specs.List.{filter, list_any};
+ghost use Rattle.vault_model.specs.Join.{is_id};
 ghost use Rattle.vault_model.specs.Shape.{in_order, kids, laid_children, laid_group, laid_meta, laid_stay, lay, new_view, no_stay, stay_in, stay_of, record_of, version_of, versions_in};
 ghost use Rattle.vault_model.specs.Unite.{tabulate};
 ghost use Rattle.reference_tables.specs.Databases.{database, shared_meta};
@@ -66,16 +67,62 @@ fn push_newcomers(
     Ok(())
 }
 
+/// Appends those that are among others, as they were. A refusal means that memory ran out.
+fn push_those_in(
+    alloc: Global,
+    order: &mut Vec<Uuid>,
+    before: &[Uuid],
+    present: &[Uuid],
+) -> Result<(), NoMemory>
+    ensures { OnOk result (order.new.items ≡ order.old.items
+        ++ filter (λ u. list_any (is_id u) present.now) before.now) }
+{
+    let now = table_of(alloc, present)?;
+    push_kept(order, before, &now)
+}
+
+/// Appends those that are not among others, in their order. A refusal means that memory ran out.
+fn push_those_not_in(
+    alloc: Global,
+    order: &mut Vec<Uuid>,
+    before: &[Uuid],
+    present: &[Uuid],
+) -> Result<(), NoMemory>
+    ensures { OnOk result (order.new.items ≡ order.old.items
+        ++ filter (λ u. not (list_any (is_id u) before.now)) present.now) }
+{
+    let old = table_of(alloc, before)?;
+    push_newcomers(order, &old, present)
+}
+
+/// Puts those that were there before and still are, as they were, and then the newcomers in their
+/// order, where none are. A refusal means that memory ran out.
+fn push_in_order(
+    alloc: Global,
+    order: &mut Vec<Uuid>,
+    before: &[Uuid],
+    present: &[Uuid],
+) -> Result<(), NoMemory>
+    requires { order.old.items ≡ [] }
+    ensures { OnOk result (order.new.items ≡ in_order before.now present.now) }
+{
+    push_those_in(alloc, order, before, present)?;
+    push_those_not_in(alloc, order, before, present)?;
+    Ok(())
+}
+
 /// Those that were there before and still are, as they were, and then the newcomers in their order.
 fn in_order(alloc: Global, before: &[Uuid], present: &[Uuid]) -> Result<Vec<Uuid>, NoMemory>
     ensures { IfOk result (λ us. us.items ≡ in_order before.now present.now) }
 {
-    let now = table_of(alloc, present)?;
-    let old = table_of(alloc, before)?;
     let mut order = Vec::new(alloc);
-    push_kept(&mut order, before, &now)?;
-    push_newcomers(&mut order, &old, present)?;
-    Ok(order)
+    match push_in_order(alloc, &mut order, before, present) {
+        Ok(()) => Ok(order),
+        Err(fail) => {
+            drop(order);
+            Err(fail)
+        }
+    }
 }
 
 /// The ids of a table, by rising id.
@@ -83,8 +130,13 @@ fn ids_of<X>(alloc: Global, from: &Table<X>) -> Result<Vec<Uuid>, NoMemory>
     ensures { IfOk result (λ us. us.items ≡ table.keys from.now) }
 {
     let mut ids = Vec::new(alloc);
-    push_ids(&mut ids, from)?;
-    Ok(ids)
+    match push_ids(&mut ids, from) {
+        Ok(()) => Ok(ids),
+        Err(fail) => {
+            drop(ids);
+            Err(fail)
+        }
+    }
 }
 
 /// The entries of a group in the older document, in their order.
@@ -112,17 +164,7 @@ fn entries_by_group(alloc: Global, laid: &Database) -> Result<Table<IdList>, NoM
     ensures { IfOk result (AreUnder (database laid.now) (table.keys laid.now.entries)) }
 {
     let ids = ids_of(alloc, &laid.entries)?;
-    let lists = by_parent(alloc, ids.as_slice(), &laid.places)?;
-    Ok(lists)
-}
-
-/// The groups that are in each group, by rising id.
-fn groups_by_group(alloc: Global, laid: &Database) -> Result<Table<IdList>, NoMemory>
-    ensures { IfOk result (AreUnder (database laid.now) (table.keys laid.now.groups)) }
-{
-    let ids = ids_of(alloc, &laid.groups)?;
-    let lists = by_parent(alloc, ids.as_slice(), &laid.places)?;
-    Ok(lists)
+    by_parent(alloc, ids.as_slice(), &laid.places)
 }
 
 /// The ids that a table has for a group.
@@ -151,8 +193,13 @@ fn laid_children(
         group.now) }
 {
     let ordered_entries = in_order(alloc, old_entries(older, group), ids_under(entries, group))?;
-    let ordered_groups = in_order(alloc, old_groups(older, group), ids_under(groups, group))?;
-    Ok(Children::new(ordered_entries, ordered_groups))
+    match in_order(alloc, old_groups(older, group), ids_under(groups, group)) {
+        Ok(ordered_groups) => Ok(Children::new(ordered_entries, ordered_groups)),
+        Err(fail) => {
+            drop(ordered_entries);
+            Err(fail)
+        }
+    }
 }
 
 /// The stay of what is in no group.
@@ -202,6 +249,21 @@ fn laid_stay(laid: &Database, older: &Shape, id: &Uuid) -> Stay
     }
 }
 
+/// Puts versions as a document has them, in their order, where none are. A refusal means that memory
+/// ran out.
+fn push_versions<'a>(
+    versions: &mut Vec<LentVersion<'a>>,
+    rows: &[(VersionKey<'a>, Stats)],
+) -> Result<(), NoMemory>
+    requires { versions.old.items ≡ [] }
+    ensures { OnOk result (versions.new.items ≡ map version_of rows.now) }
+{
+    for row in rows {
+        versions.push(LentVersion::new(&row.0, row.1))?;
+    }
+    Ok(())
+}
+
 /// Versions as a document has them, in their order.
 fn versions_of<'a>(
     alloc: Global,
@@ -210,10 +272,13 @@ fn versions_of<'a>(
     ensures { IfOk result (λ vs. vs.items ≡ map version_of rows.now) }
 {
     let mut versions = Vec::new(alloc);
-    for row in rows {
-        versions.push(LentVersion::new(&row.0, row.1))?;
+    match push_versions(&mut versions, rows) {
+        Ok(()) => Ok(versions),
+        Err(fail) => {
+            drop(versions);
+            Err(fail)
+        }
     }
-    Ok(versions)
 }
 
 /// An entry of its versions: the greatest is current, and the others are the history, rising.
@@ -247,24 +312,42 @@ fn laid_entry<'a>(
     let Some(versions) = laid.entries.get(id) else {
         return Ok(None);
     };
-    let stay = stay_in(laid, id);
-    let entry = record_of(alloc, stay, versions)?;
-    Ok(entry)
+    record_of(alloc, stay_in(laid, id), versions)
 }
 
-/// The entries as they are laid.
-fn laid_entries<'a>(alloc: Global, laid: &Database<'a>) -> Result<Table<LentEntry<'a>>, NoMemory>
-    ensures { IfOk result (λ t. t ≡ tabulate (table.keys laid.now.entries)
+/// Puts the entries of these ids as they are laid. A refusal means that memory ran out.
+fn fill_entries<'a>(
+    alloc: Global,
+    entries: &mut Table<LentEntry<'a>>,
+    laid: &Database<'a>,
+    ids: &[Uuid],
+) -> Result<(), NoMemory>
+    requires none { entries.old ≡ table.empty }
+    requires ids { ids.now ≡ table.keys laid.now.entries }
+    ensures { OnOk result (entries.new ≡ tabulate (table.keys laid.now.entries)
+        (λ u. record_of (stay_in (database laid.now) u)
+        (versions_in (table.get laid.now.entries u)))) }
+{
+    for id in ids {
+        let entry = laid_entry(alloc, laid, id)?;
+        put_some(entries, *id, entry)?;
+    }
+    Ok(())
+}
+
+/// Puts the entries as they are laid. A refusal means that memory ran out.
+fn put_entries<'a>(
+    alloc: Global,
+    entries: &mut Table<LentEntry<'a>>,
+    laid: &Database<'a>,
+) -> Result<(), NoMemory>
+    requires { entries.old ≡ table.empty }
+    ensures { OnOk result (entries.new ≡ tabulate (table.keys laid.now.entries)
         (λ u. record_of (stay_in (database laid.now) u)
         (versions_in (table.get laid.now.entries u)))) }
 {
     let ids = ids_of(alloc, &laid.entries)?;
-    let mut entries = Table::new(alloc);
-    for id in ids.as_slice() {
-        let entry = laid_entry(alloc, laid, id)?;
-        put_some(&mut entries, *id, entry)?;
-    }
-    Ok(entries)
+    fill_entries(alloc, entries, laid, ids.as_slice())
 }
 
 /// How a group that is new is looked at.
@@ -305,95 +388,214 @@ fn laid_group_at<'a>(laid: &Database<'a>, older: &Shape<'a>, id: &Uuid) -> Optio
     }
 }
 
-/// The groups as they are laid.
-fn laid_groups<'a>(
-    alloc: Global,
+/// Puts the groups of these ids as they are laid. A refusal means that memory ran out.
+fn fill_groups<'a>(
+    groups: &mut Table<LentGroup<'a>>,
     laid: &Database<'a>,
     older: &Shape<'a>,
-) -> Result<Table<LentGroup<'a>>, NoMemory>
-    ensures { IfOk result (λ t. t ≡ tabulate (table.keys laid.now.groups)
+    ids: &[Uuid],
+) -> Result<(), NoMemory>
+    requires none { groups.old ≡ table.empty }
+    requires ids { ids.now ≡ table.keys laid.now.groups }
+    ensures { OnOk result (groups.new ≡ tabulate (table.keys laid.now.groups)
         (λ u. option_map (laid_group (database laid.now) (shape older.now) u)
         (table.get laid.now.groups u))) }
 {
-    let ids = ids_of(alloc, &laid.groups)?;
-    let mut groups = Table::new(alloc);
-    for id in ids.as_slice() {
+    for id in ids {
         let group = laid_group_at(laid, older, id);
-        put_some(&mut groups, *id, group)?;
+        put_some(groups, *id, group)?;
     }
-    Ok(groups)
+    Ok(())
 }
 
-/// The children of all groups as they are laid.
-fn all_children(alloc: Global, laid: &Database, older: &Shape) -> Result<Table<Children>, NoMemory>
-    ensures { IfOk result (λ t. t ≡ tabulate (table.keys laid.now.groups)
+/// Puts the children of the groups of these ids as they are laid. A refusal means that memory ran
+/// out.
+fn fill_children(
+    alloc: Global,
+    children: &mut Table<Children>,
+    laid: &Database,
+    older: &Shape,
+    entries: &Table<IdList>,
+    groups: &Table<IdList>,
+    ids: &[Uuid],
+) -> Result<(), NoMemory>
+    requires none { children.old ≡ table.empty }
+    requires entries { AreUnder (database laid.now) (table.keys laid.now.entries) entries.now }
+    requires groups { AreUnder (database laid.now) (table.keys laid.now.groups) groups.now }
+    requires ids { ids.now ≡ table.keys laid.now.groups }
+    ensures { OnOk result (children.new ≡ tabulate (table.keys laid.now.groups)
+        (λ g. Some (laid_children (database laid.now) (shape older.now) g))) }
+{
+    for id in ids {
+        let siblings = laid_children(alloc, laid, older, entries, groups, id)?;
+        put_some(children, *id, Some(siblings))?;
+    }
+    Ok(())
+}
+
+/// Puts the children of the groups of these ids as they are laid, of the entries that are in each
+/// group. A refusal means that memory ran out.
+fn put_children_of(
+    alloc: Global,
+    children: &mut Table<Children>,
+    laid: &Database,
+    older: &Shape,
+    entries: &Table<IdList>,
+    ids: &[Uuid],
+) -> Result<(), NoMemory>
+    requires none { children.old ≡ table.empty }
+    requires entries { AreUnder (database laid.now) (table.keys laid.now.entries) entries.now }
+    requires ids { ids.now ≡ table.keys laid.now.groups }
+    ensures { OnOk result (children.new ≡ tabulate (table.keys laid.now.groups)
+        (λ g. Some (laid_children (database laid.now) (shape older.now) g))) }
+{
+    let groups = by_parent(alloc, ids, &laid.places)?;
+    fill_children(alloc, children, laid, older, entries, &groups, ids)
+}
+
+/// Puts the children of the groups of these ids as they are laid. A refusal means that memory ran
+/// out.
+fn put_children(
+    alloc: Global,
+    children: &mut Table<Children>,
+    laid: &Database,
+    older: &Shape,
+    ids: &[Uuid],
+) -> Result<(), NoMemory>
+    requires none { children.old ≡ table.empty }
+    requires ids { ids.now ≡ table.keys laid.now.groups }
+    ensures { OnOk result (children.new ≡ tabulate (table.keys laid.now.groups)
         (λ g. Some (laid_children (database laid.now) (shape older.now) g))) }
 {
     let entries = entries_by_group(alloc, laid)?;
-    let groups = groups_by_group(alloc, laid)?;
-    let ids = ids_of(alloc, &laid.groups)?;
-    let mut children = Table::new(alloc);
-    for id in ids.as_slice() {
-        let siblings = laid_children(alloc, laid, older, &entries, &groups, id)?;
-        put_some(&mut children, *id, Some(siblings))?;
-    }
-    Ok(children)
+    put_children_of(alloc, children, laid, older, &entries, ids)
 }
 
-/// The same tombstones, to be kept elsewhere.
-fn same_tombs(alloc: Global, tombs: &Table<Stamp>) -> Result<Table<Stamp>, NoMemory>
-    ensures { IfOk result (λ t. t ≡ tombs.now) }
+/// Puts the tombstones of these ids. A refusal means that memory ran out.
+fn fill_tombs(same: &mut Table<Stamp>, tombs: &Table<Stamp>, ids: &[Uuid]) -> Result<(), NoMemory>
+    requires none { same.old ≡ table.empty }
+    requires ids { ids.now ≡ table.keys tombs.now }
+    ensures { OnOk result (same.new ≡ tombs.now) }
+{
+    for id in ids {
+        let deleted = tombs.get(id).copied();
+        put_some(same, *id, deleted)?;
+    }
+    Ok(())
+}
+
+/// Puts the same tombstones. A refusal means that memory ran out.
+fn put_tombs(alloc: Global, same: &mut Table<Stamp>, tombs: &Table<Stamp>) -> Result<(), NoMemory>
+    requires { same.old ≡ table.empty }
+    ensures { OnOk result (same.new ≡ tombs.now) }
 {
     let ids = ids_of(alloc, tombs)?;
-    let mut same = Table::new(alloc);
-    for id in ids.as_slice() {
-        let deleted = tombs.get(id).copied();
-        put_some(&mut same, *id, deleted)?;
-    }
-    Ok(same)
+    fill_tombs(same, tombs, ids.as_slice())
 }
 
-/// The icons of a database, by rising id.
-fn icons_of<'a>(alloc: Global, icons: &Table<LentIcon<'a>>) -> Result<Vec<LentIcon<'a>>, NoMemory>
-    ensures { IfOk result (λ is. is.items ≡ table.values icons.now) }
+/// Puts the icons of a database, by rising id, where none are. A refusal means that memory ran out.
+fn push_icons<'a>(
+    values: &mut Vec<LentIcon<'a>>,
+    icons: &Table<LentIcon<'a>>,
+) -> Result<(), NoMemory>
+    requires { values.old.items ≡ [] }
+    ensures { OnOk result (values.new.items ≡ table.values icons.now) }
 {
-    let mut values = Vec::new(alloc);
     for (_, icon) in icons.iter() {
         values.push(icon.again())?;
     }
-    Ok(values)
+    Ok(())
 }
 
-/// The custom items of a database, by rising key.
-fn items_of<'a>(alloc: Global, items: &ItemTable<'a>) -> Result<Vec<LentItem<'a>>, NoMemory>
-    ensures { IfOk result (λ is. is.items ≡ table.values items.now) }
+/// Puts the custom items of a database, by rising key, where none are. A refusal means that memory
+/// ran out.
+fn push_items<'a>(values: &mut Vec<LentItem<'a>>, items: &ItemTable<'a>) -> Result<(), NoMemory>
+    requires { values.old.items ≡ [] }
+    ensures { OnOk result (values.new.items ≡ table.values items.now) }
 {
-    let mut values = Vec::new(alloc);
     for row in items.rows() {
         values.push(row.1.again())?;
     }
-    Ok(values)
+    Ok(())
 }
 
-/// The shared values of a database, and how the older document was looked at.
-fn laid_meta<'a>(
-    alloc: Global,
-    laid: &LentMeta<'a>,
-    older: &ShapeMeta<'a>,
-) -> Result<ShapeMeta<'a>, NoMemory>
-    ensures { IfOk result (λ m. meta_of m ≡ laid_meta (shared_meta laid.now) (meta_of older.now)) }
+/// The shared values of a database but its icons and custom items, and how the older document was
+/// looked at.
+fn bare_meta<'a>(alloc: Global, laid: &LentMeta<'a>, older: &ShapeMeta<'a>) -> ShapeMeta<'a>
+    ensures { meta_of result ≡ record (laid_meta (shared_meta laid.now) (meta_of older.now)) {
+      icons = [];
+      items = [];
+    } }
 {
-    Ok(ShapeMeta {
+    ShapeMeta {
         name: laid.name,
         description: laid.description,
         user: laid.user,
         bin: laid.bin,
         templates: laid.templates,
         settings: laid.settings,
-        icons: icons_of(alloc, &laid.icons)?,
-        items: items_of(alloc, &laid.items)?,
+        icons: Vec::new(alloc),
+        items: Vec::new(alloc),
         view: older.view,
-    })
+    }
+}
+
+/// Puts all nodes as they are laid, of which the ids of the groups are given, the tombstones, the
+/// icons and the custom items. A refusal means that memory ran out.
+fn put_all<'a>(
+    alloc: Global,
+    made: &mut Shape<'a>,
+    laid: &Database<'a>,
+    older: &Shape<'a>,
+    groups: &[Uuid],
+) -> Result<(), NoMemory>
+    requires root { made.old.root ≡ laid.now.root }
+    requires entries { made.old.entries ≡ table.empty }
+    requires groups { made.old.groups ≡ table.empty }
+    requires children { made.old.children ≡ table.empty }
+    requires tombs { made.old.tombs ≡ table.empty }
+    requires meta { meta_of made.old.meta
+        ≡ record (laid_meta (shared_meta laid.now.meta) (meta_of older.now.meta)) {
+          icons = [];
+          items = [];
+        } }
+    requires ids { groups.now ≡ table.keys laid.now.groups }
+    ensures { OnOk result (shape made.new ≡ lay (database laid.now) (shape older.now)) }
+{
+    put_entries(alloc, &mut made.entries, laid)?;
+    fill_groups(&mut made.groups, laid, older, groups)?;
+    put_children(alloc, &mut made.children, laid, older, groups)?;
+    put_tombs(alloc, &mut made.tombs, &laid.tombs)?;
+    push_icons(&mut made.meta.icons, &laid.meta.icons)?;
+    push_items(&mut made.meta.items, &laid.meta.items)?;
+    Ok(())
+}
+
+/// The document of a database over an older document, of which the ids of the groups are given.
+fn lay_with<'a>(
+    alloc: Global,
+    laid: &Database<'a>,
+    older: &Shape<'a>,
+    groups: &[Uuid],
+) -> Result<Shape<'a>, NoMemory>
+    requires { groups.now ≡ table.keys laid.now.groups }
+    ensures { IfOk result (λ s. shape s ≡ lay (database laid.now) (shape older.now)) }
+{
+    let mut made = Shape {
+        root: laid.root,
+        entries: Table::new(alloc),
+        groups: Table::new(alloc),
+        children: Table::new(alloc),
+        tombs: Table::new(alloc),
+        meta: bare_meta(alloc, &laid.meta, &older.meta),
+    };
+    match put_all(alloc, &mut made, laid, older, groups) {
+        Ok(()) => Ok(made),
+        Err(fail) => {
+            drop(made);
+            Err(fail)
+        }
+    }
 }
 
 /// The document of a database over an older document: the order of siblings and how all was looked
@@ -402,12 +604,6 @@ fn laid_meta<'a>(
 pub fn lay<'a>(alloc: Global, laid: &Database<'a>, older: &Shape<'a>) -> Result<Shape<'a>, NoMemory>
     ensures { IfOk result (λ s. shape s ≡ lay (database laid.now) (shape older.now)) }
 {
-    Ok(Shape {
-        root: laid.root,
-        entries: laid_entries(alloc, laid)?,
-        groups: laid_groups(alloc, laid, older)?,
-        children: all_children(alloc, laid, older)?,
-        tombs: same_tombs(alloc, &laid.tombs)?,
-        meta: laid_meta(alloc, &laid.meta, &older.meta)?,
-    })
+    let groups = ids_of(alloc, &laid.groups)?;
+    lay_with(alloc, laid, older, groups.as_slice())
 }

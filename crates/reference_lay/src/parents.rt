@@ -1,6 +1,6 @@
 //! Which nodes are in each group.
 ghost use Rattle.std.specs.Prelude.{◌≡◌, ◌++◌, [], ◌∷◌, cond, IfOk, OnOk};
-ghost use Rattle.std.specs.FinMap.{get};
+ghost use Rattle.std.specs.FinMap.{empty, get};
 ghost use Rattle.std.specs.List.{filter};
 ghost use Rattle.vault_model.specs.Db.{NodeId};
 ghost use Rattle.vault_model.specs.Join.{is_id};
@@ -37,9 +37,16 @@ fn put_under(
         ≡ ids_under children.old g ++ cond (is_id g parent) (id ∷ []) []) }
 {
     let mut ids = take_ids(alloc, children, &parent);
-    ids.push(id)?;
-    children.put(parent, ids)?;
-    Ok(())
+    match ids.push(id) {
+        Ok(()) => {
+            children.put(parent, ids)?;
+            Ok(())
+        }
+        Err(fail) => {
+            drop(ids);
+            Err(fail)
+        }
+    }
 }
 
 /// Puts an id after those that are in the group of its place, if it has one. A refusal means that
@@ -59,6 +66,23 @@ fn put_at(
     }
 }
 
+/// Puts ids under the groups of their places, where none are. A refusal means that memory ran out.
+fn put_all(
+    alloc: Global,
+    children: &mut Table<IdList>,
+    ids: &[Uuid],
+    places: &Table<Placement>,
+) -> Result<(), NoMemory>
+    requires { children.old ≡ empty }
+    ensures { OnOk result ((g : NodeId) → ids_under children.new g
+        ≡ filter (λ u. stands_in g (get places.now u)) ids.now) }
+{
+    for id in ids {
+        put_at(alloc, children, places.get(id).copied(), *id)?;
+    }
+    Ok(())
+}
+
 /// The ids that are in each group, in their order.
 pub fn by_parent(
     alloc: Global,
@@ -69,8 +93,11 @@ pub fn by_parent(
         ≡ filter (λ u. stands_in g (get places.now u)) ids.now) }
 {
     let mut children = Table::new(alloc);
-    for id in ids {
-        put_at(alloc, &mut children, places.get(id).copied(), *id)?;
+    match put_all(alloc, &mut children, ids, places) {
+        Ok(()) => Ok(children),
+        Err(fail) => {
+            drop(children);
+            Err(fail)
+        }
     }
-    Ok(children)
 }

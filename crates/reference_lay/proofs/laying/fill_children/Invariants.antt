@@ -5,9 +5,9 @@ use Rattle.vault_model.specs.Shape.{Children, laid_children}
 use Rattle.reference_tables.specs.Databases.{database}
 use Rattle.reference_shapes.specs.Shapes.{shape}
 use Rattle.reference_tables.proofs.FillTables.{fill}
-use Rattle.reference_lay.proofs.laying.all_children.Given as goal
+use Rattle.reference_lay.proofs.laying.fill_children.Given as goal
 
 abbrev pub invariant-loop-id : goal.invariant-loop-id
 invariant-loop-id l =
     let value : NodeId → Option Children = λ g. Some (laid_children (database l.laid) (shape l.older) g) in
-    fill value empty (keys l.laid.groups) ≡ fill value l.children (drop l.id-index l.id-items)
+    fill value empty (keys l.laid.groups) ≡ fill value l.children (drop l.id-index l.ids)

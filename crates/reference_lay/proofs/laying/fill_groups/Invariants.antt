@@ -6,9 +6,9 @@ use Rattle.vault_model.specs.Shape.{GroupRecord, laid_group}
 use Rattle.reference_tables.specs.Databases.{database}
 use Rattle.reference_shapes.specs.Shapes.{shape}
 use Rattle.reference_tables.proofs.FillTables.{fill}
-use Rattle.reference_lay.proofs.laying.laid_groups.Given as goal
+use Rattle.reference_lay.proofs.laying.fill_groups.Given as goal
 
 abbrev pub invariant-loop-id : goal.invariant-loop-id
 invariant-loop-id l =
     let value : NodeId → Option GroupRecord = λ u. option_map (laid_group (database l.laid) (shape l.older) u) (get l.laid.groups u) in
-    fill value empty (keys l.laid.groups) ≡ fill value l.groups (drop l.id-index l.id-items)
+    fill value empty (keys l.laid.groups) ≡ fill value l.groups (drop l.id-index l.ids)

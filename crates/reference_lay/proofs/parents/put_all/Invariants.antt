@@ -4,7 +4,7 @@ use Rattle.std.specs.List.{filter}
 use Rattle.vault_model.specs.Db.{NodeId}
 use Rattle.vault_model.specs.Shape.{stands_in}
 use Rattle.reference_lay.specs.Parents.{ids_under}
-use Rattle.reference_lay.proofs.parents.by_parent.Given as goal
+use Rattle.reference_lay.proofs.parents.put_all.Given as goal
 
 abbrev pub invariant-loop-id : goal.invariant-loop-id
 invariant-loop-id l =

@@ -8,14 +8,14 @@ use Rattle.reference_tables.specs.Databases.{database}
 use Rattle.reference_shapes.specs.Shapes.{shape}
 use Rattle.reference_tables.proofs.FillTables.{fill_tabulate, fill}
 use Rattle.reference_tables.proofs.ListSteps.{drop_next, drop_end}
-use Rattle.reference_lay.proofs.laying.all_children.Goals as goal
+use Rattle.reference_lay.proofs.laying.fill_children.Goals as goal
 
 pub loop-id-preserved : goal.loop-id-preserved
 loop-id-preserved c =
     let m = database c.args.laid.now in
     let t = shape c.args.older.now in
     let value : NodeId → Option Children = λ g. Some (laid_children m t g) in
-    let ids = c.as_slice-id-items.result.now in
+    let ids = c.args.ids.now in
     let i = c.loop-id.id-index in
     let x = c.id-item.result in
     let lt : i < length ids = omega arith in
@@ -29,7 +29,7 @@ pub returns : goal.returns
 returns c =
     let m = database c.args.laid.now in
     let value : NodeId → Option Children = λ g. Some (laid_children m (shape c.args.older.now) g) in
-    let ids = c.as_slice-id-items.result.now in
+    let ids = c.args.ids.now in
     let end : length ids ≤ c.loop-id.id-index = omega arith in
     sym (ap (fill value c.loop-id.children) (drop_end ids c.loop-id.id-index end))
     ∙ sym c.loop-id.invariant

@@ -5,9 +5,9 @@ use Rattle.vault_model.specs.Db.{NodeId}
 use Rattle.vault_model.specs.Shape.{stands_in}
 use Rattle.reference_lay.specs.Parents.{ids_under}
 use Rattle.reference_lay.proofs.PutUnder.{ids_of_none}
-use Rattle.reference_lay.proofs.parents.by_parent.Goals as goal
+use Rattle.reference_lay.proofs.parents.put_all.Goals as goal
 
 pub loop-id-init : goal.loop-id-init
 loop-id-init c g =
     ap (λ (us : List NodeId). us ++ filter (λ u. stands_in g (get c.args.places.now u)) c.args.ids.now)
-    (sym (ap (λ t. ids_under t g) c.new-children.ensures ∙ ids_of_none g))
+    (sym (ap (λ t. ids_under t g) c.requires ∙ ids_of_none g))
