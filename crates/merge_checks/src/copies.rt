@@ -1,5 +1,5 @@
 //! The databases that are joined.
-ghost use Rattle.std.specs.Prelude.{◌≡◌, ◌∷◌, None, IfOk, map};
+ghost use Rattle.std.specs.Prelude.{◌≡◌, [], ◌∷◌, None, IfOk, OnOk, map};
 ghost use Rattle.vault_model.specs.SeenDoc.{doc_seen};
 ghost use Rattle.vault_model.specs.Tree.{db_in};
 ghost use Rattle.merge_laws.specs.Refusals.{least, members, root_clashes};
@@ -19,6 +19,27 @@ fn own_database<'a>(alloc: Global, doc: &'a Doc) -> Result<Database<'a>, NoMemor
     Ok(read)
 }
 
+/// Puts the databases that are joined where none are. A refusal means that memory ran out.
+fn push_members<'a>(
+    alloc: Global,
+    copies: &mut Vec<Database<'a>>,
+    target: &'a Doc,
+    sources: &'a [Doc],
+) -> Result<(), NoMemory>
+    requires none { copies.old.items ≡ [] }
+    requires clear { least (root_clashes (doc_seen target.now ∷ map doc_seen sources.now)) ≡ None }
+    ensures { OnOk result (databases copies.new.items
+        ≡ members (doc_seen target.now) (map doc_seen sources.now)) }
+{
+    let own = own_database(alloc, target)?;
+    copies.push(own)?;
+    for source in sources {
+        let copy = database_of(alloc, source, target.root.id)?;
+        copies.push(copy)?;
+    }
+    Ok(())
+}
+
 /// The databases that are joined: the target's, and each source's under the target's root.
 pub fn members_of<'a>(
     alloc: Global,
@@ -30,11 +51,11 @@ pub fn members_of<'a>(
         ≡ members (doc_seen target.now) (map doc_seen sources.now)) }
 {
     let mut copies = Vec::new(alloc);
-    let own = own_database(alloc, target)?;
-    copies.push(own)?;
-    for source in sources {
-        let copy = database_of(alloc, source, target.root.id)?;
-        copies.push(copy)?;
+    match push_members(alloc, &mut copies, target, sources) {
+        Ok(()) => Ok(copies),
+        Err(failed) => {
+            drop(copies);
+            Err(failed)
+        }
     }
-    Ok(copies)
 }

@@ -1,5 +1,6 @@
 //! The cycle that the way up from a node ends in.
-ghost use Rattle.std.specs.Prelude.{◌≡◌, IfOk};
+ghost use Rattle.std.specs.Prelude.{◌≡◌, [], IfOk, OnOk};
+ghost use Rattle.std.specs.FinMap.{keys};
 ghost use Rattle.vault_model.specs.Db.{steps};
 ghost use Rattle.vault_model.specs.Join.{above, trail};
 ghost use Rattle.reference_tables.specs.Databases.{databases};
@@ -10,6 +11,7 @@ use merge_changes::changes::table_of_ids;
 use outside_core::{List, NoMemory};
 use reference_join::nodes::{above, all_ids};
 use reference_tables::databases::Database;
+use reference_tables::tables::Table;
 use std::alloc::Global;
 use uuid_core::Uuid;
 use vault_making::copies::put_last;
@@ -27,6 +29,28 @@ fn steps_up(copies: &[Database], from: Uuid, count: usize) -> Uuid
     at
 }
 
+/// Puts a node and those above it, so many steps up, where none are. A refusal means that memory ran
+/// out.
+fn push_trail(
+    nodes: &mut Vec<Uuid>,
+    copies: &[Database],
+    from: Uuid,
+    count: usize,
+) -> Result<(), NoMemory>
+    requires { nodes.old.items ≡ [] }
+    ensures { OnOk result (nodes.new.items ≡ trail (databases copies.now) count from) }
+{
+    let mut at = from;
+    let mut left = count;
+    while left > 0 {
+        nodes.push(at)?;
+        at = above(copies, &at);
+        left -= 1;
+    }
+    nodes.push(at)?;
+    Ok(())
+}
+
 /// A node and those above it, so many steps up.
 fn trail_from(
     alloc: Global,
@@ -37,15 +61,38 @@ fn trail_from(
     ensures { IfOk result (λ us. us.items ≡ trail (databases copies.now) count from) }
 {
     let mut trail = Vec::new(alloc);
-    let mut at = from;
-    let mut left = count;
-    while left > 0 {
-        trail.push(at)?;
-        at = above(copies, &at);
-        left -= 1;
+    match push_trail(&mut trail, copies, from, count) {
+        Ok(()) => Ok(trail),
+        Err(failed) => {
+            drop(trail);
+            Err(failed)
+        }
     }
-    trail.push(at)?;
-    Ok(trail)
+}
+
+/// Puts the ids of a table, by rising id, where none are. A refusal means that memory ran out.
+fn push_ids(list: &mut List<Uuid>, table: &Table<bool>) -> Result<(), NoMemory>
+    requires { list.old ≡ [] }
+    ensures { OnOk result (list.new ≡ keys table.now) }
+{
+    for (id, _) in table.iter() {
+        put_last(list, *id)?;
+    }
+    Ok(())
+}
+
+/// The ids of a table, by rising id.
+fn list_of(alloc: Global, table: &Table<bool>) -> Result<List<Uuid>, NoMemory>
+    ensures { IfOk result (λ us. us ≡ keys table.now) }
+{
+    let mut list = List::new(alloc);
+    match push_ids(&mut list, table) {
+        Ok(()) => Ok(list),
+        Err(failed) => {
+            drop(list);
+            Err(failed)
+        }
+    }
 }
 
 /// Some ids by rising id, each once.
@@ -53,11 +100,7 @@ fn rising_list(alloc: Global, ids: &[Uuid]) -> Result<List<Uuid>, NoMemory>
     ensures { IfOk result (λ us. us ≡ rising_ids ids.now) }
 {
     let table = table_of_ids(alloc, ids)?;
-    let mut list = List::new(alloc);
-    for (id, _) in table.iter() {
-        put_last(&mut list, *id)?;
-    }
-    Ok(list)
+    list_of(alloc, &table)
 }
 
 /// The cycle that the way up from a node ends in, by rising id.

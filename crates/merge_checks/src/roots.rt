@@ -1,5 +1,6 @@
 //! Nodes that have the id of some document's root.
-ghost use Rattle.std.specs.Prelude.{◌≡◌, ◌∷◌, None, IfOk, map};
+ghost use Rattle.std.specs.Prelude.{◌≡◌, ◌∷◌, None, IfOk, OnOk, map};
+ghost use Rattle.std.specs.FinMap.{empty};
 ghost use Rattle.std.specs.List.{list_any};
 ghost use Rattle.vault_model.specs.Db.{NodeId};
 ghost use Rattle.vault_model.specs.Join.{is_id};
@@ -55,17 +56,32 @@ fn clash_below(roots: &Table<bool>, group: &Group, so_far: Option<Uuid>) -> Opti
     found
 }
 
+/// Puts the ids of the roots where none are. A refusal means that memory ran out.
+fn put_roots(roots: &mut Table<bool>, target: &Doc, sources: &[Doc]) -> Result<(), NoMemory>
+    requires { roots.old ≡ empty }
+    ensures { OnOk result ((u : NodeId) → is_marked roots.new u
+        ≡ list_any (λ d. is_id u (id_of d.tree)) (doc_seen target.now ∷ map doc_seen sources.now)) }
+{
+    roots.put(target.root.id, true)?;
+    for source in sources {
+        roots.put(source.root.id, true)?;
+    }
+    Ok(())
+}
+
 /// The ids of the roots.
 fn root_ids(alloc: Global, target: &Doc, sources: &[Doc]) -> Result<Table<bool>, NoMemory>
     ensures { IfOk result (λ t. (u : NodeId) → is_marked t u
         ≡ list_any (λ d. is_id u (id_of d.tree)) (doc_seen target.now ∷ map doc_seen sources.now)) }
 {
     let mut roots = Table::new(alloc);
-    roots.put(target.root.id, true)?;
-    for source in sources {
-        roots.put(source.root.id, true)?;
+    match put_roots(&mut roots, target, sources) {
+        Ok(()) => Ok(roots),
+        Err(failed) => {
+            drop(roots);
+            Err(failed)
+        }
     }
-    Ok(roots)
 }
 
 /// The least node of some documents that has a root's id, and is not the root of its own.

@@ -4,14 +4,14 @@ use Rattle.vault_model.specs.Db.{NodeId}
 use Rattle.vault_model.specs.Join.{above, trail}
 use Rattle.reference_tables.specs.Databases.{databases}
 use Rattle.reference_join.proofs.Trails.{trail_more}
-use Rattle.merge_checks.proofs.cycles.trail_from.Goals as goal
+use Rattle.merge_checks.proofs.cycles.push_trail.Goals as goal
 
 pub loop-left-preserved : goal.loop-left-preserved
 loop-left-preserved c =
     let S = databases c.args.copies.now in
     let n = c.loop-left.left in
     let at = c.loop-left.at in
-    let so_far = c.loop-left.trail.items in
+    let so_far = c.loop-left.nodes.items in
     c.loop-left.invariant
     ∙ ap (λ (us : List NodeId). so_far ++ us) (trail_more S n at c.loop-left-test.true)
     ∙ sym (append_assoc so_far (at ∷ []) (trail S (n - 1) (above S at)))

@@ -9,13 +9,13 @@ use Rattle.reference_tables.specs.Databases.{database}
 use Rattle.reference_tables.proofs.ListSteps.{drop_next}
 use Rattle.merge_checks.proofs.SeenBelow.{seen_id}
 use Rattle.merge_checks.proofs.OwnDocs.{at_place, copy_more, is_source}
-use Rattle.merge_checks.proofs.copies.members_of.Goals as goal
+use Rattle.merge_checks.proofs.copies.push_members.Goals as goal
 
 pub database_of-requires : goal.database_of-requires
 database_of-requires c =
     let ds = c.args.sources.now in
     let lt : c.loop-source.source-index < length ds = omega arith in
-    is_source c.args.target.now ds c.requires c.source-item.result (at_place ds c.loop-source.source-index c.source-item.result lt c.source-item.is)
+    is_source c.args.target.now ds c.requires.clear c.source-item.result (at_place ds c.loop-source.source-index c.source-item.result lt c.source-item.is)
 
 pub loop-source-preserved : goal.loop-source-preserved
 loop-source-preserved c =

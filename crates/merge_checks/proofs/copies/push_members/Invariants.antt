@@ -3,7 +3,7 @@ use Rattle.vault_model.specs.SeenDoc.{doc_seen}
 use Rattle.vault_model.specs.Tree.{BareDoc, db_in, id_of, rooted}
 use Rattle.merge_laws.specs.Refusals.{members}
 use Rattle.reference_tables.specs.Databases.{databases}
-use Rattle.merge_checks.proofs.copies.members_of.Given as goal
+use Rattle.merge_checks.proofs.copies.push_members.Given as goal
 
 abbrev pub invariant-loop-source : goal.invariant-loop-source
 invariant-loop-source l =

@@ -13,7 +13,7 @@ use Rattle.reference_tables.proofs.IdSets.{has_put, one_more}
 use Rattle.reference_tables.proofs.ListSteps.{drop_next, drop_end}
 use Rattle.merge_checks.proofs.RootIds.{or_off}
 use Rattle.merge_checks.proofs.SeenBelow.{seen_id}
-use Rattle.merge_checks.proofs.roots.root_ids.Goals as goal
+use Rattle.merge_checks.proofs.roots.put_roots.Goals as goal
 
 abbrev is_root : NodeId → BareDoc → Bool
 is_root u d = is_id u (id_of d.tree)
@@ -23,7 +23,7 @@ loop-source-init c u =
     let root = c.args.target.now.root in
     let id = (out-Group root).id in
     ap (λ b. b || list_any (is_root u) (map doc_seen c.args.sources.now))
-    (ap (λ t. is_marked t u) (c.in_ok-put.ensures.ok ∙ ap (λ t. insert t id true) c.new-roots.ensures)
+    (ap (λ t. is_marked t u) (c.in_ok-put.ensures.ok ∙ ap (λ t. insert t id true) c.requires)
     ∙ has_put empty id true u ∙ or_off (is_id u id) (is_marked empty u) (ap is_some (get-empty id_cmp u))
     ∙ ap (is_id u) (sym (seen_id root)))
 
