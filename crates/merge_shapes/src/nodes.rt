@@ -1,5 +1,5 @@
 //! The nodes of a document side by side.
-ghost use Rattle.std.specs.Prelude.{◌≡◌, IfOk, OnOk, map};
+ghost use Rattle.std.specs.Prelude.{◌≡◌, [], IfOk, OnOk, map};
 ghost use Rattle.vault_model.specs.Db.{NodeId};
 ghost use Rattle.vault_model.specs.SeenNodes.{bare_version, entry_record, entry_row, tree_seen};
 ghost use Rattle.vault_model.specs.Shape.{EntryRecord};
@@ -31,15 +31,32 @@ fn lent_version<'a>(version: &'a Version) -> LentVersion<'a>
     LentVersion::new(&key, version.stats)
 }
 
+/// Puts versions, lent, where none are. A refusal means that memory ran out.
+fn push_versions<'a>(
+    lent: &mut Vec<LentVersion<'a>>,
+    history: &'a [Version],
+) -> Result<(), NoMemory>
+    requires { lent.old.items ≡ [] }
+    ensures { OnOk result (lent.new.items ≡ map bare_version history.now) }
+{
+    for version in history {
+        lent.push(lent_version(version))?;
+    }
+    Ok(())
+}
+
 /// Versions, lent.
 fn lent_history<'a>(alloc: Global, history: &'a [Version]) -> Result<Vec<LentVersion<'a>>, NoMemory>
     ensures { IfOk result (λ vs. vs.items ≡ map bare_version history.now) }
 {
     let mut lent = Vec::new(alloc);
-    for version in history {
-        lent.push(lent_version(version))?;
+    match push_versions(&mut lent, history) {
+        Ok(()) => Ok(lent),
+        Err(failed) => {
+            drop(lent);
+            Err(failed)
+        }
     }
-    Ok(lent)
 }
 
 /// An entry, lent.
@@ -54,16 +71,42 @@ fn lent_entry<'a>(alloc: Global, entry: &'a Entry) -> Result<LentEntry<'a>, NoMe
     Ok(LentEntry::new(stay, lent_version(&entry.current), history))
 }
 
+/// Puts the ids of some entries where none are. A refusal means that memory ran out.
+fn push_entry_ids(ids: &mut Vec<Uuid>, entries: &[Entry]) -> Result<(), NoMemory>
+    requires { ids.old.items ≡ [] }
+    ensures { OnOk result (ids.new.items
+        ≡ map (λ (e : NodeId × EntryRecord). e.0) (map entry_row entries.now)) }
+{
+    for entry in entries {
+        ids.push(entry.id)?;
+    }
+    Ok(())
+}
+
 /// The ids of some entries.
 fn entry_ids(alloc: Global, entries: &[Entry]) -> Result<Vec<Uuid>, NoMemory>
     ensures { IfOk result (λ us. us.items
         ≡ map (λ (e : NodeId × EntryRecord). e.0) (map entry_row entries.now)) }
 {
     let mut ids = Vec::new(alloc);
-    for entry in entries {
-        ids.push(entry.id)?;
+    match push_entry_ids(&mut ids, entries) {
+        Ok(()) => Ok(ids),
+        Err(failed) => {
+            drop(ids);
+            Err(failed)
+        }
     }
-    Ok(ids)
+}
+
+/// Puts the ids of some groups where none are. A refusal means that memory ran out.
+fn push_group_ids(ids: &mut Vec<Uuid>, groups: &[Group]) -> Result<(), NoMemory>
+    requires { ids.old.items ≡ [] }
+    ensures { OnOk result (ids.new.items ≡ ids_of (all_trees (map tree_seen groups.now))) }
+{
+    for group in groups {
+        ids.push(group.id)?;
+    }
+    Ok(())
 }
 
 /// The ids of some groups.
@@ -71,10 +114,13 @@ fn group_ids(alloc: Global, groups: &[Group]) -> Result<Vec<Uuid>, NoMemory>
     ensures { IfOk result (λ us. us.items ≡ ids_of (all_trees (map tree_seen groups.now))) }
 {
     let mut ids = Vec::new(alloc);
-    for group in groups {
-        ids.push(group.id)?;
+    match push_group_ids(&mut ids, groups) {
+        Ok(()) => Ok(ids),
+        Err(failed) => {
+            drop(ids);
+            Err(failed)
+        }
     }
-    Ok(ids)
 }
 
 /// The ids of a group's children.
@@ -82,8 +128,13 @@ fn children_in(alloc: Global, group: &Group) -> Result<Children, NoMemory>
     ensures { IfOk result (λ c. c ≡ children_in (tree_seen group.now)) }
 {
     let entries = entry_ids(alloc, group.entries.as_slice())?;
-    let groups = group_ids(alloc, group.groups.as_slice())?;
-    Ok(Children::new(entries, groups))
+    match group_ids(alloc, group.groups.as_slice()) {
+        Ok(groups) => Ok(Children::new(entries, groups)),
+        Err(failed) => {
+            drop(entries);
+            Err(failed)
+        }
+    }
 }
 
 /// Adds an entry. A refusal means that memory ran out.

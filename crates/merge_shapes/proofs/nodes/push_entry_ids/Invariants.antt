@@ -2,7 +2,7 @@ use Rattle.std.proofs.Common.{◌≡◌, ◌++◌, map, drop}
 use Rattle.vault_model.specs.Db.{NodeId}
 use Rattle.vault_model.specs.SeenNodes.{entry_row}
 use Rattle.vault_model.specs.Shape.{EntryRecord}
-use Rattle.merge_shapes.proofs.nodes.entry_ids.Given as goal
+use Rattle.merge_shapes.proofs.nodes.push_entry_ids.Given as goal
 
 abbrev pub invariant-loop-entry : goal.invariant-loop-entry
 invariant-loop-entry l =

@@ -1,7 +1,7 @@
 use Rattle.std.proofs.Common.{◌≡◌, ◌++◌, map, drop}
 use Rattle.vault_model.specs.SeenNodes.{tree_seen}
 use Rattle.vault_model.specs.Tree.{all_trees, ids_of}
-use Rattle.merge_shapes.proofs.nodes.group_ids.Given as goal
+use Rattle.merge_shapes.proofs.nodes.push_group_ids.Given as goal
 
 abbrev pub invariant-loop-group : goal.invariant-loop-group
 invariant-loop-group l =

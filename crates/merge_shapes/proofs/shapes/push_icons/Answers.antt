@@ -2,7 +2,7 @@
 use Rattle.std.proofs.Common.{◌<◌, ◌+◌, ◌++◌, ◌∷◌, [], List, append_assoc, length, drop, arith, ap, sym, ◌∙◌}
 use Rattle.vault_model.specs.declared.metas.Icon.{Icon}
 use Rattle.reference_tables.proofs.ListSteps.{drop_next}
-use Rattle.merge_shapes.proofs.shapes.lent_icons.Goals as goal
+use Rattle.merge_shapes.proofs.shapes.push_icons.Goals as goal
 
 pub loop-icon-preserved : goal.loop-icon-preserved
 loop-icon-preserved c =

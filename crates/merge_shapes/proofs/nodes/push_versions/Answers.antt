@@ -4,7 +4,7 @@ use Rattle.vault_model.specs.declared.nodes.Version.{Version}
 use Rattle.vault_model.specs.SeenNodes.{bare_version}
 use Rattle.vault_model.specs.Shape.{BareVersion}
 use Rattle.reference_tables.proofs.ListSteps.{drop_next}
-use Rattle.merge_shapes.proofs.nodes.lent_history.Goals as goal
+use Rattle.merge_shapes.proofs.nodes.push_versions.Goals as goal
 
 pub loop-version-preserved : goal.loop-version-preserved
 loop-version-preserved c =

@@ -1,7 +1,7 @@
 use Rattle.std.proofs.Common.{◌≡◌, ◌≤◌, length, map, drop}
 use Rattle.std.specs.FinMap.{from_entries}
 use Rattle.merge_reading.specs.Rows.{tomb_row}
-use Rattle.merge_shapes.proofs.shapes.tombs_of.Given as goal
+use Rattle.merge_shapes.proofs.shapes.put_tombs.Given as goal
 
 abbrev pub invariant-loop-at : goal.invariant-loop-at
 invariant-loop-at l =
