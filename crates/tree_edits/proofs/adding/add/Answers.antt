@@ -1,4 +1,4 @@
-use Rattle.std.proofs.Common.{List, ℕ, Ok, Some, sym, ap, ◌∙◌}
+use Rattle.std.proofs.Common.{List, ℕ, Ok, Some, inl, refl, sym, ap, ◌∙◌}
 use Rattle.std.proofs.lemmas.Str.{is_utf8-from_IsUtf8}
 use Rattle.std.specs.Str.{is_utf8}
 use Rattle.vault_model.proofs.DocumentLaws.{is_doc}
@@ -12,7 +12,7 @@ use Rattle.tree_changes.specs.Changes.{changed_at, has_group, with_entry}
 use Rattle.tree_changes.specs.NewNodes.{given_values, new_entry, new_fields}
 use Rattle.tree_changes.specs.NewPaths.{before_last}
 use Rattle.tree_edits.proofs.AddedDoc.{add_is_doc}
-use Rattle.tree_edits.proofs.AfterAdd.{add_done}
+use Rattle.tree_edits.proofs.AfterAdd.{add_done, add_id_taken, add_no_path, add_taken}
 use Rattle.tree_edits.proofs.adding.add.Goals as goal
 
 pub invariant_of-doc : goal.invariant_of-doc
@@ -54,3 +54,23 @@ returns c =
     let d = doc_seen c.args.doc.now in
     let there = sym (ap (group_found d) (c.before_last.ensures ∙ ap before_last c.as_bytes.ensures.value)) ∙ sym c.find_group_of.ensures ∙ c.in-Some.is in
     apart (has_group c.in-Some.group d.tree) (named_group d (before_last c.args.path.now) c.in-Some.group there) (rw c.in-None.is at c.put_entry.ensures).0
+
+pub returns-in_default : goal.returns-in_default
+returns-in_default c =
+    let d = doc_seen c.args.doc.now in
+    let none = sym (ap (group_found d) (c.before_last.ensures ∙ ap before_last c.as_bytes.ensures.value)) ∙ sym c.find_group_of.ensures ∙ c.in_default.is in
+    (refl, inl (add_no_path c.args.path.now c.args.id (given_values c.args.values.now) c.args.now d none))
+
+pub returns-then-is_entry_path : goal.returns-then-is_entry_path
+returns-then-is_entry_path c =
+    let d = doc_seen c.args.doc.now in
+    let there = sym (ap (group_found d) (c.before_last.ensures ∙ ap before_last c.as_bytes.ensures.value)) ∙ sym c.find_group_of.ensures ∙ c.in-Some.is in
+    let taken = sym (ap (has_entry_path d) (c.as_slice.ensures ∙ c.in_ok-new_path.ensures)) ∙ sym c.is_entry_path.ensures ∙ c.if-is_entry_path.true in
+    (refl, inl (add_taken c.args.path.now c.args.id (given_values c.args.values.now) c.args.now d c.in-Some.group there taken))
+
+pub returns-then-not-is_free : goal.returns-then-not-is_free
+returns-then-not-is_free c =
+    let d = doc_seen c.args.doc.now in
+    let there = sym (ap (group_found d) (c.before_last.ensures ∙ ap before_last c.as_bytes.ensures.value)) ∙ sym c.find_group_of.ensures ∙ c.in-Some.is in
+    let off = sym (ap (has_entry_path d) (c.as_slice.ensures ∙ c.in_ok-new_path.ensures)) ∙ sym c.is_entry_path.ensures ∙ c.if-is_entry_path.false in
+    (refl, inl (add_id_taken c.args.path.now c.args.id (given_values c.args.values.now) c.args.now d c.in-Some.group there off (sym c.is_free.ensures ∙ c.if-not-is_free.true)))

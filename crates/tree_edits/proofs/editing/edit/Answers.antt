@@ -1,10 +1,11 @@
-use Rattle.std.proofs.Common.{Some, Ok, sym, ap, map, ◌∙◌}
+use Rattle.std.proofs.Common.{Some, Ok, inl, inr, refl, sym, ap, map, ◌∙◌}
 use Rattle.std.specs.Prelude.{option_map}
 use Rattle.vault_model.proofs.DocumentLaws.{is_doc}
 use Rattle.vault_model.specs.SeenDoc.{doc_seen}
 use Rattle.vault_model.specs.SeenNodes.{bare_version, entry_row, tree_seen}
 use Rattle.tree_changes.specs.After.{time_after}
 use Rattle.tree_changes.specs.NewNodes.{given_values}
+use Rattle.tree_edits.proofs.AfterEdit.{edit_no_entry, edit_no_holder, edit_no_path}
 use Rattle.tree_edits.proofs.EditedDoc.{edit_comes, edit_is_doc}
 use Rattle.tree_edits.proofs.editing.edit.Goals as goal
 
@@ -37,3 +38,21 @@ returns-in-Ok c =
     c.in-Ok.ensures c.args.path.now c.args.now (sym c.find_entry.ensures ∙ c.in-Some.is) (sym c.holder.ensures ∙ c.in-Some-holder.is)
     (sym (c.time_after.ensures ∙ ap (time_after c.args.now) c.entry_stamp.ensures) ∙ c.in_ok-time.was)
     (tree_seen c.set_versions.new.root) c.set_versions.ensures
+
+pub returns-in-Err : goal.returns-in-Err
+returns-in-Err c = (refl, inr refl)
+
+pub returns-in_default : goal.returns-in_default
+returns-in_default c =
+    (refl, inl (edit_no_path c.args.path.now (given_values c.args.values.now) c.args.now (doc_seen c.args.doc.now) (sym c.find_entry.ensures ∙ c.in_default.is)))
+
+pub returns-in_default-holder : goal.returns-in_default-holder
+returns-in_default-holder c =
+    (refl, inl (edit_no_holder c.args.path.now (given_values c.args.values.now) c.args.now (doc_seen c.args.doc.now) c.in-Some.id (sym c.find_entry.ensures ∙ c.in-Some.is)
+    (sym c.holder.ensures ∙ c.in_default-holder.is)))
+
+pub returns-in_default-entry_of : goal.returns-in_default-entry_of
+returns-in_default-entry_of c =
+    (refl, inl (edit_no_entry c.args.path.now (given_values c.args.values.now) c.args.now (doc_seen c.args.doc.now) c.in-Some.id (sym c.find_entry.ensures ∙ c.in-Some.is)
+    c.in-Some-holder.group (sym c.holder.ensures ∙ c.in-Some-holder.is)
+    (sym c.entry_of.ensures ∙ ap (option_map (λ found. entry_row found.now)) c.in_default-entry_of.is)))
