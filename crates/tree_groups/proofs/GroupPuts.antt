@@ -1,5 +1,5 @@
 -- A group in memory with one group more.
-use Rattle.std.proofs.Common.{◌≡◌, List, [], ◌∷◌, ◌++◌, map, refl, sym, ap, ◌∙◌}
+use Rattle.std.proofs.Common.{◌≡◌, List, [], ◌∷◌, ◌++◌, Result, Ok, Err, MatchResult, OnOk, OnErr, map, refl, sym, ap, ◌∙◌}
 use Rattle.vault_model.specs.SeenNodes.{entry_row, tree_seen}
 use Rattle.vault_model.specs.Tree.{beside, node}
 use Rattle.vault_model.specs.declared.nodes.Group.{Group, out-Group}
@@ -20,3 +20,9 @@ group_put g gs x is =
 pub groups_same : (g : Group) (gs : List Group) → gs ≡ (out-Group g).groups → tree_seen (with_groups g gs) ≡ tree_seen g
 groups_same g gs is =
     seen_with_groups g gs ∙ ap (λ xs. node (out-Group g).id (record_seen g) (map entry_row (out-Group g).entries) (trees xs)) is ∙ sym (seen_group g)
+
+-- a group put after the others, or not
+pub group_put_or_not : {E : Type 0} (g : Group) (gs : List Group) (x : Group) (r : Result (Unit {0}) E) → OnOk r (gs ≡ (out-Group g).groups ++ x ∷ []) → OnErr r (gs ≡ (out-Group g).groups)
+    → MatchResult r (λ _. tree_seen (with_groups g gs) ≡ with_group (tree_seen x) (tree_seen g)) (λ _. tree_seen (with_groups g gs) ≡ tree_seen g)
+group_put_or_not g gs x (Ok u) ok err = group_put g gs x ok
+group_put_or_not g gs x (Err u) ok err = groups_same g gs err

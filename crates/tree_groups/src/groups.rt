@@ -5,7 +5,7 @@ ghost use Rattle.vault_model.specs.SeenNodes.{tree_seen};
 ghost use Rattle.tree_changes.specs.Changes.{changed_at, has_group, with_group};
 
 use outside_core::NoMemory;
-use tree_steps::{Change, change_at};
+use tree_steps::{Change, change_at, put_last};
 use uuid_core::Uuid;
 use vault_model::Group;
 
@@ -26,10 +26,7 @@ impl Change for PutGroup {
         (λ _. new ≡ with_group (tree_seen put.group) old) (λ _. new ≡ old) };
 
     fn make(self, group: &mut Group) -> Result<(), NoMemory> {
-        match group.groups.push(self.group) {
-            Ok(()) => Ok(()),
-            Err(_) => Err(NoMemory),
-        }
+        put_last(&mut group.groups, self.group)
     }
 }
 

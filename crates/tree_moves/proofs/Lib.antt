@@ -1,3 +1,4 @@
+pub mod AfterMove
 pub mod KeptPlaces
 pub mod Placed
 pub mod Taken

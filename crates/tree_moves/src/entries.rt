@@ -85,6 +85,7 @@ impl Change for FillEntry {
 
     fn make(mut self, group: &mut Group) {
         fill_place(&mut group.entries, &mut self.entry);
+        drop(self);
     }
 }
 

@@ -1,4 +1,4 @@
-use Rattle.std.proofs.Common.{◌+◌, List, ℕ, Ok, Some, sym, ap, ◌∙◌}
+use Rattle.std.proofs.Common.{◌+◌, List, ℕ, Ok, Some, inl, refl, sym, ap, ◌∙◌}
 use Rattle.std.proofs.lemmas.Bool.{le-ltb}
 use Rattle.std.proofs.lemmas.Str.{is_utf8-from_IsUtf8}
 use Rattle.std.specs.Str.{is_utf8}
@@ -13,7 +13,7 @@ use Rattle.tree_changes.specs.After.{is_group_taken}
 use Rattle.tree_changes.specs.Changes.{changed_at, has_group, level_of, with_group}
 use Rattle.tree_changes.specs.NewNodes.{empty_group}
 use Rattle.tree_changes.specs.NewPaths.{before_last}
-use Rattle.tree_groups.proofs.AfterMake.{make_done}
+use Rattle.tree_groups.proofs.AfterMake.{make_done, make_id_taken, make_no_path, make_taken}
 use Rattle.tree_groups.proofs.MadeDoc.{level_left, make_is_doc}
 use Rattle.tree_groups.proofs.making.make_of.Goals as goal
 
@@ -58,3 +58,24 @@ returns c =
     let d = doc_seen c.args.doc.now in
     let there = sym (ap (group_found d) (c.before_last.ensures ∙ ap before_last c.as_bytes.ensures.value)) ∙ sym c.find_group_of.ensures ∙ c.in-Some.is in
     apart (has_group c.in-Some.group d.tree) (named_group d (before_last c.args.path.now) c.in-Some.group there) (rw c.in-None.is at c.put_group.ensures).0
+
+pub returns-in_default : goal.returns-in_default
+returns-in_default c =
+    let d = doc_seen c.args.doc.now in
+    let none = sym (ap (group_found d) (c.before_last.ensures ∙ ap before_last c.as_bytes.ensures.value)) ∙ sym c.find_group_of.ensures ∙ c.in_default.is in
+    (refl, inl (make_no_path c.args.path.now c.args.id c.args.now d none))
+
+pub returns-then-is_taken : goal.returns-then-is_taken
+returns-then-is_taken c =
+    let d = doc_seen c.args.doc.now in
+    let there = sym (ap (group_found d) (c.before_last.ensures ∙ ap before_last c.as_bytes.ensures.value)) ∙ sym c.find_group_of.ensures ∙ c.in-Some.is in
+    let taken = sym (ap (λ (p : List ℕ). is_group_taken p d) (c.as_slice.ensures ∙ c.in_ok-new_path.ensures)) ∙ sym c.is_taken.ensures ∙ c.if-is_taken.true in
+    (refl, inl (make_taken c.args.path.now c.args.id c.args.now d c.in-Some.group there taken))
+
+pub returns-then-not-is_free : goal.returns-then-not-is_free
+returns-then-not-is_free c =
+    let d = doc_seen c.args.doc.now in
+    let there = sym (ap (group_found d) (c.before_last.ensures ∙ ap before_last c.as_bytes.ensures.value)) ∙ sym c.find_group_of.ensures ∙ c.in-Some.is in
+    let off = sym (ap (λ (p : List ℕ). is_group_taken p d) (c.as_slice.ensures ∙ c.in_ok-new_path.ensures)) ∙ sym c.is_taken.ensures ∙ c.if-is_taken.false in
+    let left = level_left c.levels_below.result (level_of c.in-Some.group d.tree) (λ e. c.if-unwrap_or-eq0.false (c.unwrap_or.ensures ∙ e)) c.levels_below.ensures in
+    (refl, inl (make_id_taken c.args.path.now c.args.id c.args.now d c.in-Some.group there off (le-ltb LEVELS (level_of c.in-Some.group d.tree + 1) left) (sym c.is_free.ensures ∙ c.if-not-is_free.true)))

@@ -1,13 +1,17 @@
-use Rattle.std.proofs.Common.{is_some, sym, ap, ◌∙◌}
-use Rattle.std.specs.Prelude.{option_map}
+use Rattle.std.proofs.Common.{◌≡◌, Option, Ok, inl, inr, is_some, refl, sym, ap, subst, ◌∙◌}
+use Rattle.std.specs.Prelude.{IfSome, option_map}
 use Rattle.vault_model.proofs.DocumentLaws.{is_doc}
 use Rattle.vault_model.proofs.Ids.{is_same_id}
 use Rattle.vault_model.proofs.Tests.{apart}
+use Rattle.vault_model.specs.Db.{NodeId}
 use Rattle.vault_model.specs.Join.{is_id}
+use Rattle.vault_model.specs.Shape.{EntryRecord}
 use Rattle.vault_model.specs.SeenDoc.{doc_seen}
 use Rattle.vault_model.specs.SeenNodes.{entry_row, tree_seen}
 use Rattle.tree_changes.proofs.EntriesMoved.{move_is_doc}
 use Rattle.tree_changes.proofs.Named.{named_group}
+use Rattle.tree_changes.specs.Changes.{entry_moved}
+use Rattle.tree_moves.proofs.AfterMove.{move_comes, move_no_entry, move_no_group, move_no_holder, move_no_path, move_there_already}
 use Rattle.tree_moves.proofs.moving.move_entry.Goals as goal
 
 pub move_in-requires-clause-other : goal.move_in-requires-clause-other
@@ -36,3 +40,48 @@ invariant_of-doc c =
       rising_items = h.items_rise;
       meta_texts = h.meta_texts;
     }
+
+pub returns-in-Ok : goal.returns-in-Ok
+returns-in-Ok c =
+    let d = doc_seen c.args.doc.now in
+    let e = entry_row c.in-Some-entry_of.entry.now in
+    let there = sym c.entry_of.ensures ∙ ap (option_map (λ found. entry_row found.now)) c.in-Some-entry_of.is in
+    let moved =
+    subst (λ (o : Option (NodeId × EntryRecord)). IfSome o (λ row. tree_seen c.move_in.new.root ≡ entry_moved c.in-Some-holder.from c.in-Some-find_group.to c.in_ok-time.time row d.tree))
+    there (rw c.in-Ok.is at c.move_in.ensures)
+    in
+    move_comes c.args.path.now c.args.group.now c.args.now (doc_seen c.args.doc.now) c.in-Some.id (sym c.find_entry.ensures ∙ c.in-Some.is)
+    c.in-Some-holder.from (sym c.holder.ensures ∙ c.in-Some-holder.is) e there
+    c.in-Some-find_group.to (sym c.find_group.ensures ∙ c.in-Some-find_group.is) (sym c.is_same.ensures ∙ c.if-is_same.false) c.in_ok-time.time (sym c.time_after.ensures ∙ c.in_ok-time.was)
+    ∙ ap (λ t. Ok (record d { tree = t })) (sym moved)
+
+pub returns-in_default : goal.returns-in_default
+returns-in_default c = (refl, inl (move_no_path c.args.path.now c.args.group.now c.args.now (doc_seen c.args.doc.now) (sym c.find_entry.ensures ∙ c.in_default.is)))
+
+pub returns-in_default-holder : goal.returns-in_default-holder
+returns-in_default-holder c =
+    (refl, inl (move_no_holder c.args.path.now c.args.group.now c.args.now (doc_seen c.args.doc.now) c.in-Some.id (sym c.find_entry.ensures ∙ c.in-Some.is) (sym c.holder.ensures ∙ c.in_default-holder.is)))
+
+pub returns-in_default-entry_of : goal.returns-in_default-entry_of
+returns-in_default-entry_of c = (
+  refl,
+  inl (move_no_entry c.args.path.now c.args.group.now c.args.now (doc_seen c.args.doc.now) c.in-Some.id (sym c.find_entry.ensures ∙ c.in-Some.is)
+      c.in-Some-holder.from (sym c.holder.ensures ∙ c.in-Some-holder.is) (sym c.entry_of.ensures ∙ ap (option_map (λ found. entry_row found.now)) c.in_default-entry_of.is)),
+)
+
+pub returns-in_default-find_group : goal.returns-in_default-find_group
+returns-in_default-find_group c = (
+  refl,
+  inl (move_no_group c.args.path.now c.args.group.now c.args.now (doc_seen c.args.doc.now) c.in-Some.id (sym c.find_entry.ensures ∙ c.in-Some.is)
+      c.in-Some-holder.from (sym c.holder.ensures ∙ c.in-Some-holder.is)
+      (entry_row c.in-Some-entry_of.entry.now) (sym c.entry_of.ensures ∙ ap (option_map (λ found. entry_row found.now)) c.in-Some-entry_of.is) (sym c.find_group.ensures ∙ c.in_default-find_group.is)),
+)
+
+pub returns-then-is_same : goal.returns-then-is_same
+returns-then-is_same c = (
+  refl,
+  inl (move_there_already c.args.path.now c.args.group.now c.args.now (doc_seen c.args.doc.now) c.in-Some.id (sym c.find_entry.ensures ∙ c.in-Some.is)
+      c.in-Some-holder.from (sym c.holder.ensures ∙ c.in-Some-holder.is)
+      (entry_row c.in-Some-entry_of.entry.now) (sym c.entry_of.ensures ∙ ap (option_map (λ found. entry_row found.now)) c.in-Some-entry_of.is)
+      c.in-Some-find_group.to (sym c.find_group.ensures ∙ c.in-Some-find_group.is) (sym c.is_same.ensures ∙ c.if-is_same.true)),
+)
