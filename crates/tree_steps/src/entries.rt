@@ -122,6 +122,7 @@ impl Change for SetVersions {
             &mut self.current,
             &mut self.history,
         );
+        drop(self);
     }
 }
 
