@@ -1,5 +1,5 @@
 //! What a document says of itself, copied from what documents lend.
-ghost use Rattle.std.specs.Prelude.{◌≡◌, IfOk};
+ghost use Rattle.std.specs.Prelude.{◌≡◌, [], IfOk, OnOk};
 ghost use Rattle.reference_shapes.specs.Shapes.{meta_of};
 
 use outside_core::{Bytes, List, NoMemory, Text};
@@ -15,18 +15,31 @@ fn made_bytes(alloc: Global, bytes: &Bytes) -> Result<Bytes, NoMemory>
     ensures { IfOk result (λ copy. copy ≡ bytes.now) }
 {
     let mut copy = Bytes::new(alloc);
-    copy.add(bytes.as_slice())?;
-    Ok(copy)
+    match copy.add(bytes.as_slice()) {
+        Ok(()) => Ok(copy),
+        Err(fail) => {
+            drop(copy);
+            Err(fail)
+        }
+    }
 }
 
-/// A text, copied with the time of its change.
-fn made_text(alloc: Global, text: &Timed<Text>) -> Result<Timed<Text>, NoMemory>
-    ensures { IfOk result (λ copy. copy ≡ text.now) }
+/// Puts a copy of a text in the place of another. A refusal means that memory ran out.
+fn set_text(alloc: Global, to: &mut Text, text: &Text) -> Result<(), NoMemory>
+    ensures { OnOk result (to.new ≡ text.now) }
 {
-    Ok(Timed {
+    *to = copy_text(alloc, text)?;
+    Ok(())
+}
+
+/// No text, with the time of the change of another.
+fn bare_text(alloc: Global, text: &Timed<Text>) -> Timed<Text>
+    ensures { result ≡ record text.now { value = [] } }
+{
+    Timed {
         changed: text.changed,
-        value: copy_text(alloc, &text.value)?,
-    })
+        value: Text::new(alloc),
+    }
 }
 
 /// A bin, copied with the time of its change.
@@ -49,18 +62,15 @@ fn made_id(id: &Timed<Uuid>) -> Timed<Uuid>
     }
 }
 
-/// Settings, copied with the time of their change.
-fn made_settings(
-    alloc: Global,
-    settings: &Timed<MetaSettings>,
-) -> Result<Timed<MetaSettings>, NoMemory>
-    ensures { IfOk result (λ copy. copy ≡ settings.now) }
+/// Settings without their color, copied with the time of their change.
+fn bare_settings(alloc: Global, settings: &Timed<MetaSettings>) -> Timed<MetaSettings>
+    ensures { result ≡ record settings.now { value = record settings.now.value { color = [] } } }
 {
     let from = &settings.value;
-    Ok(Timed {
+    Timed {
         changed: settings.changed,
         value: MetaSettings {
-            color: copy_text(alloc, &from.color)?,
+            color: Text::new(alloc),
             days: from.days,
             key_rec: from.key_rec,
             key_force: from.key_force,
@@ -68,60 +78,116 @@ fn made_settings(
             history_items: from.history_items,
             history_size: from.history_size,
         },
-    })
+    }
 }
 
 /// An icon, copied.
 fn made_icon(alloc: Global, icon: &Icon) -> Result<Icon, NoMemory>
     ensures { IfOk result (λ copy. copy ≡ icon.now) }
 {
-    Ok(Icon {
-        id: icon.id,
-        bytes: made_bytes(alloc, &icon.bytes)?,
-        name: copy_text(alloc, &icon.name)?,
-        changed: icon.changed,
-    })
+    let bytes = made_bytes(alloc, &icon.bytes)?;
+    match copy_text(alloc, &icon.name) {
+        Ok(name) => Ok(Icon {
+            id: icon.id,
+            bytes,
+            name,
+            changed: icon.changed,
+        }),
+        Err(fail) => {
+            drop(bytes);
+            Err(fail)
+        }
+    }
 }
 
-/// Icons, copied.
-fn made_icons(alloc: Global, icons: &[LentIcon]) -> Result<List<Icon>, NoMemory>
-    ensures { IfOk result (λ copy. copy ≡ icons.now) }
+/// Copies icons to where none are. A refusal means that memory ran out.
+fn push_icons(alloc: Global, made: &mut List<Icon>, icons: &[LentIcon]) -> Result<(), NoMemory>
+    requires { made.old ≡ [] }
+    ensures { OnOk result (made.new ≡ icons.now) }
 {
-    let mut made = List::new(alloc);
     for icon in icons {
         let one = made_icon(alloc, icon.icon())?;
-        put_last(&mut made, one)?;
+        put_last(made, one)?;
     }
-    Ok(made)
+    Ok(())
 }
 
-/// Custom items, copied.
-fn made_items(alloc: Global, items: &[LentItem]) -> Result<List<Item>, NoMemory>
-    ensures { IfOk result (λ copy. copy ≡ items.now) }
+/// Copies custom items to where none are. A refusal means that memory ran out.
+fn push_items(alloc: Global, made: &mut List<Item>, items: &[LentItem]) -> Result<(), NoMemory>
+    requires { made.old ≡ [] }
+    ensures { OnOk result (made.new ≡ items.now) }
 {
-    let mut made = List::new(alloc);
     for item in items {
         let one = copy_item(alloc, item.item())?;
-        put_last(&mut made, one)?;
+        put_last(made, one)?;
     }
-    Ok(made)
+    Ok(())
+}
+
+/// What a document says of itself, copied but for its texts, icons and custom items.
+fn bare_meta(alloc: Global, meta: &ShapeMeta) -> Meta
+    ensures { result ≡ record (meta_of meta.now) {
+      name = record meta.now.name.now { value = [] };
+      description = record meta.now.description.now { value = [] };
+      user = record meta.now.user.now { value = [] };
+      settings = record meta.now.settings.now {
+        value = record meta.now.settings.now.value { color = [] };
+      };
+      icons = [];
+      items = [];
+    } }
+{
+    Meta {
+        name: bare_text(alloc, meta.name),
+        description: bare_text(alloc, meta.description),
+        user: bare_text(alloc, meta.user),
+        bin: made_bin(meta.bin),
+        templates: made_id(meta.templates),
+        settings: bare_settings(alloc, meta.settings),
+        icons: List::new(alloc),
+        items: List::new(alloc),
+        view: meta.view,
+    }
+}
+
+/// Copies the texts, the icons and the custom items of what a document says of itself to where the
+/// rest is copied. A refusal means that memory ran out.
+fn fill_meta(alloc: Global, made: &mut Meta, meta: &ShapeMeta) -> Result<(), NoMemory>
+    requires { made.old ≡ record (meta_of meta.now) {
+      name = record meta.now.name.now { value = [] };
+      description = record meta.now.description.now { value = [] };
+      user = record meta.now.user.now { value = [] };
+      settings = record meta.now.settings.now {
+        value = record meta.now.settings.now.value { color = [] };
+      };
+      icons = [];
+      items = [];
+    } }
+    ensures { OnOk result (made.new ≡ meta_of meta.now) }
+{
+    set_text(alloc, &mut made.name.value, &meta.name.value)?;
+    set_text(alloc, &mut made.description.value, &meta.description.value)?;
+    set_text(alloc, &mut made.user.value, &meta.user.value)?;
+    set_text(
+        alloc,
+        &mut made.settings.value.color,
+        &meta.settings.value.color,
+    )?;
+    push_icons(alloc, &mut made.icons, meta.icons.as_slice())?;
+    push_items(alloc, &mut made.items, meta.items.as_slice())?;
+    Ok(())
 }
 
 /// What a document says of itself, copied.
 pub fn made_meta(alloc: Global, meta: &ShapeMeta) -> Result<Meta, NoMemory>
     ensures { IfOk result (λ m. m ≡ meta_of meta.now) }
 {
-    let icons = made_icons(alloc, meta.icons.as_slice())?;
-    let items = made_items(alloc, meta.items.as_slice())?;
-    Ok(Meta {
-        name: made_text(alloc, meta.name)?,
-        description: made_text(alloc, meta.description)?,
-        user: made_text(alloc, meta.user)?,
-        bin: made_bin(meta.bin),
-        templates: made_id(meta.templates),
-        settings: made_settings(alloc, meta.settings)?,
-        icons,
-        items,
-        view: meta.view,
-    })
+    let mut made = bare_meta(alloc, meta);
+    match fill_meta(alloc, &mut made, meta) {
+        Ok(()) => Ok(made),
+        Err(fail) => {
+            drop(made);
+            Err(fail)
+        }
+    }
 }

@@ -1,5 +1,5 @@
 use Rattle.std.proofs.Common.{◌≡◌, ◌++◌, drop}
-use Rattle.merge_building.proofs.metas.made_items.Given as goal
+use Rattle.merge_building.proofs.metas.push_items.Given as goal
 
 abbrev pub invariant-loop-item : goal.invariant-loop-item
 invariant-loop-item l = l.made ++ drop l.item-index l.items ≡ l.items
