@@ -44,7 +44,7 @@ fn bury_group(
         return Err(NoMemory);
     };
     let all = tombs_with(alloc, tombs.as_slice(), group, now)?;
-    take_group(root, parent, id);
+    drop(take_group(root, parent, id));
     *tombs = all;
     Ok(())
 }

@@ -5,6 +5,7 @@ ghost use Rattle.vault_model.specs.Db.{nil_id};
 ghost use Rattle.vault_model.specs.Tree.{Tree, id_of, is_elsewhere};
 ghost use Rattle.vault_model.specs.SeenDoc.{doc_seen};
 ghost use Rattle.vault_model.specs.SeenNodes.{tree_seen};
+ghost use Rattle.vault_model.specs.declared.nodes.Group.{out-Group};
 ghost use Rattle.tree_changes.specs.After as spec;
 ghost use Rattle.tree_changes.specs.Changes.{changed_at, group_moved, group_with, has_group, parent_of, with_group};
 ghost use Rattle.tree_changes.specs.NewNodes.{empty_group};
@@ -42,6 +43,41 @@ pub(crate) fn recycle_group(
     }
 }
 
+// Puts a group after the other groups of the root.
+fn put_top(root: &mut Group, group: Group) -> Result<(), NoMemory>
+    ensures { MatchResult result (λ _. tree_seen root.new
+        ≡ changed_at (out-Group root.old).id (with_group (tree_seen group)) (tree_seen root.old))
+        (λ _. tree_seen root.new ≡ tree_seen root.old) }
+{
+    let top = root.id;
+    match put_group(root, top, group) {
+        Some(Ok(())) => Ok(()),
+        _ => Err(NoMemory),
+    }
+}
+
+// Puts a bin with a place in it after the other groups of the root.
+fn put_with_place(
+    root: &mut Group,
+    mut group: Group,
+    bin: Uuid,
+    place: Group,
+) -> Result<(), NoMemory>
+    ensures { MatchResult result (λ _. (filled : Tree)
+        × (filled ≡ changed_at bin (with_group (tree_seen place)) (tree_seen group))
+        × (tree_seen root.new
+        ≡ changed_at (out-Group root.old).id (with_group filled) (tree_seen root.old)))
+        (λ _. tree_seen root.new ≡ tree_seen root.old) }
+{
+    match put_group(&mut group, bin, place) {
+        Some(Ok(())) => put_top(root, group),
+        _ => {
+            drop(group);
+            Err(NoMemory)
+        }
+    }
+}
+
 // Puts a new bin with a place for a group after the other groups of the root.
 fn put_bin(alloc: Global, root: &mut Group, bin: Uuid, now: Stamp) -> Result<(), NoMemory>
     requires { has_group bin (tree_seen root.old) ≡ false }
@@ -51,16 +87,13 @@ fn put_bin(alloc: Global, root: &mut Group, bin: Uuid, now: Stamp) -> Result<(),
         ≡ changed_at bin (with_group hole) (with_bin_in bin now (tree_seen root.old))))
         (λ _. tree_seen root.new ≡ tree_seen root.old) }
 {
-    let place = new_group(alloc, Uuid::nil(), "", now)?;
-    let mut group = new_bin(alloc, bin, now)?;
-    match put_group(&mut group, bin, place) {
-        Some(Ok(())) => {}
-        _ => return Err(NoMemory),
-    }
-    let top = root.id;
-    match put_group(root, top, group) {
-        Some(Ok(())) => Ok(()),
-        _ => Err(NoMemory),
+    let group = new_bin(alloc, bin, now)?;
+    match new_group(alloc, Uuid::nil(), "", now) {
+        Ok(place) => put_with_place(root, group, bin, place),
+        Err(fail) => {
+            drop(group);
+            Err(fail)
+        }
     }
 }
 

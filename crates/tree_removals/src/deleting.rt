@@ -38,7 +38,7 @@ fn bury_entry(
         deleted: later(now, entry_stamp(entry)),
     };
     put_tomb(tombs, tomb)?;
-    take_entry(root, group, id);
+    drop(take_entry(root, group, id));
     Ok(())
 }
 

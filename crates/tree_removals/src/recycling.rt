@@ -6,8 +6,9 @@ ghost use Rattle.vault_model.specs.Shape.{EntryRecord};
 ghost use Rattle.vault_model.specs.Tree.{is_elsewhere};
 ghost use Rattle.vault_model.specs.SeenDoc.{doc_seen};
 ghost use Rattle.vault_model.specs.SeenNodes.{tree_seen};
+ghost use Rattle.vault_model.specs.declared.nodes.Group.{out-Group};
 ghost use Rattle.tree_changes.specs.After as spec;
-ghost use Rattle.tree_changes.specs.Changes.{changed_at, entry_at, entry_moved, group_with, has_group, with_entry};
+ghost use Rattle.tree_changes.specs.Changes.{changed_at, entry_at, entry_moved, group_with, has_group, with_entry, with_group};
 ghost use Rattle.tree_changes.specs.NewNodes.{empty_bin};
 ghost use Rattle.tree_removals.specs.Removes.{Removes, with_bin_in};
 
@@ -64,6 +65,19 @@ pub(crate) fn recycle_entry(
     }
 }
 
+// Puts a group after the other groups of the root.
+fn put_top(root: &mut Group, group: Group) -> Result<(), NoMemory>
+    ensures { MatchResult result (λ _. tree_seen root.new
+        ≡ changed_at (out-Group root.old).id (with_group (tree_seen group)) (tree_seen root.old))
+        (λ _. tree_seen root.new ≡ tree_seen root.old) }
+{
+    let top = root.id;
+    match put_group(root, top, group) {
+        Some(Ok(())) => Ok(()),
+        _ => Err(NoMemory),
+    }
+}
+
 // Puts a new bin with a place for an entry after the other groups of the root.
 fn put_bin(alloc: Global, root: &mut Group, bin: Uuid, now: Stamp) -> Result<(), NoMemory>
     requires { has_group bin (tree_seen root.old) ≡ false }
@@ -74,13 +88,11 @@ fn put_bin(alloc: Global, root: &mut Group, bin: Uuid, now: Stamp) -> Result<(),
 {
     let mut group = new_bin(alloc, bin, now)?;
     match put_entry(&mut group, bin, no_entry(alloc)) {
-        Some(Ok(())) => {}
-        _ => return Err(NoMemory),
-    }
-    let top = root.id;
-    match put_group(root, top, group) {
-        Some(Ok(())) => Ok(()),
-        _ => Err(NoMemory),
+        Some(Ok(())) => put_top(root, group),
+        _ => {
+            drop(group);
+            Err(NoMemory)
+        }
     }
 }
 
