@@ -89,6 +89,7 @@ impl Change for FillGroup {
 
     fn make(mut self, group: &mut Group) {
         fill_place(&mut group.groups, &mut self.group);
+        drop(self);
     }
 }
 
