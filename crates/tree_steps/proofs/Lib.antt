@@ -1,4 +1,5 @@
 pub mod ChangedEntries
 pub mod Holds
 pub mod InPlace
+pub mod Steps
 pub mod Texts
