@@ -1,3 +1,4 @@
 pub mod Examples
 pub mod Leading
+pub mod Steps
 pub mod Walks

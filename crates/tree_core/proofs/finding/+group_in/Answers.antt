@@ -1,0 +1,30 @@
+-- A group that is passed over is not the one that is left, and has none below it that is.
+use Rattle.std.proofs.Common.{◌≡◌, ◌+◌, List, None, Some, cond, drop, false, sym, ap, ◌∙◌}
+use Rattle.std.specs.Prelude.{map, option_map}
+use Rattle.vault_model.proofs.SeenGroups.{seen_group}
+use Rattle.vault_model.specs.SeenNodes.{tree_seen}
+use Rattle.vault_model.specs.Tree.{all_trees, id_of}
+use Rattle.vault_model.specs.Walk.{name_of}
+use Rattle.vault_model.specs.declared.nodes.Group.{Group}
+use Rattle.tree_core.specs.Finding.{or_else}
+use Rattle.tree_core.specs.Path as spec
+use Rattle.tree_core.proofs.Steps.{drop_next}
+use Rattle.tree_core.proofs.finding.+group_in.Goals as goal
+
+pub loop-child-preserved : goal.loop-child-preserved
+loop-child-preserved t c =
+    let items = c.as_slice-child-items.result.now in
+    let i = c.loop-child.child-index in
+    let x = c.child-item.result in
+    let seen = tree_seen x in
+    let rest = option_map (λ r. r.now) c.args.rest in
+    let all = λ (gs : List Group). spec.group_in_all rest (all_trees (map tree_seen gs)) in
+    let name : c.as_bytes-name.result.now ≡ name_of seen = c.as_bytes-name.ensures.value ∙ c.as_str.ensures ∙ sym (ap name_of (seen_group x)) in
+    let other : spec.is_exactly (name_of seen) rest ≡ false = ap (λ n. spec.is_exactly n rest) (sym name) ∙ sym c.is_exactly.ensures ∙ c.if-is_exactly.false in
+    let absent : spec.group_in (spec.strip_component (name_of seen) rest) seen ≡ None =
+    ap (λ r. spec.group_in r seen) (ap (λ n. spec.strip_component n rest) (sym name) ∙ sym c.strip_component.ensures) ∙ sym c.group_in.ensures ∙ c.in_default.is
+    in
+    sym (ap all (drop_next items i x c.loop-child-test.true c.child-item.is)
+    ∙ ap (λ b. or_else (cond b (Some (id_of seen)) (spec.group_in (spec.strip_component (name_of seen) rest) seen)) (all (drop (i + 1) items))) other
+    ∙ ap (λ o. or_else o (all (drop (i + 1) items))) absent)
+    ∙ c.loop-child.invariant
