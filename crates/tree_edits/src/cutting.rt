@@ -24,7 +24,7 @@ fn cut_end(history: &mut List<Version>, excess: usize)
 {
     for _count in 0..excess {
         let last = history.len() - 1;
-        history.remove(last);
+        drop(history.remove(last));
     }
 }
 
