@@ -173,8 +173,8 @@ fn put_tombs(
     Ok(())
 }
 
-/// Puts the nodes and the tombstones of the join into a database that has none. A refusal means that
-/// memory ran out.
+/// Puts the nodes and the tombstones of the join into a database that has none. A refusal means
+/// that memory ran out.
 fn put_nodes<'a>(
     alloc: Global,
     joined: &mut Database<'a>,

@@ -249,8 +249,8 @@ fn laid_stay(laid: &Database, older: &Shape, id: &Uuid) -> Stay
     }
 }
 
-/// Puts versions as a document has them, in their order, where none are. A refusal means that memory
-/// ran out.
+/// Puts versions as a document has them, in their order, where none are. A refusal means that
+/// memory ran out.
 fn push_versions<'a>(
     versions: &mut Vec<LentVersion<'a>>,
     rows: &[(VersionKey<'a>, Stats)],
