@@ -29,8 +29,8 @@ fn steps_up(copies: &[Database], from: Uuid, count: usize) -> Uuid
     at
 }
 
-/// Puts a node and those above it, so many steps up, where none are. A refusal means that memory ran
-/// out.
+/// Puts a node and those above it, so many steps up, where none are. A refusal means that memory
+/// ran out.
 fn push_trail(
     nodes: &mut Vec<Uuid>,
     copies: &[Database],
