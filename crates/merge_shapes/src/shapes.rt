@@ -33,7 +33,8 @@ fn nodes_of<'a>(alloc: Global, doc: &'a Doc) -> Result<NodeTables<'a>, NoMemory>
     }
 }
 
-/// Puts the tombstones of a document by their ids where none are. A refusal means that memory ran out.
+/// Puts the tombstones of a document by their ids where none are. A refusal means that memory ran
+/// out.
 fn put_tombs(table: &mut Table<Stamp>, tombs: &[Tombstone]) -> Result<(), NoMemory>
     requires { table.old ≡ empty }
     ensures { OnOk result (table.new ≡ from_entries (map tomb_row tombs.now)) }
@@ -85,8 +86,8 @@ fn bare_meta<'a>(alloc: Global, meta: &'a Meta) -> ShapeMeta<'a>
     }
 }
 
-/// Puts the tombstones, the icons and the custom items of a document into its shape. A refusal means
-/// that memory ran out.
+/// Puts the tombstones, the icons and the custom items of a document into its shape. A refusal
+/// means that memory ran out.
 fn put_rows<'a>(lent: &mut Shape<'a>, doc: &'a Doc) -> Result<(), NoMemory>
     requires tombs { lent.old.tombs ≡ empty }
     requires meta { meta_of lent.old.meta
