@@ -1,5 +1,5 @@
 //! Sealing a document again under the key that opened its file.
-ghost use Rattle.std.specs.Prelude.{◌≡◌, ◌≢◌, ◌≤◌, ℕ, List, IfErr, IfOk, OnErr, OnOk, Some};
+ghost use Rattle.std.specs.Prelude.{◌≡◌, ◌≤◌, ℕ, List, IfErr, IfOk, OnErr, OnOk, Some};
 ghost use Rattle.outside_core.specs.Counts.{Increased};
 ghost use Rattle.outside_core.specs.Streams.{LosesPrefix};
 ghost use Rattle.vault_making.specs.NeededVersion.{later, needed_version};
@@ -11,7 +11,6 @@ ghost use Rattle.cli_writing.specs.Held.{IsWritten};
 ghost use Rattle.cli_writing.specs.Writing.{KeepsDraft, KeepsFiles, store};
 ghost use Rattle.cli_sealing.specs.Draws.{after_draws, draws_of};
 ghost use Rattle.cli_sealing.specs.Held.{HoldsSealed};
-ghost use Rattle.cli_sealing.specs.Sealing as spec;
 ghost use Rattle.cli_sealing.specs.Sealing.{IsUnsealed, Seals, file_by, sealed_file, settings_for};
 
 use cli_answers::{Reason, Stop, refused};
@@ -41,19 +40,6 @@ fn raise(settings: &mut Settings, doc: &Doc)
     settings.version = later_of(needed(doc), settings.version);
 }
 
-// The answer that a refusal to seal a document is.
-fn seal_answer(fail: SealFail) -> Reason
-    ensures is { result ≡ spec.seal_answer fail }
-    ensures there { result ≢ Reason.NoSuchFile }
-{
-    match fail {
-        SealFail::TooMany(_) => Reason::TooMany,
-        SealFail::TooLarge(_) => Reason::TooLarge,
-        SealFail::FileFault => Reason::OutOfMemory,
-        SealFail::NoMemory => Reason::OutOfMemory,
-    }
-}
-
 // A fault of the store at the file of this name.
 fn faulty(alloc: Global, name: &str) -> Stop
     ensures { IsFault result name.now }
@@ -71,7 +57,8 @@ fn unsealed(alloc: Global, fail: SealFail, name: &str) -> Stop
     match fail {
         SealFail::FileFault => faulty(alloc, name),
         SealFail::NoMemory => Stop::NoMemory,
-        _ => refused(alloc, seal_answer(fail), name),
+        SealFail::TooMany(_) => refused(alloc, Reason::TooMany, name),
+        SealFail::TooLarge(_) => refused(alloc, Reason::TooLarge, name),
     }
 }
 
