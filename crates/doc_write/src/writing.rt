@@ -135,8 +135,20 @@ pub fn write_doc(
     ensures writable { IfOk result (λ _. IsWritable (doc_seen doc.now)) }
 {
     let pool = Pool::of(alloc, doc)?;
-    let len = doc_len(doc, form, header_hash, &pool)?;
-    let text = Secret::with_room(alloc, len)?;
+    let len = match doc_len(doc, form, header_hash, &pool) {
+        Ok(len) => len,
+        Err(fail) => {
+            drop(pool);
+            return Err(fail);
+        }
+    };
+    let text = match Secret::with_room(alloc, len) {
+        Ok(text) => text,
+        Err(NoMemory) => {
+            drop(pool);
+            return Err(WriteFail::NoMemory);
+        }
+    };
     let stream = mem::replace(stream, InnerStream::Clear);
     Ok(append_doc(text, doc, form, header_hash, &pool, stream))
 }

@@ -7,7 +7,7 @@ use Rattle.doc_write.proofs.writing.write_doc.Goals as goal
 
 pub append_doc-requires-clause-limit : goal.append_doc-requires-clause-limit
 append_doc-requires-clause-limit c =
-    let m = c.in_ok-len.ensures.text (keystream c.replace-stream.result) in
+    let m = c.in-Ok.ensures.text (keystream c.replace-stream.result) in
     omega (arith, m.text, m.limit)
 
 pub returns-clause-text : goal.returns-clause-text
@@ -15,8 +15,8 @@ returns-clause-text c =
     let hash = option_copied c.args.header_hash in
     let d = doc_seen c.args.doc.now in
     let text : Keystream → List ℕ = λ k. spelled_document c.args.form k hash d in
-    let m = c.in_ok-len.ensures.text (keystream c.args.stream.now) in
+    let m = c.in-Ok.ensures.text (keystream c.args.stream.now) in
     m.outcome
     ∙ ap Ok (sym (c.append_doc.ensures.bytes
-    ∙ ap (λ (b : List ℕ). b ++ text (keystream c.replace-stream.result)) c.in_ok-text.ensures.bytes
+    ∙ ap (λ (b : List ℕ). b ++ text (keystream c.replace-stream.result)) c.in-Ok-with_room.ensures.bytes
     ∙ ap text (ap keystream c.replace-stream.ensures.value)))
