@@ -1,12 +1,12 @@
 //! The inner fields at the start of a deciphered text.
 
 ghost use Rattle.std.specs.Prelude.{◌≡◌, ◌+◌, ◌≤◌, ◌<◌, ◌^◌, [], ◌∷◌, ◌++◌, IfOk, Ok, length, map};
-ghost use Rattle.outside_core.specs.Results.{Returns};
+ghost use Rattle.outside_core.specs.Results.{◌>>=◌, Returns, repeat_steps};
 ghost use Rattle.kdbx_parts.specs.Results.{meaning_of};
 ghost use Rattle.kdbx_parts.specs.declared.fail.FrameFail.TheVariants.{Truncated};
 ghost use Rattle.kdbx_parts.specs.declared.parts.LengthWidth.TheVariants.{Four};
-ghost use Rattle.kdbx_parts.specs.Parts.{field_at};
-ghost use Rattle.kdbx_inner.specs.Inner.{binary_of, inner_from, inner_of, inner_step, with_inner_field};
+ghost use Rattle.kdbx_parts.specs.Parts.{field_at, required};
+ghost use Rattle.kdbx_inner.specs.Inner.{binary_of, inner_end_missing, inner_from, inner_of, inner_step, with_inner_field};
 ghost use Rattle.kdbx_inner.specs.Seen.{binary_seen, partial_inner_seen, inner_read_seen, inner_seen};
 ghost use Rattle.kdbx_parts.specs.Seen.{field_seen};
 
@@ -143,6 +143,22 @@ fn read_field(alloc: Global, whole: usize, read: &mut InnerRead) -> Result<bool,
     Ok(false)
 }
 
+// Reads the fields of a text of `whole` bytes up to field 0.
+fn read_fields(alloc: Global, whole: usize, read: &mut InnerRead) -> Result<(), FrameFail>
+    ensures gives { Returns meaning_of (λ _. inner_read_seen read.new) result
+        (repeat_steps (inner_step whole) (inner_end_missing whole) whole
+        (inner_read_seen read.old)) }
+    ensures shorter { length read.new.rest.now ≤ length read.old.rest.now }
+{
+    'fields: for _ in 0..whole {
+        let ended = read_field(alloc, whole, read)?;
+        if ended {
+            return Ok(());
+        }
+    }
+    Err(FrameFail::Truncated(whole as u64))
+}
+
 // All fields up to field 0, and the bytes after them.
 fn inner_from(alloc: Global, text: &[u8]) -> Result<InnerRead, FrameFail>
     ensures gives { Returns meaning_of inner_read_seen result (inner_from text.now) }
@@ -156,13 +172,27 @@ fn inner_from(alloc: Global, text: &[u8]) -> Result<InnerRead, FrameFail>
         },
         rest: text,
     };
-    'fields: for _ in 0..text.len() {
-        let ended = read_field(alloc, text.len(), &mut read)?;
-        if ended {
-            return Ok(read);
+    match read_fields(alloc, text.len(), &mut read) {
+        Ok(()) => Ok(read),
+        Err(fail) => {
+            drop(read);
+            Err(fail)
         }
     }
-    Err(FrameFail::Truncated(text.len() as u64))
+}
+
+// The stream and a secret copy of its key, both of which must be there.
+fn stream_in(alloc: Global, found: &PartialInner) -> Result<(u32, Secret), FrameFail>
+    ensures { Returns meaning_of (λ x. (x.0, x.1.bytes)) result
+        (required 1 (partial_inner_seen found.now).stream_id >>= λ id.
+        required 2 (partial_inner_seen found.now).stream_key >>= λ key. Ok (id, key)) }
+{
+    let stream_id = required(1, found.stream_id)?;
+    let stream_key = required(2, found.stream_key)?;
+    match secret_of(alloc, stream_key) {
+        Ok(stream_key) => Ok((stream_id, stream_key)),
+        Err(fail) => Err(fail),
+    }
 }
 
 /// Reads the inner fields at the start of a deciphered text (KeePass's documentation of KDBX 4).
@@ -176,17 +206,17 @@ pub fn read_inner(alloc: Global, text: &[u8]) -> Result<Inner, FrameFail>
     ensures within { IfOk result (λ i. i.size ≤ length text.now) }
 {
     let InnerRead { found, rest } = inner_from(alloc, text)?;
-    let PartialInner {
-        stream_id,
-        stream_key,
-        pool,
-    } = found;
-    let stream_id = required(1, stream_id)?;
-    let stream_key = required(2, stream_key)?;
-    Ok(Inner {
-        stream_id,
-        stream_key: secret_of(alloc, stream_key)?,
-        pool,
-        size: text.len() - rest.len(),
-    })
+    let size = text.len() - rest.len();
+    match stream_in(alloc, &found) {
+        Ok((stream_id, stream_key)) => Ok(Inner {
+            stream_id,
+            stream_key,
+            pool: found.pool,
+            size,
+        }),
+        Err(fail) => {
+            drop(found);
+            Err(fail)
+        }
+    }
 }
