@@ -35,8 +35,13 @@ pub fn read_content(
     ensures within { IfOk result (λ s. length s.bytes ≤ length blocks.now) }
 {
     let mut content = Secret::with_room(alloc, blocks.len())?;
-    read_contents(base, (size - blocks.len()) as u64, blocks, &mut content)?;
-    Ok(content)
+    match read_contents(base, (size - blocks.len()) as u64, blocks, &mut content) {
+        Ok(()) => Ok(content),
+        Err(fail) => {
+            drop(content);
+            Err(PayloadFail::from(fail))
+        }
+    }
 }
 
 // A content of whole blocks, deciphered in place.
@@ -57,7 +62,10 @@ fn cut_padding(mut text: Secret) -> Result<Secret, PayloadFail>
             text.cut(len);
             Ok(text)
         }
-        Err(BadPadding) => Err(PayloadFail::BadPadding),
+        Err(BadPadding) => {
+            drop(text);
+            Err(PayloadFail::BadPadding)
+        }
     }
 }
 
@@ -71,6 +79,7 @@ fn decipher_chained<B: Block16>(
         (right_padding (cbc_text (B.deciphered cipher.now) iv.now content.bytes)) }
 {
     if content.len() % 16 != 0 {
+        drop(content);
         return Err(PayloadFail::BadPadding);
     }
     cut_padding(decipher_blocks(cipher, iv, content))
@@ -131,9 +140,17 @@ pub fn after_start(start: &[u8; 32], mut text: Secret) -> Result<Secret, Payload
     ensures { Returns (λ s. s.bytes) result (after_start start.now text.bytes) }
 {
     if !starts_with(&text, start) {
+        drop(text);
         return Err(PayloadFail::StartBytes);
     }
-    let len = join_hashed(&mut text, START)?;
-    text.cut(len);
-    Ok(text)
+    match join_hashed(&mut text, START) {
+        Ok(len) => {
+            text.cut(len);
+            Ok(text)
+        }
+        Err(fail) => {
+            drop(text);
+            Err(PayloadFail::from(fail))
+        }
+    }
 }

@@ -130,10 +130,12 @@ fn decipher_with_composite(
         file.bytes) }
 {
     let Ok(transformed) = transform(alloc, composite, &header.settings.kdf) else {
+        drop(file);
         return Err(PayloadFail::NoMemory);
     };
     let mut keys = file_keys(transformed, &header.seed);
     let text = decipher_with_file_keys(alloc, &keys, header, file.lend(0, file.len()));
+    drop(file);
     keys.clear();
     keys.release();
     text
@@ -162,17 +164,31 @@ fn payload_in_4(
     ensures start { IfOk result (λ p. IsAt p.stream 0) }
     ensures within { IfOk result (λ p. p.document ≤ length p.text.bytes) }
 {
-    let inner = read_inner(alloc, text.lend(0, text.len()))?;
+    let inner = match read_inner(alloc, text.lend(0, text.len())) {
+        Ok(inner) => inner,
+        Err(fail) => {
+            drop(text);
+            drop(header);
+            return Err(PayloadFail::from(fail));
+        }
+    };
     let key = inner.stream_key.lend(0, inner.stream_key.len());
-    let stream = stream_of(inner.stream_id, key)?;
-    Ok(Payload {
-        settings: header.settings,
-        pool: inner.pool,
-        stream,
-        header_hash,
-        text,
-        document: inner.size,
-    })
+    match stream_of(inner.stream_id, key) {
+        Ok(stream) => Ok(Payload {
+            settings: header.settings,
+            pool: inner.pool,
+            stream,
+            header_hash,
+            text,
+            document: inner.size,
+        }),
+        Err(fail) => {
+            drop(inner);
+            drop(text);
+            drop(header);
+            Err(fail)
+        }
+    }
 }
 
 // The payload of the text of a document of version 3.1, with the hash of the header.
@@ -189,15 +205,21 @@ fn payload_in_31(
     ensures start { IfOk result (λ p. IsAt p.stream 0) }
     ensures within { IfOk result (λ p. p.document ≤ length p.text.bytes) }
 {
-    let stream = stream_of(header.stream_id, header.stream_key.as_slice())?;
-    Ok(Payload {
-        settings: header.settings,
-        pool: List::new(alloc),
-        stream,
-        header_hash,
-        text,
-        document: 0,
-    })
+    match stream_of(header.stream_id, header.stream_key.as_slice()) {
+        Ok(stream) => Ok(Payload {
+            settings: header.settings,
+            pool: List::new(alloc),
+            stream,
+            header_hash,
+            text,
+            document: 0,
+        }),
+        Err(fail) => {
+            drop(text);
+            drop(header);
+            Err(fail)
+        }
+    }
 }
 
 // The payload of a deciphered text, with the hash of the header.
@@ -248,8 +270,19 @@ pub fn open_payload(alloc: Global, composite: &Key, file: Secret) -> Result<Payl
     ensures within { IfOk result (λ p. p.document ≤ length p.text.bytes) }
 {
     let bytes = file.lend(0, file.len());
-    let header = read_header(alloc, bytes, bytes.len() as u64)?;
+    let header = match read_header(alloc, bytes, bytes.len() as u64) {
+        Ok(header) => header,
+        Err(fail) => {
+            drop(file);
+            return Err(PayloadFail::from(fail));
+        }
+    };
     let header_hash = hash_of_header(header.size, bytes);
-    let text = decipher_with_composite(alloc, composite, &header, file)?;
-    payload_in(alloc, header, header_hash, text)
+    match decipher_with_composite(alloc, composite, &header, file) {
+        Ok(text) => payload_in(alloc, header, header_hash, text),
+        Err(fail) => {
+            drop(header);
+            Err(fail)
+        }
+    }
 }
