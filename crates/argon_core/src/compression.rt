@@ -109,23 +109,24 @@ fn row(block: &Block, r: usize) -> [u64; 16]
     requires { r < 8 }
     ensures { result ≡ row block.now r }
 {
+    let at = 16 * r;
     [
-        block[16 * r],
-        block[16 * r + 1],
-        block[16 * r + 2],
-        block[16 * r + 3],
-        block[16 * r + 4],
-        block[16 * r + 5],
-        block[16 * r + 6],
-        block[16 * r + 7],
-        block[16 * r + 8],
-        block[16 * r + 9],
-        block[16 * r + 10],
-        block[16 * r + 11],
-        block[16 * r + 12],
-        block[16 * r + 13],
-        block[16 * r + 14],
-        block[16 * r + 15],
+        block[at],
+        block[at + 1],
+        block[at + 2],
+        block[at + 3],
+        block[at + 4],
+        block[at + 5],
+        block[at + 6],
+        block[at + 7],
+        block[at + 8],
+        block[at + 9],
+        block[at + 10],
+        block[at + 11],
+        block[at + 12],
+        block[at + 13],
+        block[at + 14],
+        block[at + 15],
     ]
 }
 
@@ -145,23 +146,24 @@ fn column(block: &Block, j: usize) -> [u64; 16]
     requires { j < 8 }
     ensures { result ≡ column block.now j }
 {
+    let at = 2 * j;
     [
-        block[2 * j],
-        block[2 * j + 1],
-        block[2 * j + 16],
-        block[2 * j + 17],
-        block[2 * j + 32],
-        block[2 * j + 33],
-        block[2 * j + 48],
-        block[2 * j + 49],
-        block[2 * j + 64],
-        block[2 * j + 65],
-        block[2 * j + 80],
-        block[2 * j + 81],
-        block[2 * j + 96],
-        block[2 * j + 97],
-        block[2 * j + 112],
-        block[2 * j + 113],
+        block[at],
+        block[at + 1],
+        block[at + 16],
+        block[at + 17],
+        block[at + 32],
+        block[at + 33],
+        block[at + 48],
+        block[at + 49],
+        block[at + 64],
+        block[at + 65],
+        block[at + 80],
+        block[at + 81],
+        block[at + 96],
+        block[at + 97],
+        block[at + 112],
+        block[at + 113],
     ]
 }
 

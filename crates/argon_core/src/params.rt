@@ -18,7 +18,7 @@ pub const MIN_SALT: usize = 8;
 pub const MAX_SALT: usize = 1024;
 
 /// A type of Argon2: how the blocks to mix in are chosen.
-#[derive(Clone, Copy, Debug, PartialEq, Eq)]
+#[derive(Clone, Copy, Debug)]
 pub enum ArgonKind {
     /// Argon2d: by the blocks before.
     D,
@@ -27,7 +27,7 @@ pub enum ArgonKind {
 }
 
 /// The costs of a computation.
-#[derive(Clone, Copy, Debug, PartialEq, Eq)]
+#[derive(Clone, Copy)]
 pub struct ArgonParams {
     /// How often the memory is filled.
     pub passes: u32,
@@ -38,7 +38,7 @@ pub struct ArgonParams {
 }
 
 /// Why a computation is not made, in the order in which the limits are looked at.
-#[derive(Clone, Copy, Debug, PartialEq, Eq)]
+#[derive(Clone, Copy, Debug)]
 pub enum ArgonFail {
     /// The number of passes, which is 0.
     Passes(u32),

@@ -5,6 +5,18 @@ use Rattle.argon_core.proofs.Holding.{holds_next}
 use Rattle.argon_core.proofs.params.Instance.fill_segment.Goals as goal
 use Rattle.argon_core.proofs.params.Instance.fill_segment.Goals.{then-is_independent+then-place-eq0, else-is_independent, else-is_independent-via-then-is_independent+else-place-eq0, else-is_independent-via-else-is_independent}
 
+pub fill_place-requires-clause-addresses : goal.fill_place-requires-clause-addresses
+fill_place-requires-clause-addresses c = λ independent. elim c.if-is_independent.branch [
+  | then-is_independent+then-place-eq0 w ↦ w.addresses-is ∙ w.address_block-addresses.ensures
+  | else-is_independent w ↦ elim w.else-is_independent.branch [
+    | else-is_independent-via-then-is_independent+else-place-eq0 v ↦
+        w.addresses-is ∙ c.places.invariant.addresses independent v.if-place-eq0.false
+    | else-is_independent-via-else-is_independent v ↦
+        let both : true ≡ false = sym independent ∙ sym c.is_independent-is_independent.ensures ∙ v.if-is_independent.false in
+        cc
+  ]
+]
+
 pub places-preserved : goal.places-preserved
 places-preserved c =
     let i = c.args.self.now in
