@@ -119,6 +119,11 @@ pub fn read_file<F: FileStore>(
         return Err(ReadFail::TooLarge(size));
     }
     let mut secret = Secret::with_room(alloc, size as usize)?;
-    fill_secret(files, name, &mut secret)?;
-    Ok(secret)
+    match fill_secret(files, name, &mut secret) {
+        Ok(()) => Ok(secret),
+        Err(fail) => {
+            drop(secret);
+            Err(ReadFail::from(fail))
+        }
+    }
 }
