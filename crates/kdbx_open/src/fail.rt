@@ -12,7 +12,7 @@ use secret_core::ReadFail;
 /// Why a file is not opened. The first that holds comes, in the order of these variants; but Frame
 /// is tried twice, of the header at its place, and of the inner fields after the blocks; and Block
 /// of a file of version 3.1 is tried after StartBytes.
-#[derive(Clone, Copy, Debug, PartialEq, Eq)]
+#[derive(Clone, Copy, Debug)]
 pub enum OpenFail {
     /// The file was not read.
     File(ReadFail),

@@ -14,7 +14,6 @@ ghost use Rattle.kdbx_open.specs.Seen.{opened_seen, unsealed_seen};
 
 use crate::OpenFail;
 use crate::documents::{check_hash, document_of};
-use doc_read::ReadDoc;
 use kdbx_frame::{FILE_LIMIT, Settings, form_of};
 use kdbx_payload::{Payload, open_payload};
 use outside_core::FileStore;
@@ -56,12 +55,26 @@ fn open_bytes(alloc: Global, composite: &Key, file: Secret) -> Result<Unsealed, 
         document,
     } = open_payload(alloc, composite, file)?;
     let form = form_of(settings.version);
-    let ReadDoc {
-        doc,
-        header_hash: kept,
-    } = document_of(alloc, form, stream, &pool, text, document)?;
-    check_hash(kept, header_hash)?;
-    Ok(Unsealed { settings, doc })
+    let read = document_of(alloc, form, stream, &pool, text, document);
+    drop(pool);
+    let read = match read {
+        Ok(read) => read,
+        Err(fail) => {
+            drop(settings);
+            return Err(fail);
+        }
+    };
+    match check_hash(read.header_hash, header_hash) {
+        Ok(()) => Ok(Unsealed {
+            settings,
+            doc: read.doc,
+        }),
+        Err(fail) => {
+            drop(read);
+            drop(settings);
+            Err(fail)
+        }
+    }
 }
 
 // What the file of this name holds under a composite key.
