@@ -1,7 +1,7 @@
 //! The inner fields at the start of a deciphered text.
 
 ghost use Rattle.std.specs.Prelude.{◌≡◌, ◌+◌, ◌≤◌, ◌<◌, ◌^◌, [], ◌∷◌, ◌++◌, IfOk, Ok, length, map};
-ghost use Rattle.outside_core.specs.Results.{◌>>=◌, Returns, repeat_steps};
+ghost use Rattle.outside_core.specs.Results.{Returns, repeat_steps};
 ghost use Rattle.kdbx_parts.specs.Results.{meaning_of};
 ghost use Rattle.kdbx_parts.specs.declared.fail.FrameFail.TheVariants.{Truncated};
 ghost use Rattle.kdbx_parts.specs.declared.parts.LengthWidth.TheVariants.{Four};
@@ -148,7 +148,7 @@ fn read_fields(alloc: Global, whole: usize, read: &mut InnerRead) -> Result<(), 
     ensures gives { Returns meaning_of (λ _. inner_read_seen read.new) result
         (repeat_steps (inner_step whole) (inner_end_missing whole) whole
         (inner_read_seen read.old)) }
-    ensures shorter { length read.new.rest.now ≤ length read.old.rest.now }
+    ensures shorter { IfOk result (λ _. length read.new.rest.now ≤ length read.old.rest.now) }
 {
     'fields: for _ in 0..whole {
         let ended = read_field(alloc, whole, read)?;
@@ -181,18 +181,13 @@ fn inner_from(alloc: Global, text: &[u8]) -> Result<InnerRead, FrameFail>
     }
 }
 
-// The stream and a secret copy of its key, both of which must be there.
-fn stream_in(alloc: Global, found: &PartialInner) -> Result<(u32, Secret), FrameFail>
-    ensures { Returns meaning_of (λ x. (x.0, x.1.bytes)) result
-        (required 1 (partial_inner_seen found.now).stream_id >>= λ id.
-        required 2 (partial_inner_seen found.now).stream_key >>= λ key. Ok (id, key)) }
+// A secret copy of the stream's key, which must be there.
+fn stream_key_in(alloc: Global, found: &PartialInner) -> Result<Secret, FrameFail>
+    ensures { Returns meaning_of (λ x. x.bytes) result
+        (required 2 (partial_inner_seen found.now).stream_key) }
 {
-    let stream_id = required(1, found.stream_id)?;
     let stream_key = required(2, found.stream_key)?;
-    match secret_of(alloc, stream_key) {
-        Ok(stream_key) => Ok((stream_id, stream_key)),
-        Err(fail) => Err(fail),
-    }
+    secret_of(alloc, stream_key)
 }
 
 /// Reads the inner fields at the start of a deciphered text (KeePass's documentation of KDBX 4).
@@ -206,13 +201,19 @@ pub fn read_inner(alloc: Global, text: &[u8]) -> Result<Inner, FrameFail>
     ensures within { IfOk result (λ i. i.size ≤ length text.now) }
 {
     let InnerRead { found, rest } = inner_from(alloc, text)?;
-    let size = text.len() - rest.len();
-    match stream_in(alloc, &found) {
-        Ok((stream_id, stream_key)) => Ok(Inner {
+    let stream_id = match required(1, found.stream_id) {
+        Ok(stream_id) => stream_id,
+        Err(fail) => {
+            drop(found);
+            return Err(fail);
+        }
+    };
+    match stream_key_in(alloc, &found) {
+        Ok(stream_key) => Ok(Inner {
             stream_id,
             stream_key,
             pool: found.pool,
-            size,
+            size: text.len() - rest.len(),
         }),
         Err(fail) => {
             drop(found);

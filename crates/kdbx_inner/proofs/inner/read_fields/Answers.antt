@@ -1,4 +1,4 @@
-use Rattle.std.proofs.Common.{arith, length}
+use Rattle.std.proofs.Common.{arith}
 use Rattle.std.proofs.lemmas.Result.{err_from_is_err_and}
 use Rattle.kdbx_inner.specs.Inner.{inner_step, inner_end_missing}
 use Rattle.kdbx_inner.specs.Seen.{inner_read_seen}
