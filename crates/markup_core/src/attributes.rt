@@ -11,7 +11,7 @@ use markup_scanner::after;
 use std::str;
 
 /// The attributes of a start tag.
-#[derive(Clone, Copy, Debug, PartialEq, Eq)]
+#[derive(Clone, Copy, PartialEq, Eq)]
 pub struct Attrs<'a> {
     /// The attributes as they are written: all between the tag's name and its `>` or `/>`.
     pub raw: &'a str,

@@ -4,7 +4,7 @@ use crate::attributes::Attrs;
 
 /// A piece of a text. Its names and runs of text are slices of the text, and its place counts bytes
 /// from the text's start.
-#[derive(Clone, Copy, Debug, PartialEq, Eq)]
+#[derive(Clone, Copy, PartialEq, Eq)]
 pub enum Piece<'a> {
     /// A start tag, whose `<` is at the place. An empty element's tag gives it too.
     Start {
@@ -27,7 +27,7 @@ pub enum Piece<'a> {
 }
 
 /// Why a reader stops before the end of a text.
-#[derive(Clone, Copy, Debug, PartialEq, Eq)]
+#[derive(Clone, Copy, PartialEq, Eq)]
 pub enum MarkupFail {
     /// The text is none of the grammar. It carries the length of the longest prefix of it that
     /// begins one.
