@@ -50,10 +50,14 @@ fn first_attribute(bytes: &[u8]) -> Option<Attribute<'_>>
     ensures shorter { IfSome result (λ first. length first.rest.now < length bytes.now) }
     ensures utf8 { IfSome result (λ first. IsUtf8 first.rest.now) }
 {
-    let tag = after(bytes, space_len(bytes));
-    let name = cut_at(tag, name_len(tag))?;
-    let equals = cut_at(name.rest, equals_len(name.rest))?;
-    let value = cut_at(equals.rest, value_len(equals.rest, equals.byte))?;
+    let space_len = run_len(bytes, Run::Space);
+    let tag = after(bytes, space_len);
+    let name_len = run_len(tag, Run::Name);
+    let name = cut_at(tag, name_len)?;
+    let equals_len = run_len(name.rest, Run::BeforeQuote);
+    let equals = cut_at(name.rest, equals_len)?;
+    let value_len = run_len(equals.rest, Run::Quoted(equals.byte));
+    let value = cut_at(equals.rest, value_len)?;
     Some(Attribute {
         name: name.front,
         value: text_of(value.front),
@@ -93,63 +97,40 @@ fn is_space(byte: u8) -> bool
     byte == b'\t' || byte == b'\n' || byte == b'\r' || byte == b' '
 }
 
-/// A byte of a name: neither white space nor `=`.
+/// What a run of bytes in a tag is made of.
+#[derive(Clone, Copy)]
+enum Run {
+    /// White space.
+    Space,
+    /// The bytes of a name: neither white space nor `=`.
+    Name,
+    /// The bytes before the quotes.
+    BeforeQuote,
+    /// The bytes of a value in this quote.
+    Quoted(u8),
+}
+
+/// Whether the byte may be in a run.
 #[inline(always)]
-#[tactic(auto, unfolding(crate::specs::AttributeRuns::is_in_name))]
-fn is_in_name(byte: u8) -> bool
-    ensures { result ≡ runs.is_in_name byte }
+#[tactic(auto, unfolding(crate::specs::AttributeRuns::is_in_name, crate::specs::AttributeRuns::is_before_quote, crate::specs::AttributeRuns::is_quoted))]
+fn is_in_run(run: Run, byte: u8) -> bool
+    ensures { result ≡ runs.is_in_run run byte }
 {
-    !is_space(byte) && byte != b'='
+    match run {
+        Run::Space => is_space(byte),
+        Run::Name => !is_space(byte) && byte != b'=',
+        Run::BeforeQuote => byte != b'"' && byte != b'\'',
+        Run::Quoted(quote) => byte != quote,
+    }
 }
 
-/// A byte before the quotes.
+/// How many bytes of a run are here.
 #[inline(always)]
-#[tactic(auto, unfolding(crate::specs::AttributeRuns::is_before_quote))]
-fn is_before_quote(byte: u8) -> bool
-    ensures { result ≡ runs.is_before_quote byte }
-{
-    byte != b'"' && byte != b'\''
-}
-
-/// A byte of a value in this quote.
-#[inline(always)]
-#[tactic(auto, unfolding(crate::specs::AttributeRuns::is_quoted))]
-fn is_quoted(quote: u8, byte: u8) -> bool
-    ensures { result ≡ runs.is_quoted quote byte }
-{
-    byte != quote
-}
-
-/// How much white space is here.
-fn space_len(bytes: &[u8]) -> usize
-    ensures len { result ≡ prefix_len bytes_of.is_space bytes.now }
+fn run_len(bytes: &[u8], run: Run) -> usize
+    ensures len { result ≡ prefix_len (runs.is_in_run run) bytes.now }
     ensures within { result ≤ length bytes.now }
 {
-    bytes.iter().take_while(|b| is_space(**b)).count()
-}
-
-/// How many bytes the name has that is here.
-fn name_len(bytes: &[u8]) -> usize
-    ensures len { result ≡ prefix_len runs.is_in_name bytes.now }
-    ensures within { result ≤ length bytes.now }
-{
-    bytes.iter().take_while(|b| is_in_name(**b)).count()
-}
-
-/// How many bytes are here before the next quote.
-fn equals_len(bytes: &[u8]) -> usize
-    ensures len { result ≡ prefix_len runs.is_before_quote bytes.now }
-    ensures within { result ≤ length bytes.now }
-{
-    bytes.iter().take_while(|b| is_before_quote(**b)).count()
-}
-
-/// How many bytes the value has that is here, up to this quote.
-fn value_len(bytes: &[u8], quote: u8) -> usize
-    ensures len { result ≡ prefix_len (runs.is_quoted quote) bytes.now }
-    ensures within { result ≤ length bytes.now }
-{
-    bytes.iter().take_while(|b| is_quoted(quote, **b)).count()
+    bytes.iter().take_while(|b| is_in_run(run, **b)).count()
 }
 
 /// The text that spells these bytes.
