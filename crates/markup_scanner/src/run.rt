@@ -5,6 +5,7 @@ ghost use Rattle.std.specs.List.{prefix_len};
 ghost use Rattle.markup_grammar.specs.Bytes as bytes_of;
 ghost use Rattle.markup_grammar.specs.Machine.{State};
 ghost use Rattle.markup_scanner.specs.Left.{StandsAt, BeginsWithout};
+ghost use Rattle.markup_scanner.specs.Runs.{is_in_run};
 ghost use Rattle.markup_scanner.specs.Scans.{run_end, IsPast, EndsWithin, NameEnds, Await, Leads};
 
 use crate::bytes::{begins_name, is_in_name, is_plain, is_quoted, is_space};
@@ -49,36 +50,39 @@ pub(crate) fn past(text: &[u8], at: usize, byte: u8) -> Result<usize, usize>
     }
 }
 
-/// How many bytes of white space the bytes begin with.
-fn space_len(bytes: &[u8]) -> usize
-    ensures len { result ≡ prefix_len bytes_of.is_space bytes.now }
-    ensures within { result ≤ length bytes.now }
-{
-    bytes.iter().take_while(|b| is_space(**b)).count()
+/// What a run of bytes is made of.
+#[derive(Clone, Copy)]
+enum Run {
+    /// White space.
+    Space,
+    /// What may be in a name.
+    Name,
+    /// What stands for itself in text.
+    Plain,
+    /// What stands for itself in a value between these quotes.
+    Quoted(u8),
 }
 
-/// How many bytes they begin with that may be in a name.
-fn in_name_len(bytes: &[u8]) -> usize
-    ensures len { result ≡ prefix_len bytes_of.is_name_byte bytes.now }
-    ensures within { result ≤ length bytes.now }
+/// Whether the byte may be in a run.
+#[inline(always)]
+fn is_in_run(run: Run, byte: u8) -> bool
+    ensures { result ≡ is_in_run run byte }
 {
-    bytes.iter().take_while(|b| is_in_name(**b)).count()
+    match run {
+        Run::Space => is_space(byte),
+        Run::Name => is_in_name(byte),
+        Run::Plain => is_plain(byte),
+        Run::Quoted(quote) => is_quoted(quote, byte),
+    }
 }
 
-/// How many bytes they begin with that stand for themselves in text.
-fn plain_len(bytes: &[u8]) -> usize
-    ensures len { result ≡ prefix_len bytes_of.is_text bytes.now }
+/// How many bytes of a run the bytes begin with.
+#[inline(always)]
+fn run_len(bytes: &[u8], run: Run) -> usize
+    ensures len { result ≡ prefix_len (is_in_run run) bytes.now }
     ensures within { result ≤ length bytes.now }
 {
-    bytes.iter().take_while(|b| is_plain(**b)).count()
-}
-
-/// How many bytes they begin with that stand for themselves in a value between these quotes.
-fn quoted_len(bytes: &[u8], quote: u8) -> usize
-    ensures len { result ≡ prefix_len (bytes_of.is_value quote) bytes.now }
-    ensures within { result ≤ length bytes.now }
-{
-    bytes.iter().take_while(|b| is_quoted(quote, **b)).count()
+    bytes.iter().take_while(|b| is_in_run(run, **b)).count()
 }
 
 /// The end of the white space that is at a place.
@@ -88,7 +92,7 @@ pub(crate) fn space_end(text: &[u8], at: usize) -> usize
     ensures from { at ≤ result }
     ensures within { result ≤ length text.now }
 {
-    at + space_len(after(text, at))
+    at + run_len(after(text, at), Run::Space)
 }
 
 /// The end of the bytes at a place that may be in a name.
@@ -98,7 +102,7 @@ pub(crate) fn in_name_end(text: &[u8], at: usize) -> usize
     ensures from { at ≤ result }
     ensures within { result ≤ length text.now }
 {
-    at + in_name_len(after(text, at))
+    at + run_len(after(text, at), Run::Name)
 }
 
 /// The end of the bytes at a place that stand for themselves in text.
@@ -108,7 +112,7 @@ pub(crate) fn plain_end(text: &[u8], at: usize) -> usize
     ensures from { at ≤ result }
     ensures within { result ≤ length text.now }
 {
-    at + plain_len(after(text, at))
+    at + run_len(after(text, at), Run::Plain)
 }
 
 /// The end of the bytes at a place that stand for themselves in a value between these quotes.
@@ -118,7 +122,7 @@ pub(crate) fn quoted_end(text: &[u8], at: usize, quote: u8) -> usize
     ensures from { at ≤ result }
     ensures within { result ≤ length text.now }
 {
-    at + quoted_len(after(text, at), quote)
+    at + run_len(after(text, at), Run::Quoted(quote))
 }
 
 /// The end of the name that is at a place, or the place where none is.
