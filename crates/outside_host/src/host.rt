@@ -1,6 +1,6 @@
 //! The adapters to the host. They report no content, so that nothing is promised of what a disk, a
 //! pipe or the system's random bytes give; each error raises their count of faults.
-ghost use Rattle.std.specs.Prelude.{◌≡◌, ◌≤◌, None, [], length, IfOk};
+ghost use Rattle.std.specs.Prelude.{◌≡◌, ◌≤◌, None, [], length, IfOk, IsErrOf};
 ghost use Rattle.outside_core.specs.Counts.{HasCause, Increased, increment};
 
 use outside_core::{
@@ -90,14 +90,26 @@ fn open_left<R: Files<File = File>>(rt: &R, part: &str) -> io::Result<File> {
     }
 }
 
+/// Takes the lock of a draft, which is still at its path then.
+fn hold_at<R: Files>(rt: &R, file: &File, path: &str) -> io::Result<()> {
+    hold(file)?;
+    stay_at(rt, file, path)
+}
+
+/// Removes a draft whose lock can be taken.
+fn remove_held<R: Files<File = File>>(rt: &R, left: &File, part: &str) -> io::Result<()> {
+    hold_at(rt, left, part)?;
+    fs::remove_file(rt, part)
+}
+
 /// Removes a draft that was left by a call that was cut off. The draft of a call that still runs
 /// stays, because that call holds its lock.
 fn remove_left<R: Files<File = File>>(rt: &R, part: &str) -> io::Result<()> {
     match open_left(rt, part) {
         Ok(left) => {
-            hold(&left)?;
-            stay_at(rt, &left, part)?;
-            fs::remove_file(rt, part)
+            let removed = remove_held(rt, &left, part);
+            drop(left);
+            removed
         }
         Err(error) if error.kind() == ErrorKind::NotFound => Ok(()),
         Err(error) => Err(error),
@@ -113,9 +125,13 @@ fn create_part<R: Files<File = File>>(rt: &R, part: &str) -> io::Result<File> {
         .create_new(true)
         .mode(0o600)
         .open(rt, part)?;
-    hold(&file)?;
-    stay_at(rt, &file, part)?;
-    Ok(file)
+    match hold_at(rt, &file, part) {
+        Ok(()) => Ok(file),
+        Err(error) => {
+            drop(file);
+            Err(error)
+        }
+    }
 }
 
 /// Gives a whole draft the permissions of the file that it is to replace, where there is one, brings
@@ -196,25 +212,80 @@ impl<'a, R: Files<File = File>> HostFiles<'a, R> {
         FileFail::Failed
     }
 
+    /// The file that was read last, if it has this name.
+    fn take_reading(&mut self, name: &str) -> Option<OpenedFile<R::File>>
+        ensures { self.new ≡ self.old }
+    {
+        let opened = self.reading.take()?;
+        if opened.name.as_str() == name {
+            Some(opened)
+        } else {
+            drop(opened);
+            None
+        }
+    }
+
+    /// The file of a name, opened now.
+    fn open_anew(&mut self, name: &str) -> Result<OpenedFile<R::File>, FileFail>
+        ensures draft_name { self.new.draft_name ≡ self.old.draft_name }
+        ensures faults { HasCause FileFail.Failed self.old.faults self.new.faults result }
+        ensures absences { HasCause FileFail.NoSuchFile self.old.absences self.new.absences result }
+    {
+        let Ok(kept) = Text::of(self.alloc, name) else {
+            return Err(FileFail::NoMemory);
+        };
+        match open_regular(self.rt, name) {
+            Ok(file) => Ok(OpenedFile { name: kept, file }),
+            Err(error) if error.kind() == ErrorKind::NotFound => {
+                drop(kept);
+                self.absences = increment(self.absences);
+                Err(FileFail::NoSuchFile)
+            }
+            Err(_error) => {
+                drop(kept);
+                Err(self.fault())
+            }
+        }
+    }
+
     /// The file of a name, open: the one that was read last, if it has this name.
     fn open(&mut self, name: &str) -> Result<OpenedFile<R::File>, FileFail>
         ensures draft_name { self.new.draft_name ≡ self.old.draft_name }
         ensures faults { HasCause FileFail.Failed self.old.faults self.new.faults result }
         ensures absences { HasCause FileFail.NoSuchFile self.old.absences self.new.absences result }
     {
-        if let Some(opened) = self.reading.take() {
-            if opened.name.as_str() == name {
-                return Ok(opened);
-            }
+        match self.take_reading(name) {
+            Some(opened) => Ok(opened),
+            None => self.open_anew(name),
         }
-        let kept = Text::of(self.alloc, name)?;
-        match open_regular(self.rt, name) {
-            Ok(file) => Ok(OpenedFile { name: kept, file }),
-            Err(error) if error.kind() == ErrorKind::NotFound => {
-                self.absences = increment(self.absences);
-                Err(FileFail::NoSuchFile)
+    }
+
+    /// A draft of a name, without a byte so far.
+    fn new_draft(&mut self, name: &str) -> Result<HostDraft, FileFail>
+        ensures name { IfOk result (λ draft. draft.name ≡ name.now) }
+        ensures draft_name { self.new.draft_name ≡ self.old.draft_name }
+        ensures not_missing { ¬ IsErrOf result FileFail.NoSuchFile }
+        ensures faults { HasCause FileFail.Failed self.old.faults self.new.faults result }
+        ensures absences { self.new.absences ≡ self.old.absences }
+    {
+        let Ok(part) = format!(in self.alloc; "{name}.part") else {
+            return Err(FileFail::NoMemory);
+        };
+        let Ok(kept) = Text::of(self.alloc, name) else {
+            drop(part);
+            return Err(FileFail::NoMemory);
+        };
+        match create_part(self.rt, part.as_str()) {
+            Ok(file) => Ok(HostDraft {
+                name: kept,
+                part,
+                file,
+            }),
+            Err(_error) => {
+                drop(kept);
+                drop(part);
+                Err(self.fault())
             }
-            Err(_error) => Err(self.fault()),
         }
     }
 }
@@ -231,14 +302,17 @@ impl<'a, R: Files<File = File>> FileStore for HostFiles<'a, R> {
     ghost absences = { λ s. s.absences };
 
     fn size(&mut self, name: &str) -> Result<u64, FileFail> {
-        self.reading = None;
+        drop(self.reading.take());
         let opened = self.open(name)?;
         match file_len(&opened.file) {
             Ok(len) => {
-                self.reading = Some(opened);
+                drop(self.reading.replace(opened));
                 Ok(len)
             }
-            Err(_error) => Err(self.fault()),
+            Err(_error) => {
+                drop(opened);
+                Err(self.fault())
+            }
         }
     }
 
@@ -246,30 +320,24 @@ impl<'a, R: Files<File = File>> FileStore for HostFiles<'a, R> {
         let mut opened = self.open(name)?;
         match read_from(&mut opened.file, from, out) {
             Ok(n) => {
-                self.reading = Some(opened);
+                drop(self.reading.replace(opened));
                 Ok(n)
             }
-            Err(_error) => Err(self.fault()),
+            Err(_error) => {
+                drop(opened);
+                Err(self.fault())
+            }
         }
     }
 
     fn begin(&mut self, name: &str) -> Result<(), FileFail> {
         self.discard();
-        let part = match format!(in self.alloc; "{name}.part") {
-            Ok(part) => part,
-            Err(_error) => return Err(FileFail::NoMemory),
-        };
-        let kept = Text::of(self.alloc, name)?;
-        match create_part(self.rt, part.as_str()) {
-            Ok(file) => {
-                self.draft = Some(HostDraft {
-                    name: kept,
-                    part,
-                    file,
-                });
+        match self.new_draft(name) {
+            Ok(draft) => {
+                self.draft = Some(draft);
                 Ok(())
             }
-            Err(_error) => Err(self.fault()),
+            Err(fail) => Err(fail),
         }
     }
 
@@ -289,8 +357,10 @@ impl<'a, R: Files<File = File>> FileStore for HostFiles<'a, R> {
         let Some(draft) = self.draft.take() else {
             unreachable!()
         };
-        self.reading = None;
-        match publish_draft(self.rt, &draft) {
+        drop(self.reading.take());
+        let published = publish_draft(self.rt, &draft);
+        drop(draft);
+        match published {
             Ok(()) => Ok(()),
             Err(_error) => Err(self.fault()),
         }
@@ -298,7 +368,9 @@ impl<'a, R: Files<File = File>> FileStore for HostFiles<'a, R> {
 
     fn discard(&mut self) {
         if let Some(draft) = self.draft.take() {
-            if remove_draft(self.rt, &draft).is_err() {
+            let removed = remove_draft(self.rt, &draft);
+            drop(draft);
+            if removed.is_err() {
                 self.faults = increment(self.faults);
             }
         }
