@@ -29,7 +29,7 @@ pub enum InnerStream {
 
 /// A file asks for an inner stream by a number that is neither 2, Salsa20, nor 3, ChaCha20. The
 /// number is the one that was there.
-#[derive(Clone, Copy, Debug, PartialEq, Eq)]
+#[derive(Clone, Copy, Debug)]
 pub struct StreamUnknown(pub u32);
 
 impl InnerStream {
