@@ -1,5 +1,5 @@
 //! Objects in memory that fail only when memory runs out. They report all that they hold.
-ghost use Rattle.std.specs.Prelude.{◌≡◌, ◌<◌, ◌≤◌, [], ◌++◌, length, take, drop, find, Some, IfErr, OnOk, OnErr};
+ghost use Rattle.std.specs.Prelude.{◌≡◌, ◌<◌, ◌≤◌, [], ◌++◌, length, take, drop, find, Some, IfErr, IfOk, OnOk, OnErr};
 ghost use Rattle.std.specs.Option.{option_copied};
 ghost use Rattle.std.specs.Str.{bytes_eq};
 ghost use Rattle.std.specs.FinMap as map;
@@ -22,6 +22,23 @@ fn find_file<'a>(files: &'a [StoredFile], name: &str) -> Option<&'a StoredFile>
     ensures { option_copied result ≡ find (λ f. bytes_eq name.now f.name) files.now }
 {
     files.iter().find(|file| name == file.name.as_str())
+}
+
+/// A file of a name with these bytes.
+fn stored_file(alloc: Global, name: &str, bytes: &[u8]) -> Result<StoredFile, NoMemory>
+    ensures name { IfOk result (λ file. file.name ≡ name.now) }
+    ensures bytes { IfOk result (λ file. file.bytes ≡ bytes.now) }
+{
+    let name = Text::of(alloc, name)?;
+    let mut copy = Bytes::new(alloc);
+    match copy.add(bytes) {
+        Ok(()) => Ok(StoredFile { name, bytes: copy }),
+        Err(none) => {
+            drop(copy);
+            drop(name);
+            Err(none)
+        }
+    }
 }
 
 /// Copies the first of `bytes` to the start of `out`, as far as both reach. Gives the number of
@@ -91,11 +108,26 @@ impl SureFiles {
         ensures err { OnErr result (self.new ≡ self.old) }
         ensures memory { IfErr result (λ e. e ≡ FileFail.NoMemory) }
     {
-        let name = Text::of(self.alloc, name)?;
-        let mut copy = Bytes::new(self.alloc);
-        copy.add(bytes)?;
-        self.files.insert(0, StoredFile { name, bytes: copy })?;
-        Ok(())
+        match stored_file(self.alloc, name, bytes) {
+            Ok(file) => self.insert(file),
+            Err(NoMemory) => Err(FileFail::NoMemory),
+        }
+    }
+
+    /// Puts a file in the place of any of its name. A refusal changes nothing.
+    fn insert(&mut self, file: StoredFile) -> Result<(), FileFail>
+        ensures ok { OnOk result (self.new ≡ record self.old
+            { files = map.insert self.old.files file.name file.bytes }) }
+        ensures err { OnErr result (self.new ≡ self.old) }
+        ensures memory { IfErr result (λ e. e ≡ FileFail.NoMemory) }
+    {
+        match self.files.insert(0, file) {
+            Ok(()) => Ok(()),
+            Err(failed) => {
+                drop(failed);
+                Err(FileFail::NoMemory)
+            }
+        }
     }
 
     /// The bytes of the file of a name.
@@ -138,13 +170,17 @@ impl FileStore for SureFiles {
     }
 
     fn begin(&mut self, name: &str) -> Result<(), FileFail> {
-        self.draft = None;
-        let name = Text::of(self.alloc, name)?;
-        self.draft = Some(StoredFile {
-            name,
-            bytes: Bytes::new(self.alloc),
-        });
-        Ok(())
+        drop(self.draft.take());
+        match Text::of(self.alloc, name) {
+            Ok(name) => {
+                self.draft = Some(StoredFile {
+                    name,
+                    bytes: Bytes::new(self.alloc),
+                });
+                Ok(())
+            }
+            Err(NoMemory) => Err(FileFail::NoMemory),
+        }
     }
 
     fn append(&mut self, piece: &[u8]) -> Result<(), FileFail> {
@@ -152,20 +188,22 @@ impl FileStore for SureFiles {
             unreachable!()
         };
         let added = draft.bytes.add(piece);
-        self.draft = Some(draft);
-        Ok(added?)
+        drop(self.draft.replace(draft));
+        match added {
+            Ok(()) => Ok(()),
+            Err(NoMemory) => Err(FileFail::NoMemory),
+        }
     }
 
     fn publish(&mut self) -> Result<(), FileFail> {
         let Some(draft) = self.draft.take() else {
             unreachable!()
         };
-        self.files.insert(0, draft)?;
-        Ok(())
+        self.insert(draft)
     }
 
     fn discard(&mut self) {
-        self.draft = None;
+        drop(self.draft.take());
     }
 }
 
