@@ -13,7 +13,7 @@ use outside_core::Bytes;
 use std::alloc::Global;
 
 /// How many bytes the length of a field has.
-#[derive(Clone, Copy, Debug, PartialEq, Eq)]
+#[derive(Clone, Copy)]
 pub enum LengthWidth {
     /// Two bytes, as in a header of KDBX 3.1.
     Two,
