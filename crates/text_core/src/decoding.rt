@@ -32,7 +32,10 @@ pub fn decode_base64(alloc: Global, text: &[u8]) -> Result<Option<Secret>, NoMem
             bytes.cut(len);
             Ok(Some(bytes))
         }
-        Err(_) => Ok(None),
+        Err(_) => {
+            drop(bytes);
+            Ok(None)
+        }
     }
 }
 

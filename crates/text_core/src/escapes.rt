@@ -66,5 +66,7 @@ pub fn spells_word(alloc: Global, raw: &str, word: &[u8]) -> Result<bool, NoMemo
         return Ok(is_word(raw.as_bytes(), word));
     }
     let text = unescaped(alloc, raw)?;
-    Ok(is_word(text.lend(0, text.len()), word))
+    let is_word = is_word(text.lend(0, text.len()), word);
+    drop(text);
+    Ok(is_word)
 }
