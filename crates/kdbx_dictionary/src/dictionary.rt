@@ -1,9 +1,9 @@
 //! The KDF dictionary, field 11 of a header.
 
-ghost use Rattle.std.specs.Prelude.{◌≡◌, ◌+◌, ◌≤◌, ◌^◌, ◌<◌, IfOk, length, option_map, true};
+ghost use Rattle.std.specs.Prelude.{◌≡◌, ◌+◌, ◌≤◌, ◌^◌, ◌<◌, IfOk, length, drop, option_map, true};
 ghost use Rattle.outside_core.specs.Results.{Returns};
 ghost use Rattle.kdbx_parts.specs.Results.{meaning_of};
-ghost use Rattle.kdbx_dictionary.specs.Dictionary.{bytes_in, description_of, counted_bytes, dictionary_of, length_fits, item_at, item_step, items_of, required_key, required_bytes, u32_in, u64_in, with_item, aes_description, argon_description};
+ghost use Rattle.kdbx_dictionary.specs.Dictionary.{bytes_in, description_of, counted_bytes, dictionary_of, length_fits, item_at, item_step, items_of, no_keys, required_key, required_bytes, u32_in, u64_in, with_item, aes_description, argon_description};
 ghost use Rattle.kdbx_parts.specs.declared.fail.FrameFail.TheVariants.{Dictionary};
 ghost use Rattle.kdbx_dictionary.specs.Seen.{item_seen, items_seen, keys_seen, description_seen};
 
@@ -236,19 +236,22 @@ fn read_item(whole: usize, read: &mut ItemsRead) -> Result<bool, FrameFail>
         read.rest = after;
         return Ok(true);
     }
-    let item = item_of(offset, read.rest)?;
-    add_item(&mut read.keys, &item);
-    read.rest = item.rest;
-    Ok(false)
+    match item_of(offset, read.rest) {
+        Ok(item) => {
+            add_item(&mut read.keys, &item);
+            read.rest = item.rest;
+            Ok(false)
+        }
+        Err(fail) => Err(fail),
+    }
 }
 
-// The values of all items of a field, which follow its version of two bytes; and the bytes after
-// the items.
-fn items_of(content: &[u8]) -> Result<ItemsRead, FrameFail>
+// No values, and the bytes after the version of a field.
+fn no_items(content: &[u8]) -> ItemsRead<'_>
     requires { 2 ≤ length content.now }
-    ensures { Returns meaning_of items_seen result (items_of content.now) }
+    ensures { items_seen result ≡ record { keys = no_keys; rest = drop 2 content.now } }
 {
-    let mut read = ItemsRead {
+    ItemsRead {
         keys: Keys {
             uuid: None,
             rounds: None,
@@ -261,11 +264,18 @@ fn items_of(content: &[u8]) -> Result<ItemsRead, FrameFail>
             associated: false,
         },
         rest: &content[2..],
-    };
+    }
+}
+
+// Reads all items of a field, which follow its version of two bytes.
+fn read_items<'a>(content: &'a [u8], read: &mut ItemsRead<'a>) -> Result<(), FrameFail>
+    requires { items_seen read.old ≡ record { keys = no_keys; rest = drop 2 content.now } }
+    ensures { Returns meaning_of (λ _. items_seen read.new) result (items_of content.now) }
+{
     'items: for _ in 0..content.len() {
-        let ended = read_item(content.len(), &mut read)?;
+        let ended = read_item(content.len(), read)?;
         if ended {
-            return Ok(read);
+            return Ok(());
         }
     }
     Err(FrameFail::Dictionary((content.len() - read.rest.len()) as u64))
@@ -358,6 +368,9 @@ pub fn dictionary_of(content: &[u8]) -> Result<KdfDescription, FrameFail>
     if version[1] != 1 {
         return Ok(KdfDescription::WrongVersion(u16::from_le_bytes(array_of(version))));
     }
-    let read = items_of(content)?;
-    description_of(content.len() as u64, &read.keys)
+    let mut read = no_items(content);
+    match read_items(content, &mut read) {
+        Ok(()) => description_of(content.len() as u64, &read.keys),
+        Err(fail) => Err(fail),
+    }
 }
