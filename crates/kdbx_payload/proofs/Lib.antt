@@ -3,3 +3,4 @@ mod Macs
 pub mod SealedPayloads
 mod StartBytes
 pub mod Steps
+pub mod Refusals
