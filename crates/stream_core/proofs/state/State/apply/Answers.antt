@@ -1,4 +1,4 @@
-use Rattle.std.proofs.Common.{◌≡◌, ℕ, ◌+◌, ◌-◌, ◌*◌, ◌/◌, ◌%◌, ◌<◌, ◌≤◌, length, take, drop, slice_index, arith, ap, ap₂, ◌∙◌, length-take}
+use Rattle.std.proofs.Common.{◌≡◌, ℕ, ◌+◌, ◌-◌, ◌*◌, ◌/◌, ◌%◌, ◌<◌, ◌≤◌, length, take, drop, slice_index, arith, ap, ap₂, ◌∙◌, length-take, rules}
 use Rattle.stream_core.specs.Words.{byte_in}
 use Rattle.stream_core.proofs.StreamLemmas.{xored_same, xored_front_piece}
 use Rattle.stream_core.proofs.state.State.apply.Goals as goal
@@ -34,3 +34,14 @@ pieces-preserved g c =
           (let same : 256 * (at / 256) + i ≡ 256 * ((c.args.place + (done + count)) / 256) + i = omega arith in
           window i below ∙ ap stream same);
     }
+
+pub prepare-requires : goal.prepare-requires
+prepare-requires g c = (
+  search rules,
+  (c.turns.ensures, (omega arith, rw (c.pieces.invariant.key, c.pieces.invariant.nonce) c.pieces.invariant.window)),
+)
+
+pub returns-clause-window : goal.returns-clause-window
+returns-clause-window g c =
+    let whole : c.pieces.done ≡ length c.args.text.now = omega arith in
+    rw whole at c.pieces.invariant.window
