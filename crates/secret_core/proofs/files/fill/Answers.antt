@@ -1,6 +1,4 @@
 use Rattle.std.proofs.Common.{◌≡◌, length, take, ◌+◌, ◌-◌, ◌∙◌, ap, arith, min}
-use Rattle.std.proofs.lemmas.Result.{err_from_is_err_and}
-use Rattle.secret_core.proofs.Causes.{caused_before}
 use Rattle.secret_core.proofs.Windows.{lent_part, window_told, window_read, window_empty}
 use Rattle.secret_core.proofs.files.fill.Goals as goal
 
@@ -35,13 +33,3 @@ returns-then-read-eq0-clause-told g c = λ m bytes told found.
     window_empty bytes out part at (c.min-end.result - at) _ kept.within
     (omega (arith, lent.whole, kept.within)) (omega (arith, upto, lent.part, c.loop-at-test.true)) (kept.front m bytes told found)
     (window_told _ m bytes _ _ _ _ (kept.files ∙ told) found c.in_ok-read.ensures.told ∙ ap (λ n. take n part) c.if-read-eq0.true)
-
-pub returns-in_err-read-clause-faults : goal.returns-in_err-read-clause-faults
-returns-in_err-read-clause-faults g c =
-    let p = err_from_is_err_and c.from_residual.result c.from_residual.ensures.1 in
-    rw (p.1, p.2) (caused_before _ _ _ _ _ c.loop-at.invariant.faults c.in_err-read.ensures.faults)
-
-pub returns-in_err-read-clause-absences : goal.returns-in_err-read-clause-absences
-returns-in_err-read-clause-absences g c =
-    let p = err_from_is_err_and c.from_residual.result c.from_residual.ensures.1 in
-    rw (p.1, p.2) (caused_before _ _ _ _ _ c.loop-at.invariant.absences c.in_err-read.ensures.absences)
