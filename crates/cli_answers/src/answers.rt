@@ -1,7 +1,8 @@
 //! What the program refuses with: the answers, their statuses and their texts.
-ghost use Rattle.std.specs.Prelude.{◌≡◌, ◌++◌, IfOk, codes, string_bytes};
+ghost use Rattle.std.specs.Prelude.{◌≡◌, ◌++◌, IfOk, OnOk, codes, string_bytes};
 ghost use Rattle.std.specs.Fmt.{decimal};
 ghost use Rattle.hex.specs.Hex.{encode_lower};
+ghost use Rattle.uuid.specs.Text.{hyphenated_text, lower};
 ghost use Rattle.cli_answers.specs.Messages.{status_of, reason_text, error_line, refusal_of, spaced_ids, Refuses};
 
 use outside_core::{Bytes, List, NoMemory, Text};
@@ -10,7 +11,7 @@ use uuid_core::Uuid;
 
 /// Why a call of the program is refused. A place is in bytes from the start of the file, or of its
 /// deciphered text.
-#[derive(Debug, Drop, PartialEq, Eq)]
+#[derive(Drop)]
 pub enum Reason {
     /// The words are no command.
     WrongWords,
@@ -216,6 +217,58 @@ pub fn status(reason: &Reason) -> u8
     }
 }
 
+// A number after a text.
+fn numbered(alloc: Global, front: &str, number: u64) -> Result<String, AllocError>
+    ensures { IfOk result (λ text. string_bytes text ≡ front.now ++ decimal number) }
+{
+    format!(in alloc; "{front}{number}")
+}
+
+// An id after a text.
+fn with_id(alloc: Global, front: &str, id: &Uuid) -> Result<String, AllocError>
+    ensures { IfOk result (λ text. string_bytes text ≡ front.now ++ hyphenated_text lower id.now) }
+{
+    format!(in alloc; "{front}{id}")
+}
+
+// A group by its id that would be moved into itself.
+fn into_itself(alloc: Global, id: &Uuid) -> Result<String, AllocError>
+    ensures { IfOk result (λ text. string_bytes text
+        ≡ hyphenated_text lower id.now ++ codes " into itself") }
+{
+    format!(in alloc; "{id} into itself")
+}
+
+// Adds the digits of bytes.
+fn add_digits<const N: usize>(
+    alloc: Global,
+    text: &mut String,
+    bytes: [u8; N],
+) -> Result<(), AllocError>
+    ensures { OnOk result (string_bytes text.new
+        ≡ string_bytes text.old ++ encode_lower bytes.entry) }
+{
+    let digits = hex::encode(alloc, bytes)?;
+    let added = text.push_str(digits.as_str());
+    drop(digits);
+    added
+}
+
+// Adds bytes that are kept and bytes that are found.
+fn add_compared<const N: usize>(
+    alloc: Global,
+    text: &mut String,
+    kept: [u8; N],
+    found: [u8; N],
+) -> Result<(), AllocError>
+    ensures { OnOk result (string_bytes text.new ≡ string_bytes text.old
+        ++ encode_lower kept.entry ++ codes " found " ++ encode_lower found.entry) }
+{
+    add_digits(alloc, text, kept)?;
+    text.push_str(" found ")?;
+    add_digits(alloc, text, found)
+}
+
 // Bytes that are kept and bytes that are found, after a text.
 fn compared<const N: usize>(
     alloc: Global,
@@ -227,10 +280,13 @@ fn compared<const N: usize>(
         ++ codes " found " ++ encode_lower found.entry) }
 {
     let mut text = String::from_str(alloc, front)?;
-    text.push_str(hex::encode(alloc, kept)?.as_str())?;
-    text.push_str(" found ")?;
-    text.push_str(hex::encode(alloc, found)?.as_str())?;
-    Ok(text)
+    match add_compared(alloc, &mut text, kept, found) {
+        Ok(()) => Ok(text),
+        Err(fail) => {
+            drop(text);
+            Err(fail)
+        }
+    }
 }
 
 // A line by its number, and what is wrong with it.
@@ -238,18 +294,27 @@ fn line_is(alloc: Global, number: u64, wrong: &str) -> Result<String, AllocError
     ensures { IfOk result (λ text. string_bytes text
         ≡ codes "line " ++ decimal number ++ wrong.now) }
 {
-    let mut text = format!(in alloc; "line {number}")?;
-    text.push_str(wrong)?;
-    Ok(text)
+    format!(in alloc; "line {number}{wrong}")
 }
 
 // An attribute by its name, which is not there.
 fn no_attribute(alloc: Global, name: &str) -> Result<String, AllocError>
     ensures { IfOk result (λ text. string_bytes text ≡ codes "no attribute " ++ name.now) }
 {
-    let mut text = String::from_str(alloc, "no attribute ")?;
-    text.push_str(name)?;
-    Ok(text)
+    format!(in alloc; "no attribute {name}")
+}
+
+// Adds ids, each after a space.
+fn add_ids(alloc: Global, text: &mut String, ids: &[Uuid]) -> Result<(), AllocError>
+    ensures { OnOk result (string_bytes text.new ≡ string_bytes text.old ++ spaced_ids ids.now) }
+{
+    for id in ids {
+        let spaced = with_id(alloc, " ", id)?;
+        let added = text.push_str(spaced.as_str());
+        drop(spaced);
+        added?;
+    }
+    Ok(())
 }
 
 // The nodes of a cycle, each id after a space.
@@ -257,10 +322,13 @@ fn cycle_text(alloc: Global, ids: &[Uuid]) -> Result<String, AllocError>
     ensures { IfOk result (λ text. string_bytes text ≡ codes "move cycle" ++ spaced_ids ids.now) }
 {
     let mut text = String::from_str(alloc, "move cycle")?;
-    for id in ids {
-        text.push_str(format!(in alloc; " {id}")?.as_str())?;
+    match add_ids(alloc, &mut text, ids) {
+        Ok(()) => Ok(text),
+        Err(fail) => {
+            drop(text);
+            Err(fail)
+        }
     }
-    Ok(text)
 }
 
 /// The text of an answer: numbers in decimal, ids in lower case with hyphens, bytes in lower-case
@@ -270,61 +338,72 @@ pub fn text_of_reason(alloc: Global, reason: &Reason) -> Result<String, AllocErr
 {
     match reason {
         Reason::WrongWords => String::from_str(alloc, "wrong words"),
-        Reason::EmptyTerm(at) => format!(in alloc; "empty term at {at}"),
+        Reason::EmptyTerm(at) => numbered(alloc, "empty term at ", *at as u64),
         Reason::NoSuchPath => String::from_str(alloc, "not found"),
         Reason::NameTaken => String::from_str(alloc, "already there"),
         Reason::AlreadyThere => String::from_str(alloc, "already in that group"),
         Reason::RootFixed => String::from_str(alloc, "the root stays"),
-        Reason::IntoItself(id) => format!(in alloc; "{id} into itself"),
-        Reason::IdTaken(id) => format!(in alloc; "id taken {id}"),
+        Reason::IntoItself(id) => into_itself(alloc, id),
+        Reason::IdTaken(id) => with_id(alloc, "id taken ", id),
         Reason::NoAttribute(name) => no_attribute(alloc, name.as_str()),
         Reason::NoResult => String::from_str(alloc, "no results"),
         Reason::FileExists => String::from_str(alloc, "file exists"),
         Reason::DamagedOrWrongKey { kept, found } => {
             compared(alloc, "damaged or wrong key: kept ", *kept, *found)
         }
-        Reason::DamagedBlock(number) => format!(in alloc; "damaged block {number}"),
+        Reason::DamagedBlock(number) => numbered(alloc, "damaged block ", *number),
         Reason::WrongKeyOrDamaged => String::from_str(alloc, "wrong key or damaged"),
         Reason::WrongPassword => String::from_str(alloc, "wrong password"),
         Reason::KeyFileHash { kept, found } => { compared(alloc, "key file: kept ", *kept, *found) }
         Reason::NotKdbx => String::from_str(alloc, "not a KDBX file"),
         Reason::NotPsafe => String::from_str(alloc, "not a psafe3 file"),
-        Reason::EndsEarly(at) => format!(in alloc; "ends early at {at}"),
-        Reason::BadHeaderField(id) => format!(in alloc; "bad header field {id}"),
-        Reason::BadDictionary(at) => format!(in alloc; "bad dictionary at {at}"),
-        Reason::Form(at) => format!(in alloc; "malformed text at {at}"),
-        Reason::MissingElement(at) => format!(in alloc; "missing element at {at}"),
-        Reason::BadValue(at) => format!(in alloc; "bad value at {at}"),
-        Reason::NilId(at) => format!(in alloc; "nil id at {at}"),
-        Reason::NilRecord(number) => format!(in alloc; "nil id at {number}"),
-        Reason::DuplicateId(id) => format!(in alloc; "duplicate id {id}"),
-        Reason::BinaryRef(number) => format!(in alloc; "no binary {number}"),
-        Reason::BadKeyFile(at) => format!(in alloc; "bad key file at {at}"),
-        Reason::BadField(at) => format!(in alloc; "bad field at {at}"),
-        Reason::NotUtf8(at) => format!(in alloc; "not UTF-8 at {at}"),
+        Reason::EndsEarly(at) => numbered(alloc, "ends early at ", *at),
+        Reason::BadHeaderField(id) => numbered(alloc, "bad header field ", u64::from(*id)),
+        Reason::BadDictionary(at) => numbered(alloc, "bad dictionary at ", *at),
+        Reason::Form(at) => numbered(alloc, "malformed text at ", *at as u64),
+        Reason::MissingElement(at) => numbered(alloc, "missing element at ", *at as u64),
+        Reason::BadValue(at) => numbered(alloc, "bad value at ", *at as u64),
+        Reason::NilId(at) => numbered(alloc, "nil id at ", *at as u64),
+        Reason::NilRecord(number) => numbered(alloc, "nil id at ", *number),
+        Reason::DuplicateId(id) => with_id(alloc, "duplicate id ", id),
+        Reason::BinaryRef(number) => numbered(alloc, "no binary ", *number),
+        Reason::BadKeyFile(at) => numbered(alloc, "bad key file at ", *at as u64),
+        Reason::BadField(at) => numbered(alloc, "bad field at ", *at),
+        Reason::NotUtf8(at) => numbered(alloc, "not UTF-8 at ", *at),
         Reason::NoTitleColumn => String::from_str(alloc, "no Title column"),
-        Reason::BadRow(number) => format!(in alloc; "bad row {number}"),
+        Reason::BadRow(number) => numbered(alloc, "bad row ", *number),
         Reason::LineForm(number) => line_is(alloc, *number, " is not UTF-8"),
-        Reason::Version(number) => format!(in alloc; "version {number}"),
-        Reason::UnknownId(id) => format!(in alloc; "unknown {id}"),
-        Reason::StreamUnknown(number) => format!(in alloc; "stream {number}"),
+        Reason::Version(number) => numbered(alloc, "version ", u64::from(*number)),
+        Reason::UnknownId(id) => with_id(alloc, "unknown ", id),
+        Reason::StreamUnknown(number) => numbered(alloc, "stream ", u64::from(*number)),
         Reason::Compressed => String::from_str(alloc, "compressed"),
-        Reason::Variant(number) => format!(in alloc; "variant {number}"),
-        Reason::Clash(id) => format!(in alloc; "clash at {id}"),
+        Reason::Variant(number) => numbered(alloc, "variant ", *number),
+        Reason::Clash(id) => with_id(alloc, "clash at ", id),
         Reason::MoveCycle(ids) => cycle_text(alloc, ids.as_slice()),
         Reason::NoSuchFile => String::from_str(alloc, "no such file"),
-        Reason::TooLarge => String::from_str(alloc, "limit passed"),
-        Reason::Depth => String::from_str(alloc, "limit passed"),
-        Reason::TooDeep => String::from_str(alloc, "limit passed"),
-        Reason::TooMany => String::from_str(alloc, "limit passed"),
-        Reason::KdfLimit => String::from_str(alloc, "limit passed"),
-        Reason::IterLimit => String::from_str(alloc, "limit passed"),
-        Reason::StampLimit => String::from_str(alloc, "limit passed"),
-        Reason::LineLimit => String::from_str(alloc, "limit passed"),
-        Reason::TooMuch => String::from_str(alloc, "limit passed"),
+        Reason::TooLarge
+        | Reason::Depth
+        | Reason::TooDeep
+        | Reason::TooMany
+        | Reason::KdfLimit
+        | Reason::IterLimit
+        | Reason::StampLimit
+        | Reason::LineLimit
+        | Reason::TooMuch => String::from_str(alloc, "limit passed"),
         Reason::OutOfMemory => String::from_str(alloc, "out of memory"),
         Reason::InputEnded(number) => line_is(alloc, *number, " missing"),
     }
+}
+
+// Adds the line that reports an answer.
+fn add_line(line: &mut Bytes, subject: &str, text: &str) -> Result<(), NoMemory>
+    ensures { OnOk result (line.new ≡ line.old ++ error_line subject.now text.now) }
+{
+    line.add(b"keepass: ")?;
+    line.add(subject.as_bytes())?;
+    line.add(b": ")?;
+    line.add(text.as_bytes())?;
+    line.add(b"\n")
 }
 
 /// The line that reports an answer: `keepass: SUBJECT: TEXT` and LF.
@@ -332,12 +411,13 @@ pub fn line(alloc: Global, subject: &str, text: &str) -> Result<Bytes, NoMemory>
     ensures { IfOk result (λ line. line ≡ error_line subject.now text.now) }
 {
     let mut line = Bytes::new(alloc);
-    line.add(b"keepass: ")?;
-    line.add(subject.as_bytes())?;
-    line.add(b": ")?;
-    line.add(text.as_bytes())?;
-    line.add(b"\n")?;
-    Ok(line)
+    match add_line(&mut line, subject, text) {
+        Ok(()) => Ok(line),
+        Err(fail) => {
+            drop(line);
+            Err(fail)
+        }
+    }
 }
 
 /// A stop by an answer about this subject, or because memory ran out.
