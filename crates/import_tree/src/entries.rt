@@ -1,6 +1,6 @@
 //! The entries of an imported file, and what is made of them.
 
-ghost use Rattle.std.specs.Prelude.{◌≡◌, [], ◌∷◌, ◌++◌, IfOk, OnOk, map};
+ghost use Rattle.std.specs.Prelude.{◌≡◌, [], ◌∷◌, ◌++◌, IfOk, OnOk, codes, map, true, false};
 ghost use Rattle.import_tree.specs.Entries as spec;
 ghost use Rattle.import_tree.specs.SeenEntries.{imported_seen, text_seen};
 ghost use Rattle.vault_model.specs.Seen.{bare_content, bare_field};
@@ -60,19 +60,128 @@ fn add_history(
     }
 }
 
+// Texts that come after the passwords.
+#[derive(Drop)]
+struct Names {
+    title: Secret,
+    url: Secret,
+    user: Secret,
+}
+
+// Puts the passwords after the other fields.
+fn add_passwords(
+    alloc: Global,
+    fields: &mut List<Field>,
+    password: Secret,
+    history: Option<Secret>,
+) -> Result<(), NoMemory>
+    ensures { OnOk result (map bare_field fields.new ≡ map bare_field fields.old
+        ++ spec.field (codes "Password") password.bytes true
+        ∷ spec.history_field (text_seen history)) }
+{
+    match add_field(alloc, fields, "Password", password, true) {
+        Ok(()) => add_history(alloc, fields, history),
+        Err(fail) => {
+            drop(history);
+            Err(fail)
+        }
+    }
+}
+
+// Puts a place and a user's name after the other fields.
+fn add_place(
+    alloc: Global,
+    fields: &mut List<Field>,
+    url: Secret,
+    user: Secret,
+) -> Result<(), NoMemory>
+    ensures { OnOk result (map bare_field fields.new ≡ map bare_field fields.old
+        ++ spec.field (codes "URL") url.bytes false
+        ∷ spec.field (codes "UserName") user.bytes false
+        ∷ []) }
+{
+    match add_field(alloc, fields, "URL", url, false) {
+        Ok(()) => add_field(alloc, fields, "UserName", user, false),
+        Err(fail) => {
+            drop(user);
+            Err(fail)
+        }
+    }
+}
+
+// Puts the texts that come after the passwords after the other fields.
+fn add_names(alloc: Global, fields: &mut List<Field>, names: Names) -> Result<(), NoMemory>
+    ensures { OnOk result (map bare_field fields.new ≡ map bare_field fields.old
+        ++ spec.field (codes "Title") names.title.bytes false
+        ∷ spec.field (codes "URL") names.url.bytes false
+        ∷ spec.field (codes "UserName") names.user.bytes false
+        ∷ []) }
+{
+    let Names { title, url, user } = names;
+    match add_field(alloc, fields, "Title", title, false) {
+        Ok(()) => add_place(alloc, fields, url, user),
+        Err(fail) => {
+            drop(url);
+            drop(user);
+            Err(fail)
+        }
+    }
+}
+
+// Puts the notes and the passwords after the other fields.
+fn add_first(
+    alloc: Global,
+    fields: &mut List<Field>,
+    notes: Secret,
+    password: Secret,
+    history: Option<Secret>,
+) -> Result<(), NoMemory>
+    ensures { OnOk result (map bare_field fields.new ≡ map bare_field fields.old
+        ++ spec.field (codes "Notes") notes.bytes false
+        ∷ spec.field (codes "Password") password.bytes true
+        ∷ spec.history_field (text_seen history)) }
+{
+    match add_field(alloc, fields, "Notes", notes, false) {
+        Ok(()) => add_passwords(alloc, fields, password, history),
+        Err(fail) => {
+            drop(password);
+            drop(history);
+            Err(fail)
+        }
+    }
+}
+
+// Puts the fields of an imported entry after others, by rising key.
+fn add_fields(alloc: Global, fields: &mut List<Field>, entry: ImportedEntry) -> Result<(), NoMemory>
+    ensures { OnOk result (map bare_field fields.new
+        ≡ map bare_field fields.old ++ spec.fields_of (imported_seen entry)) }
+{
+    let names = Names {
+        title: entry.title,
+        url: entry.url,
+        user: entry.user,
+    };
+    match add_first(alloc, fields, entry.notes, entry.password, entry.history) {
+        Ok(()) => add_names(alloc, fields, names),
+        Err(fail) => {
+            drop(names);
+            Err(fail)
+        }
+    }
+}
+
 // The fields of an imported entry, by rising key.
 fn fields_of(alloc: Global, entry: ImportedEntry) -> Result<List<Field>, NoMemory>
     ensures { IfOk result (λ fields. map bare_field fields ≡ spec.fields_of (imported_seen entry)) }
 {
     let mut fields = List::new(alloc);
-    let list = &mut fields;
-    add_field(alloc, list, "Notes", entry.notes, false)?;
-    add_field(alloc, list, "Password", entry.password, true)?;
-    add_history(alloc, list, entry.history)?;
-    add_field(alloc, list, "Title", entry.title, false)?;
-    add_field(alloc, list, "URL", entry.url, false)?;
-    add_field(alloc, list, "UserName", entry.user, false)?;
-    Ok(fields)
+    match add_fields(alloc, &mut fields, entry) {
+        Ok(()) => Ok(fields),
+        Err(fail) => {
+            drop(fields);
+            Err(fail)
+        }
+    }
 }
 
 // What an entry says that has these fields and was made then.

@@ -6,7 +6,7 @@ use outside_core::NoMemory;
 use uuid_core::Uuid;
 
 /// Why imported entries give no document.
-#[derive(Clone, Copy, Debug, PartialEq, Eq)]
+#[derive(Clone, Copy)]
 pub enum TreeFail {
     /// Two nodes have this id, the least of those.
     DuplicateId(Uuid),
