@@ -86,13 +86,37 @@ fn access_source(said: &SaidWords<'_, '_>, format: ImportFormat) -> Access
 fn asked_of(alloc: Global, said: &SaidWords<'_, '_>) -> Result<Asked, NoMemory>
     ensures { IfOk result (λ asked. asked ≡ spec.asked_of (said_seen said.now)) }
 {
-    Ok(Asked {
-        title: copy_of(alloc, text_of(said, CommandOption::Title))?,
-        user: copy_of(alloc, text_of(said, CommandOption::User))?,
-        url: copy_of(alloc, text_of(said, CommandOption::Url))?,
-        notes: copy_of(alloc, text_of(said, CommandOption::Notes))?,
-        password: is_given(said, CommandOption::EntryPassword),
-    })
+    let title = copy_of(alloc, text_of(said, CommandOption::Title))?;
+    let user = match copy_of(alloc, text_of(said, CommandOption::User)) {
+        Ok(user) => user,
+        Err(fail) => {
+            drop(title);
+            return Err(fail);
+        }
+    };
+    let url = match copy_of(alloc, text_of(said, CommandOption::Url)) {
+        Ok(url) => url,
+        Err(fail) => {
+            drop(title);
+            drop(user);
+            return Err(fail);
+        }
+    };
+    match copy_of(alloc, text_of(said, CommandOption::Notes)) {
+        Ok(notes) => Ok(Asked {
+            title,
+            user,
+            url,
+            notes,
+            password: is_given(said, CommandOption::EntryPassword),
+        }),
+        Err(fail) => {
+            drop(title);
+            drop(user);
+            drop(url);
+            Err(fail)
+        }
+    }
 }
 
 // The format of a name.
@@ -145,15 +169,29 @@ struct Base {
     file: Text,
 }
 
+// A database that is opened so, with its file.
+fn base_with(alloc: Global, access: Access, file: &Text) -> Result<Base, NoMemory>
+    ensures access { IfOk result (λ base. base.access ≡ access) }
+    ensures file { IfOk result (λ base. base.file ≡ file.now) }
+{
+    match Text::of(alloc, file.as_str()) {
+        Ok(file) => Ok(Base { access, file }),
+        Err(fail) => {
+            drop(access);
+            Err(fail)
+        }
+    }
+}
+
 // How a database is opened, and its file.
 fn base_of(alloc: Global, said: &SaidWords<'_, '_>, file: &Text) -> Result<Base, NoMemory>
     ensures access { IfOk result (λ base. base.access ≡ spec.access_of (said_seen said.now)) }
     ensures file { IfOk result (λ base. base.file ≡ file.now) }
 {
-    Ok(Base {
-        access: access_of(alloc, said)?,
-        file: Text::of(alloc, file.as_str())?,
-    })
+    match access_of(alloc, said) {
+        Ok(access) => base_with(alloc, access, file),
+        Err(fail) => Err(fail),
+    }
 }
 
 // The same, and what a command names in the database.
@@ -176,11 +214,17 @@ fn base_and_path(
     ensures path { IfOk result (λ both. both.path ≡ path.now) }
 {
     let base = base_of(alloc, said, file)?;
-    Ok(BaseAndPath {
-        access: base.access,
-        file: base.file,
-        path: Text::of(alloc, path.as_str())?,
-    })
+    match Text::of(alloc, path.as_str()) {
+        Ok(path) => Ok(BaseAndPath {
+            access: base.access,
+            file: base.file,
+            path,
+        }),
+        Err(fail) => {
+            drop(base);
+            Err(fail)
+        }
+    }
 }
 
 // The command `ls` of a file, and of a group where one is named.
@@ -194,13 +238,19 @@ fn list_of(
         ≡ spec.list_of (said_seen said.now) file.now (text_seen group.entry)) }
 {
     let base = base_of(alloc, said, file)?;
-    Ok(Command::Ls {
-        access: base.access,
-        file: base.file,
-        group: copy_of(alloc, group)?,
-        recursive: is_given(said, CommandOption::Recursive),
-        flat: is_given(said, CommandOption::Flat),
-    })
+    match copy_of(alloc, group) {
+        Ok(group) => Ok(Command::Ls {
+            access: base.access,
+            file: base.file,
+            group,
+            recursive: is_given(said, CommandOption::Recursive),
+            flat: is_given(said, CommandOption::Flat),
+        }),
+        Err(fail) => {
+            drop(base);
+            Err(fail)
+        }
+    }
 }
 
 // The command `ls` at these positions.
@@ -224,15 +274,21 @@ fn show_at(alloc: Global, said: &SaidWords<'_, '_>) -> Result<Command, WordsFail
         return Err(WordsFail::Wrong);
     };
     let both = base_and_path(alloc, said, file, entry)?;
-    Ok(Command::Show {
-        access: both.access,
-        file: both.file,
-        entry: both.path,
-        clear: is_given(said, CommandOption::Clear),
-        all: is_given(said, CommandOption::All),
-        attachments: is_given(said, CommandOption::Attachments),
-        names: copies_of(alloc, said.names)?,
-    })
+    match copies_of(alloc, said.names) {
+        Ok(names) => Ok(Command::Show {
+            access: both.access,
+            file: both.file,
+            entry: both.path,
+            clear: is_given(said, CommandOption::Clear),
+            all: is_given(said, CommandOption::All),
+            attachments: is_given(said, CommandOption::Attachments),
+            names,
+        }),
+        Err(fail) => {
+            drop(both);
+            Err(WordsFail::from(fail))
+        }
+    }
 }
 
 // The command `search` at these positions.
@@ -260,12 +316,18 @@ fn add_at(alloc: Global, said: &SaidWords<'_, '_>) -> Result<Command, WordsFail>
         return Err(WordsFail::Wrong);
     };
     let both = base_and_path(alloc, said, file, entry)?;
-    Ok(Command::Add {
-        access: both.access,
-        file: both.file,
-        entry: both.path,
-        asked: asked_of(alloc, said)?,
-    })
+    match asked_of(alloc, said) {
+        Ok(asked) => Ok(Command::Add {
+            access: both.access,
+            file: both.file,
+            entry: both.path,
+            asked,
+        }),
+        Err(fail) => {
+            drop(both);
+            Err(WordsFail::from(fail))
+        }
+    }
 }
 
 // The command `edit` of a file's entry.
@@ -279,12 +341,18 @@ fn edit_of(
         ≡ spec.edit_of (said_seen said.now) file.now entry.now) }
 {
     let both = base_and_path(alloc, said, file, entry)?;
-    Ok(Command::Edit {
-        access: both.access,
-        file: both.file,
-        entry: both.path,
-        asked: asked_of(alloc, said)?,
-    })
+    match asked_of(alloc, said) {
+        Ok(asked) => Ok(Command::Edit {
+            access: both.access,
+            file: both.file,
+            entry: both.path,
+            asked,
+        }),
+        Err(fail) => {
+            drop(both);
+            Err(fail)
+        }
+    }
 }
 
 // The command `edit` at these positions.
@@ -307,12 +375,18 @@ fn move_at(alloc: Global, said: &SaidWords<'_, '_>) -> Result<Command, WordsFail
         return Err(WordsFail::Wrong);
     };
     let both = base_and_path(alloc, said, file, node)?;
-    Ok(Command::Move {
-        access: both.access,
-        file: both.file,
-        node: both.path,
-        group: Text::of(alloc, group.as_str())?,
-    })
+    match Text::of(alloc, group.as_str()) {
+        Ok(group) => Ok(Command::Move {
+            access: both.access,
+            file: both.file,
+            node: both.path,
+            group,
+        }),
+        Err(fail) => {
+            drop(both);
+            Err(WordsFail::from(fail))
+        }
+    }
 }
 
 // The command `rm` at these positions.
@@ -374,14 +448,28 @@ fn merge_of(
         ≡ spec.merge_of (said_seen said.now) file.now sources.now) }
 {
     let base = base_of(alloc, said, file)?;
-    Ok(Command::Merge {
-        access: base.access,
-        file: base.file,
-        sources: copies_of(alloc, sources)?,
-        from: access_from(alloc, said)?,
-        same: is_given(said, CommandOption::SameCredentials),
-        dry: is_given(said, CommandOption::DryRun),
-    })
+    let sources = match copies_of(alloc, sources) {
+        Ok(sources) => sources,
+        Err(fail) => {
+            drop(base);
+            return Err(fail);
+        }
+    };
+    match access_from(alloc, said) {
+        Ok(from) => Ok(Command::Merge {
+            access: base.access,
+            file: base.file,
+            sources,
+            from,
+            same: is_given(said, CommandOption::SameCredentials),
+            dry: is_given(said, CommandOption::DryRun),
+        }),
+        Err(fail) => {
+            drop(base);
+            drop(sources);
+            Err(fail)
+        }
+    }
 }
 
 // The command `merge` at these positions.
@@ -409,13 +497,21 @@ fn import_from(
     ensures { IfOk result (λ command. command
         ≡ spec.import_from (said_seen said.now) source.now file.now format) }
 {
-    Ok(Command::Import {
-        access: access_new(alloc, said)?,
-        format,
-        source: Text::of(alloc, source.as_str())?,
-        from: access_source(said, format),
-        file: Text::of(alloc, file.as_str())?,
-    })
+    let access = access_new(alloc, said)?;
+    let base = base_with(alloc, access, file)?;
+    match Text::of(alloc, source.as_str()) {
+        Ok(source) => Ok(Command::Import {
+            access: base.access,
+            format,
+            source,
+            from: access_source(said, format),
+            file: base.file,
+        }),
+        Err(fail) => {
+            drop(base);
+            Err(fail)
+        }
+    }
 }
 
 // The command `import` at these positions.
@@ -443,10 +539,11 @@ fn export_at(alloc: Global, said: &SaidWords<'_, '_>) -> Result<Command, WordsFa
     let Some(format) = format_asked(text_of(said, CommandOption::Format)) else {
         return Err(WordsFail::Wrong);
     };
+    let base = base_of(alloc, said, file)?;
     Ok(Command::Export {
-        access: access_of(alloc, said)?,
+        access: base.access,
         format,
-        file: Text::of(alloc, file.as_str())?,
+        file: base.file,
     })
 }
 
@@ -458,9 +555,10 @@ fn info_at(alloc: Global, said: &SaidWords<'_, '_>) -> Result<Command, WordsFail
     let [file] = said.positions else {
         return Err(WordsFail::Wrong);
     };
+    let base = base_of(alloc, said, file)?;
     Ok(Command::Info {
-        access: access_of(alloc, said)?,
-        file: Text::of(alloc, file.as_str())?,
+        access: base.access,
+        file: base.file,
     })
 }
 
@@ -514,7 +612,10 @@ fn command_by(alloc: Global, words: &[String], command: CommandName) -> Result<C
 {
     let mut given = no_texts();
     let mut state = empty_state(alloc);
-    add_words(command, &mut given, &mut state, words)?;
+    if let Err(fail) = add_words(command, &mut given, &mut state, words) {
+        drop(state);
+        return Err(fail);
+    }
     let said = SaidWords {
         given: given.texts,
         names: state.names.as_slice(),
@@ -522,7 +623,9 @@ fn command_by(alloc: Global, words: &[String], command: CommandName) -> Result<C
         ended: state.ended,
         positions: state.positions.as_slice(),
     };
-    command_saying(alloc, command, &said)
+    let made = command_saying(alloc, command, &said);
+    drop(state);
+    made
 }
 
 // The command that the words are, if they are one.
