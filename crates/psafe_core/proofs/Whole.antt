@@ -1,6 +1,5 @@
 -- What was read of a file, as a whole.
-use Rattle.std.proofs.Common.{◌≡◌, ◌-◌, ℕ, List, Result, Ok, length, ap, ◌∙◌, arith, take_all}
-use Rattle.std.specs.Prelude.{slice_range}
+use Rattle.std.proofs.Common.{◌≡◌, ℕ, List, Result, Ok}
 use Rattle.mac_core.specs.Hmac.{hmac}
 use Rattle.psafe_core.specs.Outcome.{content_outcome, or_field_form, records_outcome}
 use Rattle.psafe_fields.specs.Faults.{sound_fields}
@@ -10,10 +9,6 @@ use Rattle.psafe_file.specs.Opened.{SafeContent}
 use Rattle.psafe_file.specs.Results.{Returns}
 use Rattle.psafe_file.specs.declared.fails.PsafeFail.{PsafeFail}
 use Rattle.vault_model.specs.Tree.{BareDoc}
-
--- Bytes that are lent from the first to the last.
-pub all_lent : (bytes lent : List ℕ) (n : ℕ) → lent ≡ slice_range bytes 0 n → n ≡ length bytes → lent ≡ bytes
-all_lent bytes lent n is len = is ∙ ap (slice_range bytes 0) len ∙ take_all (length bytes - 0) bytes (omega arith)
 
 -- The document of the records whose MAC is right.
 pub content_read : {X : Type 0} (seen : X → BareDoc) (key : List ℕ) (now : ℕ) (content : SafeContent) (fields : List SafeField) (records : List (List SafeField)) (result : Result X PsafeFail)

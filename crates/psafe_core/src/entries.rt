@@ -60,18 +60,31 @@ fn add_name(alloc: Global, names: &mut List<Text>, name: &str) -> Result<(), NoM
     }
 }
 
+// Puts the names of the groups that a text names after others.
+fn add_names(alloc: Global, names: &mut List<Text>, text: &str) -> Result<(), NoMemory>
+    ensures { OnOk result (names.new ≡ names.old ++ group_names text.now) }
+{
+    let mut rest = text;
+    while let Some((name, later)) = rest.split_once('.') {
+        add_name(alloc, names, name)?;
+        rest = later;
+    }
+    add_name(alloc, names, rest)?;
+    Ok(())
+}
+
 // The names of the groups that a text names, with a dot between each two.
 fn group_names(alloc: Global, text: &str) -> Result<List<Text>, NoMemory>
     ensures { IfOk result (λ names. names ≡ group_names text.now) }
 {
     let mut names = List::new(alloc);
-    let mut rest = text;
-    while let Some((name, later)) = rest.split_once('.') {
-        add_name(alloc, &mut names, name)?;
-        rest = later;
+    match add_names(alloc, &mut names, text) {
+        Ok(()) => Ok(names),
+        Err(fail) => {
+            drop(names);
+            Err(fail)
+        }
     }
-    add_name(alloc, &mut names, rest)?;
-    Ok(names)
 }
 
 // The names of the groups of a record.
@@ -85,6 +98,121 @@ fn record_groups(alloc: Global, record_fields: &[SafeField]) -> Result<List<Text
     }
 }
 
+// What names an entry: its title, its user and its URL.
+#[derive(Drop)]
+struct Names {
+    title: Secret,
+    user: Secret,
+    url: Secret,
+}
+
+// What names the entry of a record.
+fn names_of(alloc: Global, record_fields: &[SafeField]) -> Result<Names, NoMemory>
+    ensures title { IfOk result (λ names. names.title.bytes
+        ≡ spec.text_of spec_kinds.title_kind (fields_seen record_fields.now)) }
+    ensures user { IfOk result (λ names. names.user.bytes
+        ≡ spec.text_of spec_kinds.user_kind (fields_seen record_fields.now)) }
+    ensures url { IfOk result (λ names. names.url.bytes
+        ≡ spec.text_of spec_kinds.url_kind (fields_seen record_fields.now)) }
+{
+    let title = secret_text(alloc, kind::TITLE, record_fields)?;
+    let user = match secret_text(alloc, kind::USER, record_fields) {
+        Ok(user) => user,
+        Err(fail) => {
+            drop(title);
+            return Err(fail);
+        }
+    };
+    match secret_text(alloc, kind::URL, record_fields) {
+        Ok(url) => Ok(Names { title, user, url }),
+        Err(fail) => {
+            drop(title);
+            drop(user);
+            Err(fail)
+        }
+    }
+}
+
+// What an entry keeps: its password, the passwords before, and its notes.
+#[derive(Drop)]
+struct Kept {
+    password: Secret,
+    history: Option<Secret>,
+    notes: Secret,
+}
+
+// What the entry of a record keeps.
+fn kept_of(alloc: Global, record_fields: &[SafeField]) -> Result<Kept, NoMemory>
+    ensures password { IfOk result (λ kept. kept.password.bytes
+        ≡ spec.text_of spec_kinds.password_kind (fields_seen record_fields.now)) }
+    ensures history { IfOk result (λ kept. option_map (λ s. s.bytes) kept.history
+        ≡ last_of (text_in spec_kinds.history_kind) (fields_seen record_fields.now)) }
+    ensures notes { IfOk result (λ kept. kept.notes.bytes
+        ≡ spec.text_of spec_kinds.notes_kind (fields_seen record_fields.now)) }
+{
+    let password = secret_text(alloc, kind::PASSWORD, record_fields)?;
+    let notes = match secret_text(alloc, kind::NOTES, record_fields) {
+        Ok(notes) => notes,
+        Err(fail) => {
+            drop(password);
+            return Err(fail);
+        }
+    };
+    match secret_history(alloc, record_fields) {
+        Ok(history) => Ok(Kept {
+            password,
+            history,
+            notes,
+        }),
+        Err(fail) => {
+            drop(password);
+            drop(notes);
+            Err(fail)
+        }
+    }
+}
+
+// The entry of the record of this number, which has these groups and keeps this.
+fn entry_with(
+    alloc: Global,
+    now: Stamp,
+    number: u64,
+    record_fields: &[SafeField],
+    groups: List<Text>,
+    kept: Kept,
+) -> Result<ImportedEntry, NoMemory>
+    requires groups { groups
+        ≡ group_names (spec.text_of spec_kinds.group_kind (fields_seen record_fields.now)) }
+    requires password { kept.password.bytes
+        ≡ spec.text_of spec_kinds.password_kind (fields_seen record_fields.now) }
+    requires history { option_map (λ s. s.bytes) kept.history
+        ≡ last_of (text_in spec_kinds.history_kind) (fields_seen record_fields.now) }
+    requires notes { kept.notes.bytes
+        ≡ spec.text_of spec_kinds.notes_kind (fields_seen record_fields.now) }
+    ensures { IfOk result (λ e. imported_seen e
+        ≡ imported_record now number (fields_seen record_fields.now)) }
+{
+    match names_of(alloc, record_fields) {
+        Ok(names) => Ok(ImportedEntry {
+            groups,
+            id: id_of(number, record_fields),
+            title: names.title,
+            user: names.user,
+            password: kept.password,
+            url: names.url,
+            notes: kept.notes,
+            history: kept.history,
+            created: time_of(kind::CREATED, now, record_fields),
+            modified: time_of(kind::MODIFIED, now, record_fields),
+        }),
+        Err(fail) => {
+            drop(groups);
+            drop(kept);
+            Err(fail)
+        }
+    }
+}
+
 /// The entry of the record of this number, from 1.
 pub(crate) fn entry_of(
     alloc: Global,
@@ -95,16 +223,12 @@ pub(crate) fn entry_of(
     ensures { IfOk result (λ e. imported_seen e
         ≡ imported_record now number (fields_seen record_fields.now)) }
 {
-    Ok(ImportedEntry {
-        groups: record_groups(alloc, record_fields)?,
-        id: id_of(number, record_fields),
-        title: secret_text(alloc, kind::TITLE, record_fields)?,
-        user: secret_text(alloc, kind::USER, record_fields)?,
-        password: secret_text(alloc, kind::PASSWORD, record_fields)?,
-        url: secret_text(alloc, kind::URL, record_fields)?,
-        notes: secret_text(alloc, kind::NOTES, record_fields)?,
-        history: secret_history(alloc, record_fields)?,
-        created: time_of(kind::CREATED, now, record_fields),
-        modified: time_of(kind::MODIFIED, now, record_fields),
-    })
+    let groups = record_groups(alloc, record_fields)?;
+    match kept_of(alloc, record_fields) {
+        Ok(kept) => entry_with(alloc, now, number, record_fields, groups, kept),
+        Err(fail) => {
+            drop(groups);
+            Err(fail)
+        }
+    }
 }

@@ -9,6 +9,7 @@ ghost use Rattle.psafe_core.specs.Records.{imported_record, imported_records};
 ghost use Rattle.psafe_core.specs.Seen.{with_more};
 ghost use Rattle.psafe_fields.specs.Faults.{sound_fields};
 ghost use Rattle.psafe_fields.specs.Fields.{contents_of};
+ghost use Rattle.psafe_fields.specs.Fields as fields_spec;
 ghost use Rattle.psafe_fields.specs.Seen.{fields_seen, records_seen};
 ghost use Rattle.psafe_file.specs.Opened.{content_seen};
 ghost use Rattle.psafe_file.specs.Results.{Returns};
@@ -123,12 +124,51 @@ fn document_of(alloc: Global, now: Stamp, records: &[&[SafeField]]) -> Result<Do
         return Err(PsafeFail::NilId(number));
     }
     let mut draft = start_import(alloc, now)?;
-    add_records(alloc, &mut draft, now, records)?;
-    finish(alloc, draft)
+    match add_records(alloc, &mut draft, now, records) {
+        Ok(()) => finish(alloc, draft),
+        Err(fail) => {
+            drop(draft);
+            Err(PsafeFail::from(fail))
+        }
+    }
+}
+
+// The document of the records that fields make up.
+fn read_records(alloc: Global, now: Stamp, fields: &[SafeField]) -> Result<Doc, PsafeFail>
+    ensures { Returns doc_seen result
+        (records_outcome now (fields_spec.records_of (fields_seen fields.now))) }
+{
+    let records = records_of(alloc, fields)?;
+    let read = document_of(alloc, now, records.as_slice());
+    drop(records);
+    read
+}
+
+// The document of deciphered bytes whose MAC is kept; the other was given nothing yet.
+#[tactic(auto, unfolding(crate::specs::Outcome::content_outcome))]
+fn read_bytes(
+    alloc: Global,
+    now: Stamp,
+    bytes: &[u8],
+    mac: &[u8; 32],
+    mut computed: Hmac256,
+) -> Result<Doc, PsafeFail>
+    ensures { (key : List ℕ) → HasAbsorbed computed key []
+        → Returns doc_seen result
+        (content_outcome key now (record { bytes = bytes.now; mac = mac.now })) }
+{
+    let fields = fields_of(alloc, bytes)?;
+    absorb_fields(&mut computed, fields.as_slice());
+    if let Err(fail) = check_mac(mac, computed) {
+        drop(fields);
+        return Err(fail);
+    }
+    let read = read_records(alloc, now, fields.as_slice());
+    drop(fields);
+    read
 }
 
 // The document of what a password opened; the MAC was given nothing yet.
-#[tactic(auto, unfolding(crate::specs::Outcome::content_outcome))]
 fn read_content(alloc: Global, now: Stamp, safe: OpenedSafe) -> Result<Doc, PsafeFail>
     ensures { (key : List ℕ) → HasAbsorbed safe.computed key []
         → Returns doc_seen result (content_outcome key now (content_seen safe)) }
@@ -136,13 +176,11 @@ fn read_content(alloc: Global, now: Stamp, safe: OpenedSafe) -> Result<Doc, Psaf
     let OpenedSafe {
         bytes,
         mac,
-        mut computed,
+        computed,
     } = safe;
-    let fields = fields_of(alloc, bytes.lend(0, bytes.len()))?;
-    absorb_fields(&mut computed, fields.as_slice());
-    check_mac(&mac, computed)?;
-    let records = records_of(alloc, fields.as_slice())?;
-    document_of(alloc, now, records.as_slice())
+    let read = read_bytes(alloc, now, bytes.lend(0, bytes.len()), &mac, computed);
+    drop(bytes);
+    read
 }
 
 /// The document that a file of Password Safe V3 of these bytes is imported as, under a password.

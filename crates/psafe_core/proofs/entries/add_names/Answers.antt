@@ -3,7 +3,7 @@ use Rattle.std.specs.List.{filter}
 use Rattle.std.proofs.lemmas.Str.Pattern.{split_parts}
 use Rattle.psafe_core.specs.Records.{group_names, is_named}
 use Rattle.psafe_core.proofs.Names.{names_last, names_then}
-use Rattle.psafe_core.proofs.entries.group_names.Goals as goal
+use Rattle.psafe_core.proofs.entries.add_names.Goals as goal
 
 pub loop-name-preserved : goal.loop-name-preserved
 loop-name-preserved c =
