@@ -1,6 +1,6 @@
 //! The paths of entries, each on a line.
 ghost use Rattle.std.specs.BTreeSet.{contains};
-ghost use Rattle.std.specs.Prelude.{◌≡◌, ◌++◌, IfOk, OnOk, map};
+ghost use Rattle.std.specs.Prelude.{◌≡◌, ◌++◌, IfOk, OnOk, false, map};
 ghost use Rattle.vault_model.specs.Db.{NodeId, id_cmp};
 ghost use Rattle.vault_model.specs.SeenDoc.{doc_seen};
 ghost use Rattle.vault_model.specs.SeenNodes.{entry_row, tree_seen};
@@ -8,7 +8,7 @@ ghost use Rattle.cli_showing.specs.Paths.{is_among, paths_found};
 ghost use Rattle.cli_showing.specs.inside.Walking as walking;
 ghost use Rattle.cli_showing.specs.inside.Walking.{entry_line, entry_lines, tree_lines};
 
-use crate::texts::append;
+use crate::texts::append_three;
 use outside_core::NoMemory;
 use secret_core::Secret;
 use std::alloc::Global;
@@ -17,15 +17,30 @@ use tree_core::title;
 use uuid_core::Uuid;
 use vault_model::{Doc, Entry, Group};
 
+// Adds some ids to a set that is empty.
+fn add_ids(set: &mut BTreeSet<Uuid>, ids: &[Uuid]) -> Result<(), NoMemory>
+    requires { (id : NodeId) → contains id_cmp set.old id ≡ false }
+    ensures { OnOk result ((id : NodeId)
+        → contains id_cmp set.new id ≡ is_among ids.now id) }
+{
+    for id in ids {
+        set.insert(*id)?;
+    }
+    Ok(())
+}
+
 // The set of some ids.
 fn set_of(alloc: Global, ids: &[Uuid]) -> Result<BTreeSet<Uuid>, NoMemory>
     ensures { IfOk result (λ set. (id : NodeId) → contains id_cmp set id ≡ is_among ids.now id) }
 {
     let mut set = BTreeSet::new(alloc);
-    for id in ids {
-        set.insert(*id)?;
+    match add_ids(&mut set, ids) {
+        Ok(()) => Ok(set),
+        Err(fail) => {
+            drop(set);
+            Err(fail)
+        }
     }
-    Ok(set)
 }
 
 // What is before the titles of a group of this name.
@@ -33,10 +48,13 @@ fn front_below(alloc: Global, front: &[u8], name: &[u8]) -> Result<Secret, NoMem
     ensures { IfOk result (λ below. below.bytes ≡ walking.front_below front.now name.now) }
 {
     let mut below = Secret::with_room(alloc, 0)?;
-    append(alloc, &mut below, front)?;
-    append(alloc, &mut below, name)?;
-    append(alloc, &mut below, b"/")?;
-    Ok(below)
+    match append_three(alloc, &mut below, front, name, b"/") {
+        Ok(()) => Ok(below),
+        Err(fail) => {
+            drop(below);
+            Err(fail)
+        }
+    }
 }
 
 // Puts the path of an entry after a text, where its id is in a set.
@@ -53,9 +71,7 @@ fn append_entry(
     if !ids.contains(&entry.id) {
         return Ok(());
     }
-    append(alloc, text, front)?;
-    append(alloc, text, title(entry))?;
-    append(alloc, text, b"\n")
+    append_three(alloc, text, front, title(entry), b"\n")
 }
 
 // The same of the entries of a group.
@@ -90,7 +106,9 @@ fn append_group(
     for child in group.groups.as_slice() {
         let name = child.state.content.name.as_str().as_bytes();
         let below = front_below(alloc, front, name)?;
-        append_group(alloc, text, ids, below.lend(0, below.len()), child)?;
+        let appended = append_group(alloc, text, ids, below.lend(0, below.len()), child);
+        drop(below);
+        appended?;
     }
     Ok(())
 }
@@ -100,7 +118,20 @@ pub(crate) fn paths_of(alloc: Global, doc: &Doc, ids: &[Uuid]) -> Result<Secret,
     ensures { IfOk result (λ text. text.bytes ≡ paths_found ids.now (doc_seen doc.now)) }
 {
     let set = set_of(alloc, ids)?;
-    let mut text = Secret::with_room(alloc, 0)?;
-    append_group(alloc, &mut text, &set, b"/", &doc.root)?;
-    Ok(text)
+    let mut text = match Secret::with_room(alloc, 0) {
+        Ok(text) => text,
+        Err(fail) => {
+            drop(set);
+            return Err(fail);
+        }
+    };
+    let appended = append_group(alloc, &mut text, &set, b"/", &doc.root);
+    drop(set);
+    match appended {
+        Ok(()) => Ok(text),
+        Err(fail) => {
+            drop(text);
+            Err(fail)
+        }
+    }
 }

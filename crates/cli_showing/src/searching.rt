@@ -23,7 +23,9 @@ fn ids_of(alloc: Global, doc: &Doc, words: &str) -> Result<Ids, FindFail>
         (entries_sought words.now (doc_seen doc.now)) }
 {
     let terms = parse_terms(alloc, words)?;
-    search(alloc, doc, &terms)
+    let found = search(alloc, doc, &terms);
+    drop(terms);
+    found
 }
 
 /// What `search` prints of the entries that match the terms in a text, in memory that is wiped,
@@ -39,9 +41,12 @@ pub fn search_entries(alloc: Global, doc: &Doc, term: &str, file: &str) -> Resul
         Err(fail) => return Err(unfound(alloc, fail, file)),
     };
     if ids.len() == 0 {
+        drop(ids);
         return Err(refused(alloc, Reason::NoResult, file));
     }
-    match paths_of(alloc, doc, ids.as_slice()) {
+    let paths = paths_of(alloc, doc, ids.as_slice());
+    drop(ids);
+    match paths {
         Ok(text) => Ok(text),
         Err(NoMemory) => Err(Stop::NoMemory),
     }

@@ -12,7 +12,7 @@ ghost use Rattle.cli_showing.specs.inside.Entries.{entry_sought};
 
 use crate::attachments::append_attachments;
 use crate::refusals::{lacking, unfound};
-use crate::texts::append;
+use crate::texts::{append, append_three};
 use crate::values::{NAMED_KEYS, append_keys, append_names, append_others, missing_name};
 use cli_answers::{Reason, Stop, refused};
 use find_terms::FindFail;
@@ -55,9 +55,8 @@ fn append_id_and_tags(alloc: Global, text: &mut Secret, entry: &Entry) -> Result
 {
     let mut digits = [0; 36];
     let id = entry.id.encode_hyphenated(&mut digits);
-    append(alloc, text, b"Uuid: {")?;
-    append(alloc, text, id.as_bytes())?;
-    append(alloc, text, b"}\nTags: ")?;
+    append_three(alloc, text, b"Uuid: {", id.as_bytes(), b"}
+Tags: ")?;
     append(alloc, text, entry.current.content.tags.as_str().as_bytes())?;
     append(alloc, text, b"\n")
 }
@@ -96,9 +95,17 @@ fn whole_entry(
 {
     let fields = entry.current.content.fields.as_slice();
     let mut text = Secret::with_room(alloc, 0)?;
-    append_fields(alloc, doc, clear, all, &mut text, fields)?;
-    append_id_and_tags(alloc, &mut text, entry)?;
-    Ok(text)
+    if let Err(fail) = append_fields(alloc, doc, clear, all, &mut text, fields) {
+        drop(text);
+        return Err(fail);
+    }
+    match append_id_and_tags(alloc, &mut text, entry) {
+        Ok(()) => Ok(text),
+        Err(fail) => {
+            drop(text);
+            Err(FindFail::from(fail))
+        }
+    }
 }
 
 // The values that are shown of an entry.
@@ -117,8 +124,13 @@ fn values_shown(
     }
     let mut text = Secret::with_room(alloc, 0)?;
     let fields = entry.current.content.fields.as_slice();
-    append_names(alloc, doc, &mut text, fields, given.names)?;
-    Ok(text)
+    match append_names(alloc, doc, &mut text, fields, given.names) {
+        Ok(()) => Ok(text),
+        Err(fail) => {
+            drop(text);
+            Err(fail)
+        }
+    }
 }
 
 // What is shown of an entry.
@@ -133,14 +145,17 @@ fn entry_text(
         given.entry.attachments given.entry.names.now (entry_row entry.now)) }
 {
     let mut text = values_shown(alloc, doc, given, entry)?;
-    if given.attachments {
-        append_attachments(
-            alloc,
-            &mut text,
-            entry.current.content.attachments.as_slice(),
-        )?;
+    if !given.attachments {
+        return Ok(text);
     }
-    Ok(text)
+    let attachments = entry.current.content.attachments.as_slice();
+    match append_attachments(alloc, &mut text, attachments) {
+        Ok(()) => Ok(text),
+        Err(fail) => {
+            drop(text);
+            Err(FindFail::from(fail))
+        }
+    }
 }
 
 /// What `show` prints of the entry that a path names, in memory that is wiped.

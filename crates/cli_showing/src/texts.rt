@@ -35,3 +35,19 @@ pub(crate) fn append(alloc: Global, text: &mut Secret, piece: &[u8]) -> Result<(
     text.extend(piece);
     Ok(())
 }
+
+/// Puts three pieces after a text, one after another.
+pub(crate) fn append_three(
+    alloc: Global,
+    text: &mut Secret,
+    first: &[u8],
+    second: &[u8],
+    third: &[u8],
+) -> Result<(), NoMemory>
+    ensures { OnOk result (text.new.bytes
+        ≡ text.old.bytes ++ first.now ++ second.now ++ third.now) }
+{
+    append(alloc, text, first)?;
+    append(alloc, text, second)?;
+    append(alloc, text, third)
+}

@@ -56,7 +56,9 @@ fn append_value(
         append(alloc, text, b"PROTECTED")?;
     } else {
         let value = resolve(alloc, doc, field.value.lend(0, field.value.len()))?;
-        append(alloc, text, value.lend(0, value.len()))?;
+        let appended = append(alloc, text, value.lend(0, value.len()));
+        drop(value);
+        appended?;
     }
     append(alloc, text, b"\n")?;
     Ok(())
