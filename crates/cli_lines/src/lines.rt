@@ -132,6 +132,36 @@ fn is_text_line(line: &Secret) -> bool
     is_text(line.lend(0, line.len()))
 }
 
+// Reads the line of this number into memory that is empty.
+fn fill_line<S: Source>(
+    alloc: Global,
+    input: &mut S,
+    number: u64,
+    window: &mut Secret,
+    line: &mut Secret,
+) -> Result<(), Stop>
+    requires window { length window.old.bytes ≡ 1 }
+    requires bytes { line.old.bytes ≡ [] }
+    requires spare { line.old.spare ≡ 4096 }
+    ensures told { (i : List ℕ) → S.left input.old ≡ Some i
+        → ReturnsStream (λ _. line.new.bytes) result (S.left input.new) (line_of number i) }
+    ensures text { OnOk result (is_utf8 line.new.bytes ≡ true) }
+    ensures cause { IfErr result (IsStreamStop (S.faults input.old) (S.faults input.new)) }
+    ensures faults { S.faults input.old ≤ S.faults input.new }
+{
+    let first = match next_byte(input, window) {
+        Ok(Some(first)) => first,
+        Ok(None) => return Err(refused(alloc, Reason::InputEnded(number), "input")),
+        Err(_) => return Err(Stop::InputFault),
+    };
+    match read_from(input, window, first, line) {
+        Ok(false) => Err(refused(alloc, Reason::LineLimit, "input")),
+        Ok(true) if is_text_line(line) => Ok(()),
+        Ok(true) => Err(refused(alloc, Reason::LineForm(number), "input")),
+        Err(_) => Err(Stop::InputFault),
+    }
+}
+
 // The line of this number.
 fn read_line<S: Source>(alloc: Global, input: &mut S, number: u64) -> Result<Secret, Stop>
     ensures told { (i : List ℕ) → S.left input.old ≡ Some i
@@ -140,22 +170,21 @@ fn read_line<S: Source>(alloc: Global, input: &mut S, number: u64) -> Result<Sec
     ensures cause { IfErr result (IsStreamStop (S.faults input.old) (S.faults input.new)) }
     ensures faults { S.faults input.old ≤ S.faults input.new }
 {
-    let Ok(mut line) = Secret::with_room(alloc, LINE_LIMIT) else {
-        return Err(Stop::NoMemory);
-    };
     let Ok(mut window) = window(alloc) else {
         return Err(Stop::NoMemory);
     };
-    let first = match next_byte(input, &mut window) {
-        Ok(Some(first)) => first,
-        Ok(None) => return Err(refused(alloc, Reason::InputEnded(number), "input")),
-        Err(_) => return Err(Stop::InputFault),
+    let Ok(mut line) = Secret::with_room(alloc, LINE_LIMIT) else {
+        drop(window);
+        return Err(Stop::NoMemory);
     };
-    match read_from(input, &mut window, first, &mut line) {
-        Ok(false) => Err(refused(alloc, Reason::LineLimit, "input")),
-        Ok(true) if is_text_line(&line) => Ok(line),
-        Ok(true) => Err(refused(alloc, Reason::LineForm(number), "input")),
-        Err(_) => Err(Stop::InputFault),
+    let filled = fill_line(alloc, input, number, &mut window, &mut line);
+    drop(window);
+    match filled {
+        Ok(()) => Ok(line),
+        Err(stop) => {
+            drop(line);
+            Err(stop)
+        }
     }
 }
 
@@ -221,11 +250,13 @@ fn read_sources<S: Source>(
     };
     let line = read_if(alloc, input, due, number)?;
     let Ok(next) = number_after(due, number) else {
+        drop(line);
         return Err(Stop::NoMemory);
     };
-    let Ok(()) = lines.push(line) else {
+    if let Err(line) = lines.push(line) {
+        drop(line);
         return Err(Stop::NoMemory);
-    };
+    }
     read_sources(alloc, input, due, names, next, lines)
 }
 
@@ -302,7 +333,11 @@ fn read_more<S: Source>(
             sources,
             more,
         }),
-        Err(stop) => Err(stop),
+        Err(stop) => {
+            drop(password);
+            drop(sources);
+            Err(stop)
+        }
     }
 }
 
@@ -329,7 +364,11 @@ fn read_after<S: Source>(
     let mut sources = List::new(alloc);
     match read_passwords(alloc, input, needs, number, &mut sources) {
         Ok(next) => read_more(alloc, input, needs, next, password, sources),
-        Err(stop) => Err(stop),
+        Err(stop) => {
+            drop(password);
+            drop(sources);
+            Err(stop)
+        }
     }
 }
 

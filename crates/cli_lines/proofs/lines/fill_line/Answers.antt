@@ -4,7 +4,7 @@ use Rattle.cli_answers.specs.declared.answers.Reason.TheVariants.{InputEnded, Li
 use Rattle.cli_lines.specs.Lines.{line_of}
 use Rattle.cli_answers.specs.Messages.{refusal_of}
 use Rattle.cli_lines.proofs.Bytes.{line_read, none_read, not_text, refused_takes, text_takes}
-use Rattle.cli_lines.proofs.lines.read_line.Goals as goal
+use Rattle.cli_lines.proofs.lines.fill_line.Goals as goal
 
 pub returns-in-Ok-None-clause-told : goal.returns-in-Ok-None-clause-told
 returns-in-Ok-None-clause-told g c = λ i is.
