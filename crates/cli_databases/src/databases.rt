@@ -353,7 +353,10 @@ fn open_all<F: FileStore>(
         &mut docs,
     ) {
         Ok(()) => Ok(docs),
-        Err(stop) => Err(stop),
+        Err(stop) => {
+            drop(docs);
+            Err(stop)
+        }
     }
 }
 
