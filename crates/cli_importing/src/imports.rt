@@ -66,7 +66,10 @@ fn new_settings(alloc: Global) -> Result<Settings, NoMemory>
     ensures in_order { IfOk result IsInOrder }
 {
     let mut salt = Bytes::new(alloc);
-    salt.add(&[0; 32])?;
+    if let Err(fail) = salt.add(&[0; 32]) {
+        drop(salt);
+        return Err(fail);
+    }
     Ok(Settings {
         version: FileVersion::V40,
         cipher: Cipher::Aes,
@@ -104,11 +107,16 @@ fn new_sealing<F: FileStore>(
         return Ok(None);
     }
     let settings = new_settings(alloc)?;
-    let key = key_of(alloc, files, name_in(&access.key_file))?;
-    Ok(Some(Sealing {
-        settings,
-        composite: composite(password, key),
-    }))
+    match key_of(alloc, files, name_in(&access.key_file)) {
+        Ok(key) => Ok(Some(Sealing {
+            settings,
+            composite: composite(password, key),
+        })),
+        Err(stop) => {
+            drop(settings);
+            Err(stop)
+        }
+    }
 }
 
 /// Makes the database of an import, with the lines that it asked for: the document of its source,

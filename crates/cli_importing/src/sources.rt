@@ -176,12 +176,17 @@ fn read_by(
         return read_document(alloc, name, bytes);
     }
     let Some(stamp) = Stamp::of(now) else {
+        drop(bytes);
         return Err(refused(alloc, Reason::StampLimit, name));
     };
-    match format {
-        ImportFormat::Psafe => read_safe(alloc, name, password, &bytes, stamp),
-        _ => read_table(alloc, name, &bytes, stamp),
+    if let ImportFormat::Psafe = format {
+        let read = read_safe(alloc, name, password, &bytes, stamp);
+        drop(bytes);
+        return read;
     }
+    let read = read_table(alloc, name, &bytes, stamp);
+    drop(bytes);
+    read
 }
 
 /// Reads the source of an import, whose file is not changed.
