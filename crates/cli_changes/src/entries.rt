@@ -125,7 +125,10 @@ pub fn add_entry(
     let values = values_of(asked, given.password);
     match add_at(alloc, doc, path, id, &values, given.now) {
         Ok(()) => Ok(text),
-        Err(fail) => Err(unchanged(alloc, fail, given.file)),
+        Err(fail) => {
+            drop(text);
+            Err(unchanged(alloc, fail, given.file))
+        }
     }
 }
 
@@ -181,6 +184,9 @@ pub fn edit_entry(
     )?;
     match edit_at(alloc, doc, path, &values, given.now) {
         Ok(()) => Ok(text),
-        Err(fail) => Err(unchanged(alloc, fail, given.file)),
+        Err(fail) => {
+            drop(text);
+            Err(unchanged(alloc, fail, given.file))
+        }
     }
 }

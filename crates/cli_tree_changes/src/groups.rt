@@ -68,6 +68,9 @@ pub fn make_group_of(
     let text = report(alloc, given.quiet, b"added group ", name, None)?;
     match make_at(alloc, doc, path, id, given.now) {
         Ok(()) => Ok(text),
-        Err(fail) => Err(unchanged(alloc, fail, given.file)),
+        Err(fail) => {
+            drop(text);
+            Err(unchanged(alloc, fail, given.file))
+        }
     }
 }

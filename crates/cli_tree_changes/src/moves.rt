@@ -65,7 +65,10 @@ fn move_entry_of(
     let text = report(alloc, given.quiet, b"moved entry ", title, Some(group))?;
     match move_entry_at(alloc, doc, path, group, given.now) {
         Ok(()) => Ok(text),
-        Err(fail) => Err(unchanged(alloc, fail, given.file)),
+        Err(fail) => {
+            drop(text);
+            Err(unchanged(alloc, fail, given.file))
+        }
     }
 }
 
@@ -87,7 +90,10 @@ fn move_group_of(
     let text = report(alloc, given.quiet, b"moved group ", name, Some(group))?;
     match move_group_at(alloc, doc, path, group, given.now) {
         Ok(()) => Ok(text),
-        Err(fail) => Err(unchanged(alloc, fail, given.file)),
+        Err(fail) => {
+            drop(text);
+            Err(unchanged(alloc, fail, given.file))
+        }
     }
 }
 

@@ -44,7 +44,10 @@ fn reports_of(
     let recycled = report(alloc, quiet, recycled, name, None)?;
     match report(alloc, quiet, deleted, name, None) {
         Ok(deleted) => Ok(Reports { recycled, deleted }),
-        Err(fail) => Err(fail),
+        Err(fail) => {
+            drop(recycled);
+            Err(fail)
+        }
     }
 }
 
@@ -53,9 +56,16 @@ fn choose_report(reports: Reports, removed: Removed) -> Secret
     ensures { result.bytes
         ≡ lines.chosen_report removed reports.recycled.bytes reports.deleted.bytes }
 {
+    let Reports { recycled, deleted } = reports;
     match removed {
-        Removed::Recycled => reports.recycled,
-        Removed::Deleted => reports.deleted,
+        Removed::Recycled => {
+            drop(deleted);
+            recycled
+        }
+        Removed::Deleted => {
+            drop(recycled);
+            deleted
+        }
     }
 }
 
@@ -116,7 +126,10 @@ pub fn remove_entry_of(
     )?;
     match remove_entry_at(alloc, doc, path, bin, given.now) {
         Ok(removed) => Ok(choose_report(both, removed)),
-        Err(fail) => Err(unchanged(alloc, fail, given.file)),
+        Err(fail) => {
+            drop(both);
+            Err(unchanged(alloc, fail, given.file))
+        }
     }
 }
 
@@ -145,6 +158,9 @@ pub fn remove_group_of(
     )?;
     match remove_group_at(alloc, doc, path, bin, given.now) {
         Ok(removed) => Ok(choose_report(both, removed)),
-        Err(fail) => Err(unchanged(alloc, fail, given.file)),
+        Err(fail) => {
+            drop(both);
+            Err(unchanged(alloc, fail, given.file))
+        }
     }
 }
