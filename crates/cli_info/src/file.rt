@@ -1,6 +1,7 @@
 //! How a file keeps its document.
 
 ghost use Rattle.std.specs.Prelude.{◌≡◌, ◌++◌, IfOk, OnOk, codes, option_map, string_bytes};
+ghost use Rattle.std.specs.Fmt.{decimal};
 ghost use Rattle.cli_info.specs.Info as spec;
 ghost use Rattle.cli_info.specs.Info.{file_lines, kdf_text, line, plain_lines, settings_lines};
 
@@ -43,6 +44,35 @@ fn kind_name(kind: ArgonKind) -> &'static str
     }
 }
 
+// Adds a number and what follows it.
+fn add_number(alloc: Global, text: &mut String, number: u64, after: &str) -> Result<(), AllocError>
+    ensures { OnOk result (string_bytes text.new
+        ≡ string_bytes text.old ++ decimal number ++ after.now) }
+{
+    let piece = format!(in alloc; "{number}{after}")?;
+    let added = text.push_str(piece.as_str());
+    drop(piece);
+    added
+}
+
+// Adds the costs of Argon2.
+fn add_costs(
+    alloc: Global,
+    text: &mut String,
+    passes: u64,
+    kib: u64,
+    lanes: u32,
+) -> Result<(), AllocError>
+    ensures { OnOk result (string_bytes text.new ≡ string_bytes text.old ++ codes " ("
+        ++ decimal passes ++ codes " passes, " ++ decimal kib ++ codes " KiB, "
+        ++ decimal lanes ++ codes " lanes)") }
+{
+    text.push_str(" (")?;
+    add_number(alloc, text, passes, " passes, ")?;
+    add_number(alloc, text, kib, " KiB, ")?;
+    add_number(alloc, text, u64::from(lanes), " lanes)")
+}
+
 // Argon2 with its costs; the memory is in bytes.
 fn argon_text(
     alloc: Global,
@@ -55,10 +85,13 @@ fn argon_text(
 {
     let kib = bytes / 1024;
     let mut text = String::from_str(alloc, kind_name(kind))?;
-    text.push_str(format!(in alloc; " ({passes} passes, ")?.as_str())?;
-    text.push_str(format!(in alloc; "{kib} KiB, ")?.as_str())?;
-    text.push_str(format!(in alloc; "{lanes} lanes)")?.as_str())?;
-    Ok(text)
+    match add_costs(alloc, &mut text, passes, kib, lanes) {
+        Ok(()) => Ok(text),
+        Err(fail) => {
+            drop(text);
+            Err(fail)
+        }
+    }
 }
 
 // The key derivation of a file with its costs.
@@ -87,23 +120,33 @@ pub(crate) fn add_line(text: &mut Bytes, about: &[u8], value: &[u8]) -> Result<(
     text.add(b"\n")
 }
 
+// Adds a version, a cipher and a key derivation.
+fn add_three(text: &mut Bytes, version: &[u8], cipher: &[u8], kdf: &[u8]) -> Result<(), NoMemory>
+    ensures { OnOk result (text.new ≡ text.old ++ line (codes "Version: ") version.now
+        ++ line (codes "Cipher: ") cipher.now ++ line (codes "KDF: ") kdf.now) }
+{
+    add_line(text, b"Version: ", version)?;
+    add_line(text, b"Cipher: ", cipher)?;
+    add_line(text, b"KDF: ", kdf)
+}
+
 // Adds how a file keeps its document.
 fn add_settings_lines(alloc: Global, text: &mut Bytes, settings: &Settings) -> Result<(), NoMemory>
     ensures { OnOk result (text.new ≡ text.old ++ settings_lines settings.now) }
 {
     let kdf = kdf_text(alloc, &settings.kdf)?;
-    add_line(text, b"Version: ", version_name(settings.version))?;
-    add_line(text, b"Cipher: ", cipher_name(settings.cipher))?;
-    add_line(text, b"KDF: ", kdf.as_str().as_bytes())
+    let version = version_name(settings.version);
+    let cipher = cipher_name(settings.cipher);
+    let added = add_three(text, version, cipher, kdf.as_str().as_bytes());
+    drop(kdf);
+    added
 }
 
 // Adds the same of a plain document.
 fn add_plain_lines(text: &mut Bytes) -> Result<(), NoMemory>
     ensures { OnOk result (text.new ≡ text.old ++ plain_lines) }
 {
-    add_line(text, b"Version: ", b"plain")?;
-    add_line(text, b"Cipher: ", b"none")?;
-    add_line(text, b"KDF: ", b"none")
+    add_three(text, b"plain", b"none", b"none")
 }
 
 /// Adds how a file keeps its document: its version, its cipher and its key derivation; a plain

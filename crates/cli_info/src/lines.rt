@@ -28,7 +28,9 @@ fn add_number(alloc: Global, text: &mut Bytes, about: &[u8], number: usize) -> R
     ensures { OnOk result (text.new ≡ text.old ++ spec.line about.now (decimal number)) }
 {
     let digits = format!(in alloc; "{number}")?;
-    add_line(text, about, digits.as_str().as_bytes())
+    let added = add_line(text, about, digits.as_str().as_bytes());
+    drop(digits);
+    added
 }
 
 // Adds what a document says of its database.
@@ -56,6 +58,21 @@ fn add_content_lines(alloc: Global, text: &mut Bytes, doc: &Doc) -> Result<(), N
     )
 }
 
+// Adds what is printed.
+fn add_info(
+    alloc: Global,
+    text: &mut Bytes,
+    doc: &Doc,
+    settings: Option<&Settings>,
+) -> Result<(), NoMemory>
+    ensures { OnOk result (text.new ≡ text.old
+        ++ info_shown (option_map (λ s. s.now) settings.entry) (doc_seen doc.now)) }
+{
+    add_name_lines(text, doc)?;
+    add_file_lines(alloc, text, settings)?;
+    add_content_lines(alloc, text, doc)
+}
+
 // What is printed. Nothing of it is a secret: the document and the settings keep it in memory that
 // is not wiped.
 fn info_text(alloc: Global, doc: &Doc, settings: Option<&Settings>) -> Result<Bytes, NoMemory>
@@ -63,10 +80,22 @@ fn info_text(alloc: Global, doc: &Doc, settings: Option<&Settings>) -> Result<By
         ≡ info_shown (option_map (λ s. s.now) settings.entry) (doc_seen doc.now)) }
 {
     let mut text = Bytes::new(alloc);
-    add_name_lines(&mut text, doc)?;
-    add_file_lines(alloc, &mut text, settings)?;
-    add_content_lines(alloc, &mut text, doc)?;
-    Ok(text)
+    match add_info(alloc, &mut text, doc, settings) {
+        Ok(()) => Ok(text),
+        Err(fail) => {
+            drop(text);
+            Err(fail)
+        }
+    }
+}
+
+// A text in memory that is wiped.
+fn shown_text(alloc: Global, text: &[u8]) -> Result<Secret, NoMemory>
+    ensures { IfOk result (λ shown. shown.bytes ≡ text.now) }
+{
+    let mut shown = Secret::with_room(alloc, text.len())?;
+    shown.extend(text);
+    Ok(shown)
 }
 
 /// What `db-info` prints of a document, and of the settings of the file that keeps it: none where
@@ -77,7 +106,10 @@ pub fn info(alloc: Global, doc: &Doc, settings: Option<&Settings>) -> Result<Sec
     ensures cause { IfErr result IsMemoryStop }
 {
     let text = info_text(alloc, doc, settings)?;
-    let mut shown = Secret::with_room(alloc, text.len())?;
-    shown.extend(text.as_slice());
-    Ok(shown)
+    let shown = shown_text(alloc, text.as_slice());
+    drop(text);
+    match shown {
+        Ok(shown) => Ok(shown),
+        Err(NoMemory) => Err(Stop::NoMemory),
+    }
 }
