@@ -20,19 +20,31 @@ pub struct Manner {
     pub flat: bool,
 }
 
+// Adds what is before the names in a group of this name.
+fn add_front(text: &mut Bytes, front: &[u8], name: &[u8], flat: bool) -> Result<(), NoMemory>
+    ensures { OnOk result (text.new ≡ text.old ++ spec.front_below flat front.now name.now) }
+{
+    text.add(front)?;
+    if flat {
+        text.add(name)?;
+        text.add(b"/")
+    } else {
+        text.add(b"  ")
+    }
+}
+
 // What is before the names in a group of this name.
 fn front_below(alloc: Global, front: &[u8], name: &[u8], flat: bool) -> Result<Bytes, NoMemory>
     ensures { IfOk result (λ below. below ≡ spec.front_below flat front.now name.now) }
 {
     let mut below = Bytes::new(alloc);
-    below.add(front)?;
-    if flat {
-        below.add(name)?;
-        below.add(b"/")?;
-    } else {
-        below.add(b"  ")?;
+    match add_front(&mut below, front, name, flat) {
+        Ok(()) => Ok(below),
+        Err(fail) => {
+            drop(below);
+            Err(fail)
+        }
     }
-    Ok(below)
 }
 
 // Adds a line for the title of each entry.
@@ -67,7 +79,9 @@ pub fn add_group(
         text.add(b"/\n")?;
         if manner.recursive {
             let below = front_below(alloc, front, name, manner.flat)?;
-            add_group(alloc, text, manner, below.as_slice(), child)?;
+            let added = add_group(alloc, text, manner, below.as_slice(), child);
+            drop(below);
+            added?;
         }
     }
     Ok(())
