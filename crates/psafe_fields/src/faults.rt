@@ -12,7 +12,7 @@ use outside_core::{List, NoMemory};
 use std::alloc::Global;
 
 /// Why deciphered bytes give no fields.
-#[derive(Clone, Copy, Debug, PartialEq, Eq)]
+#[derive(Clone, Copy)]
 pub enum FieldsFail {
     /// The bytes are malformed at this offset: a field of a record that begins there has not the
     /// form of its type, a field that begins there passes the end, or the header or a record is not
