@@ -13,6 +13,7 @@ use merge_reports::{MergeFiles, MergeOutcome, report};
 use outside_core::{NoMemory, Text};
 use secret_core::Secret;
 use std::alloc::Global;
+use std::mem;
 use vault_model::Doc;
 
 /// What a merge is given beside its documents.
@@ -66,7 +67,13 @@ fn unmerged(alloc: Global, fail: MergeFail, file: &str) -> Stop
 fn replace(doc: &mut Doc, merged: Merged)
     ensures { doc_seen doc.new ≡ doc_seen merged.doc }
 {
-    *doc = merged.doc;
+    let Merged {
+        doc: new,
+        changed: _,
+        changes,
+    } = merged;
+    drop(changes);
+    drop(mem::replace(doc, new));
 }
 
 // The report of a merge with this text, which puts the merged document in the place of its target,
