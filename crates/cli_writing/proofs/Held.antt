@@ -1,5 +1,5 @@
 -- What was written of a document holds it.
-use Rattle.std.proofs.Common.{◌≡◌, ℕ, Bool, true, false, List, None, Result, Ok, Err, cond, refl, sym, subst}
+use Rattle.std.proofs.Common.{◌≡◌, ℕ, Bool, true, false, List, None, Result, Ok, Err, cond, sym, subst}
 use Rattle.std.specs.Prelude.{OnOk, nat_lt}
 use Rattle.stream_core.specs.InnerStream.{NoKeystream}
 use Rattle.vault_model.specs.Tree.{BareDoc, IsDoc}
