@@ -26,7 +26,7 @@ line_has : (due : Bool) (number : ℕ) (input : List ℕ) (line : Option (List �
 line_has true number input line h = some_given (line_of number input).answer line h
 line_has false number input line h = ap is_some (sym (ok_is None line h))
 
-one_more : (read : List (Option (List ℕ))) (line : Option (List ℕ)) (due : Bool) (more : List Bool) → is_some line ≡ due
+pub one_more : (read : List (Option (List ℕ))) (line : Option (List ℕ)) (due : Bool) (more : List Bool) → is_some line ≡ due
     → map is_some (read ++ line ∷ []) ++ more ≡ map is_some read ++ due ∷ more
 one_more read line due more h =
     ap (λ (bs : List Bool). bs ++ more) (map-append is_some read (line ∷ []))
