@@ -1,4 +1,4 @@
-use Rattle.std.proofs.Common.{map, option_map, refl, ◌∙◌}
+use Rattle.std.proofs.Common.{map, option_map, refl, ◌∙◌, arith}
 use Rattle.vault_model.specs.SeenDoc.{doc_seen}
 use Rattle.cli_lines.specs.SeenLines.{line_seen}
 use Rattle.cli_databases.proofs.Sources.{first_and_rest, line_and_rest, one_more, some_next, stops_first, stops_next, told_next, told_stop}
@@ -50,3 +50,15 @@ returns-clause-cause g t c =
     stops_next c.open_sources.result c.args.needs.from.now c.name-item.result c.args.needs.sources.now _ _ _ _ _ _ _
     (first_and_rest c.args.needs.sources.now _ c.name-item.result c.in-len1-up.len_at_least refl c.name-item.is)
     c.in-Ok.ensures.leaves.faults c.in-Ok.ensures.leaves.absences c.open_sources.ensures.cause
+
+pub returns-clause-leaves : goal.returns-clause-leaves
+returns-clause-leaves g t c =
+    let first = c.in-Ok.ensures.leaves in
+    let rest = c.open_sources.ensures.leaves in
+    record {
+      files = rest.files ∙ first.files;
+      draft_name = rest.draft_name ∙ first.draft_name;
+      draft_bytes = rest.draft_bytes ∙ first.draft_bytes;
+      faults = omega (arith, first.faults, rest.faults);
+      absences = omega (arith, first.absences, rest.absences);
+    }

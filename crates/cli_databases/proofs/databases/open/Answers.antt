@@ -1,3 +1,4 @@
+use Rattle.std.proofs.Common.{◌∙◌, arith}
 use Rattle.cli_lines.specs.SeenLines.{lines_seen}
 use Rattle.cli_words.specs.Needs.{database_files, source_files}
 use Rattle.cli_words.specs.SeenNeeds.{needs_seen}
@@ -12,3 +13,27 @@ pub returns-in-Err-clause-cause : goal.returns-in-Err-clause-cause
 returns-in-Err-clause-cause g c =
     later_at_files (database_files c.args.needs.access.now c.args.needs.file.now) (source_files c.args.needs.from.now c.args.needs.sources.now) _ _ _ _ _ _
     c.in-Err.stop c.in_ok-target.ensures.leaves.faults c.in_ok-target.ensures.leaves.absences c.in-Err.ensures.cause
+
+pub returns-in-Ok-clause-leaves : goal.returns-in-Ok-clause-leaves
+returns-in-Ok-clause-leaves g c =
+    let first = c.in_ok-target.ensures.leaves in
+    let rest = c.in-Ok.ensures.leaves in
+    record {
+      files = rest.files ∙ first.files;
+      draft_name = rest.draft_name ∙ first.draft_name;
+      draft_bytes = rest.draft_bytes ∙ first.draft_bytes;
+      faults = omega (arith, first.faults, rest.faults);
+      absences = omega (arith, first.absences, rest.absences);
+    }
+
+pub returns-in-Err-clause-leaves : goal.returns-in-Err-clause-leaves
+returns-in-Err-clause-leaves g c =
+    let first = c.in_ok-target.ensures.leaves in
+    let rest = c.in-Err.ensures.leaves in
+    record {
+      files = rest.files ∙ first.files;
+      draft_name = rest.draft_name ∙ first.draft_name;
+      draft_bytes = rest.draft_bytes ∙ first.draft_bytes;
+      faults = omega (arith, first.faults, rest.faults);
+      absences = omega (arith, first.absences, rest.absences);
+    }

@@ -1,4 +1,4 @@
-use Rattle.std.proofs.Common.{◌∙◌, option_map}
+use Rattle.std.proofs.Common.{◌∙◌, arith, option_map}
 use Rattle.vault_model.specs.SeenDoc.{doc_seen}
 use Rattle.cli_lines.specs.SeenLines.{lines_seen}
 use Rattle.cli_words.specs.SeenNeeds.{import_seen}
@@ -34,3 +34,29 @@ returns-in-Ok-clause-told g c = λ m isF.
     c.as_str.result.now (doc_seen c.in_ok-doc.doc) c.bytes_in.ensures c.as_str.ensures (c.in_ok-doc.ensures.told m isF)
     (option_map (λ w. w.now) c.bytes_in-2.result) c.in_default.field-0 c.bytes_in-2.ensures (c.in_default.ensures.told m (c.in_ok-doc.ensures.leaves.files ∙ isF))
     c.in-Ok.sealing (c.in-Ok.ensures.told m (c.in_default.ensures.leaves.files ∙ c.in_ok-doc.ensures.leaves.files ∙ isF))
+
+pub returns-in-Err-new_sealing-clause-leaves : goal.returns-in-Err-new_sealing-clause-leaves
+returns-in-Err-new_sealing-clause-leaves g c =
+    let first = c.in_ok-doc.ensures.leaves in
+    let next = c.in_default.ensures.leaves in
+    let last = c.in-Err-new_sealing.ensures.leaves in
+    record {
+      files = last.files ∙ next.files ∙ first.files;
+      draft_name = last.draft_name ∙ next.draft_name ∙ first.draft_name;
+      draft_bytes = last.draft_bytes ∙ next.draft_bytes ∙ first.draft_bytes;
+      faults = omega (arith, first.faults, next.faults, last.faults);
+      absences = omega (arith, first.absences, next.absences, last.absences);
+    }
+
+pub returns-in-Ok-clause-leaves : goal.returns-in-Ok-clause-leaves
+returns-in-Ok-clause-leaves g c =
+    let first = c.in_ok-doc.ensures.leaves in
+    let next = c.in_default.ensures.leaves in
+    let last = c.in-Ok.ensures.leaves in
+    record {
+      files = last.files ∙ next.files ∙ first.files;
+      draft_name = last.draft_name ∙ next.draft_name ∙ first.draft_name;
+      draft_bytes = last.draft_bytes ∙ next.draft_bytes ∙ first.draft_bytes;
+      faults = omega (arith, first.faults, next.faults, last.faults);
+      absences = omega (arith, first.absences, next.absences, last.absences);
+    }
