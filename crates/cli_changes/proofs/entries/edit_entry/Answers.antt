@@ -1,0 +1,9 @@
+use Rattle.cli_changes.specs.Entries.{after_edit_command}
+use Rattle.cli_changes.proofs.Stopped.{stopped}
+use Rattle.cli_changes.proofs.entries.edit_entry.Goals as goal
+
+pub returns-in-Err-clause-told : goal.returns-in-Err-clause-told
+unfolding after_edit_command
+returns-in-Err-clause-told c =
+    let out = rw c.values_of-values.ensures.values at c.in-Err.ensures in
+    (stopped _ c.in-Err.fail c.args.given.file.now c.unchanged.result _ out.1 c.unchanged.ensures.is, out.0)
