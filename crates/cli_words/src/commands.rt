@@ -642,7 +642,6 @@ fn command_in(alloc: Global, words: &[String]) -> Result<Command, WordsFail>
 }
 
 /// The command that the words are.
-#[tactic(auto, using(crate::proofs::Keys::has_key, crate::proofs::Keys::has_target_key))]
 pub fn read_words(alloc: Global, words: &[String]) -> Result<Command, Stop>
     ensures told { Returns (λ command. command) result (command_of (map string_bytes words.now)) }
     ensures has_key { IfOk result (λ command. HasKeys (needs_of command)) }
