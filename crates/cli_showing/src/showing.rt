@@ -55,8 +55,14 @@ fn append_id_and_tags(alloc: Global, text: &mut Secret, entry: &Entry) -> Result
 {
     let mut digits = [0; 36];
     let id = entry.id.encode_hyphenated(&mut digits);
-    append_three(alloc, text, b"Uuid: {", id.as_bytes(), b"}
-Tags: ")?;
+    append_three(
+        alloc,
+        text,
+        b"Uuid: {",
+        id.as_bytes(),
+        b"}
+Tags: ",
+    )?;
     append(alloc, text, entry.current.content.tags.as_str().as_bytes())?;
     append(alloc, text, b"\n")
 }

@@ -47,12 +47,16 @@ returns-in_default c =
     (refl, inl (edit_no_path c.args.path.now (given_values c.args.values.now) c.args.now (doc_seen c.args.doc.now) (sym c.find_entry.ensures ∙ c.in_default.is)))
 
 pub returns-in_default-holder : goal.returns-in_default-holder
-returns-in_default-holder c =
-    (refl, inl (edit_no_holder c.args.path.now (given_values c.args.values.now) c.args.now (doc_seen c.args.doc.now) c.in-Some.id (sym c.find_entry.ensures ∙ c.in-Some.is)
-    (sym c.holder.ensures ∙ c.in_default-holder.is)))
+returns-in_default-holder c = (
+  refl,
+  inl (edit_no_holder c.args.path.now (given_values c.args.values.now) c.args.now (doc_seen c.args.doc.now) c.in-Some.id (sym c.find_entry.ensures ∙ c.in-Some.is)
+      (sym c.holder.ensures ∙ c.in_default-holder.is)),
+)
 
 pub returns-in_default-entry_of : goal.returns-in_default-entry_of
-returns-in_default-entry_of c =
-    (refl, inl (edit_no_entry c.args.path.now (given_values c.args.values.now) c.args.now (doc_seen c.args.doc.now) c.in-Some.id (sym c.find_entry.ensures ∙ c.in-Some.is)
-    c.in-Some-holder.group (sym c.holder.ensures ∙ c.in-Some-holder.is)
-    (sym c.entry_of.ensures ∙ ap (option_map (λ found. entry_row found.now)) c.in_default-entry_of.is)))
+returns-in_default-entry_of c = (
+  refl,
+  inl (edit_no_entry c.args.path.now (given_values c.args.values.now) c.args.now (doc_seen c.args.doc.now) c.in-Some.id (sym c.find_entry.ensures ∙ c.in-Some.is)
+      c.in-Some-holder.group (sym c.holder.ensures ∙ c.in-Some-holder.is)
+      (sym c.entry_of.ensures ∙ ap (option_map (λ found. entry_row found.now)) c.in_default-entry_of.is)),
+)
