@@ -4,7 +4,7 @@ use Rattle.sha2.specs.Sha256.{compress, digest_bytes, first_words, hash_after, r
 use Rattle.key_core.specs.declared.kdf.Kdf.TheVariants.{Aes}
 use Rattle.kdbx_frame.specs.declared.settings.Cipher.TheVariants.{ChaCha}
 use Rattle.vault_model.specs.declared.forms.FileVersion.TheVariants.{V40}
-use Rattle.kdbx_dictionary.specs.Dictionary.{description_of, dictionary_of, item_at, item_step, with_item}
+use Rattle.kdbx_parts.specs.Dictionary.{description_of, dictionary_of, item_at, item_step, with_item}
 use Rattle.kdbx_frame.specs.Fields.{field_step, with_common_field, with_field_4}
 use Rattle.kdbx_frame.specs.Header.{header_at, header_of}
 use Rattle.kdbx_parts.specs.Parts.{field_at}

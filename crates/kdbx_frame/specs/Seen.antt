@@ -1,7 +1,7 @@
 -- What is seen of values of the code that lend bytes of a header or keep them in memory: the bytes.
 use Rattle.std.specs.Prelude.{ℕ, ◌≤◌, List, length, Option, Some, None, option_map}
 use Rattle.std.specs.Borrow.{Bor}
-use Rattle.kdbx_dictionary.specs.Seen.{description_seen}
+use Rattle.kdbx_parts.specs.SeenDictionary.{description_seen}
 use Rattle.kdbx_frame.specs.declared.fields.FieldsRead as read_code
 use Rattle.kdbx_frame.specs.declared.fields.HeaderFields as header_code
 use Rattle.kdbx_frame.specs.declared.settings.CheckedHeader as settings_code

@@ -8,11 +8,11 @@ ghost use Rattle.vault_model.specs.declared.forms.FileVersion.TheVariants.{V31};
 ghost use Rattle.kdbx_frame.specs.Settings.{IsInOrder, IsVersion4, cipher_of, iv_of, checked_header, checked_header_31, checked_header_4, kdf_of, settings_and_iv, refuse_compression};
 ghost use Rattle.kdbx_frame.specs.Fields.{header_limit};
 ghost use Rattle.kdbx_frame.specs.Seen.{HasSmall, header_fields_seen, checked_header_seen};
-ghost use Rattle.kdbx_dictionary.specs.Dictionary as dictionary;
-ghost use Rattle.kdbx_dictionary.specs.Seen.{description_seen};
+ghost use Rattle.kdbx_parts.specs.Dictionary as dictionary;
+ghost use Rattle.kdbx_parts.specs.SeenDictionary.{description_seen};
 
 use crate::fields::HeaderFields;
-use kdbx_dictionary::KdfDescription;
+use kdbx_parts::KdfDescription;
 use kdbx_parts::{FrameFail, copy_of, required, same};
 use key_core::{Kdf, check_kdf};
 use outside_core::Bytes;

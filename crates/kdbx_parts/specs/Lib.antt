@@ -1,3 +1,5 @@
 pub mod Parts
 pub mod Results
 pub mod Seen
+pub mod Dictionary
+pub mod SeenDictionary

@@ -1,9 +1,12 @@
 //! What headers, KDF dictionaries and inner fields are made of, and why one of them is refused.
+//! The KDF dictionary of a header of KDBX 4: which key derivation it describes.
 #![tactic(auto)]
 
+mod dictionary;
 mod fail;
 mod parts;
 
+pub use dictionary::{KdfDescription, dictionary_of};
 pub use fail::FrameFail;
 pub use parts::{
     Field, LengthWidth, array_of, copy_of, field_head_len, field_of, out_of_bounds, required, same,

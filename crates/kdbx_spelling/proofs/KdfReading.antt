@@ -12,7 +12,7 @@ use Rattle.key_core.specs.declared.kdf.Kdf.TheVariants.{Aes, Argon}
 use Rattle.outside_core.specs.Results.{◌>>=◌, repeat_steps}
 use Rattle.kdbx_parts.specs.declared.fail.FrameFail.{FrameFail}
 use Rattle.kdbx_parts.specs.declared.fail.FrameFail.TheVariants.{Dictionary}
-use Rattle.kdbx_dictionary.specs.Dictionary.{ItemsRead, KdfDescription, Keys, aes, aes_kdf, argon, counted_bytes, description_of, dictionary_of, item_at, item_refusal, item_step, length_fits, no_keys, with_item}
+use Rattle.kdbx_parts.specs.Dictionary.{ItemsRead, KdfDescription, Keys, aes, aes_kdf, argon, counted_bytes, description_of, dictionary_of, item_at, item_refusal, item_step, length_fits, no_keys, with_item}
 use Rattle.kdbx_spelling.specs.Kdf.{argon_id, kdf_items, length_prefixed, spelled_item, spelled_kdf}
 use Rattle.kdbx_spelling.proofs.Readings.{folded, spelled_steps, split_again, then_ok}
 

@@ -6,7 +6,7 @@ use Rattle.argon_core.specs.declared.params.ArgonKind.{ArgonKind}
 use Rattle.argon_core.specs.declared.params.ArgonKind.TheVariants.{D, Id}
 use Rattle.key_core.specs.declared.kdf.Kdf.{Kdf}
 use Rattle.key_core.specs.declared.kdf.Kdf.TheVariants.{Aes, Argon}
-use Rattle.kdbx_dictionary.specs.Dictionary.{aes_kdf, argon2d, argon2id}
+use Rattle.kdbx_parts.specs.Dictionary.{aes_kdf, argon2d, argon2id}
 
 -- Bytes after their length in four bytes.
 abbrev pub length_prefixed : List ℕ → List ℕ

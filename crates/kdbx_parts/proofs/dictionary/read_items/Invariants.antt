@@ -1,8 +1,8 @@
 use Rattle.std.proofs.Common.{◌≡◌, ◌-◌, ◌≤◌, length}
-use Rattle.kdbx_dictionary.specs.Dictionary.{item_refusal, item_step, items_of}
+use Rattle.kdbx_parts.specs.Dictionary.{item_refusal, item_step, items_of}
 use Rattle.outside_core.specs.Results.{repeat_steps}
-use Rattle.kdbx_dictionary.specs.Seen.{items_seen}
-use Rattle.kdbx_dictionary.proofs.dictionary.read_items.Given as goal
+use Rattle.kdbx_parts.specs.SeenDictionary.{items_seen}
+use Rattle.kdbx_parts.proofs.dictionary.read_items.Given as goal
 
 -- What is left is no longer than the field, and reading on from here gives what reading all gives.
 abbrev pub invariant-items : goal.invariant-items

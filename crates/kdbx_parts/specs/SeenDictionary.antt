@@ -1,11 +1,11 @@
 -- What is seen of values of the code that lend the bytes of a dictionary: the bytes.
 use Rattle.std.specs.Prelude.{option_map}
-use Rattle.kdbx_dictionary.specs.declared.dictionary.Item.{Item}
-use Rattle.kdbx_dictionary.specs.declared.dictionary.ItemsRead.{ItemsRead}
-use Rattle.kdbx_dictionary.specs.declared.dictionary.Keys.{Keys}
-use Rattle.kdbx_dictionary.specs.declared.dictionary.KdfDescription.{KdfDescription}
-use Rattle.kdbx_dictionary.specs.declared.dictionary.KdfDescription.TheVariants as code
-use Rattle.kdbx_dictionary.specs.Dictionary as dictionary
+use Rattle.kdbx_parts.specs.declared.dictionary.Item.{Item}
+use Rattle.kdbx_parts.specs.declared.dictionary.ItemsRead.{ItemsRead}
+use Rattle.kdbx_parts.specs.declared.dictionary.Keys.{Keys}
+use Rattle.kdbx_parts.specs.declared.dictionary.KdfDescription.{KdfDescription}
+use Rattle.kdbx_parts.specs.declared.dictionary.KdfDescription.TheVariants as code
+use Rattle.kdbx_parts.specs.Dictionary as dictionary
 
 -- An item of a dictionary.
 abbrev pub item_seen : Item → dictionary.Item

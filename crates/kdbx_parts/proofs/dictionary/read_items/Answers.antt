@@ -1,10 +1,10 @@
 use Rattle.std.proofs.Common.{◌≡◌, ℕ, ◌-◌, length, length-drop, ap, ◌∙◌, arith}
 use Rattle.std.proofs.lemmas.Result.{err_from_is_err_and}
-use Rattle.kdbx_dictionary.specs.Dictionary.{item_refusal, item_step}
-use Rattle.kdbx_dictionary.specs.Seen.{items_seen}
+use Rattle.kdbx_parts.specs.Dictionary.{item_refusal, item_step}
+use Rattle.kdbx_parts.specs.SeenDictionary.{items_seen}
 use Rattle.outside_core.specs.Results.{repeat_steps}
 use Rattle.outside_core.proofs.Results.{step_ends, step_fails, step_goes_on, steps_run_out}
-use Rattle.kdbx_dictionary.proofs.dictionary.read_items.Goals as goal
+use Rattle.kdbx_parts.proofs.dictionary.read_items.Goals as goal
 
 pub items-init : goal.items-init
 items-init c =

@@ -3,12 +3,12 @@
 ghost use Rattle.std.specs.Prelude.{◌≡◌, ◌+◌, ◌≤◌, ◌^◌, ◌<◌, IfOk, length, drop, option_map, true};
 ghost use Rattle.outside_core.specs.Results.{Returns};
 ghost use Rattle.kdbx_parts.specs.Results.{meaning_of};
-ghost use Rattle.kdbx_dictionary.specs.Dictionary.{bytes_in, description_of, counted_bytes, dictionary_of, length_fits, item_at, item_step, items_of, no_keys, required_key, required_bytes, u32_in, u64_in, with_item, aes_description, argon_description};
+ghost use Rattle.kdbx_parts.specs.Dictionary.{bytes_in, description_of, counted_bytes, dictionary_of, length_fits, item_at, item_step, items_of, no_keys, required_key, required_bytes, u32_in, u64_in, with_item, aes_description, argon_description};
 ghost use Rattle.kdbx_parts.specs.declared.fail.FrameFail.TheVariants.{Dictionary};
-ghost use Rattle.kdbx_dictionary.specs.Seen.{item_seen, items_seen, keys_seen, description_seen};
+ghost use Rattle.kdbx_parts.specs.SeenDictionary.{item_seen, items_seen, keys_seen, description_seen};
 
 use argon_core::ArgonKind;
-use kdbx_parts::{FrameFail, array_of, same, split_bytes, u32_of, u64_of};
+use crate::{FrameFail, array_of, same, split_bytes, u32_of, u64_of};
 
 /// The id of AES as a key derivation.
 const AES_KDF: [u8; 16] = [

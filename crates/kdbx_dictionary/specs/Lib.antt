@@ -1,2 +1,0 @@
-pub mod Dictionary
-pub mod Seen
