@@ -3,7 +3,7 @@ use Rattle.std.proofs.Common.{ℕ, List}
 use Rattle.vault_model.specs.Tree.{BareDoc, IsDoc}
 use Rattle.doc_spelling.specs.Ranges.{IsWritable}
 use Rattle.kdbx_frame.specs.declared.settings.Settings.{Settings}
-use Rattle.kdbx_spelling.specs.declared.draws.Draws.{Draws}
+use Rattle.kdbx_writing.specs.declared.draws.Draws.{Draws}
 use Rattle.kdbx_payload.specs.Sealed.{SealedPayload}
 use Rattle.kdbx_seal.specs.Made.{made_file, made_file_payload}
 use Rattle.sealing_laws.proofs.HeldDocuments.{is_held}

@@ -8,7 +8,7 @@ use Rattle.vault_model.specs.declared.forms.FileVersion.TheVariants.{V31, V40, V
 use Rattle.key_core.specs.declared.kdf.Kdf.{Kdf}
 use Rattle.kdbx_frame.specs.declared.settings.Settings.{Settings}
 use Rattle.kdbx_frame.specs.Settings.{IsInOrder, IsOfVersion}
-use Rattle.kdbx_spelling.specs.declared.draws.Draws.{Draws}
+use Rattle.kdbx_writing.specs.declared.draws.Draws.{Draws}
 use Rattle.kdbx_seal.specs.Answers as seal
 use Rattle.kdbx_seal.specs.Answers.{size_refusal}
 use Rattle.kdbx_seal.specs.Made.{made_file}

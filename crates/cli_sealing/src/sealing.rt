@@ -5,7 +5,7 @@ ghost use Rattle.outside_core.specs.Streams.{LosesPrefix};
 ghost use Rattle.vault_making.specs.NeededVersion.{later, needed_version};
 ghost use Rattle.vault_model.specs.SeenDoc.{doc_seen};
 ghost use Rattle.kdbx_frame.specs.Settings.{IsInOrder};
-ghost use Rattle.kdbx_spelling.specs.Draws.{AreDrawn};
+ghost use Rattle.kdbx_writing.specs.Draws.{AreDrawn};
 ghost use Rattle.cli_answers.specs.Phases.{IsCommandStop, IsFault};
 ghost use Rattle.cli_writing.specs.Held.{IsWritten};
 ghost use Rattle.cli_writing.specs.Writing.{KeepsDraft, KeepsFiles, store};

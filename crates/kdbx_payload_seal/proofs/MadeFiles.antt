@@ -26,12 +26,12 @@ use Rattle.kdbx_payload.specs.Payloads.{Payload, hidden_text_31, hidden_text_4, 
 use Rattle.kdbx_payload.specs.declared.fail.PayloadFail.TheVariants.{KeyOrHeader}
 use Rattle.kdbx_payload.proofs.SealedPayloads.{after_start_again, is_sealed}
 use Rattle.kdbx_payload.proofs.Steps.{each}
-use Rattle.kdbx_spelling.specs.declared.draws.Draws.{Draws}
-use Rattle.kdbx_spelling.specs.Draws.{AreDrawn}
-use Rattle.kdbx_spelling.specs.Header.{header_with, settings_with, spelled_header}
-use Rattle.kdbx_spelling.specs.Inner.{FitsField, inner_with, spelled_inner}
-use Rattle.kdbx_spelling.proofs.HeaderReading.{header_again, header_again_31}
-use Rattle.kdbx_spelling.proofs.InnerReading.{inner_again}
+use Rattle.kdbx_writing.specs.declared.draws.Draws.{Draws}
+use Rattle.kdbx_writing.specs.Draws.{AreDrawn}
+use Rattle.kdbx_writing.specs.Header.{header_with, settings_with, spelled_header}
+use Rattle.kdbx_writing.specs.Inner.{FitsField, inner_with, spelled_inner}
+use Rattle.kdbx_writing.proofs.HeaderReading.{header_again, header_again_31}
+use Rattle.kdbx_writing.proofs.InnerReading.{inner_again}
 use Rattle.kdbx_payload_seal.specs.Answers.{IsSealedWith}
 use Rattle.kdbx_payload_seal.specs.Made.{blocks_to_end, chacha_keystream, content_of, file_of_4, hashed_to_end, made_payload, made_with, pieces, pieces_of, plain_content_31, written_keystream}
 

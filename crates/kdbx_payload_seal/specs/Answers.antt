@@ -11,8 +11,8 @@ use Rattle.kdbx_frame.specs.declared.settings.Settings.{Settings}
 use Rattle.kdbx_frame.specs.Fields.{header_limit}
 use Rattle.kdbx_inner.specs.Inner.{Binary}
 use Rattle.kdbx_payload.specs.Sealed.{SealedPayload}
-use Rattle.kdbx_spelling.specs.declared.draws.Draws.{Draws}
-use Rattle.kdbx_spelling.specs.Inner.{FitsField}
+use Rattle.kdbx_writing.specs.declared.draws.Draws.{Draws}
+use Rattle.kdbx_writing.specs.Inner.{FitsField}
 use Rattle.kdbx_payload_seal.specs.Made.{made_payload, made_with, plain_content}
 use Rattle.kdbx_payload_seal.specs.declared.fail.SealPayloadFail.{SealPayloadFail}
 use Rattle.kdbx_payload_seal.specs.declared.fail.SealPayloadFail.TheVariants.{TooLarge, FileFault, NoMemory}

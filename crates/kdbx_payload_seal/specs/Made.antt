@@ -9,9 +9,9 @@ use Rattle.vault_model.specs.declared.forms.FileVersion.{FileVersion}
 use Rattle.vault_model.specs.declared.forms.FileVersion.TheVariants.{V31, V40, V41}
 use Rattle.kdbx_frame.specs.declared.settings.Settings.{Settings}
 use Rattle.kdbx_inner.specs.Inner.{Binary}
-use Rattle.kdbx_spelling.specs.declared.draws.Draws.{Draws}
-use Rattle.kdbx_spelling.specs.Header.{header_with, settings_with, spelled_header, stream_key_31}
-use Rattle.kdbx_spelling.specs.Inner.{spelled_inner}
+use Rattle.kdbx_writing.specs.declared.draws.Draws.{Draws}
+use Rattle.kdbx_writing.specs.Header.{header_with, settings_with, spelled_header, stream_key_31}
+use Rattle.kdbx_writing.specs.Inner.{spelled_inner}
 use Rattle.kdbx_payload.specs.HeaderMacs.{base_of, header_mac, key_of}
 use Rattle.kdbx_payload.specs.Payloads.{Payload}
 use Rattle.kdbx_payload_seal.specs.Enciphered.{enciphered_text}

@@ -2,7 +2,7 @@
 use Rattle.std.specs.Prelude.{◌≡◌, ℕ, List, Some}
 use Rattle.kdbx_payload.specs.Ciphers.{deciphered_text}
 use Rattle.kdbx_payload.specs.HeaderMacs.{base_of, key_of}
-use Rattle.kdbx_spelling.specs.Header.{header_with}
+use Rattle.kdbx_writing.specs.Header.{header_with}
 use Rattle.kdbx_payload_seal.specs.declared.sealing.Parts.{Parts}
 use Rattle.kdbx_payload_seal.specs.Made.{content_of, file_of}
 

@@ -17,8 +17,8 @@ use Rattle.doc_write.specs.declared.writing.WriteFail.{WriteFail}
 use Rattle.doc_write.specs.declared.writing.WriteFail.TheVariants.{NoMemory, TooLarge, TooMany}
 use Rattle.kdbx_frame.specs.Forms.{form_of}
 use Rattle.kdbx_frame.specs.declared.settings.Settings.{Settings}
-use Rattle.kdbx_spelling.specs.declared.draws.Draws.{Draws}
-use Rattle.kdbx_spelling.specs.Header.{spelled_header}
+use Rattle.kdbx_writing.specs.declared.draws.Draws.{Draws}
+use Rattle.kdbx_writing.specs.Header.{spelled_header}
 use Rattle.kdbx_payload_seal.specs.Answers.{CanKeepApart}
 use Rattle.kdbx_payload_seal.specs.Made.{hashed_to_end, pieces, plain_content, written_keystream}
 use Rattle.kdbx_payload_seal.proofs.HashedPieces.{hashed_to_end_len}

@@ -23,9 +23,9 @@ use Rattle.kdbx_inner.specs.Seen.{binary_seen}
 use Rattle.kdbx_payload.specs.Sealed.{SealedPayload}
 use Rattle.kdbx_payload_seal.specs.Answers.{IsSealedWith}
 use Rattle.kdbx_payload_seal.specs.Made.{chacha_keystream, made_with}
-use Rattle.kdbx_spelling.specs.declared.draws.Draws.{Draws}
-use Rattle.kdbx_spelling.specs.Fields.{spelled_field}
-use Rattle.kdbx_spelling.specs.Inner.{FitsField, binary_field, spelled_inner}
+use Rattle.kdbx_writing.specs.declared.draws.Draws.{Draws}
+use Rattle.kdbx_writing.specs.Fields.{spelled_field}
+use Rattle.kdbx_writing.specs.Inner.{FitsField, binary_field, spelled_inner}
 use Rattle.kdbx_seal.specs.Answers.{IsWritten, IsWritten4, WritesContent, WritesContent4, written_document, written_document_4}
 use Rattle.kdbx_seal.specs.Made.{attached_file, attached_files, document_text, files_of, made_file, made_file_payload, text_4}
 

@@ -12,9 +12,9 @@ use Rattle.kdbx_frame.specs.declared.settings.Settings.{Settings}
 use Rattle.kdbx_frame.specs.Fields.{header_limit}
 use Rattle.kdbx_frame.specs.Forms.{form_of}
 use Rattle.kdbx_frame.specs.Header.{sums_len}
-use Rattle.kdbx_spelling.specs.declared.draws.Draws.{Draws}
-use Rattle.kdbx_spelling.specs.Header.{spelled_header}
-use Rattle.kdbx_spelling.specs.Inner.{FitsField}
+use Rattle.kdbx_writing.specs.declared.draws.Draws.{Draws}
+use Rattle.kdbx_writing.specs.Header.{spelled_header}
+use Rattle.kdbx_writing.specs.Inner.{FitsField}
 use Rattle.kdbx_payload_seal.specs.Answers.{CanKeepApart}
 use Rattle.kdbx_payload_seal.specs.Made.{chacha_keystream, plain_content, plain_content_4, written_keystream}
 use Rattle.kdbx_payload_seal.specs.declared.fail.SealPayloadFail.{SealPayloadFail}

@@ -10,8 +10,8 @@ use Rattle.doc_spelling.specs.Pool.{PoolPair, pool_of}
 use Rattle.kdbx_frame.specs.Forms.{form_of}
 use Rattle.kdbx_frame.specs.declared.settings.Settings.{Settings}
 use Rattle.kdbx_inner.specs.Inner.{Binary}
-use Rattle.kdbx_spelling.specs.declared.draws.Draws.{Draws}
-use Rattle.kdbx_spelling.specs.Header.{spelled_header}
+use Rattle.kdbx_writing.specs.declared.draws.Draws.{Draws}
+use Rattle.kdbx_writing.specs.Header.{spelled_header}
 use Rattle.kdbx_payload.specs.Payloads.{Payload}
 use Rattle.kdbx_payload_seal.specs.Made.{chacha_keystream, made, made_payload, written_keystream}
 

@@ -8,7 +8,7 @@ ghost use Rattle.vault_making.specs.NeededVersion.{later, needed_version};
 ghost use Rattle.outside_core.specs.Counts.{HasCause};
 ghost use Rattle.sha2.specs.Sha256.{sha256};
 ghost use Rattle.kdbx_frame.specs.Settings.{IsInOrder};
-ghost use Rattle.kdbx_spelling.specs.Draws.{AreDrawn};
+ghost use Rattle.kdbx_writing.specs.Draws.{AreDrawn};
 ghost use Rattle.kdbx_payload.specs.Sealed.{SealedPayload};
 ghost use Rattle.kdbx_payload_seal.specs.Answers.{Puts};
 ghost use Rattle.stream_core.specs.InnerStream.{SalsaKeystream, kdbx_nonce};

@@ -3,8 +3,8 @@ use Rattle.std.proofs.Common.{◌≡◌, ℕ, ◌+◌, List, [], ◌∷◌, ◌+
 use Rattle.std.specs.Int.{w32, to_le_bytes}
 use Rattle.vault_model.specs.declared.forms.PoolItem.{PoolItem}
 use Rattle.kdbx_inner.specs.Seen.{binary_seen}
-use Rattle.kdbx_spelling.specs.Fields.{spelled_field}
-use Rattle.kdbx_spelling.specs.Inner.{spelled_inner}
+use Rattle.kdbx_writing.specs.Fields.{spelled_field}
+use Rattle.kdbx_writing.specs.Inner.{spelled_inner}
 use Rattle.kdbx_writing.specs.Pools.{pool_bytes}
 
 inner_pieces : (key : List ℕ) (pool : List PoolItem) → spelled_inner key (map binary_seen pool)

@@ -7,12 +7,12 @@ ghost use Rattle.kdbx_parts.specs.Parts.{width_of};
 ghost use Rattle.kdbx_parts.specs.declared.parts.LengthWidth.TheVariants.{Two, Four};
 ghost use Rattle.kdbx_frame.specs.Fields.{header_limit, length_width};
 ghost use Rattle.kdbx_frame.specs.Settings.{IsInOrder};
-ghost use Rattle.kdbx_spelling.specs.Fields.{HasRoom, spelled_field, spelled_field_with};
-ghost use Rattle.kdbx_spelling.specs.Header.{cipher_id, header_fields, header_fields_31, header_fields_4, public_fields, rounds_of, spelled_header, version_number};
+ghost use Rattle.kdbx_writing.specs.Fields.{HasRoom, spelled_field, spelled_field_with};
+ghost use Rattle.kdbx_writing.specs.Header.{cipher_id, header_fields, header_fields_31, header_fields_4, public_fields, rounds_of, spelled_header, version_number};
 
 use crate::kdf::kdf_bytes;
 use kdbx_frame::{Cipher, FileVersion, LengthWidth, Settings, length_width};
-use kdbx_spelling::{Draws, iv_len};
+use crate::{Draws, iv_len};
 use key_core::Kdf;
 use outside_core::{Bytes, NoMemory};
 use std::alloc::Global;
@@ -167,8 +167,8 @@ fn put_fields(
 /// The header of a file of these settings, with what was drawn for the file.
 ///
 /// Where it ends within the limit it is read as what it was written from
-/// ([`kdbx_spelling::laws::headers_read_back`]). The only refusal is that memory ran out.
-#[tactic(auto, unfolding(kdbx_spelling::specs::Header::spelled_header))]
+/// ([`crate::laws::headers_read_back`]). The only refusal is that memory ran out.
+#[tactic(auto, unfolding(crate::specs::Header::spelled_header))]
 pub fn write_header(alloc: Global, settings: &Settings, draws: &Draws) -> Result<Bytes, NoMemory>
     requires { IsInOrder settings.now }
     ensures { IfOk result (λ b. b ≡ spelled_header settings.now draws.now) }

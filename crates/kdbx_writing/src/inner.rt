@@ -4,8 +4,8 @@ ghost use Rattle.std.specs.Prelude.{◌≡◌, ◌+◌, ◌-◌, ◌<◌, ◌≤
 ghost use Rattle.std.specs.Int.{w32, to_le_bytes};
 ghost use Rattle.std.specs.List.{AllByRecursion};
 ghost use Rattle.kdbx_inner.specs.Seen.{binary_seen};
-ghost use Rattle.kdbx_spelling.specs.Fields.{spelled_field};
-ghost use Rattle.kdbx_spelling.specs.Inner.{FitsField, binary_field, spelled_inner};
+ghost use Rattle.kdbx_writing.specs.Fields.{spelled_field};
+ghost use Rattle.kdbx_writing.specs.Inner.{FitsField, binary_field, spelled_inner};
 ghost use Rattle.kdbx_writing.specs.Pools.{pool_bytes};
 
 use secret_core::Secret;
@@ -64,7 +64,7 @@ fn put_pool(out: &mut Secret, pool: &[PoolItem])
 /// Puts the inner fields at the end: the stream ChaCha20 with this key, and the attached files.
 ///
 /// They are read as what they were written from
-/// ([`kdbx_spelling::laws::inner_fields_read_back`]).
+/// ([`crate::laws::inner_fields_read_back`]).
 pub fn write_inner(out: &mut Secret, key: &[u8; 64], pool: &[PoolItem])
     requires small { AllByRecursion FitsField (map binary_seen pool.now) }
     requires spare { length (spelled_inner key.now (map binary_seen pool.now)) ≤ out.old.spare }

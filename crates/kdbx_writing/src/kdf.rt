@@ -4,7 +4,7 @@ ghost use Rattle.std.specs.Prelude.{◌≡◌, ◌<◌, ◌^◌, ◌++◌, OnOk,
 ghost use Rattle.std.specs.Int.{w32, w64, to_le_bytes};
 ghost use Rattle.std.specs.List.{flat_map};
 ghost use Rattle.key_core.specs.Kdf.{IsChecked};
-ghost use Rattle.kdbx_spelling.specs.Kdf.{argon_id, kdf_items, spelled_item, spelled_kdf, with_salt};
+ghost use Rattle.kdbx_writing.specs.Kdf.{argon_id, kdf_items, spelled_item, spelled_kdf, with_salt};
 
 use argon_core::ArgonKind;
 use key_core::Kdf;
@@ -111,7 +111,7 @@ fn put_items(out: &mut Bytes, kdf: &Kdf, salt: &[u8; 32]) -> Result<(), NoMemory
 }
 
 /// The dictionary of a key derivation with this seed or salt.
-#[tactic(auto, unfolding(kdbx_spelling::specs::Kdf::spelled_kdf))]
+#[tactic(auto, unfolding(crate::specs::Kdf::spelled_kdf))]
 pub fn kdf_bytes(alloc: Global, kdf: &Kdf, salt: &[u8; 32]) -> Result<Bytes, NoMemory>
     ensures value { IfOk result (λ b. b ≡ spelled_kdf (with_salt kdf.now salt.now)) }
     ensures len { IfOk result (λ b. length b < 2 ^ 32) }

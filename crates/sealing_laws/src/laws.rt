@@ -4,7 +4,7 @@ ghost use Rattle.std.specs.Prelude.{◌≡◌, ℕ, List, Ok};
 ghost use Rattle.vault_model.specs.Tree.{BareDoc, IsDoc};
 ghost use Rattle.doc_spelling.specs.Ranges.{IsWritable};
 ghost use Rattle.kdbx_frame.specs.declared.settings.Settings.{Settings};
-ghost use Rattle.kdbx_spelling.specs.declared.draws.Draws.{Draws};
+ghost use Rattle.kdbx_writing.specs.declared.draws.Draws.{Draws};
 ghost use Rattle.kdbx_payload.specs.Sealed.{SealedPayload};
 ghost use Rattle.kdbx_seal.specs.Made.{made_file, made_file_payload};
 ghost use Rattle.kdbx_open.specs.Opening.{opening};

@@ -3,7 +3,7 @@ use Rattle.std.specs.FinMap as map
 use Rattle.outside_core.specs.Files.{FileMap}
 use Rattle.vault_model.specs.SeenDoc.{doc_seen}
 use Rattle.kdbx_frame.specs.Header.{sums_len}
-use Rattle.kdbx_spelling.specs.Header.{spelled_header}
+use Rattle.kdbx_writing.specs.Header.{spelled_header}
 use Rattle.kdbx_seal.specs.Answers.{written_document}
 use Rattle.kdbx_seal.specs.Made.{document_text}
 use Rattle.kdbx_seal.proofs.Refusals.{not_refused, refused}

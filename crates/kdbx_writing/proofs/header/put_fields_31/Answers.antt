@@ -2,8 +2,8 @@ use Rattle.std.proofs.Common.{◌≡◌, ℕ, List, ◌++◌, take, ◌∙◌, a
 use Rattle.std.specs.Int.{w32, w64, to_le_bytes}
 use Rattle.kdbx_parts.specs.declared.parts.LengthWidth.TheVariants.{Two}
 use Rattle.kdbx_frame.specs.Settings.{iv_len}
-use Rattle.kdbx_spelling.specs.Fields.{spelled_field_with}
-use Rattle.kdbx_spelling.specs.Header.{cipher_id, rounds_of, salsa20, stream_key_31}
+use Rattle.kdbx_writing.specs.Fields.{spelled_field_with}
+use Rattle.kdbx_writing.specs.Header.{cipher_id, rounds_of, salsa20, stream_key_31}
 use Rattle.kdbx_writing.proofs.HeaderPieces.{and_last, then_more}
 use Rattle.kdbx_writing.proofs.header.put_fields_31.Goals as goal
 

@@ -2,9 +2,9 @@ use Rattle.std.proofs.Common.{◌≡◌, ℕ, List, ◌++◌, take, ◌∙◌, a
 use Rattle.std.specs.Int.{w32, to_le_bytes}
 use Rattle.kdbx_parts.specs.declared.parts.LengthWidth.TheVariants.{Four}
 use Rattle.kdbx_frame.specs.Settings.{iv_len}
-use Rattle.kdbx_spelling.specs.Fields.{spelled_field_with}
-use Rattle.kdbx_spelling.specs.Header.{cipher_id}
-use Rattle.kdbx_spelling.specs.Kdf.{spelled_kdf, with_salt}
+use Rattle.kdbx_writing.specs.Fields.{spelled_field_with}
+use Rattle.kdbx_writing.specs.Header.{cipher_id}
+use Rattle.kdbx_writing.specs.Kdf.{spelled_kdf, with_salt}
 use Rattle.kdbx_writing.proofs.HeaderPieces.{then_more}
 use Rattle.kdbx_writing.proofs.header.put_fields_4.Goals as goal
 

@@ -1,7 +1,7 @@
 use Rattle.std.proofs.Common.{◌≡◌, ℕ, ◌+◌, List, length, map, arith, sym}
 use Rattle.vault_model.specs.declared.forms.PoolItem.{PoolItem}
 use Rattle.kdbx_inner.specs.Seen.{binary_seen}
-use Rattle.kdbx_spelling.specs.Inner.{spelled_inner}
+use Rattle.kdbx_writing.specs.Inner.{spelled_inner}
 use Rattle.kdbx_writing.specs.Pools.{pool_bytes}
 use Rattle.kdbx_writing.proofs.InnerPieces.{inner_size}
 use Rattle.kdbx_writing.proofs.inner.inner_len.Goals as goal

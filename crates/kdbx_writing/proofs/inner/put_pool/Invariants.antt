@@ -1,7 +1,7 @@
 use Rattle.std.proofs.Common.{◌≡◌, ◌+◌, ◌≤◌, ◌++◌, length, map}
 use Rattle.std.specs.List.{AllByRecursion}
 use Rattle.kdbx_inner.specs.Seen.{binary_seen}
-use Rattle.kdbx_spelling.specs.Inner.{FitsField}
+use Rattle.kdbx_writing.specs.Inner.{FitsField}
 use Rattle.kdbx_writing.specs.Pools.{pool_bytes}
 use Rattle.kdbx_writing.proofs.inner.put_pool.Given as goal
 

@@ -1,5 +1,5 @@
 use Rattle.std.proofs.Common.{◌≡◌, ℕ, List, ◌++◌, length, ap, arith, subst}
-use Rattle.kdbx_spelling.specs.Fields.{spelled_field}
+use Rattle.kdbx_writing.specs.Fields.{spelled_field}
 use Rattle.kdbx_writing.proofs.InnerPieces.{inner_size, put_pieces}
 use Rattle.kdbx_writing.proofs.inner.write_inner.Goals as goal
 

@@ -2,7 +2,7 @@ use Rattle.std.proofs.Common.{◌≡◌, ℕ, List, [], ◌++◌, subst, OnOk}
 use Rattle.std.specs.Prelude.{codes}
 use Rattle.std.specs.Int.{w32, w64, to_le_bytes}
 use Rattle.kdbx_parts.specs.Dictionary.{aes_kdf}
-use Rattle.kdbx_spelling.specs.Kdf.{spelled_item}
+use Rattle.kdbx_writing.specs.Kdf.{spelled_item}
 use Rattle.kdbx_writing.proofs.KdfPieces.{puts_last, puts_more, six, three}
 use Rattle.kdbx_writing.proofs.kdf.put_items.Goals as goal
 

@@ -13,8 +13,8 @@ use Rattle.outside_core.specs.Results.{◌>>=◌, repeat_steps}
 use Rattle.kdbx_parts.specs.declared.fail.FrameFail.{FrameFail}
 use Rattle.kdbx_parts.specs.declared.fail.FrameFail.TheVariants.{Dictionary}
 use Rattle.kdbx_parts.specs.Dictionary.{ItemsRead, KdfDescription, Keys, aes, aes_kdf, argon, counted_bytes, description_of, dictionary_of, item_at, item_refusal, item_step, length_fits, no_keys, with_item}
-use Rattle.kdbx_spelling.specs.Kdf.{argon_id, kdf_items, length_prefixed, spelled_item, spelled_kdf}
-use Rattle.kdbx_spelling.proofs.Readings.{folded, spelled_steps, split_again, then_ok}
+use Rattle.kdbx_writing.specs.Kdf.{argon_id, kdf_items, length_prefixed, spelled_item, spelled_kdf}
+use Rattle.kdbx_writing.proofs.Readings.{folded, spelled_steps, split_again, then_ok}
 
 -- Bytes after their length are read.
 counted_again : (fail : FrameFail) (bytes rest : List ℕ) → length bytes < 2 ^ 32

@@ -1,5 +1,5 @@
-use Rattle.kdbx_spelling.proofs.DrawnParts.{draws_all, draws_more, loses_more, on_err}
-use Rattle.kdbx_spelling.proofs.draws.draw.Goals as goal
+use Rattle.kdbx_writing.proofs.DrawnParts.{draws_all, draws_more, loses_more, on_err}
+use Rattle.kdbx_writing.proofs.draws.draw.Goals as goal
 
 pub returns-in_err-seed-clause-err : goal.returns-in_err-seed-clause-err
 returns-in_err-seed-clause-err g c =

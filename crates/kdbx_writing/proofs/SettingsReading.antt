@@ -13,14 +13,14 @@ use Rattle.kdbx_frame.specs.declared.settings.Cipher.{Cipher}
 use Rattle.kdbx_frame.specs.declared.settings.Cipher.TheVariants as cipher
 use Rattle.kdbx_frame.specs.Fields.{HeaderFields, no_fields, with_common_field, with_field_31, with_field_4}
 use Rattle.kdbx_frame.specs.Settings.{checked_header_31, checked_header_4, cipher_of, iv_len, iv_of, kdf_of, settings_and_iv, within_limits}
-use Rattle.kdbx_spelling.specs.declared.draws.Draws.{Draws}
-use Rattle.kdbx_spelling.specs.Draws.{AreFront}
-use Rattle.kdbx_spelling.specs.Header.{cipher_id, public_fields, salsa20, stream_key_31}
-use Rattle.kdbx_spelling.specs.Kdf.{spelled_kdf}
-use Rattle.kdbx_spelling.proofs.FieldReading.{length_again}
-use Rattle.kdbx_spelling.proofs.HeaderFields.{add_field}
-use Rattle.kdbx_spelling.proofs.KdfReading.{Fits, described, dictionary_again}
-use Rattle.kdbx_spelling.proofs.Readings.{folded, then_ok}
+use Rattle.kdbx_writing.specs.declared.draws.Draws.{Draws}
+use Rattle.kdbx_writing.specs.Draws.{AreFront}
+use Rattle.kdbx_writing.specs.Header.{cipher_id, public_fields, salsa20, stream_key_31}
+use Rattle.kdbx_writing.specs.Kdf.{spelled_kdf}
+use Rattle.kdbx_writing.proofs.FieldReading.{length_again}
+use Rattle.kdbx_writing.proofs.HeaderFields.{add_field}
+use Rattle.kdbx_writing.proofs.KdfReading.{Fits, described, dictionary_again}
+use Rattle.kdbx_writing.proofs.Readings.{folded, then_ok}
 
 id_len : (c : Cipher) → length (cipher_id c) ≡ 16
 id_len cipher.Aes = refl

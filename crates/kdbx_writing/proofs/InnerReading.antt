@@ -7,10 +7,10 @@ use Rattle.kdbx_parts.specs.declared.fail.FrameFail.{FrameFail}
 use Rattle.kdbx_parts.specs.declared.fail.FrameFail.TheVariants.{Truncated}
 use Rattle.kdbx_parts.specs.declared.parts.LengthWidth.TheVariants.{Four}
 use Rattle.kdbx_inner.specs.Inner.{Binary, InnerRead, PartialInner, inner_end_missing, inner_from, inner_of, inner_step, no_inner_fields, with_inner_field}
-use Rattle.kdbx_spelling.specs.Fields.{spelled_field}
-use Rattle.kdbx_spelling.specs.Inner.{FitsField, binary_field, inner_fields, inner_with, spelled_inner}
-use Rattle.kdbx_spelling.proofs.FieldReading.{CanBeWritten, fewer_fields, field_again}
-use Rattle.kdbx_spelling.proofs.Readings.{folded, spelled_steps, then_ok}
+use Rattle.kdbx_writing.specs.Fields.{spelled_field}
+use Rattle.kdbx_writing.specs.Inner.{FitsField, binary_field, inner_fields, inner_with, spelled_inner}
+use Rattle.kdbx_writing.proofs.FieldReading.{CanBeWritten, fewer_fields, field_again}
+use Rattle.kdbx_writing.proofs.Readings.{folded, spelled_steps, then_ok}
 
 -- How far the reading has come.
 abbrev at : PartialInner → List ℕ → InnerRead

@@ -2,7 +2,7 @@
 use Rattle.std.specs.Prelude.{ℕ, ◌+◌, ◌<◌, ◌^◌, List, [], ◌∷◌, length, map, if◌then◌else◌}
 use Rattle.std.specs.Int.{w32, to_le_bytes}
 use Rattle.kdbx_inner.specs.Inner.{Binary, InnerFields}
-use Rattle.kdbx_spelling.specs.Fields.{spelled_fields}
+use Rattle.kdbx_writing.specs.Fields.{spelled_fields}
 
 -- The field of an attached file: a byte of flags, which says whether it is hidden, and its bytes.
 abbrev pub binary_field : Binary → ℕ × List ℕ

@@ -10,10 +10,10 @@ ghost use Rattle.kdbx_frame.specs.Header.{header_of};
 ghost use Rattle.kdbx_frame.specs.Settings.{IsInOrder, IsVersion4};
 ghost use Rattle.vault_model.specs.declared.forms.FileVersion.TheVariants.{V31};
 ghost use Rattle.kdbx_inner.specs.Inner.{Binary, inner_of};
-ghost use Rattle.kdbx_spelling.specs.declared.draws.Draws.{Draws};
-ghost use Rattle.kdbx_spelling.specs.Draws.{AreDrawn};
-ghost use Rattle.kdbx_spelling.specs.Header.{header_with, spelled_header};
-ghost use Rattle.kdbx_spelling.specs.Inner.{FitsField, inner_with, spelled_inner};
+ghost use Rattle.kdbx_writing.specs.declared.draws.Draws.{Draws};
+ghost use Rattle.kdbx_writing.specs.Draws.{AreDrawn};
+ghost use Rattle.kdbx_writing.specs.Header.{header_with, spelled_header};
+ghost use Rattle.kdbx_writing.specs.Inner.{FitsField, inner_with, spelled_inner};
 
 /// A file that begins with a written header has the settings that the header was written from, with
 /// the drawn salt, seed and IV, so long as the header ends within the limit. In version 4 the

@@ -17,18 +17,18 @@ use Rattle.kdbx_frame.specs.declared.settings.Settings.{Settings}
 use Rattle.kdbx_frame.specs.Fields.{HeaderFields, header_limit, length_width, no_fields}
 use Rattle.kdbx_frame.specs.Header.{check_sums, header_at, header_of, signature}
 use Rattle.kdbx_frame.specs.Settings.{CheckedHeader, IsInOrder, IsOfVersion, IsVersion4, checked_header}
-use Rattle.kdbx_spelling.specs.declared.draws.Draws.{Draws}
-use Rattle.kdbx_spelling.specs.Draws.{AreDrawn}
-use Rattle.kdbx_spelling.specs.Fields.{HasRoom, spelled_field_with}
-use Rattle.kdbx_spelling.specs.Header.{header_end, header_fields, header_with, public_fields, rounds_of, spelled_header, start_with, stream_id_with, stream_key_with, version_number}
-use Rattle.kdbx_spelling.specs.Kdf.{with_salt}
-use Rattle.kdbx_spelling.proofs.FieldReading.{CanBeWritten, field_long}
-use Rattle.kdbx_spelling.proofs.HeaderFields.{add_field}
-use Rattle.kdbx_spelling.proofs.HeaderParts.{header_at_again, sums_again}
-use Rattle.kdbx_spelling.proofs.KdfLimits.{checked_again, fits_again}
-use Rattle.kdbx_spelling.proofs.KdfReading.{Fits}
-use Rattle.kdbx_spelling.proofs.Readings.{folded}
-use Rattle.kdbx_spelling.proofs.SettingsReading.{added_31, added_4, fields_31, fields_4, settings_31, settings_4}
+use Rattle.kdbx_writing.specs.declared.draws.Draws.{Draws}
+use Rattle.kdbx_writing.specs.Draws.{AreDrawn}
+use Rattle.kdbx_writing.specs.Fields.{HasRoom, spelled_field_with}
+use Rattle.kdbx_writing.specs.Header.{header_end, header_fields, header_with, public_fields, rounds_of, spelled_header, start_with, stream_id_with, stream_key_with, version_number}
+use Rattle.kdbx_writing.specs.Kdf.{with_salt}
+use Rattle.kdbx_writing.proofs.FieldReading.{CanBeWritten, field_long}
+use Rattle.kdbx_writing.proofs.HeaderFields.{add_field}
+use Rattle.kdbx_writing.proofs.HeaderParts.{header_at_again, sums_again}
+use Rattle.kdbx_writing.proofs.KdfLimits.{checked_again, fits_again}
+use Rattle.kdbx_writing.proofs.KdfReading.{Fits}
+use Rattle.kdbx_writing.proofs.Readings.{folded}
+use Rattle.kdbx_writing.proofs.SettingsReading.{added_31, added_4, fields_31, fields_4, settings_31, settings_4}
 
 take_after : (prefix rest : List ℕ) (n : ℕ) → length prefix ≤ n → take n (prefix ++ rest) ≡ prefix ++ take (n - length prefix) rest
 take_after prefix rest n h =

@@ -12,9 +12,9 @@ use Rattle.kdbx_frame.specs.declared.settings.Settings.{Settings}
 use Rattle.kdbx_frame.specs.Fields.{length_width}
 use Rattle.kdbx_frame.specs.Header.{signature}
 use Rattle.kdbx_frame.specs.Settings.{aes_id, twofish_id, chacha_id, iv_len}
-use Rattle.kdbx_spelling.specs.declared.draws.Draws.{Draws}
-use Rattle.kdbx_spelling.specs.Fields.{spelled_fields_with}
-use Rattle.kdbx_spelling.specs.Kdf.{spelled_kdf, with_salt}
+use Rattle.kdbx_writing.specs.declared.draws.Draws.{Draws}
+use Rattle.kdbx_writing.specs.Fields.{spelled_fields_with}
+use Rattle.kdbx_writing.specs.Kdf.{spelled_kdf, with_salt}
 
 -- The number of a version, which follows the signature.
 abbrev pub version_number : FileVersion → ℕ

@@ -9,8 +9,8 @@ use Rattle.key_core.specs.declared.kdf.KdfField.{KdfField}
 use Rattle.key_core.specs.declared.kdf.KdfField.TheVariants.{Rounds, Passes, Memory, Lanes}
 use Rattle.key_core.specs.declared.kdf.KdfFail.{KdfFail}
 use Rattle.key_core.specs.declared.kdf.KdfFail.TheVariants.{KdfLimit}
-use Rattle.kdbx_spelling.specs.Kdf.{with_salt}
-use Rattle.kdbx_spelling.proofs.KdfReading.{Fits}
+use Rattle.kdbx_writing.specs.Kdf.{with_salt}
+use Rattle.kdbx_writing.proofs.KdfReading.{Fits}
 
 within_parts_by : (field : KdfField) (least most n : ℕ) (next : Result Unit KdfFail) (a b : Bool) → nat_lt n least ≡ a → nat_lt most n ≡ b
     → cond (a || b) (Err (KdfLimit field n)) next ≡ Ok tt → (least ≤ n) × (n ≤ most) × (next ≡ Ok tt)

@@ -8,10 +8,10 @@ use Rattle.kdbx_parts.specs.declared.fail.FrameFail.{FrameFail}
 use Rattle.kdbx_parts.specs.declared.parts.LengthWidth.{LengthWidth}
 use Rattle.kdbx_parts.specs.declared.parts.LengthWidth.TheVariants.{Two, Four}
 use Rattle.kdbx_frame.specs.Fields.{FieldsRead, HeaderFields, end_missing, field_step, fields_from, length_width, no_fields, part_refusal, with_common_field, with_field, with_field_31, with_field_4}
-use Rattle.kdbx_spelling.specs.Fields.{HasRoom, spelled_field_with}
-use Rattle.kdbx_spelling.specs.Header.{header_end}
-use Rattle.kdbx_spelling.proofs.FieldReading.{CanBeWritten, field_again}
-use Rattle.kdbx_spelling.proofs.Readings.{folded, spelled_steps, then_ok}
+use Rattle.kdbx_writing.specs.Fields.{HasRoom, spelled_field_with}
+use Rattle.kdbx_writing.specs.Header.{header_end}
+use Rattle.kdbx_writing.proofs.FieldReading.{CanBeWritten, field_again}
+use Rattle.kdbx_writing.proofs.Readings.{folded, spelled_steps, then_ok}
 
 -- How far the reading of the fields has come.
 abbrev pub at : HeaderFields → List ℕ → FieldsRead

@@ -15,11 +15,11 @@ use Rattle.kdbx_frame.specs.declared.header.Header.{Header}
 use Rattle.kdbx_frame.specs.Fields.{HeaderFields, fields_from, length_width, no_fields}
 use Rattle.kdbx_frame.specs.Header.{check_hash, check_sums, header_at, signature, version_and_rest, version_of}
 use Rattle.kdbx_frame.specs.Settings.{CheckedHeader, IsVersion4, checked_header}
-use Rattle.kdbx_spelling.specs.Fields.{spelled_fields_with}
-use Rattle.kdbx_spelling.specs.Header.{header_end, version_number}
-use Rattle.kdbx_spelling.proofs.FieldReading.{CanBeWritten, fewer_fields}
-use Rattle.kdbx_spelling.proofs.HeaderFields.{add_field, at, fields_again, spelled_in}
-use Rattle.kdbx_spelling.proofs.Readings.{folded, same_bytes, split_again, then_ok}
+use Rattle.kdbx_writing.specs.Fields.{spelled_fields_with}
+use Rattle.kdbx_writing.specs.Header.{header_end, version_number}
+use Rattle.kdbx_writing.proofs.FieldReading.{CanBeWritten, fewer_fields}
+use Rattle.kdbx_writing.proofs.HeaderFields.{add_field, at, fields_again, spelled_in}
+use Rattle.kdbx_writing.proofs.Readings.{folded, same_bytes, split_again, then_ok}
 
 number_again : (version : FileVersion) → version_of (from_le_bytes w32 (to_le_bytes w32 (version_number version))) ≡ Ok version
 number_again V31 = refl

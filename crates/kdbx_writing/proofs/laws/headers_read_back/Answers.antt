@@ -1,5 +1,5 @@
-use Rattle.kdbx_spelling.proofs.HeaderReading.{header_again, header_again_31}
-use Rattle.kdbx_spelling.proofs.laws.headers_read_back.Goals as goal
+use Rattle.kdbx_writing.proofs.HeaderReading.{header_again, header_again_31}
+use Rattle.kdbx_writing.proofs.laws.headers_read_back.Goals as goal
 
 pub returns-clause-four : goal.returns-clause-four
 returns-clause-four c = header_again

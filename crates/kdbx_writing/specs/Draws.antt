@@ -4,7 +4,7 @@ use Rattle.vault_model.specs.declared.forms.FileVersion.{FileVersion}
 use Rattle.vault_model.specs.declared.forms.FileVersion.TheVariants.{V31, V40, V41}
 use Rattle.kdbx_frame.specs.declared.settings.Settings.{Settings}
 use Rattle.kdbx_frame.specs.Settings.{iv_len}
-use Rattle.kdbx_spelling.specs.declared.draws.Draws.{Draws}
+use Rattle.kdbx_writing.specs.declared.draws.Draws.{Draws}
 
 -- How many bytes of the inner stream's key a version uses.
 abbrev pub stream_len : FileVersion → ℕ

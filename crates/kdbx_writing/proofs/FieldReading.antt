@@ -10,8 +10,8 @@ use Rattle.kdbx_parts.specs.declared.fail.FrameFail.TheVariants.{FieldLength}
 use Rattle.kdbx_parts.specs.declared.parts.LengthWidth.{LengthWidth}
 use Rattle.kdbx_parts.specs.declared.parts.LengthWidth.TheVariants.{Two, Four}
 use Rattle.kdbx_parts.specs.Parts.{field_at, unique_of_length}
-use Rattle.kdbx_spelling.specs.Fields.{HasRoom, spelled_field_with}
-use Rattle.kdbx_spelling.proofs.Readings.{split_again, then_ok}
+use Rattle.kdbx_writing.specs.Fields.{HasRoom, spelled_field_with}
+use Rattle.kdbx_writing.proofs.Readings.{split_again, then_ok}
 
 -- A written field is read.
 pub field_again : (width : LengthWidth) (fail : ℕ → FrameFail) (id : ℕ) (content rest : List ℕ) → HasRoom width (length content)

@@ -4,8 +4,8 @@ use Rattle.std.proofs.lemmas.List.{take_all, drop_at, drop-drop}
 use Rattle.outside_core.specs.Streams.{LosesPrefix}
 use Rattle.kdbx_frame.specs.declared.settings.Settings.{Settings}
 use Rattle.kdbx_frame.specs.Settings.{iv_len}
-use Rattle.kdbx_spelling.specs.declared.draws.Draws.{Draws}
-use Rattle.kdbx_spelling.specs.Draws.{drawn_bytes, start_len, stream_len}
+use Rattle.kdbx_writing.specs.declared.draws.Draws.{Draws}
+use Rattle.kdbx_writing.specs.Draws.{drawn_bytes, start_len, stream_len}
 
 pub on_err : {X E : Type 0} (result : Result X E) (P : Type 0) → P → OnErr result P
 on_err (Ok x) P p = tt

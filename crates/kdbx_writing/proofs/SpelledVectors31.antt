@@ -5,9 +5,9 @@ use Rattle.key_core.specs.declared.kdf.Kdf.TheVariants.{Aes}
 use Rattle.vault_model.specs.declared.forms.FileVersion.TheVariants.{V31}
 use Rattle.kdbx_frame.specs.declared.settings.Cipher.TheVariants as cipher
 use Rattle.kdbx_frame.specs.declared.settings.Settings.{Settings}
-use Rattle.kdbx_spelling.specs.declared.draws.Draws.{Draws}
-use Rattle.kdbx_spelling.specs.Draws.{drawn_bytes}
-use Rattle.kdbx_spelling.specs.Header.{spelled_header}
+use Rattle.kdbx_writing.specs.declared.draws.Draws.{Draws}
+use Rattle.kdbx_writing.specs.Draws.{drawn_bytes}
+use Rattle.kdbx_writing.specs.Header.{spelled_header}
 
 -- AES, and AES as the key derivation with 100 rounds.
 settings : Settings

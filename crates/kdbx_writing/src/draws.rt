@@ -4,7 +4,7 @@ ghost use Rattle.std.specs.Prelude.{◌≡◌, ◌≤◌, ◌++◌, IfOk, OnErr,
 ghost use Rattle.outside_core.specs.Counts.{HasCause};
 ghost use Rattle.outside_core.specs.Streams.{LosesPrefix};
 ghost use Rattle.kdbx_frame.specs.Settings.{iv_len};
-ghost use Rattle.kdbx_spelling.specs.Draws.{AreDrawn, AreFront, drawn_bytes, start_len, stream_len};
+ghost use Rattle.kdbx_writing.specs.Draws.{AreDrawn, AreFront, drawn_bytes, start_len, stream_len};
 
 use kdbx_frame::{Cipher, FileVersion, Settings};
 use outside_core::{Dice, DiceFail};

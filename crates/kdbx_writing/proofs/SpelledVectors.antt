@@ -4,9 +4,9 @@ use Rattle.key_core.specs.declared.kdf.Kdf.TheVariants.{Aes}
 use Rattle.vault_model.specs.declared.forms.FileVersion.TheVariants.{V40}
 use Rattle.kdbx_frame.specs.declared.settings.Cipher.TheVariants.{ChaCha}
 use Rattle.kdbx_frame.specs.declared.settings.Settings.{Settings}
-use Rattle.kdbx_spelling.specs.declared.draws.Draws.{Draws}
-use Rattle.kdbx_spelling.specs.Header.{spelled_header}
-use Rattle.kdbx_spelling.specs.Kdf.{spelled_kdf}
+use Rattle.kdbx_writing.specs.declared.draws.Draws.{Draws}
+use Rattle.kdbx_writing.specs.Header.{spelled_header}
+use Rattle.kdbx_writing.specs.Kdf.{spelled_kdf}
 
 -- ChaCha20, and AES as the key derivation with 100 rounds.
 settings : Settings

@@ -1,5 +1,0 @@
-pub mod Draws
-pub mod Fields
-pub mod Header
-pub mod Inner
-pub mod Kdf
