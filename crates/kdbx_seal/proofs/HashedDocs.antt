@@ -19,9 +19,9 @@ use Rattle.kdbx_frame.specs.Forms.{form_of}
 use Rattle.kdbx_frame.specs.declared.settings.Settings.{Settings}
 use Rattle.kdbx_writing.specs.declared.draws.Draws.{Draws}
 use Rattle.kdbx_writing.specs.Header.{spelled_header}
-use Rattle.kdbx_payload_seal.specs.Answers.{CanKeepApart}
-use Rattle.kdbx_payload_seal.specs.Made.{hashed_to_end, pieces, plain_content, written_keystream}
-use Rattle.kdbx_payload_seal.proofs.HashedPieces.{hashed_to_end_len}
+use Rattle.kdbx_seal.specs.PayloadAnswers.{CanKeepApart}
+use Rattle.kdbx_seal.specs.PayloadMade.{hashed_to_end, pieces, plain_content, written_keystream}
+use Rattle.kdbx_seal.proofs.HashedPieces.{hashed_to_end_len}
 use Rattle.kdbx_seal.specs.Answers.{IsWritten, WritesContent, written_document}
 use Rattle.kdbx_seal.specs.Made.{attached_files, document_text, hash_kept}
 

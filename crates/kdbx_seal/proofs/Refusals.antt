@@ -3,9 +3,9 @@ use Rattle.std.proofs.Common.{◌≡◌, ℕ, ◌≤◌, Bool, cond, List, Some,
 use Rattle.std.proofs.lemmas.Bool.{le-ltb, lt-ltb}
 use Rattle.doc_write.specs.declared.writing.WriteFail.{WriteFail}
 use Rattle.kdbx_frame.specs.Fields.{header_limit}
-use Rattle.kdbx_payload_seal.specs.Answers.{JudgesEnd}
-use Rattle.kdbx_payload_seal.specs.declared.fail.SealPayloadFail.{SealPayloadFail}
-use Rattle.kdbx_payload_seal.specs.declared.fail.SealPayloadFail.TheVariants as payload
+use Rattle.kdbx_seal.specs.PayloadAnswers.{JudgesEnd}
+use Rattle.kdbx_seal.specs.declared.payload_fail.SealPayloadFail.{SealPayloadFail}
+use Rattle.kdbx_seal.specs.declared.payload_fail.SealPayloadFail.TheVariants as payload
 use Rattle.kdbx_seal.specs.Answers.{Refuses, of_payload, refusal_of}
 use Rattle.kdbx_seal.specs.declared.fail.SealFail.{SealFail}
 use Rattle.kdbx_seal.specs.declared.fail.SealFail.TheVariants.{TooLarge}

@@ -21,8 +21,8 @@ use Rattle.kdbx_frame.specs.Settings.{IsVersion4}
 use Rattle.kdbx_inner.specs.Inner.{Binary}
 use Rattle.kdbx_inner.specs.Seen.{binary_seen}
 use Rattle.kdbx_payload.specs.Sealed.{SealedPayload}
-use Rattle.kdbx_payload_seal.specs.Answers.{IsSealedWith}
-use Rattle.kdbx_payload_seal.specs.Made.{chacha_keystream, made_with}
+use Rattle.kdbx_seal.specs.PayloadAnswers.{IsSealedWith}
+use Rattle.kdbx_seal.specs.PayloadMade.{chacha_keystream, made_with}
 use Rattle.kdbx_writing.specs.declared.draws.Draws.{Draws}
 use Rattle.kdbx_writing.specs.Fields.{spelled_field}
 use Rattle.kdbx_writing.specs.Inner.{FitsField, binary_field, spelled_inner}

@@ -15,10 +15,10 @@ use Rattle.kdbx_frame.specs.Header.{sums_len}
 use Rattle.kdbx_writing.specs.declared.draws.Draws.{Draws}
 use Rattle.kdbx_writing.specs.Header.{spelled_header}
 use Rattle.kdbx_writing.specs.Inner.{FitsField}
-use Rattle.kdbx_payload_seal.specs.Answers.{CanKeepApart}
-use Rattle.kdbx_payload_seal.specs.Made.{chacha_keystream, plain_content, plain_content_4, written_keystream}
-use Rattle.kdbx_payload_seal.specs.declared.fail.SealPayloadFail.{SealPayloadFail}
-use Rattle.kdbx_payload_seal.specs.declared.fail.SealPayloadFail.TheVariants as payload
+use Rattle.kdbx_seal.specs.PayloadAnswers.{CanKeepApart}
+use Rattle.kdbx_seal.specs.PayloadMade.{chacha_keystream, plain_content, plain_content_4, written_keystream}
+use Rattle.kdbx_seal.specs.declared.payload_fail.SealPayloadFail.{SealPayloadFail}
+use Rattle.kdbx_seal.specs.declared.payload_fail.SealPayloadFail.TheVariants as payload
 use Rattle.kdbx_seal.specs.Made.{attached_files, document_text, files_of, hash_kept, text_4}
 use Rattle.kdbx_seal.specs.declared.fail.SealFail.{SealFail}
 use Rattle.kdbx_seal.specs.declared.fail.SealFail.TheVariants.{TooMany, TooLarge, FileFault, NoMemory}

@@ -13,7 +13,7 @@ use Rattle.kdbx_inner.specs.Inner.{Binary}
 use Rattle.kdbx_writing.specs.declared.draws.Draws.{Draws}
 use Rattle.kdbx_writing.specs.Header.{spelled_header}
 use Rattle.kdbx_payload.specs.Payloads.{Payload}
-use Rattle.kdbx_payload_seal.specs.Made.{chacha_keystream, made, made_payload, written_keystream}
+use Rattle.kdbx_seal.specs.PayloadMade.{chacha_keystream, made, made_payload, written_keystream}
 
 -- The bytes of an attachment, as an attached file of the inner fields.
 abbrev pub attached_file : PoolPair → Binary

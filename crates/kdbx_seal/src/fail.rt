@@ -4,7 +4,7 @@ ghost use Rattle.std.specs.Prelude.{◌≡◌};
 ghost use Rattle.kdbx_seal.specs.Answers.{of_payload, of_writing};
 
 use doc_write::WriteFail;
-use kdbx_payload_seal::SealPayloadFail;
+use crate::SealPayloadFail;
 
 /// Why a document is not sealed.
 #[derive(Clone, Copy, Debug, PartialEq, Eq)]

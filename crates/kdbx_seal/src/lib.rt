@@ -1,10 +1,21 @@
 //! Sealing a document: from the document, settings, draws and a composite key to a file of KDBX 3.1,
 //! 4.0 or 4.1 under a name.
+//! From settings, draws, attached files and the text of a document to a file of KDBX 3.1, 4.0 or
+//! 4.1 under a composite key. Nothing here speaks of what the document says.
 #![tactic(auto)]
 
+mod blocks;
+mod ciphering;
 mod fail;
+mod hashing;
+mod payload_fail;
+mod payload_sealing;
 mod sealing;
 
+pub use crate::{Draws, draw};
 pub use fail::SealFail;
-pub use kdbx_payload_seal::{Draws, draw};
+pub use hashing::{hashed_len, put_hashed};
+pub use kdbx_writing::{Draws, draw};
+pub use payload_fail::SealPayloadFail;
+pub use payload_sealing::seal_payload;
 pub use sealing::seal_file;

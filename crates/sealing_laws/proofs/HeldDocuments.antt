@@ -17,7 +17,7 @@ use Rattle.writing_laws.proofs.ReadsBack.{says_document}
 use Rattle.kdbx_frame.specs.declared.settings.Settings.{Settings}
 use Rattle.kdbx_writing.specs.declared.draws.Draws.{Draws}
 use Rattle.kdbx_payload.specs.Sealed.{SealedPayload}
-use Rattle.kdbx_payload_seal.specs.Made.{written_keystream}
+use Rattle.kdbx_seal.specs.PayloadMade.{written_keystream}
 use Rattle.sha2.specs.Sha256.{digest_bytes, sha256}
 use Rattle.sha2.proofs.Facts256.{length-sha256}
 use Rattle.writing_laws.proofs.Goods.{IsHash}

@@ -4,8 +4,8 @@ use Rattle.stream_core.specs.InnerStream.{SalsaKeystream, kdbx_nonce, keystream}
 use Rattle.sha2.specs.Sha256.{sha256}
 use Rattle.vault_model.specs.SeenDoc.{doc_seen}
 use Rattle.vault_model.specs.declared.forms.DocForm.TheVariants.{V3}
-use Rattle.kdbx_payload_seal.specs.Made.{hashed_to_end, pieces}
-use Rattle.kdbx_payload_seal.proofs.HashedPieces.{hashed_to_end_len}
+use Rattle.kdbx_seal.specs.PayloadMade.{hashed_to_end, pieces}
+use Rattle.kdbx_seal.proofs.HashedPieces.{hashed_to_end_len}
 use Rattle.kdbx_seal.proofs.HashedDocs.{is_written_31, lent_whole, not_written_31, text_of_outcome}
 use Rattle.kdbx_seal.proofs.sealing.write_content_31.Goals as goal
 

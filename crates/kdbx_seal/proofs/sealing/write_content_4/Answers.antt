@@ -5,7 +5,7 @@ use Rattle.vault_model.specs.declared.forms.DocForm.TheVariants.{V4}
 use Rattle.doc_spelling.specs.Documents.{spelled_document}
 use Rattle.kdbx_inner.specs.Seen.{binary_seen}
 use Rattle.kdbx_writing.specs.Inner.{spelled_inner}
-use Rattle.kdbx_payload_seal.specs.Made.{chacha_keystream}
+use Rattle.kdbx_seal.specs.PayloadMade.{chacha_keystream}
 use Rattle.kdbx_seal.proofs.WrittenDocs.{content_limit, inner_is, is_written, items_fit, text_len}
 use Rattle.kdbx_seal.proofs.sealing.write_content_4.Goals as goal
 

@@ -1,5 +1,0 @@
-mod Appended
-pub mod HashedPieces
-mod MadeFiles
-mod Padded
-mod Pieces

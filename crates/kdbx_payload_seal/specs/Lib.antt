@@ -1,4 +1,0 @@
-pub mod Answers
-pub mod Enciphered
-pub mod Made
-pub mod Parts
