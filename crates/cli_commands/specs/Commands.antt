@@ -10,7 +10,7 @@ use Rattle.cli_answers.specs.Messages.{refusal_of}
 use Rattle.cli_answers.specs.Phases.{StreamAnswer, then_left, with_left}
 use Rattle.cli_words.specs.declared.command.Command.{Command}
 use Rattle.cli_words.specs.declared.command.Command.TheVariants.{Ls, Show, Search, Add, Edit, Move, Remove, MakeGroup, RemoveGroup, Merge, Import, Export, Info}
-use Rattle.cli_listing.specs.Listing.{group_lines, tree_listed}
+use Rattle.cli_printing.specs.Listing.{group_lines, tree_listed}
 use Rattle.cli_showing.specs.Showing.{entries_shown, entry_shown}
 use Rattle.cli_exporting.specs.Exporting.{exported}
 use Rattle.cli_info.specs.Info.{info_shown}

@@ -1,6 +1,6 @@
 -- A line for each child.
-use Rattle.cli_listing.proofs.Lines.{children_counted, children_listed}
-use Rattle.cli_listing.proofs.laws.each_child_has_a_line.Goals as goal
+use Rattle.cli_printing.proofs.Lines.{children_counted, children_listed}
+use Rattle.cli_printing.proofs.laws.each_child_has_a_line.Goals as goal
 
 pub returns-clause-lines : goal.returns-clause-lines
 returns-clause-lines c = children_listed

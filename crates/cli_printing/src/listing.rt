@@ -2,8 +2,8 @@
 ghost use Rattle.std.specs.Prelude.{◌≡◌, ◌++◌, [], IfErr, IfOk, OnOk, map, option_map};
 ghost use Rattle.vault_model.specs.SeenDoc.{doc_seen};
 ghost use Rattle.vault_model.specs.SeenNodes.{entry_row, tree_seen};
-ghost use Rattle.cli_listing.specs.Listing as spec;
-ghost use Rattle.cli_listing.specs.Listing.{group_lines, title_lines, tree_listed, tree_with};
+ghost use Rattle.cli_printing.specs.Listing as spec;
+ghost use Rattle.cli_printing.specs.Listing.{group_lines, title_lines, tree_listed, tree_with};
 
 use outside_core::{Bytes, NoMemory, Text};
 use std::alloc::Global;

@@ -1,6 +1,6 @@
 -- What the laws of a listing speak of.
 use Rattle.std.specs.Prelude.{ℕ, ◌+◌, Bool, true, false, ◌≡◌, ◌⊎◌, List, [], ◌∷◌, ◌++◌, codes, flat_map, length, map}
-use Rattle.cli_listing.specs.Listing.{front_below}
+use Rattle.cli_printing.specs.Listing.{front_below}
 use Rattle.vault_model.specs.Db.{NodeId}
 use Rattle.vault_model.specs.Shape.{EntryRecord}
 use Rattle.vault_model.specs.Tree.{Tree, Trees, node, none, beside, ids_of}

@@ -6,9 +6,9 @@ use Rattle.vault_model.specs.Tree.{all_trees}
 use Rattle.vault_model.specs.Walk.{name_of}
 use Rattle.vault_model.specs.declared.nodes.Group.{Group}
 use Rattle.vault_model.proofs.SeenGroups.{seen_group}
-use Rattle.cli_listing.specs.Listing.{front_below, group_lines, name_lines}
-use Rattle.cli_listing.proofs.listing.+add_group.Goals as goal
-use Rattle.cli_listing.proofs.listing.+add_group.Goals.{then-manner+in_ok-below+in_ok-added, else-manner}
+use Rattle.cli_printing.specs.Listing.{front_below, group_lines, name_lines}
+use Rattle.cli_printing.proofs.listing.+add_group.Goals as goal
+use Rattle.cli_printing.proofs.listing.+add_group.Goals.{then-manner+in_ok-below+in_ok-added, else-manner}
 
 three_more : (t t1 t2 t3 a b d : List ℕ) → t1 ≡ t ++ a → t2 ≡ t1 ++ b → t3 ≡ t2 ++ d → t3 ≡ t ++ ((a ++ b) ++ d)
 three_more t t1 t2 t3 a b d e1 e2 e3 =

@@ -8,7 +8,7 @@ use Rattle.vault_model.specs.Db.{NodeId}
 use Rattle.vault_model.specs.SeenNodes.{tree_seen}
 use Rattle.vault_model.specs.Tree.{Tree, all_trees}
 use Rattle.vault_model.specs.declared.nodes.Group.{Group, out-Group}
-use Rattle.cli_listing.specs.Listing.{tree_among, tree_with}
+use Rattle.cli_printing.specs.Listing.{tree_among, tree_with}
 
 -- what is found in one of a group's groups, behind those in which it is not, is found in the group
 pub found_below : (g : Group) (id : NodeId) (gs : List Group) (at : ℕ) (child : Group) (x : Tree)

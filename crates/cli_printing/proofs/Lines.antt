@@ -5,8 +5,8 @@ use Rattle.vault_model.specs.Db.{NodeId}
 use Rattle.vault_model.specs.Shape.{EntryRecord}
 use Rattle.vault_model.specs.Tree.{Tree, Trees, node, none, beside, ids_of}
 use Rattle.vault_model.specs.Walk.{name_of, title_of}
-use Rattle.cli_listing.specs.Listing.{front_below, group_lines, name_lines, title_lines}
-use Rattle.cli_listing.specs.Laws.{IsAmong, IsPart, LeadTo, child_count, children_named, front_along, lines_of, paths_among, paths_below, slashed_name, slashed_names, titles_of}
+use Rattle.cli_printing.specs.Listing.{front_below, group_lines, name_lines, title_lines}
+use Rattle.cli_printing.specs.Laws.{IsAmong, IsPart, LeadTo, child_count, children_named, front_along, lines_of, paths_among, paths_below, slashed_name, slashed_names, titles_of}
 
 -- A text on a line after a prefix.
 abbrev line : List ℕ → List ℕ → List ℕ

@@ -1,3 +1,4 @@
+//! What the commands that only read print.
 //! The text of a listing.
 #![tactic(auto)]
 

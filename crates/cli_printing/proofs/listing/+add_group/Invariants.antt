@@ -2,8 +2,8 @@ use Rattle.std.proofs.Common.{◌≡◌, ◌++◌, drop}
 use Rattle.std.specs.Prelude.{map}
 use Rattle.vault_model.specs.SeenNodes.{tree_seen}
 use Rattle.vault_model.specs.Tree.{all_trees}
-use Rattle.cli_listing.specs.Listing.{name_lines}
-use Rattle.cli_listing.proofs.listing.+add_group.Given as goal
+use Rattle.cli_printing.specs.Listing.{name_lines}
+use Rattle.cli_printing.proofs.listing.+add_group.Given as goal
 
 abbrev pub invariant-loop-child : goal.invariant-loop-child
 invariant-loop-child l =

@@ -1,7 +1,7 @@
 //! What holds of every listing. The functions do nothing, and take no memory.
 ghost use Rattle.std.specs.Prelude.{◌≡◌, ℕ, Bool, List, false, length, true};
-ghost use Rattle.cli_listing.specs.Laws.{IsPart, LeadTo, child_count, children_named, front_along, lines_of, paths_below};
-ghost use Rattle.cli_listing.specs.Listing.{group_lines};
+ghost use Rattle.cli_printing.specs.Laws.{IsPart, LeadTo, child_count, children_named, front_along, lines_of, paths_below};
+ghost use Rattle.cli_printing.specs.Listing.{group_lines};
 ghost use Rattle.vault_model.specs.Tree.{Tree};
 
 /// A listing that does not go down has a line for each child of the group, and no other.

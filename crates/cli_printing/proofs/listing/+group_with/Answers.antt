@@ -1,8 +1,8 @@
 use Rattle.std.proofs.Common.{◌∙◌, sym, ap}
 use Rattle.std.specs.Prelude.{option_map}
 use Rattle.vault_model.specs.SeenNodes.{tree_seen}
-use Rattle.cli_listing.proofs.Groups.{found_below}
-use Rattle.cli_listing.proofs.listing.+group_with.Goals as goal
+use Rattle.cli_printing.proofs.Groups.{found_below}
+use Rattle.cli_printing.proofs.listing.+group_with.Goals as goal
 
 pub returns-in-Some : goal.returns-in-Some
 returns-in-Some t c =

@@ -1,6 +1,0 @@
--- Paths, each on a line.
-use Rattle.cli_listing.proofs.Lines.{paths_listed}
-use Rattle.cli_listing.proofs.laws.lines_are_paths.Goals as goal
-
-pub returns : goal.returns
-returns c = paths_listed

@@ -1,6 +1,0 @@
--- A group below in the listing of a group.
-use Rattle.cli_listing.proofs.Lines.{below_listed}
-use Rattle.cli_listing.proofs.laws.subgroups_are_listed.Goals as goal
-
-pub returns : goal.returns
-returns c = below_listed
