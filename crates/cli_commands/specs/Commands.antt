@@ -13,7 +13,7 @@ use Rattle.cli_words.specs.declared.command.Command.TheVariants.{Ls, Show, Searc
 use Rattle.cli_printing.specs.Listing.{group_lines, tree_listed}
 use Rattle.cli_showing.specs.Showing.{entries_shown, entry_shown}
 use Rattle.cli_exporting.specs.Exporting.{exported}
-use Rattle.cli_info.specs.Info.{info_shown}
+use Rattle.cli_printing.specs.Info.{info_shown}
 use Rattle.cli_changes.specs.Entries.{AfterCommand, after_add_command, after_edit_command, values_of}
 use Rattle.cli_changes.specs.Ids.{new_id}
 use Rattle.cli_tree_changes.specs.Nodes.{after_mkdir, after_mv, after_rm, after_rmdir}

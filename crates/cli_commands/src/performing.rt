@@ -11,14 +11,14 @@ ghost use Rattle.cli_printing.specs.Listing.{tree_listed};
 ghost use Rattle.cli_commands.specs.Commands as spec;
 ghost use Rattle.cli_commands.specs.Commands.{change_of, change_with, draws_id, imported_text, listing_of};
 ghost use Rattle.cli_commands.specs.SeenChange.{change_seen, lent_settings};
-ghost use Rattle.cli_info.specs.Info.{info_shown};
+ghost use Rattle.cli_printing.specs.Info.{info_shown};
 
 use crate::ids::{bin_id, draw_if, makes_node};
 use crate::output::{Change, Output, merge_change, printed, reported};
 use cli_answers::{Reason, Stop, refused};
 use cli_changes::{Given, add_entry, edit_entry};
 use cli_exporting::export;
-use cli_info::info;
+use cli_printing::info;
 use cli_printing::{Manner, add_group, group_listed};
 use cli_merging::{MergeGiven, merge_into};
 use cli_showing::{ShowGiven, search_entries, show_entry};

@@ -1,8 +1,13 @@
 //! What the commands that only read print.
 //! The text of a listing.
+//! What `db-info` prints of a database.
 #![tactic(auto)]
 
+mod counts;
+mod file;
 pub mod laws;
+mod lines;
 mod listing;
 
+pub use lines::info;
 pub use listing::{Manner, add_group, group_listed};

@@ -3,8 +3,8 @@
 ghost use Rattle.std.specs.Prelude.{◌≡◌, ◌++◌, IfErr, IfOk, OnOk, option_map};
 ghost use Rattle.std.specs.Fmt.{decimal};
 ghost use Rattle.cli_answers.specs.Phases.{IsMemoryStop};
-ghost use Rattle.cli_info.specs.Info.{content_lines, info_shown, name_lines};
-ghost use Rattle.cli_info.specs.Info as spec;
+ghost use Rattle.cli_printing.specs.Info.{content_lines, info_shown, name_lines};
+ghost use Rattle.cli_printing.specs.Info as spec;
 ghost use Rattle.vault_model.specs.SeenDoc.{doc_seen};
 
 use crate::counts::{count_entries, count_groups};

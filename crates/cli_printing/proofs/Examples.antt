@@ -11,7 +11,7 @@ use Rattle.vault_model.specs.Shape.{BareVersion, EntryRecord}
 use Rattle.vault_model.specs.Tree.{BareDoc, node, none, beside}
 use Rattle.vault_model.specs.declared.forms.FileVersion.TheVariants.{V31, V41}
 use Rattle.doc_forms.specs.Entries.{no_content}
-use Rattle.cli_info.specs.Info.{file_lines, info_shown, line}
+use Rattle.cli_printing.specs.Info.{file_lines, info_shown, line}
 
 abbrev id : ℕ → NodeId
 id b = replicate 16 b

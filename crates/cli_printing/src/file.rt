@@ -2,8 +2,8 @@
 
 ghost use Rattle.std.specs.Prelude.{◌≡◌, ◌++◌, IfOk, OnOk, codes, option_map, string_bytes};
 ghost use Rattle.std.specs.Fmt.{decimal};
-ghost use Rattle.cli_info.specs.Info as spec;
-ghost use Rattle.cli_info.specs.Info.{file_lines, kdf_text, line, plain_lines, settings_lines};
+ghost use Rattle.cli_printing.specs.Info as spec;
+ghost use Rattle.cli_printing.specs.Info.{file_lines, kdf_text, line, plain_lines, settings_lines};
 
 use argon_core::ArgonKind;
 use kdbx_frame::{Cipher, Settings};
