@@ -19,7 +19,7 @@ use Rattle.cli_words.specs.declared.command.Command.{Command}
 use Rattle.cli_words.specs.declared.command.Command.TheVariants.{Ls, Show, Search, Add, Edit, Move, Remove, MakeGroup, RemoveGroup, Merge, Import, Export, Info}
 use Rattle.cli_commands.specs.declared.output.Change as declared
 use Rattle.cli_commands.specs.Commands.{Change, bin_id, change_of, change_with, drawn_id, draws_id, listing_of, makes_node, may_write, merged_change, printed_text}
-use Rattle.cli_exporting.specs.Exporting.{exported}
+use Rattle.cli_printing.specs.Exporting.{exported}
 use Rattle.cli_printing.specs.Info.{info_shown}
 use Rattle.cli_printing.specs.Listing.{tree_listed}
 use Rattle.cli_merging.proofs.DryRuns.{dry_none}

@@ -12,7 +12,7 @@ use Rattle.cli_words.specs.declared.command.Command.{Command}
 use Rattle.cli_words.specs.declared.command.Command.TheVariants.{Ls, Show, Search, Add, Edit, Move, Remove, MakeGroup, RemoveGroup, Merge, Import, Export, Info}
 use Rattle.cli_printing.specs.Listing.{group_lines, tree_listed}
 use Rattle.cli_showing.specs.Showing.{entries_shown, entry_shown}
-use Rattle.cli_exporting.specs.Exporting.{exported}
+use Rattle.cli_printing.specs.Exporting.{exported}
 use Rattle.cli_printing.specs.Info.{info_shown}
 use Rattle.cli_changes.specs.Entries.{AfterCommand, after_add_command, after_edit_command, values_of}
 use Rattle.cli_changes.specs.Ids.{new_id}

@@ -17,7 +17,7 @@ use crate::ids::{bin_id, draw_if, makes_node};
 use crate::output::{Change, Output, merge_change, printed, reported};
 use cli_answers::{Reason, Stop, refused};
 use cli_changes::{Given, add_entry, edit_entry};
-use cli_exporting::export;
+use cli_printing::export;
 use cli_printing::info;
 use cli_printing::{Manner, add_group, group_listed};
 use cli_merging::{MergeGiven, merge_into};

@@ -1,7 +1,7 @@
 //! A database written for other programs.
 ghost use Rattle.std.specs.Prelude.{◌≡◌, IfErr, IfOk, None};
 ghost use Rattle.cli_answers.specs.Phases.{IsPlainStop, Returns};
-ghost use Rattle.cli_exporting.specs.Exporting.{exported, text_or_refusal};
+ghost use Rattle.cli_printing.specs.Exporting.{exported, text_or_refusal};
 ghost use Rattle.doc_write.specs.Written.{write_outcome};
 ghost use Rattle.stream_core.specs.InnerStream.{NoKeystream};
 ghost use Rattle.vault_model.specs.SeenDoc.{doc_seen};
