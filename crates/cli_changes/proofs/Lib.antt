@@ -1,1 +1,3 @@
 pub mod Stopped
+pub mod Examples
+pub mod Names

@@ -2,3 +2,5 @@ pub mod Entries
 pub mod Fails
 pub mod Ids
 pub mod Texts
+pub mod Nodes
+pub mod Reports

@@ -1,11 +1,20 @@
 //! What the commands that change a document make of it, and what they report.
+//! What the commands that move nodes, remove them and make groups make of a document, and what they
+//! report.
 #![tactic(auto)]
 
 mod entries;
 mod fails;
+mod groups;
 mod ids;
+mod moves;
+mod removals;
+mod reports;
 mod texts;
 
 pub use entries::{Given, add_entry, edit_entry, entry_title, time_of};
 pub use fails::unchanged;
+pub use groups::make_group_of;
 pub use ids::new_id;
+pub use moves::move_node;
+pub use removals::{remove_entry_of, remove_group_of};

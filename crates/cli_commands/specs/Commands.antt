@@ -16,7 +16,7 @@ use Rattle.cli_printing.specs.Exporting.{exported}
 use Rattle.cli_printing.specs.Info.{info_shown}
 use Rattle.cli_changes.specs.Entries.{AfterCommand, after_add_command, after_edit_command, values_of}
 use Rattle.cli_changes.specs.Ids.{new_id}
-use Rattle.cli_tree_changes.specs.Nodes.{after_mkdir, after_mv, after_rm, after_rmdir}
+use Rattle.cli_changes.specs.Nodes.{after_mkdir, after_mv, after_rm, after_rmdir}
 use Rattle.cli_merging.specs.Merging.{AfterMerge, after_merge}
 use Rattle.cli_drawing.specs.Drawing.{draw_of}
 

@@ -22,7 +22,7 @@ use cli_printing::info;
 use cli_printing::{Manner, add_group, group_listed};
 use cli_merging::{MergeGiven, merge_into};
 use cli_showing::{ShowGiven, search_entries, show_entry};
-use cli_tree_changes::{make_group_of, move_node, remove_entry_of, remove_group_of};
+use cli_changes::{make_group_of, move_node, remove_entry_of, remove_group_of};
 use cli_words::Command;
 use kdbx_frame::Settings;
 use outside_core::{Bytes, Dice, NoMemory, Text};

@@ -6,11 +6,11 @@ ghost use Rattle.vault_model.specs.Walk.{name_of};
 ghost use Rattle.tree_changes.specs.After.{Changes};
 ghost use Rattle.cli_answers.specs.Phases.{IsPlainStop};
 ghost use Rattle.cli_changes.specs.Entries.{CommandChanges};
-ghost use Rattle.cli_tree_changes.specs.Nodes as spec;
+ghost use Rattle.cli_changes.specs.Nodes as spec;
 
 use crate::reports::report;
 use cli_answers::Stop;
-use cli_changes::{Given, time_of, unchanged};
+use crate::{Given, time_of, unchanged};
 use secret_core::Secret;
 use std::alloc::Global;
 use tree_changes::TreeFail;

@@ -4,12 +4,12 @@ ghost use Rattle.vault_model.specs.SeenDoc.{doc_seen};
 ghost use Rattle.tree_changes.specs.After.{Changes};
 ghost use Rattle.cli_answers.specs.Phases.{IsPlainStop};
 ghost use Rattle.cli_changes.specs.Entries.{CommandChanges};
-ghost use Rattle.cli_tree_changes.specs.Nodes as spec;
+ghost use Rattle.cli_changes.specs.Nodes as spec;
 
 use crate::groups::group_name;
 use crate::reports::report;
 use cli_answers::Stop;
-use cli_changes::{Given, entry_title, time_of, unchanged};
+use crate::{Given, entry_title, time_of, unchanged};
 use secret_core::Secret;
 use std::alloc::Global;
 use tree_changes::TreeFail;

@@ -12,7 +12,7 @@ use Rattle.tree_changes.specs.declared.fails.TreeFail.{TreeFail}
 use Rattle.cli_answers.specs.declared.answers.Refusal.{Refusal}
 use Rattle.cli_changes.specs.Entries.{AfterCommand, entry_title, time_of}
 use Rattle.cli_changes.specs.Fails.{change_or_refusal}
-use Rattle.cli_tree_changes.specs.Reports.{removal_report, report}
+use Rattle.cli_changes.specs.Reports.{removal_report, report}
 
 -- The name of the group that was found.
 abbrev pub found_name : Result Tree TreeFail → List ℕ

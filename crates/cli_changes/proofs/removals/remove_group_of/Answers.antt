@@ -1,8 +1,8 @@
-use Rattle.cli_tree_changes.specs.Nodes.{after_mkdir}
+use Rattle.cli_changes.specs.Nodes.{after_rmdir}
 use Rattle.cli_changes.proofs.Stopped.{stopped}
-use Rattle.cli_tree_changes.proofs.groups.make_group_of.Goals as goal
+use Rattle.cli_changes.proofs.removals.remove_group_of.Goals as goal
 
 pub returns-in-Err-clause-told : goal.returns-in-Err-clause-told
-unfolding after_mkdir
+unfolding after_rmdir
 returns-in-Err-clause-told c =
     (stopped _ c.in-Err.fail c.args.given.file.now c.unchanged.result _ c.in-Err.ensures.1 c.unchanged.ensures.is, c.in-Err.ensures.0)

@@ -14,7 +14,7 @@ use Rattle.cli_answers.specs.Messages.{error_line, reason_text, refusal_of}
 use Rattle.cli_answers.specs.declared.answers.Reason.TheVariants.{IdTaken, IntoItself}
 use Rattle.cli_answers.specs.declared.answers.Refusal.{Refusal}
 use Rattle.cli_changes.specs.Entries.{AfterCommand}
-use Rattle.cli_tree_changes.specs.Nodes.{after_entry_move, after_group_move, after_mkdir, after_mv, after_rm, after_rmdir}
+use Rattle.cli_changes.specs.Nodes.{after_entry_move, after_group_move, after_mkdir, after_mv, after_rm, after_rmdir}
 
 abbrev id : ℕ → NodeId
 id n = replicate 16 n

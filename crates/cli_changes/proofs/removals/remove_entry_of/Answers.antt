@@ -1,8 +1,8 @@
-use Rattle.cli_tree_changes.specs.Nodes.{after_entry_move}
+use Rattle.cli_changes.specs.Nodes.{after_rm}
 use Rattle.cli_changes.proofs.Stopped.{stopped}
-use Rattle.cli_tree_changes.proofs.moves.move_entry_of.Goals as goal
+use Rattle.cli_changes.proofs.removals.remove_entry_of.Goals as goal
 
 pub returns-in-Err-clause-told : goal.returns-in-Err-clause-told
-unfolding after_entry_move
+unfolding after_rm
 returns-in-Err-clause-told c =
     (stopped _ c.in-Err.fail c.args.given.file.now c.unchanged.result _ c.in-Err.ensures.1 c.unchanged.ensures.is, c.in-Err.ensures.0)

@@ -1,8 +1,8 @@
-use Rattle.cli_tree_changes.specs.Nodes.{after_group_move}
+use Rattle.cli_changes.specs.Nodes.{after_mkdir}
 use Rattle.cli_changes.proofs.Stopped.{stopped}
-use Rattle.cli_tree_changes.proofs.moves.move_group_of.Goals as goal
+use Rattle.cli_changes.proofs.groups.make_group_of.Goals as goal
 
 pub returns-in-Err-clause-told : goal.returns-in-Err-clause-told
-unfolding after_group_move
+unfolding after_mkdir
 returns-in-Err-clause-told c =
     (stopped _ c.in-Err.fail c.args.given.file.now c.unchanged.result _ c.in-Err.ensures.1 c.unchanged.ensures.is, c.in-Err.ensures.0)

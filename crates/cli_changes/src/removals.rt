@@ -5,13 +5,13 @@ ghost use Rattle.tree_changes.specs.After.{needs_bin};
 ghost use Rattle.tree_removals.specs.Removes.{Removes};
 ghost use Rattle.cli_answers.specs.Phases.{IsPlainStop};
 ghost use Rattle.cli_changes.specs.Entries.{CommandChanges};
-ghost use Rattle.cli_tree_changes.specs.Nodes as spec;
-ghost use Rattle.cli_tree_changes.specs.Reports as lines;
+ghost use Rattle.cli_changes.specs.Nodes as spec;
+ghost use Rattle.cli_changes.specs.Reports as lines;
 
 use crate::groups::group_name;
 use crate::reports::report;
 use cli_answers::Stop;
-use cli_changes::{Given, entry_title, time_of, unchanged};
+use crate::{Given, entry_title, time_of, unchanged};
 use outside_core::NoMemory;
 use secret_core::Secret;
 use std::alloc::Global;
