@@ -1,1 +1,2 @@
 pub mod ReadTasks
+pub mod Opened

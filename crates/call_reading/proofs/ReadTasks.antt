@@ -14,8 +14,8 @@ use Rattle.cli_lines.proofs.Inputs.{left_alone}
 use Rattle.cli_words.specs.Needs.{Needs, asks_line, files_named, import_of, needs_of, target_access}
 use Rattle.cli_words.specs.declared.command.Command.{Command}
 use Rattle.cli_files.specs.Files.{Databases}
-use Rattle.cli_opening.specs.Opening.{SomeCommandDatabases, databases_for}
-use Rattle.cli_opening.proofs.Opened.{sealed_by}
+use Rattle.call_reading.specs.Opening.{SomeCommandDatabases, databases_for}
+use Rattle.call_reading.proofs.Opened.{sealed_by}
 use Rattle.call_task.specs.declared.task.Task as memory
 use Rattle.cli_words.specs.Words.{command_of}
 use Rattle.call_task.specs.Tasks.{task_with}

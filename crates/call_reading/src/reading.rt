@@ -14,7 +14,7 @@ use call_task::Task;
 use cli_answers::Stop;
 use cli_databases::Databases;
 use cli_lines::read_lines;
-use cli_opening::open_for;
+use crate::open_for;
 use cli_words::read_words;
 use outside_core::{FileStore, Source};
 use std::alloc::Global;

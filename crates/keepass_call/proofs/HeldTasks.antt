@@ -3,8 +3,8 @@ use Rattle.std.proofs.Common.{◌≡◌, ℕ, List, ◌∙◌, ap, subst, Result
 use Rattle.cli_answers.specs.declared.answers.Refusal.{Refusal}
 use Rattle.cli_answers.specs.Phases.{StreamAnswer}
 use Rattle.cli_files.proofs.HeldKeys.{in_turn}
-use Rattle.cli_opening.proofs.Opened.{databases_follow, databases_hold}
-use Rattle.cli_opening.specs.Opening.{databases_for}
+use Rattle.call_reading.proofs.Opened.{databases_follow, databases_hold}
+use Rattle.call_reading.specs.Opening.{databases_for}
 use Rattle.cli_lines.proofs.Having.{lines_have}
 use Rattle.cli_lines.specs.Lines.{lines_of}
 use Rattle.cli_words.specs.Needs.{needs_of}

@@ -17,7 +17,7 @@ use Rattle.cli_words.specs.declared.command.Access.{Access}
 use Rattle.cli_files.specs.Files.{Opened, plain_document}
 use Rattle.cli_databases.specs.Databases.{password_from}
 use Rattle.cli_databases.specs.Held.{HoldAll, HoldDatabases, HoldsBy}
-use Rattle.cli_opening.specs.Opening.{HoldImportOrDatabases}
+use Rattle.call_reading.specs.Opening.{HoldImportOrDatabases}
 use Rattle.agreed_laws.specs.Merges.{AreDocs}
 use Rattle.cli_words.specs.Needs.{ImportNeeds, import_of, needs_of}
 use Rattle.keepass_call.specs.Held.{IsTask}

@@ -4,7 +4,7 @@ use Rattle.std.specs.Prelude.{◌≡◌, ℕ, List, ◌⊎◌, Ok}
 use Rattle.cli_words.specs.Needs.{needs_of, target_of}
 use Rattle.cli_words.specs.Words.{command_of}
 use Rattle.cli_lines.specs.Lines.{lines_of}
-use Rattle.cli_opening.specs.Opening.{HoldCommandDatabases}
+use Rattle.call_reading.specs.Opening.{HoldCommandDatabases}
 use Rattle.cli_commands.specs.Commands.{Change}
 use Rattle.call_carrying.specs.Endings.{Ending, ReadsBack, Stores, carried_out, change_of_task}
 use Rattle.keepass_call.specs.Outcome.{Counts, Gains, NoFaults, Seen, World}

@@ -1,8 +1,8 @@
 use Rattle.cli_lines.specs.SeenLines.{lines_seen}
 use Rattle.cli_words.specs.Needs.{import_of, needs_of}
 use Rattle.cli_words.specs.SeenNeeds.{import_seen, needs_seen}
-use Rattle.cli_opening.proofs.Opened.{can_open_new, keys_so, lines_so, some_import, some_opened, stops_import, stops_opened, told_import, told_opened}
-use Rattle.cli_opening.proofs.opening.open_for.Goals as goal
+use Rattle.call_reading.proofs.Opened.{can_open_new, keys_so, lines_so, some_import, some_opened, stops_import, stops_opened, told_import, told_opened}
+use Rattle.call_reading.proofs.opening.open_for.Goals as goal
 
 pub open_import-requires : goal.open_import-requires
 open_import-requires g c =

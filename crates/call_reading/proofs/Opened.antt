@@ -22,7 +22,7 @@ use Rattle.cli_databases.proofs.SomeOpened.{sealed_unless_plain}
 use Rattle.cli_importing.specs.Imports.{imported_of}
 use Rattle.cli_importing.proofs.HeldImports.{import_given, import_held}
 use Rattle.cli_importing.proofs.Sealings.{sealed_anew}
-use Rattle.cli_opening.specs.Opening.{HoldImportOrDatabases, HoldCommandDatabases, SomeImportOrDatabases, one_database, databases_by, databases_for}
+use Rattle.call_reading.specs.Opening.{HoldImportOrDatabases, HoldCommandDatabases, SomeImportOrDatabases, one_database, databases_by, databases_for}
 
 -- ---- an import's key
 

@@ -8,7 +8,7 @@ ghost use Rattle.cli_lines.specs.Lines.{CanOpen, HasLines};
 ghost use Rattle.cli_lines.specs.SeenLines.{line_seen, lines_seen};
 ghost use Rattle.cli_words.specs.Needs.{HasKey, HasKeys, Needs, files_by, files_named, needs_of, target_access};
 ghost use Rattle.cli_words.specs.SeenNeeds.{import_seen};
-ghost use Rattle.cli_opening.specs.Opening.{SomeImportOrDatabases, SomeCommandDatabases, databases_by, databases_for};
+ghost use Rattle.call_reading.specs.Opening.{SomeImportOrDatabases, SomeCommandDatabases, databases_by, databases_for};
 
 use cli_answers::Stop;
 use cli_databases::{Databases, open};
