@@ -25,7 +25,7 @@ use Rattle.cli_commands.specs.Commands.{Change, change_of, draws_id, may_write}
 use Rattle.cli_commands.proofs.Changes.{none_changed}
 use Rattle.call_carrying.specs.Endings.{Ending, Ends, EndsRefused, EndsSo, EndsWith, HoldsNew, IsOfDice, IsOfSomeDice, ReadsBack, WritesNew, carried_out, ended_with, ending_with, ending_without, new_file, settings_in}
 use Rattle.cli_commands.specs.SeenChange.{doc_if, output_text}
-use Rattle.call_task.specs.Tasks.{Task, draws, task_with}
+use Rattle.cli_files.specs.Tasks.{Task, draws, task_with}
 
 -- ---- the file
 

@@ -15,7 +15,7 @@ use Rattle.cli_sealing.specs.Sealing.{sealed_file, settings_for}
 use Rattle.cli_commands.specs.declared.output.Output.{Output}
 use Rattle.cli_commands.specs.Commands.{Change, change_of}
 use Rattle.cli_commands.specs.SeenChange.{output_text}
-use Rattle.call_task.specs.Tasks.{Task}
+use Rattle.cli_files.specs.Tasks.{Task}
 
 -- ---- what is defined
 

@@ -13,10 +13,10 @@ ghost use Rattle.cli_writing.specs.Writing.{IsSame, KeepsDraft, KeepsFiles, stor
 ghost use Rattle.cli_commands.specs.Commands.{may_write};
 ghost use Rattle.call_carrying.specs.Endings.{Ends, EndsWith, HoldsNew, IsOfDice, IsOfSomeDice, ReadsBack, WritesNew, carried_out, ended_with, new_file, settings_in};
 ghost use Rattle.cli_commands.specs.SeenChange.{doc_if, lent_settings, output_text};
-ghost use Rattle.call_task.specs.SeenTask.{task_seen};
-ghost use Rattle.call_task.specs.Tasks.{draws};
+ghost use Rattle.cli_files.specs.SeenTask.{task_seen};
+ghost use Rattle.cli_files.specs.Tasks.{draws};
 
-use call_task::Task;
+use cli_files::Task;
 use cli_answers::Stop;
 use cli_commands::{CommandInput, Output, may_write, perform};
 use cli_files::{Opened, bytes_in};

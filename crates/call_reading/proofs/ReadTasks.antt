@@ -16,9 +16,9 @@ use Rattle.cli_words.specs.declared.command.Command.{Command}
 use Rattle.cli_files.specs.Files.{Databases}
 use Rattle.call_reading.specs.Opening.{SomeCommandDatabases, databases_for}
 use Rattle.call_reading.proofs.Opened.{sealed_by}
-use Rattle.call_task.specs.declared.task.Task as memory
+use Rattle.cli_files.specs.declared.task.Task as memory
 use Rattle.cli_words.specs.Words.{command_of}
-use Rattle.call_task.specs.Tasks.{task_with}
+use Rattle.cli_files.specs.Tasks.{task_with}
 use Rattle.call_reading.specs.Reading.{HasSomeFile, asked_by, left_behind, task_of}
 
 -- ---- what words ask for

@@ -8,7 +8,7 @@ use Rattle.cli_words.specs.Needs.{asks_line, needs_of}
 use Rattle.cli_words.specs.Words.{command_of}
 use Rattle.cli_lines.specs.Lines.{HasLines, lines_of}
 use Rattle.call_reading.specs.Opening.{SomeCommandDatabases, databases_for}
-use Rattle.call_task.specs.Tasks.{Task, databases_in, task_with}
+use Rattle.cli_files.specs.Tasks.{Task, databases_in, task_with}
 
 -- What these words ask for at a moment over this input and these files: the command, the lines that
 -- are due, and the databases that the command names, or the one that an import makes.

@@ -6,11 +6,11 @@ ghost use Rattle.cli_answers.specs.Phases.{IsEarlyStop, Leaves, Returns, TellsSt
 ghost use Rattle.cli_lines.specs.Lines.{IsTextLine};
 ghost use Rattle.cli_lines.specs.SeenLines.{lines_seen};
 ghost use Rattle.cli_words.specs.Needs.{files_named, needs_of, target_access};
-ghost use Rattle.call_task.specs.SeenTask.{task_seen};
+ghost use Rattle.cli_files.specs.SeenTask.{task_seen};
 ghost use Rattle.cli_words.specs.Words.{command_of};
 ghost use Rattle.call_reading.specs.Reading.{HasSomeFile, asked_by, left_of, task_of};
 
-use call_task::Task;
+use cli_files::Task;
 use cli_answers::Stop;
 use cli_databases::Databases;
 use cli_lines::read_lines;

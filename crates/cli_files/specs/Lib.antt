@@ -4,3 +4,5 @@ pub mod Held
 pub mod LeavesFiles
 pub mod SeenOpened
 pub mod SomeFiles
+pub mod SeenTask
+pub mod Tasks

@@ -1,12 +1,15 @@
 //! What one file of a call is: a plain document or a key file, or why it cannot be read.
+//! What a call of the program is to do: its command, its lines and its databases.
 #![tactic(auto)]
 
 mod documents;
 mod given;
 mod keys;
 mod stops;
+mod task;
 
 pub use documents::{Opened, document_answer, read_plain};
 pub use given::{bytes_in, name_in};
 pub use keys::key_of;
 pub use stops::unread;
+pub use task::Task;

@@ -14,7 +14,7 @@ use Rattle.cli_words.specs.Words.{command_of}
 use Rattle.cli_words.specs.declared.command.Command.{Command}
 use Rattle.cli_writing.specs.Writing.{IsSame, KeepsDraft, KeepsFiles, Store}
 use Rattle.cli_commands.specs.declared.output.Output.{Output}
-use Rattle.call_task.specs.declared.task.Task as memory
+use Rattle.cli_files.specs.declared.task.Task as memory
 use Rattle.cli_commands.specs.Commands.{may_write}
 use Rattle.cli_files.proofs.HeldKeys.{in_turn}
 use Rattle.call_carrying.specs.Endings.{Ending, Ends, EndsRefused, IsOfDice, IsOfSomeDice, carried_out}
@@ -22,7 +22,7 @@ use Rattle.cli_pages.specs.Pages.{page_of}
 use Rattle.keepass_call.specs.Outcome.{IsOfSomeFile, IsOfTask, World, answer_of, command_answer, may_write_by, page_or_answer}
 use Rattle.keepass_call.proofs.Pages.{no_page}
 use Rattle.cli_commands.specs.SeenChange.{output_text}
-use Rattle.call_task.specs.Tasks.{Task, draws, draws_by}
+use Rattle.cli_files.specs.Tasks.{Task, draws, draws_by}
 use Rattle.call_reading.specs.Reading.{HasSomeFile, task_of}
 
 same_store : (before mid : Store) → IsSame before mid → mid ≡ before

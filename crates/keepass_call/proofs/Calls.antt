@@ -22,7 +22,7 @@ use Rattle.keepass_call.specs.Held.{IsAuthentic, IsComplete}
 use Rattle.cli_pages.specs.Pages.{page_of}
 use Rattle.keepass_call.specs.Outcome.{Counts, Gains, IsAsSaid, IsCut, IsOfSomeFile, IsOfTask, IsRefused, IsSafe, NoFaults, Outcome, Seen, Tells, WhereTold, World, answer_of, ended, may_write_by, outcome, page_or_answer}
 use Rattle.cli_words.specs.Words.{command_of}
-use Rattle.call_task.specs.Tasks.{draws_by}
+use Rattle.cli_files.specs.Tasks.{draws_by}
 use Rattle.call_reading.specs.Reading.{asked_by, left_behind, left_of}
 use Rattle.keepass_call.specs.Telling.{IsPrinted, IsTold, PrintsPage}
 use Rattle.keepass_call.proofs.Answered.{answer_is}

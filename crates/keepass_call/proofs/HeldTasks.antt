@@ -12,7 +12,7 @@ use Rattle.call_carrying.specs.Endings.{Ending}
 use Rattle.keepass_call.specs.Held.{IsCarried, IsTask}
 use Rattle.keepass_call.specs.Outcome.{World, answer_of}
 use Rattle.cli_words.specs.Words.{command_of}
-use Rattle.call_task.specs.Tasks.{Task, databases_in, task_with}
+use Rattle.cli_files.specs.Tasks.{Task, databases_in, task_with}
 use Rattle.call_reading.specs.Reading.{task_of}
 use Rattle.keepass_call.proofs.Answered.{answer_is}
 use Rattle.call_reading.proofs.ReadTasks.{task_is}

@@ -53,7 +53,7 @@ use Rattle.call_carrying.specs.Endings.{Ending, HoldsNew, ReadsBack, carried_out
 use Rattle.keepass_call.specs.Held.{IsAuthentic, IsTask}
 use Rattle.keepass_call.specs.Merges.{HoldsDatabase, HoldsUnder, IsUntouched, MergesAgreed, MergesNothing, MergesParts, TargetHolds, merges, unmodified_text}
 use Rattle.keepass_call.specs.Outcome.{Counts, Gains, IsAsSaid, IsRefused, Seen, Tells, World, answer_of, ended, outcome}
-use Rattle.call_task.specs.Tasks.{Task, draws_by}
+use Rattle.cli_files.specs.Tasks.{Task, draws_by}
 use Rattle.keepass_call.proofs.Answered.{answer_is}
 use Rattle.keepass_call.proofs.HeldTasks.{task_given}
 use Rattle.keepass_call.proofs.Pages.{no_page}

@@ -22,7 +22,7 @@ use Rattle.agreed_laws.specs.Merges.{AreDocs}
 use Rattle.cli_words.specs.Needs.{ImportNeeds, import_of, needs_of}
 use Rattle.keepass_call.specs.Held.{IsTask}
 use Rattle.keepass_call.specs.Outcome.{World}
-use Rattle.call_task.specs.Tasks.{Task, databases_in}
+use Rattle.cli_files.specs.Tasks.{Task, databases_in}
 
 plain_is_doc : (bytes : List ℕ) (read : DocumentAndHash) → plain_document bytes ≡ Ok read → IsDoc read.0
 unfolding plain_document

@@ -8,7 +8,7 @@ use Rattle.keepass_call.specs.Telling.{PrintsPage}
 use Rattle.cli_pages.specs.Pages.{page_of}
 use Rattle.cli_words.specs.Words.{command_of}
 use Rattle.cli_writing.specs.Writing.{IsSame}
-use Rattle.call_task.specs.Tasks.{draws_by}
+use Rattle.cli_files.specs.Tasks.{draws_by}
 
 -- A call with these words at a moment, its status, what is seen before and after it, and the counts
 -- before and after.

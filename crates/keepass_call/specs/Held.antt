@@ -8,7 +8,7 @@ use Rattle.call_reading.specs.Opening.{HoldCommandDatabases}
 use Rattle.cli_commands.specs.Commands.{Change}
 use Rattle.call_carrying.specs.Endings.{Ending, ReadsBack, Stores, carried_out, change_of_task}
 use Rattle.keepass_call.specs.Outcome.{Counts, Gains, NoFaults, Seen, World}
-use Rattle.call_task.specs.Tasks.{Task, databases_in}
+use Rattle.cli_files.specs.Tasks.{Task, databases_in}
 
 -- The words are the task's command, its lines are those that are due, and the files hold its
 -- databases by them, or what an import makes its database of.

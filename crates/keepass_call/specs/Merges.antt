@@ -18,7 +18,7 @@ use Rattle.cli_files.specs.Files.{plain_document}
 use Rattle.cli_writing.specs.Writing.{IsSame, Store}
 use Rattle.keepass_call.specs.Held.{IsTask}
 use Rattle.keepass_call.specs.Outcome.{Gains, Seen, World}
-use Rattle.call_task.specs.Tasks.{Task}
+use Rattle.cli_files.specs.Tasks.{Task}
 
 -- A command is a merge, and no dry run.
 abbrev pub merges : Command → Bool

@@ -11,7 +11,7 @@ use Rattle.cli_commands.specs.Commands.{may_write}
 use Rattle.cli_pages.specs.Pages.{page_of}
 use Rattle.cli_words.specs.Words.{command_of}
 use Rattle.cli_words.specs.declared.command.Command.{Command}
-use Rattle.call_task.specs.Tasks.{Task, draws_by}
+use Rattle.cli_files.specs.Tasks.{Task, draws_by}
 use Rattle.call_reading.specs.Reading.{HasSomeFile, asked_by, left_of, task_of}
 use Rattle.call_carrying.specs.Endings.{Ending, IsOfDice, IsOfSomeDice, Stores, carried_out, ending_without}
 

@@ -10,7 +10,7 @@ ghost use Rattle.call_carrying.specs.Endings.{Ends};
 ghost use Rattle.keepass_call.specs.Outcome.{IsOfSomeFile, IsOfTask, World, command_answer, counts, may_write_by, seen};
 ghost use Rattle.cli_commands.specs.SeenChange.{output_text};
 ghost use Rattle.cli_words.specs.Words.{command_of};
-ghost use Rattle.call_task.specs.Tasks.{draws_by};
+ghost use Rattle.cli_files.specs.Tasks.{draws_by};
 ghost use Rattle.call_reading.specs.Reading.{asked_by, left_of};
 ghost use Rattle.keepass_call.specs.Telling.{IsPrinted, IsTold, IsUnwritten, TellsLine};
 

@@ -4,7 +4,7 @@ use Rattle.vault_model.specs.SeenDoc.{doc_seen}
 use Rattle.tree_changes.specs.NewNodes.{lent_value}
 use Rattle.cli_lines.specs.Lines.{IsTextLine}
 use Rattle.cli_commands.specs.SeenChange.{change_seen, lent_settings}
-use Rattle.call_task.specs.SeenTask.{task_seen}
+use Rattle.cli_files.specs.SeenTask.{task_seen}
 use Rattle.call_carrying.proofs.Carried.{change_refused, ends_by, file_refused, loses_both, no_id, of_dice, stream_command, tells_after, tells_id, undrawn_unsealed, write_command}
 use Rattle.call_carrying.proofs.carrying.carry_out_on.Goals as goal
 

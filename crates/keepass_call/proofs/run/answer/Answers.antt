@@ -2,7 +2,7 @@ use Rattle.std.proofs.Common.{map}
 use Rattle.std.specs.Prelude.{string_bytes}
 use Rattle.std.proofs.lemmas.Result.{err_from_is_err_and}
 use Rattle.cli_writing.specs.Writing.{store}
-use Rattle.call_task.specs.SeenTask.{task_seen}
+use Rattle.cli_files.specs.SeenTask.{task_seen}
 use Rattle.cli_words.specs.Words.{command_of}
 use Rattle.keepass_call.proofs.Answered.{comes_to, command_caused, draft_after, draws_so, early_caused, ends_left, kept_after, of_task, prints_some, stop_leaves, stops_early, undrawn_after, unwritten_after}
 use Rattle.cli_commands.proofs.Changes.{loses_none}

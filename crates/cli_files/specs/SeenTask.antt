@@ -3,8 +3,8 @@ use Rattle.std.specs.Prelude.{map}
 use Rattle.vault_model.specs.SeenDoc.{doc_seen}
 use Rattle.cli_files.specs.SeenOpened.{opened_seen}
 use Rattle.cli_lines.specs.SeenLines.{lines_seen}
-use Rattle.call_task.specs.declared.task.Task as memory
-use Rattle.call_task.specs.Tasks.{Task}
+use Rattle.cli_files.specs.declared.task.Task as memory
+use Rattle.cli_files.specs.Tasks.{Task}
 
 -- A task by its lines' bytes and the nodes of its databases' documents.
 abbrev pub task_seen : memory.Task → Task

@@ -1,5 +1,5 @@
 //! What a call is to do.
-use cli_files::Opened;
+use crate::Opened;
 use cli_lines::Lines;
 use cli_words::Command;
 use outside_core::List;

@@ -1,2 +1,0 @@
-pub mod SeenTask
-pub mod Tasks
