@@ -13,7 +13,7 @@ use merge_changes::changes::{Change, Kind};
 use outside_core::{NoMemory, Text};
 use reference_tables::tables::Table;
 use secret_core::Secret;
-use secret_texts::append;
+use crate::append;
 use std::alloc::Global;
 use uuid_core::Uuid;
 use vault_model::Doc;
