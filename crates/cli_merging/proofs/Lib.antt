@@ -1,2 +1,5 @@
 pub mod AfterMerges
 pub mod DryRuns
+pub mod Examples
+pub mod NamedNodes
+pub mod UntoldNames

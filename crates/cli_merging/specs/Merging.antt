@@ -17,7 +17,7 @@ use Rattle.cli_answers.specs.declared.answers.Reason.TheVariants as answer
 use Rattle.cli_answers.specs.declared.answers.Refusal.{Refusal}
 use Rattle.cli_answers.specs.declared.answers.Stop.{Stop}
 use Rattle.cli_merging.specs.declared.merging.MergeReport.{MergeReport}
-use Rattle.merge_reports.specs.Reports.{merge_report}
+use Rattle.cli_merging.specs.Reports.{merge_report}
 
 -- What `merge` makes of a document: what it prints, and the document, if it is to be written.
 pub record AfterMerge : Type 0 where

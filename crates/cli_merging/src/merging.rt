@@ -3,13 +3,13 @@ ghost use Rattle.std.specs.Prelude.{◌≡◌, ◌≢◌, ◌&&◌, not, if◌th
 ghost use Rattle.vault_model.specs.SeenDoc.{doc_seen};
 ghost use Rattle.cli_answers.specs.Messages.{Refuses, refusal_of};
 ghost use Rattle.cli_answers.specs.Phases.{IsPlainStop};
-ghost use Rattle.merge_reports.specs.Reports.{merge_report};
+ghost use Rattle.cli_merging.specs.Reports.{merge_report};
 ghost use Rattle.cli_merging.specs.Merging as spec;
 ghost use Rattle.cli_merging.specs.Merging.{IsUnmerged, MergeChanges, after_merge};
 
 use cli_answers::{Reason, Stop, refused};
 use document_merge::merging::{MergeFail, Merged, merge_lent};
-use merge_reports::{MergeFiles, MergeOutcome, report};
+use crate::{MergeFiles, MergeOutcome, report};
 use outside_core::{NoMemory, Text};
 use secret_core::Secret;
 use std::alloc::Global;

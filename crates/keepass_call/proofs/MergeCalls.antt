@@ -47,7 +47,7 @@ use Rattle.cli_sealing.specs.Draws.{draws_of}
 use Rattle.cli_sealing.specs.Held.{contents_with}
 use Rattle.cli_sealing.specs.Sealing.{file_by, file_unless, seal_answer, settings_for}
 use Rattle.cli_merging.specs.Merging.{AfterMerge, after_merge, after_merged, changes_between, merged_or_refusal}
-use Rattle.merge_reports.specs.Reports.{merge_report}
+use Rattle.cli_merging.specs.Reports.{merge_report}
 use Rattle.cli_commands.specs.Commands.{Change, merged_change}
 use Rattle.call_carrying.specs.Endings.{Ending, HoldsNew, ReadsBack, carried_out, change_of_task, ended_with, ending_with, new_file}
 use Rattle.keepass_call.specs.Held.{IsAuthentic, IsTask}

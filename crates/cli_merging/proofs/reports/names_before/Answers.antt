@@ -1,9 +1,9 @@
 use Rattle.std.proofs.Common.{sym, ◌∙◌}
 use Rattle.vault_model.specs.SeenDoc.{doc_seen}
-use Rattle.merge_reports.specs.Names.{name_at}
-use Rattle.merge_reports.specs.Reports.{name_in}
-use Rattle.merge_reports.proofs.UntoldNames.{lines_untold}
-use Rattle.merge_reports.proofs.reports.names_before.Goals as goal
+use Rattle.cli_merging.specs.Names.{name_at}
+use Rattle.cli_merging.specs.Reports.{name_in}
+use Rattle.cli_merging.proofs.UntoldNames.{lines_untold}
+use Rattle.cli_merging.proofs.reports.names_before.Goals as goal
 
 pub returns-else-has_deletion : goal.returns-else-has_deletion
 returns-else-has_deletion c =

@@ -1,7 +1,7 @@
 use Rattle.std.proofs.Common.{◌≡◌, map, drop}
 use Rattle.vault_model.specs.SeenNodes.{entry_row}
-use Rattle.merge_reports.specs.Names.{with_titles}
-use Rattle.merge_reports.proofs.names.put_titles.Given as goal
+use Rattle.cli_merging.specs.Names.{with_titles}
+use Rattle.cli_merging.proofs.names.put_titles.Given as goal
 
 abbrev pub invariant-loop-entry : goal.invariant-loop-entry
 invariant-loop-entry l =

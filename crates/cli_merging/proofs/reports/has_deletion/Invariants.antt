@@ -1,7 +1,7 @@
 use Rattle.std.proofs.Common.{◌≡◌, drop}
 use Rattle.std.specs.List.{list_any}
-use Rattle.merge_reports.specs.Reports.{is_deletion}
-use Rattle.merge_reports.proofs.reports.has_deletion.Given as goal
+use Rattle.cli_merging.specs.Reports.{is_deletion}
+use Rattle.cli_merging.proofs.reports.has_deletion.Given as goal
 
 abbrev pub invariant-loop-change : goal.invariant-loop-change
 invariant-loop-change l =

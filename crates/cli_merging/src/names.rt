@@ -2,8 +2,8 @@
 ghost use Rattle.std.specs.Prelude.{◌≡◌, IfOk, OnOk, map};
 ghost use Rattle.vault_model.specs.SeenDoc.{doc_seen};
 ghost use Rattle.vault_model.specs.SeenNodes.{entry_row, tree_seen};
-ghost use Rattle.merge_reports.specs.Names as spec;
-ghost use Rattle.merge_reports.specs.Reports.{name_in};
+ghost use Rattle.cli_merging.specs.Names as spec;
+ghost use Rattle.cli_merging.specs.Reports.{name_in};
 
 use outside_core::NoMemory;
 use reference_tables::tables::Table;

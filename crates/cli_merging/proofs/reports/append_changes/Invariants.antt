@@ -1,7 +1,7 @@
 use Rattle.std.proofs.Common.{◌≡◌, ◌++◌, drop}
-use Rattle.merge_reports.specs.Names.{name_at}
-use Rattle.merge_reports.specs.Reports.{change_lines}
-use Rattle.merge_reports.proofs.reports.append_changes.Given as goal
+use Rattle.cli_merging.specs.Names.{name_at}
+use Rattle.cli_merging.specs.Reports.{change_lines}
+use Rattle.cli_merging.proofs.reports.append_changes.Given as goal
 
 abbrev pub invariant-loop-change : goal.invariant-loop-change
 invariant-loop-change l =

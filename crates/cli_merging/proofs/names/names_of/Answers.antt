@@ -1,8 +1,8 @@
 use Rattle.std.proofs.Common.{◌∙◌, ap}
 use Rattle.vault_model.specs.SeenDoc.{doc_seen}
-use Rattle.merge_reports.specs.Names.{name_at, with_tree}
-use Rattle.merge_reports.proofs.NamedNodes.{names_are}
-use Rattle.merge_reports.proofs.names.names_of.Goals as goal
+use Rattle.cli_merging.specs.Names.{name_at, with_tree}
+use Rattle.cli_merging.proofs.NamedNodes.{names_are}
+use Rattle.cli_merging.proofs.names.names_of.Goals as goal
 
 pub returns : goal.returns
 returns c =

@@ -4,9 +4,9 @@ ghost use Rattle.std.specs.List.{list_any};
 ghost use Rattle.uuid.specs.Text.{hyphenated_text, lower};
 ghost use Rattle.vault_model.specs.Db.{NodeId};
 ghost use Rattle.vault_model.specs.SeenDoc.{doc_seen};
-ghost use Rattle.merge_reports.specs.Names as table;
-ghost use Rattle.merge_reports.specs.Reports as spec;
-ghost use Rattle.merge_reports.specs.Reports.{change_line, change_lines, merge_report, name_in, node_line, source_line, source_lines, told_report};
+ghost use Rattle.cli_merging.specs.Names as table;
+ghost use Rattle.cli_merging.specs.Reports as spec;
+ghost use Rattle.cli_merging.specs.Reports.{change_line, change_lines, merge_report, name_in, node_line, source_line, source_lines, told_report};
 
 use crate::names::{Names, name_at, names_of};
 use merge_changes::changes::{Change, Kind};

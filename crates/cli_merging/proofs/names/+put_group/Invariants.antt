@@ -1,8 +1,8 @@
 use Rattle.std.proofs.Common.{◌≡◌, map, drop}
 use Rattle.vault_model.specs.SeenNodes.{tree_seen}
 use Rattle.vault_model.specs.Tree.{all_trees}
-use Rattle.merge_reports.specs.Names.{with_trees}
-use Rattle.merge_reports.proofs.names.+put_group.Given as goal
+use Rattle.cli_merging.specs.Names.{with_trees}
+use Rattle.cli_merging.proofs.names.+put_group.Given as goal
 
 abbrev pub invariant-loop-child : goal.invariant-loop-child
 invariant-loop-child l =

@@ -1,6 +1,6 @@
 use Rattle.std.proofs.Common.{◌≡◌, ◌++◌, drop}
-use Rattle.merge_reports.specs.Reports.{source_lines}
-use Rattle.merge_reports.proofs.reports.append_sources.Given as goal
+use Rattle.cli_merging.specs.Reports.{source_lines}
+use Rattle.cli_merging.proofs.reports.append_sources.Given as goal
 
 abbrev pub invariant-loop-source : goal.invariant-loop-source
 invariant-loop-source l =

@@ -5,7 +5,7 @@ use Rattle.vault_model.specs.Db.{NodeId}
 use Rattle.vault_model.proofs.Tests.{or_false}
 use Rattle.merge_changes.specs.declared.changes.Change.{Change}
 use Rattle.merge_changes.specs.declared.changes.Change.TheVariants.{Created, Updated, Moved, Deleted, Metadata, Deletions, Order}
-use Rattle.merge_reports.specs.Reports.{change_line, change_lines, is_deletion}
+use Rattle.cli_merging.specs.Reports.{change_line, change_lines, is_deletion}
 
 module _ (old older new : NodeId → List ℕ) where
   line_untold : (change : Change) → is_deletion change ≡ false → change_line old new change ≡ change_line older new change

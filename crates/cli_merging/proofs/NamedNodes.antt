@@ -10,8 +10,8 @@ use Rattle.vault_model.specs.Walk.{title_of}
 use Rattle.vault_model.proofs.Ids.{same_id}
 use Rattle.vault_model.proofs.Orders.{id_order}
 use Rattle.vault_model.proofs.Tests.{none_of, some_of}
-use Rattle.merge_reports.specs.Names.{Names, name_at, with_name, with_titles, with_tree, with_trees}
-use Rattle.merge_reports.specs.Reports.{name_in, name_in_tree, name_in_trees, title_among}
+use Rattle.cli_merging.specs.Names.{Names, name_at, with_name, with_titles, with_tree, with_trees}
+use Rattle.cli_merging.specs.Reports.{name_in, name_in_tree, name_in_trees, title_among}
 
 -- ---- one or else another
 

@@ -8,7 +8,7 @@ use Rattle.vault_model.specs.Shape.{BareVersion}
 use Rattle.vault_model.specs.Tree.{BareDoc, node, none}
 use Rattle.merge_changes.specs.declared.changes.Change.TheVariants.{Deleted, Updated}
 use Rattle.merge_changes.specs.declared.changes.Kind.TheVariants.{Entry}
-use Rattle.merge_reports.specs.Reports.{merge_report}
+use Rattle.cli_merging.specs.Reports.{merge_report}
 
 abbrev id : ℕ → NodeId
 id b = replicate 16 b

@@ -1,7 +1,7 @@
 use Rattle.std.proofs.Common.{◌≡◌, ℕ, ◌+◌, ◌<◌, List, ◌∷◌, ◌++◌, length, drop, get_or, ap, sym, ◌∙◌, append_assoc}
 use Rattle.std.proofs.lemmas.List.{at_drop_more}
-use Rattle.merge_reports.specs.Reports.{source_line, source_lines}
-use Rattle.merge_reports.proofs.reports.append_sources.Goals as goal
+use Rattle.cli_merging.specs.Reports.{source_line, source_lines}
+use Rattle.cli_merging.proofs.reports.append_sources.Goals as goal
 
 -- the line of one more source
 more : (target : List ℕ) (sources : List (List ℕ)) (at : ℕ) (source text longer whole : List ℕ)
