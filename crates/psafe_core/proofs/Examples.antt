@@ -1,8 +1,8 @@
 -- Small records, and what they give.
 use Rattle.std.proofs.Common.{◌≡◌, ℕ, List, [], ◌∷◌, codes, refl}
 use Rattle.std.specs.Str.{chars, is_utf8}
-use Rattle.psafe_fields.specs.Fields.{SafeField}
-use Rattle.psafe_fields.specs.Kinds.{created_kind, group_kind, title_kind}
+use Rattle.psafe_file.specs.Fields.{SafeField}
+use Rattle.psafe_file.specs.Kinds.{created_kind, group_kind, title_kind}
 use Rattle.psafe_core.specs.Records.{group_names, text_of, time_of}
 
 -- Every dot separates two names, and an empty name is none.

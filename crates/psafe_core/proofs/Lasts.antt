@@ -4,9 +4,9 @@ use Rattle.std.specs.Borrow.{Bor}
 use Rattle.std.proofs.lemmas.List.{drop_more}
 use Rattle.std.specs.Option.{option_map, option_or}
 use Rattle.psafe_core.specs.Records.{last_of, text_in}
-use Rattle.psafe_fields.specs.Fields.{SafeField}
-use Rattle.psafe_fields.specs.Seen.{field_seen, fields_seen}
-use Rattle.psafe_fields.specs.declared.fields.SafeField as memory
+use Rattle.psafe_file.specs.Fields.{SafeField}
+use Rattle.psafe_file.specs.SeenFields.{field_seen, fields_seen}
+use Rattle.psafe_file.specs.declared.fields.SafeField as memory
 
 -- What the last of fields says, or else this.
 abbrev pub last_after : {A : Type 0} → (SafeField → Option A) → List SafeField → Option A → Option A

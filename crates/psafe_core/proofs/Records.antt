@@ -6,9 +6,9 @@ use Rattle.std.proofs.lemmas.Bool.{cases_Bool}
 use Rattle.std.proofs.lemmas.List.{drop_more}
 use Rattle.psafe_core.specs.Outcome.{nil_record}
 use Rattle.psafe_core.specs.Records.{id_of}
-use Rattle.psafe_fields.specs.Fields.{SafeField}
-use Rattle.psafe_fields.specs.Seen.{fields_seen, records_seen}
-use Rattle.psafe_fields.specs.declared.fields.SafeField as memory
+use Rattle.psafe_file.specs.Fields.{SafeField}
+use Rattle.psafe_file.specs.SeenFields.{fields_seen, records_seen}
+use Rattle.psafe_file.specs.declared.fields.SafeField as memory
 use Rattle.vault_model.specs.Db.{NodeId, nil_id}
 
 not_nil : (id : NodeId) → bytes_eq id nil_id ≡ false → id ≢ nil_id

@@ -6,8 +6,8 @@ use Rattle.std.specs.Str.{is_utf8}
 use Rattle.std.proofs.lemmas.Str.{IsUtf8-nil, is_utf8-from_IsUtf8}
 use Rattle.import_tree.specs.Entries.{AreTexts}
 use Rattle.psafe_core.specs.Records.{imported_record, last_of, text_in, text_of}
-use Rattle.psafe_fields.specs.Fields.{SafeField}
-use Rattle.psafe_fields.specs.Kinds.{history_kind, notes_kind, password_kind, title_kind, url_kind, user_kind}
+use Rattle.psafe_file.specs.Fields.{SafeField}
+use Rattle.psafe_file.specs.Kinds.{history_kind, notes_kind, password_kind, title_kind, url_kind, user_kind}
 
 abbrev IsText : Option (List ℕ) → Type 0
 IsText o = IfSome o (λ (t : List ℕ). is_utf8 t ≡ true)

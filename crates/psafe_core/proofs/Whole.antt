@@ -2,8 +2,8 @@
 use Rattle.std.proofs.Common.{◌≡◌, ℕ, List, Result, Ok}
 use Rattle.mac_core.specs.Hmac.{hmac}
 use Rattle.psafe_core.specs.Outcome.{content_outcome, or_field_form, records_outcome}
-use Rattle.psafe_fields.specs.Faults.{sound_fields}
-use Rattle.psafe_fields.specs.Fields.{SafeField, contents_of, records_of}
+use Rattle.psafe_file.specs.Faults.{sound_fields}
+use Rattle.psafe_file.specs.Fields.{SafeField, contents_of, records_of}
 use Rattle.psafe_file.specs.Macs.{mac_check}
 use Rattle.psafe_file.specs.Opened.{SafeContent}
 use Rattle.psafe_file.specs.Results.{Returns}

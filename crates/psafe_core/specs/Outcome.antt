@@ -6,8 +6,8 @@ use Rattle.import_tree.specs.declared.fails.TreeFail.TheVariants as tree
 use Rattle.mac_core.specs.Hmac.{hmac}
 use Rattle.outside_core.specs.Results.{◌>>=◌}
 use Rattle.psafe_core.specs.Records.{id_of, imported_records}
-use Rattle.psafe_fields.specs.Faults.{sound_fields}
-use Rattle.psafe_fields.specs.Fields.{SafeField, contents_of, records_of}
+use Rattle.psafe_file.specs.Faults.{sound_fields}
+use Rattle.psafe_file.specs.Fields.{SafeField, contents_of, records_of}
 use Rattle.psafe_file.specs.Macs.{mac_check}
 use Rattle.psafe_file.specs.Opened.{SafeContent, file_mac_key, safe_outcome}
 use Rattle.psafe_file.specs.declared.fails.PsafeFail.{PsafeFail}

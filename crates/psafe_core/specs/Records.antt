@@ -4,8 +4,8 @@ use Rattle.std.specs.List.{filter}
 use Rattle.std.specs.Option.{option_or, unwrap_or}
 use Rattle.std.specs.Str.{is_utf8}
 use Rattle.import_tree.specs.Entries.{ImportedEntry, numbered_id}
-use Rattle.psafe_fields.specs.Fields.{SafeField}
-use Rattle.psafe_fields.specs.Kinds.{created_kind, group_kind, history_kind, id_kind, modified_kind, moment_of, notes_kind, password_kind, title_kind, url_kind, user_kind}
+use Rattle.psafe_file.specs.Fields.{SafeField}
+use Rattle.psafe_file.specs.Kinds.{created_kind, group_kind, history_kind, id_kind, modified_kind, moment_of, notes_kind, password_kind, title_kind, url_kind, user_kind}
 use Rattle.vault_model.specs.Db.{NodeId}
 
 -- What the last field says of those that say something.

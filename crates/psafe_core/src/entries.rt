@@ -5,13 +5,13 @@ ghost use Rattle.std.specs.Option.{option_map};
 ghost use Rattle.import_tree.specs.SeenEntries.{imported_seen};
 ghost use Rattle.psafe_core.specs.Records as spec;
 ghost use Rattle.psafe_core.specs.Records.{group_names, imported_record, is_named, last_of, text_in};
-ghost use Rattle.psafe_fields.specs.Kinds as spec_kinds;
-ghost use Rattle.psafe_fields.specs.Seen.{fields_seen};
+ghost use Rattle.psafe_file.specs.Kinds as spec_kinds;
+ghost use Rattle.psafe_file.specs.SeenFields.{fields_seen};
 
 use crate::readings::{id_of, last_text, time_of};
 use import_tree::ImportedEntry;
 use outside_core::{List, NoMemory, Text};
-use psafe_fields::{SafeField, kind};
+use psafe_file::{SafeField, kind};
 use secret_core::Secret;
 use std::alloc::Global;
 use vault_model::Stamp;

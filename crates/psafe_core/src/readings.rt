@@ -3,10 +3,10 @@ ghost use Rattle.std.specs.Prelude.{◌≡◌};
 ghost use Rattle.std.specs.Option.{option_map};
 ghost use Rattle.psafe_core.specs.Records as spec;
 ghost use Rattle.psafe_core.specs.Records.{id_in, last_of, moment_in, text_in};
-ghost use Rattle.psafe_fields.specs.Seen.{field_seen, fields_seen};
+ghost use Rattle.psafe_file.specs.SeenFields.{field_seen, fields_seen};
 
 use import_tree::numbered_id;
-use psafe_fields::{SafeField, kind, moment_of, text_of};
+use psafe_file::{SafeField, kind, moment_of, text_of};
 use uuid_core::Uuid;
 use vault_model::Stamp;
 

@@ -5,3 +5,6 @@ pub mod Openings
 pub mod SafeForms
 pub mod Steps
 mod Turns
+mod Examples
+pub mod FieldCuts
+pub mod Sections

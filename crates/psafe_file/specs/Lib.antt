@@ -5,3 +5,8 @@ pub mod Results
 pub mod SafeFiles
 pub mod SafeForms
 pub mod Seen
+pub mod Fields
+pub mod Ends
+pub mod Kinds
+pub mod Faults
+pub mod SeenFields

@@ -1,6 +1,6 @@
 use Rattle.std.proofs.Common.{sym, subst}
 use Rattle.import_tree.specs.Entries.{AreTexts}
-use Rattle.psafe_fields.specs.Seen.{fields_seen}
+use Rattle.psafe_file.specs.SeenFields.{fields_seen}
 use Rattle.psafe_core.proofs.Texts.{record_texts}
 use Rattle.psafe_core.proofs.import.add_record.Goals as goal
 

@@ -1,6 +1,6 @@
 use Rattle.std.proofs.Common.{◌≡◌, ◌+◌, None, drop}
 use Rattle.import_tree.specs.SeenDrafts.{draft_seen}
-use Rattle.psafe_fields.specs.Seen.{records_seen}
+use Rattle.psafe_file.specs.SeenFields.{records_seen}
 use Rattle.psafe_core.specs.Outcome.{nil_record}
 use Rattle.psafe_core.specs.Records.{imported_records}
 use Rattle.psafe_core.specs.Seen.{with_more}

@@ -1,5 +1,5 @@
 use Rattle.std.proofs.Common.{◌≡◌, ◌+◌, drop}
-use Rattle.psafe_fields.specs.Seen.{records_seen}
+use Rattle.psafe_file.specs.SeenFields.{records_seen}
 use Rattle.psafe_core.specs.Outcome.{nil_record}
 use Rattle.psafe_core.proofs.import.nil_record.Given as goal
 

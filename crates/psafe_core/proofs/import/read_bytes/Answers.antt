@@ -1,7 +1,7 @@
 use Rattle.std.proofs.Common.{List, Ok, [], ap, sym, ◌∙◌}
-use Rattle.psafe_fields.specs.Fields.{contents_of, records_of}
-use Rattle.psafe_fields.specs.Seen.{fields_seen}
-use Rattle.psafe_fields.specs.declared.fields.SafeField as memory
+use Rattle.psafe_file.specs.Fields.{contents_of, records_of}
+use Rattle.psafe_file.specs.SeenFields.{fields_seen}
+use Rattle.psafe_file.specs.declared.fields.SafeField as memory
 use Rattle.vault_model.specs.SeenDoc.{doc_seen}
 use Rattle.psafe_core.proofs.Whole.{content_read}
 use Rattle.psafe_core.proofs.import.read_bytes.Goals as goal

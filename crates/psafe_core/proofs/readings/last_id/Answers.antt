@@ -1,5 +1,5 @@
 use Rattle.psafe_core.specs.Records.{id_in}
-use Rattle.psafe_fields.specs.Seen.{fields_seen}
+use Rattle.psafe_file.specs.SeenFields.{fields_seen}
 use Rattle.psafe_core.proofs.Lasts.{last_is}
 use Rattle.psafe_core.proofs.readings.last_id.Goals as goal
 

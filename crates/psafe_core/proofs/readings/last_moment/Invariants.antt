@@ -1,6 +1,6 @@
 use Rattle.std.proofs.Common.{◌≡◌, drop}
 use Rattle.psafe_core.specs.Records.{last_of, moment_in}
-use Rattle.psafe_fields.specs.Seen.{fields_seen}
+use Rattle.psafe_file.specs.SeenFields.{fields_seen}
 use Rattle.psafe_core.proofs.Lasts.{last_after}
 use Rattle.psafe_core.proofs.readings.last_moment.Given as goal
 

@@ -1,5 +1,5 @@
 use Rattle.psafe_core.specs.Records.{text_in}
-use Rattle.psafe_fields.specs.Seen.{fields_seen}
+use Rattle.psafe_file.specs.SeenFields.{fields_seen}
 use Rattle.psafe_core.proofs.Lasts.{last_is, text_more}
 use Rattle.psafe_core.proofs.readings.last_text.Goals as goal
 

@@ -1,7 +1,7 @@
 use Rattle.std.proofs.Common.{◌≡◌, drop}
 use Rattle.std.specs.Option.{option_map}
 use Rattle.psafe_core.specs.Records.{last_of, text_in}
-use Rattle.psafe_fields.specs.Seen.{fields_seen}
+use Rattle.psafe_file.specs.SeenFields.{fields_seen}
 use Rattle.psafe_core.proofs.Lasts.{last_after}
 use Rattle.psafe_core.proofs.readings.last_text.Given as goal
 

@@ -1,3 +1,0 @@
-mod Examples
-pub mod Cuts
-pub mod Sections
