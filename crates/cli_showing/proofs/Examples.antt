@@ -10,7 +10,7 @@ use Rattle.vault_model.specs.Empty.{empty_bare, new_group}
 use Rattle.vault_model.specs.Shape.{EntryRecord}
 use Rattle.vault_model.specs.Tree.{BareDoc, beside, node, none}
 use Rattle.tree_core.specs.Finding.{entry_found}
-use Rattle.find_terms.specs.Terms.{term_before, terms_of}
+use Rattle.find_references.specs.Terms.{term_before, terms_of}
 use Rattle.find_references.specs.References.{reference_at}
 use Rattle.find_references.specs.Resolved.{resolved}
 use Rattle.cli_answers.specs.Messages.{refusal_of}

@@ -1,7 +1,7 @@
 -- What `show` and `search` refuse with.
 use Rattle.std.specs.Prelude.{ℕ, List, codes, Result, Ok, Err}
-use Rattle.find_terms.specs.declared.fail.FindFail.{FindFail}
-use Rattle.find_terms.specs.declared.fail.FindFail.TheVariants as fail
+use Rattle.find_references.specs.declared.fail.FindFail.{FindFail}
+use Rattle.find_references.specs.declared.fail.FindFail.TheVariants as fail
 use Rattle.cli_answers.specs.Messages.{Refuses, refusal_of}
 use Rattle.cli_answers.specs.Phases.{IsMemoryStop}
 use Rattle.cli_answers.specs.declared.answers.Reason.TheVariants as answer

@@ -5,7 +5,7 @@ ghost use Rattle.cli_answers.specs.declared.answers.Reason.TheVariants as answer
 ghost use Rattle.cli_showing.specs.Refusals.{IsUnfound};
 
 use cli_answers::{Reason, Stop, refused};
-use find_terms::FindFail;
+use find_references::FindFail;
 use outside_core::{NoMemory, Text};
 use std::alloc::Global;
 

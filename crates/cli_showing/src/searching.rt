@@ -1,6 +1,6 @@
 //! `search` on a document.
 ghost use Rattle.std.specs.Prelude.{IfErr};
-ghost use Rattle.find_terms.specs.Results.{meaning_of};
+ghost use Rattle.find_references.specs.Results.{meaning_of};
 ghost use Rattle.outside_core.specs.Results as results;
 ghost use Rattle.vault_model.specs.SeenDoc.{doc_seen};
 ghost use Rattle.cli_answers.specs.Phases.{IsPlainStop, Returns};
@@ -11,7 +11,7 @@ use crate::paths::paths_of;
 use crate::refusals::unfound;
 use cli_answers::{Reason, Stop, refused};
 use find_core::{Ids, search};
-use find_terms::{FindFail, parse_terms};
+use find_references::{FindFail, parse_terms};
 use outside_core::NoMemory;
 use secret_core::Secret;
 use std::alloc::Global;

@@ -1,6 +1,6 @@
 //! `show` on a document.
 ghost use Rattle.std.specs.Prelude.{◌≡◌, ◌++◌, IfErr, OnOk, map, option_map};
-ghost use Rattle.find_terms.specs.Results.{meaning_of};
+ghost use Rattle.find_references.specs.Results.{meaning_of};
 ghost use Rattle.outside_core.specs.Results as results;
 ghost use Rattle.vault_model.specs.Seen.{bare_field};
 ghost use Rattle.vault_model.specs.SeenDoc.{doc_seen};
@@ -15,7 +15,7 @@ use crate::refusals::{lacking, unfound};
 use crate::texts::{append, append_three};
 use crate::values::{NAMED_KEYS, append_keys, append_names, append_others, missing_name};
 use cli_answers::{Reason, Stop, refused};
-use find_terms::FindFail;
+use find_references::FindFail;
 use outside_core::{NoMemory, Text};
 use secret_core::Secret;
 use std::alloc::Global;

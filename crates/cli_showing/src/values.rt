@@ -2,7 +2,7 @@
 ghost use Rattle.std.specs.Prelude.{◌≡◌, ◌&&◌, OnOk, find, map, option_map};
 ghost use Rattle.std.specs.List.{filter};
 ghost use Rattle.find_references.specs.Fields.{is_other};
-ghost use Rattle.find_terms.specs.Results.{meaning_of};
+ghost use Rattle.find_references.specs.Results.{meaning_of};
 ghost use Rattle.outside_core.specs.Results.{Returns};
 ghost use Rattle.vault_model.specs.Seen.{bare_field};
 ghost use Rattle.vault_model.specs.SeenDoc.{doc_seen};
@@ -11,7 +11,7 @@ ghost use Rattle.cli_showing.specs.Showing.{is_missing, with_fields, with_key, w
 
 use crate::texts::append;
 use find_references::{is_named_key, resolve};
-use find_terms::FindFail;
+use find_references::FindFail;
 use outside_core::{NoMemory, Text};
 use secret_core::Secret;
 use std::alloc::Global;

@@ -12,9 +12,9 @@ use Rattle.vault_model.specs.Db.{NodeId}
 use Rattle.vault_model.specs.Empty.{empty_bare, new_group}
 use Rattle.vault_model.specs.Shape.{EntryRecord, GroupRecord}
 use Rattle.vault_model.specs.Tree.{BareDoc, beside, node, none}
-use Rattle.find_terms.specs.declared.terms.SearchField.{SearchField}
-use Rattle.find_terms.specs.declared.terms.SearchField.TheVariants.{Any, Title, Attr, Group}
-use Rattle.find_terms.specs.declared.terms.Term.{Term}
+use Rattle.find_references.specs.declared.terms.SearchField.{SearchField}
+use Rattle.find_references.specs.declared.terms.SearchField.TheVariants.{Any, Title, Attr, Group}
+use Rattle.find_references.specs.declared.terms.Term.{Term}
 use Rattle.find_core.specs.Folding.{case_folded}
 use Rattle.find_core.specs.Search.{entries_found}
 

@@ -3,7 +3,7 @@ use Rattle.std.proofs.Common.{◌≡◌, ℕ, Bool, true, false, cond, ◌&&◌,
 use Rattle.std.specs.List.{filter}
 use Rattle.find_core.specs.Search.{all_match, entries_found, found_among, found_in, is_matched, is_searched, passing}
 use Rattle.find_core.specs.inside.Found.{all_match_folded, folded_term}
-use Rattle.find_terms.specs.declared.terms.Term.{Term}
+use Rattle.find_references.specs.declared.terms.Term.{Term}
 use Rattle.vault_model.specs.Db.{NodeId}
 use Rattle.vault_model.specs.Shape.{EntryRecord}
 use Rattle.vault_model.specs.Tree.{BareDoc, Tree, Trees, beside, node, none}

@@ -3,9 +3,9 @@ use Rattle.std.specs.Prelude.{ℕ, Bool, true, false, not, if◌then◌else◌, 
 use Rattle.std.specs.List.{filter, list_all, list_any}
 use Rattle.find_core.specs.Folding.{case_folded, fits}
 use Rattle.find_references.specs.Fields.{fields_of, is_other}
-use Rattle.find_terms.specs.declared.terms.SearchField.{SearchField}
-use Rattle.find_terms.specs.declared.terms.SearchField.TheVariants.{Any, Title, UserName, Password, Url, Notes, Tags, Group, Attr}
-use Rattle.find_terms.specs.declared.terms.Term.{Term}
+use Rattle.find_references.specs.declared.terms.SearchField.{SearchField}
+use Rattle.find_references.specs.declared.terms.SearchField.TheVariants.{Any, Title, UserName, Password, Url, Notes, Tags, Group, Attr}
+use Rattle.find_references.specs.declared.terms.Term.{Term}
 use Rattle.vault_model.specs.Bare.{BareField}
 use Rattle.vault_model.specs.declared.contents.Tri.{Tri}
 use Rattle.vault_model.specs.declared.contents.Tri.TheVariants.{Inherit, No, Yes}

@@ -6,5 +6,5 @@ mod matching;
 mod searching;
 
 pub use find_references::resolve;
-pub use find_terms::{FindFail, SearchField, Term, Terms, parse_terms};
+pub use find_references::{FindFail, SearchField, Term, Terms, parse_terms};
 pub use searching::{Ids, search};

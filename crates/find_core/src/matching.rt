@@ -10,7 +10,7 @@ ghost use Rattle.vault_model.specs.SeenNodes.{entry_record};
 
 use crate::folding::{fits, fold};
 use find_references::{field_value, is_named_key};
-use find_terms::{SearchField, Term};
+use find_references::{SearchField, Term};
 use outside_core::NoMemory;
 use secret_core::Secret;
 use std::alloc::Global;

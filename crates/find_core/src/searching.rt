@@ -5,14 +5,14 @@ ghost use Rattle.find_core.specs.Folding as folding;
 ghost use Rattle.find_core.specs.Search as spec;
 ghost use Rattle.find_core.specs.Search.{entries_found, found_in, passing};
 ghost use Rattle.find_core.specs.inside.Found.{all_match_folded, folded_term};
-ghost use Rattle.find_terms.specs.Results.{meaning_of};
+ghost use Rattle.find_references.specs.Results.{meaning_of};
 ghost use Rattle.outside_core.specs.Results.{Returns};
 ghost use Rattle.vault_model.specs.SeenDoc.{doc_seen};
 ghost use Rattle.vault_model.specs.SeenNodes.{entry_row, tree_seen};
 
 use crate::matching::all_match;
 use caseless::default_case_fold_str;
-use find_terms::{FindFail, Term, Terms};
+use find_references::{FindFail, Term, Terms};
 use outside_core::{List, NoMemory, Text};
 use secret_core::Secret;
 use std::alloc::Global;

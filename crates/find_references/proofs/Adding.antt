@@ -3,8 +3,8 @@ use Rattle.std.proofs.Common.{◌≡◌, ◌≤◌, ◌<◌, ◌-◌, ℕ, List,
 use Rattle.std.specs.List.{find}
 use Rattle.outside_core.specs.Results.{◌>>=◌, Fails}
 use Rattle.outside_core.proofs.Results.{fails_at_first, fails_same}
-use Rattle.find_terms.specs.declared.fail.FindFail.{FindFail}
-use Rattle.find_terms.specs.Results.{meaning_of}
+use Rattle.find_references.specs.declared.fail.FindFail.{FindFail}
+use Rattle.find_references.specs.Results.{meaning_of}
 use Rattle.find_references.specs.Fields.{has_at, part_value}
 use Rattle.find_references.specs.References.{Reference, reference_at}
 use Rattle.find_references.specs.Resolved.{Made, after_step, after_steps, copied, replaced, steps}

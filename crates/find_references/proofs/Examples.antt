@@ -7,7 +7,7 @@ use Rattle.vault_model.specs.Db.{NodeId}
 use Rattle.vault_model.specs.Empty.{empty_bare, new_group}
 use Rattle.vault_model.specs.Shape.{EntryRecord}
 use Rattle.vault_model.specs.Tree.{BareDoc, node, none}
-use Rattle.find_terms.specs.declared.fail.FindFail.TheVariants.{TooMuch}
+use Rattle.find_references.specs.declared.fail.FindFail.TheVariants.{TooMuch}
 use Rattle.find_references.specs.References.{reference_at}
 use Rattle.find_references.specs.Resolved.{after_step, replaced, resolved}
 

@@ -4,3 +4,5 @@ pub mod Limits
 pub mod Pieces
 pub mod SoughtEntries
 pub mod Steps
+pub mod TermExamples
+pub mod Parts

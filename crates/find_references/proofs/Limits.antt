@@ -3,8 +3,8 @@ use Rattle.std.proofs.Common.{◌≡◌, ◌≤◌, ◌<◌, ℕ, ◌+◌, Bool,
 use Rattle.std.specs.Prelude.{nat_le, nat_lt}
 use Rattle.std.proofs.lemmas.Bool.Decides.{nat_tests}
 use Rattle.outside_core.specs.Results.{◌>>=◌}
-use Rattle.find_terms.specs.declared.fail.FindFail.{FindFail}
-use Rattle.find_terms.specs.declared.fail.FindFail.TheVariants.{TooMuch}
+use Rattle.find_references.specs.declared.fail.FindFail.{FindFail}
+use Rattle.find_references.specs.declared.fail.FindFail.TheVariants.{TooMuch}
 use Rattle.find_references.specs.Laws.{IsWithinLimits, copied_in, replaced_in, steps_over}
 use Rattle.find_references.specs.Resolved.{MOST_BYTES, MOST_REFERENCES, Made, Step, after_steps, copied, replaced, resolved}
 use Rattle.vault_model.specs.Tree.{BareDoc}

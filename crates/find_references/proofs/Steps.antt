@@ -2,7 +2,7 @@
 use Rattle.std.proofs.Common.{◌≡◌, ◌<◌, ◌-◌, ℕ, zero, suc, List, [], ◌∷◌, ◌++◌, flat_map, length, Some, None, Result, Ok, Err, refl, ap, ◌∙◌, arith}
 use Rattle.std.specs.List.{find}
 use Rattle.outside_core.specs.Results.{◌>>=◌}
-use Rattle.find_terms.specs.declared.fail.FindFail.{FindFail}
+use Rattle.find_references.specs.declared.fail.FindFail.{FindFail}
 use Rattle.find_references.specs.Fields.{has_at, part_value}
 use Rattle.find_references.specs.References.{Reference, pieces, reference_at}
 use Rattle.find_references.specs.Resolved.{Made, Step, after_step, after_steps, copied, piece_steps, reference_steps, replaced, steps}

@@ -2,8 +2,8 @@
 use Rattle.std.specs.Prelude.{ℕ, zero, suc, ◌+◌, nat_lt, nat_le, if◌then◌else◌, List, [], ◌∷◌, ◌++◌, flat_map, length, Option, None, Some, Result, Ok, Err}
 use Rattle.std.specs.List.{find}
 use Rattle.outside_core.specs.Results.{◌>>=◌}
-use Rattle.find_terms.specs.declared.fail.FindFail.{FindFail}
-use Rattle.find_terms.specs.declared.fail.FindFail.TheVariants.{TooMuch}
+use Rattle.find_references.specs.declared.fail.FindFail.{FindFail}
+use Rattle.find_references.specs.declared.fail.FindFail.TheVariants.{TooMuch}
 use Rattle.find_references.specs.Fields.{has_at, part_value}
 use Rattle.find_references.specs.References.{Piece, Reference, byte, pieces, reference}
 use Rattle.vault_model.specs.Db.{NodeId}

@@ -3,7 +3,7 @@
 ghost use Rattle.std.specs.Prelude.{◌≡◌, ◌≤◌, OnOk};
 ghost use Rattle.find_references.specs.Resolved.{after_step, after_steps, copied, replaced, resolved, steps};
 ghost use Rattle.find_references.specs.inside.Seen.{made_seen};
-ghost use Rattle.find_terms.specs.Results.{meaning_of};
+ghost use Rattle.find_references.specs.Results.{meaning_of};
 ghost use Rattle.outside_core.specs.Results.{Returns};
 ghost use Rattle.vault_model.specs.SeenDoc.{doc_seen};
 ghost use Rattle.vault_model.specs.SeenNodes.{tree_seen};
@@ -12,7 +12,7 @@ ghost use Rattle.vault_model.specs.Tree.{entry_rows};
 use crate::fields::part_value;
 use crate::reading::reference_at;
 use crate::seeking::entry_in;
-use find_terms::FindFail;
+use crate::FindFail;
 use outside_core::NoMemory;
 use secret_core::Secret;
 use std::alloc::Global;

@@ -3,7 +3,7 @@ use Rattle.std.specs.Prelude.{ℕ, Bool, not, if◌then◌else◌, List}
 use Rattle.std.specs.List.{list_all, list_any}
 use Rattle.find_core.specs.Folding.{case_folded, fits}
 use Rattle.find_core.specs.Search.{values_of}
-use Rattle.find_terms.specs.declared.terms.Term.{Term}
+use Rattle.find_references.specs.declared.terms.Term.{Term}
 use Rattle.vault_model.specs.Shape.{EntryRecord}
 
 -- A term with its text folded.

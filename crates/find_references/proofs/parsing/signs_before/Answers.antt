@@ -1,7 +1,7 @@
 use Rattle.std.proofs.Common.{None, ◌∙◌, arith}
 use Rattle.std.proofs.lemmas.Str.Pattern.{strip_prefix_char}
-use Rattle.find_terms.proofs.Parts.{no_sign}
-use Rattle.find_terms.proofs.parsing.signs_before.Goals as goal
+use Rattle.find_references.proofs.Parts.{no_sign}
+use Rattle.find_references.proofs.parsing.signs_before.Goals as goal
 
 pub returns-in_default-strip_prefix-2 : goal.returns-in_default-strip_prefix-2
 returns-in_default-strip_prefix-2 c =

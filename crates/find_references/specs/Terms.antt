@@ -2,11 +2,11 @@
 use Rattle.std.specs.Prelude.{ℕ, zero, suc, ◌+◌, ◌-◌, Bool, true, false, ◌||◌, ◌==◌, nat_lt, if◌then◌else◌, List, [], ◌∷◌, ◌++◌, length, codes, Option, None, Some, Result, Ok, Err}
 use Rattle.std.specs.List.{after_first, before_first, position_or_len}
 use Rattle.std.specs.Str.{bytes_eq}
-use Rattle.find_terms.specs.declared.fail.FindFail.{FindFail}
-use Rattle.find_terms.specs.declared.fail.FindFail.TheVariants.{EmptyTerm}
-use Rattle.find_terms.specs.declared.terms.SearchField.{SearchField}
-use Rattle.find_terms.specs.declared.terms.SearchField.TheVariants as field
-use Rattle.find_terms.specs.declared.terms.Term.{Term}
+use Rattle.find_references.specs.declared.fail.FindFail.{FindFail}
+use Rattle.find_references.specs.declared.fail.FindFail.TheVariants.{EmptyTerm}
+use Rattle.find_references.specs.declared.terms.SearchField.{SearchField}
+use Rattle.find_references.specs.declared.terms.SearchField.TheVariants as field
+use Rattle.find_references.specs.declared.terms.Term.{Term}
 
 -- A space.
 abbrev pub is_space : ℕ → Bool

@@ -4,11 +4,11 @@ use Rattle.std.proofs.lemmas.Bool.{ne_eqb}
 use Rattle.std.proofs.lemmas.Bool.Decides.{nat_tests}
 use Rattle.std.proofs.lemmas.List.{length-take, take-append-drop}
 use Rattle.std.specs.List.{after_first, before_first, position_or_len}
-use Rattle.find_terms.specs.declared.fail.FindFail.{FindFail}
-use Rattle.find_terms.specs.declared.fail.FindFail.TheVariants.{EmptyTerm}
-use Rattle.find_terms.specs.declared.terms.Term.{Term}
-use Rattle.find_terms.specs.declared.terms.SearchField.{SearchField}
-use Rattle.find_terms.specs.Terms.{cut_at, field_before, field_named, field_or_any, has_byte, is_colon, is_not_sign, is_quote, is_space, is_whole_sign, one_at_least, signs_before, term_before, terms_from, text_before, with_texts}
+use Rattle.find_references.specs.declared.fail.FindFail.{FindFail}
+use Rattle.find_references.specs.declared.fail.FindFail.TheVariants.{EmptyTerm}
+use Rattle.find_references.specs.declared.terms.Term.{Term}
+use Rattle.find_references.specs.declared.terms.SearchField.{SearchField}
+use Rattle.find_references.specs.Terms.{cut_at, field_before, field_named, field_or_any, has_byte, is_colon, is_not_sign, is_quote, is_space, is_whole_sign, one_at_least, signs_before, term_before, terms_from, text_before, with_texts}
 
 -- ---- signs
 

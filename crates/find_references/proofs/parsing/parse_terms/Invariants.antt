@@ -1,8 +1,8 @@
 use Rattle.std.proofs.Common.{◌≡◌, ◌-◌, ◌≤◌, [], length}
 use denote.Text.{Utf8}
 use denote.Shadow.{shadow}
-use Rattle.find_terms.specs.Terms.{terms_from, with_texts}
-use Rattle.find_terms.proofs.parsing.parse_terms.Given as goal
+use Rattle.find_references.specs.Terms.{terms_from, with_texts}
+use Rattle.find_references.proofs.parsing.parse_terms.Given as goal
 
 abbrev pub invariant-loop-rest : goal.invariant-loop-rest
 invariant-loop-rest l =

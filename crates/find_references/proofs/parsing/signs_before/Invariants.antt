@@ -1,8 +1,8 @@
 use Rattle.std.proofs.Common.{◌≡◌, false, length}
 use denote.Text.{Utf8}
 use denote.Shadow.{shadow}
-use Rattle.find_terms.specs.Terms as spec
-use Rattle.find_terms.proofs.parsing.signs_before.Given as goal
+use Rattle.find_references.specs.Terms as spec
+use Rattle.find_references.proofs.parsing.signs_before.Given as goal
 
 abbrev pub invariant-signs : goal.invariant-signs
 invariant-signs l =

@@ -2,10 +2,10 @@
 
 ghost use Rattle.std.specs.Prelude.{◌≡◌, [], ◌∷◌, ◌++◌, false, OnOk};
 ghost use Rattle.outside_core.specs.Results.{Returns};
-ghost use Rattle.find_terms.specs.Results.{meaning_of};
-ghost use Rattle.find_terms.specs.SeenTerms.{found_seen, signs_seen};
-ghost use Rattle.find_terms.specs.Terms as spec;
-ghost use Rattle.find_terms.specs.Terms.{is_quote, is_space, terms_of};
+ghost use Rattle.find_references.specs.Results.{meaning_of};
+ghost use Rattle.find_references.specs.SeenTerms.{found_seen, signs_seen};
+ghost use Rattle.find_references.specs.Terms as spec;
+ghost use Rattle.find_references.specs.Terms.{is_quote, is_space, terms_of};
 
 use crate::fail::FindFail;
 use crate::terms::{SearchField, Term, Terms};

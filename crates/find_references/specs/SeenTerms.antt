@@ -1,7 +1,7 @@
 -- What is seen of the parts of a term as they stand in a text.
-use Rattle.find_terms.specs.declared.parsing.Found.{Found}
-use Rattle.find_terms.specs.declared.parsing.Signs.{Signs}
-use Rattle.find_terms.specs.Terms.{SignsBefore, TermBefore}
+use Rattle.find_references.specs.declared.parsing.Found.{Found}
+use Rattle.find_references.specs.declared.parsing.Signs.{Signs}
+use Rattle.find_references.specs.Terms.{SignsBefore, TermBefore}
 
 -- Signs, and what follows them.
 abbrev pub signs_seen : Signs → SignsBefore

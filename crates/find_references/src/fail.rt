@@ -1,7 +1,7 @@
 //! Why a search, or the resolving of references, is refused.
 
 ghost use Rattle.std.specs.Prelude.{◌≡◌};
-ghost use Rattle.find_terms.specs.declared.fail.FindFail.TheVariants as find;
+ghost use Rattle.find_references.specs.declared.fail.FindFail.TheVariants as find;
 
 use outside_core::NoMemory;
 

@@ -1,11 +1,11 @@
 -- Terms of some texts.
 use Rattle.std.proofs.Common.{◌≡◌, ℕ, Bool, true, false, List, [], ◌∷◌, Ok, Err, refl}
 use Rattle.std.specs.Prelude.{codes}
-use Rattle.find_terms.specs.declared.fail.FindFail.TheVariants.{EmptyTerm}
-use Rattle.find_terms.specs.declared.terms.SearchField.{SearchField}
-use Rattle.find_terms.specs.declared.terms.SearchField.TheVariants.{Any, Title, Attr, Group, UserName}
-use Rattle.find_terms.specs.declared.terms.Term.{Term}
-use Rattle.find_terms.specs.Terms.{term_before, terms_of}
+use Rattle.find_references.specs.declared.fail.FindFail.TheVariants.{EmptyTerm}
+use Rattle.find_references.specs.declared.terms.SearchField.{SearchField}
+use Rattle.find_references.specs.declared.terms.SearchField.TheVariants.{Any, Title, Attr, Group, UserName}
+use Rattle.find_references.specs.declared.terms.Term.{Term}
+use Rattle.find_references.specs.Terms.{term_before, terms_of}
 
 abbrev term : Bool → Bool → SearchField → List ℕ → Term
 term not whole field text = record { not = not; whole = whole; field = field; text = text }
