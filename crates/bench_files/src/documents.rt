@@ -7,7 +7,7 @@ use std::alloc::Global;
 use std::fs::{self, Files};
 use stream_core::InnerStream;
 use time_core::Stamp;
-use tree_changes::Values;
+use tree_core::Values;
 use tree_edits::add;
 use uuid_core::Uuid;
 use vault_model::{Doc, DocForm};

@@ -8,8 +8,8 @@ use Rattle.vault_model.specs.Empty.{empty_bare, new_group, new_protection}
 use Rattle.vault_model.specs.Shape.{EntryRecord}
 use Rattle.vault_model.specs.Tree.{BareDoc, beside, node, none}
 use Rattle.tree_core.specs.Finding.{entry_found, group_found, has_group_path}
-use Rattle.tree_changes.specs.Changes.{entry_at}
-use Rattle.tree_changes.specs.NewNodes.{GivenValues, new_entry, new_fields}
+use Rattle.tree_core.specs.Changes.{entry_at}
+use Rattle.tree_core.specs.NewNodes.{GivenValues, new_entry, new_fields}
 use Rattle.cli_answers.specs.Messages.{error_line, reason_text, refusal_of}
 use Rattle.cli_answers.specs.declared.answers.Reason.TheVariants.{IdTaken, IntoItself}
 use Rattle.cli_answers.specs.declared.answers.Refusal.{Refusal}

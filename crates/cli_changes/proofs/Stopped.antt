@@ -1,8 +1,8 @@
 -- A document that is not changed, as the refusal of a command.
 use Rattle.std.proofs.Common.{◌≡◌, ◌⊎◌, inl, inr, ℕ, List, Result, Err, ap, sym, subst, ◌∙◌}
 use Rattle.outside_core.specs.Results.{◌>>=◌}
-use Rattle.tree_changes.specs.declared.fails.TreeFail.{TreeFail}
-use Rattle.tree_changes.specs.declared.fails.TreeFail.TheVariants as fail
+use Rattle.tree_core.specs.declared.fails.TreeFail.{TreeFail}
+use Rattle.tree_core.specs.declared.fails.TreeFail.TheVariants as fail
 use Rattle.cli_answers.specs.Messages.{Refuses, refusal_of}
 use Rattle.cli_answers.specs.Phases.{IsMemoryStop, Stops}
 use Rattle.cli_answers.specs.declared.answers.Refusal.{Refusal}

@@ -7,11 +7,11 @@ use Rattle.time_core.specs.Times.{last_stamp}
 use Rattle.vault_model.specs.Db.{NodeId}
 use Rattle.vault_model.specs.Tree.{BareDoc}
 use Rattle.vault_model.specs.Walk.{title_of}
-use Rattle.tree_changes.specs.After.{Holding, after_add, after_edit, entry_named}
-use Rattle.tree_changes.specs.NewNodes.{GivenValues}
-use Rattle.tree_changes.specs.NewPaths.{after_last}
-use Rattle.tree_changes.specs.declared.fails.TreeFail.{TreeFail}
-use Rattle.tree_changes.specs.declared.fails.TreeFail.TheVariants.{StampLimit}
+use Rattle.tree_core.specs.After.{Holding, after_add, after_edit, entry_named}
+use Rattle.tree_core.specs.NewNodes.{GivenValues}
+use Rattle.tree_core.specs.NewPaths.{after_last}
+use Rattle.tree_core.specs.declared.fails.TreeFail.{TreeFail}
+use Rattle.tree_core.specs.declared.fails.TreeFail.TheVariants.{StampLimit}
 use Rattle.cli_answers.specs.Phases.{Stops}
 use Rattle.cli_answers.specs.declared.answers.Refusal.{Refusal}
 use Rattle.cli_answers.specs.declared.answers.Stop.{Stop}

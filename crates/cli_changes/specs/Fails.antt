@@ -6,8 +6,8 @@ use Rattle.cli_answers.specs.declared.answers.Reason.{Reason}
 use Rattle.cli_answers.specs.declared.answers.Reason.TheVariants as answer
 use Rattle.cli_answers.specs.declared.answers.Refusal.{Refusal}
 use Rattle.cli_answers.specs.declared.answers.Stop.{Stop}
-use Rattle.tree_changes.specs.declared.fails.TreeFail.{TreeFail}
-use Rattle.tree_changes.specs.declared.fails.TreeFail.TheVariants as fail
+use Rattle.tree_core.specs.declared.fails.TreeFail.{TreeFail}
+use Rattle.tree_core.specs.declared.fails.TreeFail.TheVariants as fail
 
 -- The answer that a refusal to change a document is.
 abbrev pub tree_answer : TreeFail → Reason

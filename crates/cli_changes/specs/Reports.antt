@@ -1,7 +1,7 @@
 -- The lines that report what became of a node.
 use Rattle.std.specs.Prelude.{ℕ, Bool, true, false, List, [], ◌++◌, codes, Option, None, Some}
-use Rattle.tree_changes.specs.declared.fails.Removed.{Removed}
-use Rattle.tree_changes.specs.declared.fails.Removed.TheVariants.{Deleted, Recycled}
+use Rattle.tree_core.specs.declared.fails.Removed.{Removed}
+use Rattle.tree_core.specs.declared.fails.Removed.TheVariants.{Deleted, Recycled}
 
 -- Where a node was moved to, if it was moved: the word that named the group.
 abbrev pub goal_text : Option (List ℕ) → List ℕ

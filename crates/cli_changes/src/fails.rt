@@ -6,7 +6,7 @@ ghost use Rattle.cli_changes.specs.Fails.{IsUnchanged};
 
 use cli_answers::{Reason, Stop, refused};
 use std::alloc::Global;
-use tree_changes::TreeFail;
+use tree_core::TreeFail;
 
 // The answer that a refusal to change a document is.
 fn tree_answer(fail: TreeFail) -> Reason

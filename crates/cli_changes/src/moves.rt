@@ -1,7 +1,7 @@
 //! `mv` on a document.
 ghost use Rattle.std.specs.Prelude.{◌≡◌, IfErr};
 ghost use Rattle.vault_model.specs.SeenDoc.{doc_seen};
-ghost use Rattle.tree_changes.specs.After.{Changes};
+ghost use Rattle.tree_core.specs.After.{Changes};
 ghost use Rattle.cli_answers.specs.Phases.{IsPlainStop};
 ghost use Rattle.cli_changes.specs.Entries.{CommandChanges};
 ghost use Rattle.cli_changes.specs.Nodes as spec;
@@ -12,7 +12,7 @@ use cli_answers::Stop;
 use crate::{Given, entry_title, time_of, unchanged};
 use secret_core::Secret;
 use std::alloc::Global;
-use tree_changes::TreeFail;
+use tree_core::TreeFail;
 use tree_group_moves::move_group;
 use tree_moves::move_entry;
 use vault_model::Doc;

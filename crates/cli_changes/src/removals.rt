@@ -1,7 +1,7 @@
 //! `rm` and `rmdir` on a document.
 ghost use Rattle.std.specs.Prelude.{◌≡◌, IfErr, IfOk, None, is_some};
 ghost use Rattle.vault_model.specs.SeenDoc.{doc_seen};
-ghost use Rattle.tree_changes.specs.After.{needs_bin};
+ghost use Rattle.tree_core.specs.After.{needs_bin};
 ghost use Rattle.tree_removals.specs.Removes.{Removes};
 ghost use Rattle.cli_answers.specs.Phases.{IsPlainStop};
 ghost use Rattle.cli_changes.specs.Entries.{CommandChanges};
@@ -15,7 +15,7 @@ use crate::{Given, entry_title, time_of, unchanged};
 use outside_core::NoMemory;
 use secret_core::Secret;
 use std::alloc::Global;
-use tree_changes::{Removed, TreeFail};
+use tree_core::{Removed, TreeFail};
 use tree_group_removals::remove_group;
 use tree_removals::remove_entry;
 use uuid_core::Uuid;

@@ -1,6 +1,6 @@
 //! The lines that report what became of a node.
 ghost use Rattle.std.specs.Prelude.{◌≡◌, ◌+◌, ◌++◌, IfOk, IfSome, None, codes, length};
-ghost use Rattle.tree_changes.specs.NewNodes.{lent_value};
+ghost use Rattle.tree_core.specs.NewNodes.{lent_value};
 ghost use Rattle.cli_changes.specs.Reports as spec;
 
 use outside_core::NoMemory;

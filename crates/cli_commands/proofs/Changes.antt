@@ -6,8 +6,8 @@ use Rattle.std.specs.Str.{is_utf8}
 use Rattle.outside_core.specs.Streams.{LosesPrefix}
 use Rattle.vault_model.specs.Db.{NodeId}
 use Rattle.vault_model.specs.Tree.{BareDoc, Tree}
-use Rattle.tree_changes.specs.After.{needs_bin}
-use Rattle.tree_changes.specs.NewNodes.{lent_value}
+use Rattle.tree_core.specs.After.{needs_bin}
+use Rattle.tree_core.specs.NewNodes.{lent_value}
 use Rattle.cli_answers.specs.declared.answers.Refusal.{Refusal}
 use Rattle.cli_answers.specs.declared.answers.Stop.{Stop}
 use Rattle.cli_answers.specs.declared.answers.Stop.TheVariants.{Refused, FileFault, InputFault, NoMemory}

@@ -3,7 +3,7 @@ use Rattle.std.specs.Prelude.{ℕ, Bool, true, false, not, if◌then◌else◌, 
 use Rattle.kdbx_frame.specs.declared.settings.Settings.{Settings}
 use Rattle.vault_model.specs.Db.{NodeId, nil_id}
 use Rattle.vault_model.specs.Tree.{BareDoc, Tree}
-use Rattle.tree_changes.specs.After.{needs_bin}
+use Rattle.tree_core.specs.After.{needs_bin}
 use Rattle.cli_answers.specs.declared.answers.Reason.TheVariants.{NoSuchPath}
 use Rattle.cli_answers.specs.declared.answers.Refusal.{Refusal}
 use Rattle.cli_answers.specs.Messages.{refusal_of}

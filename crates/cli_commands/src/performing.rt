@@ -3,7 +3,7 @@ ghost use Rattle.std.specs.Prelude.{◌≡◌, ◌≤◌, ℕ, List, Ok, Some, I
 ghost use Rattle.outside_core.specs.Streams.{LosesPrefix};
 ghost use Rattle.vault_model.specs.SeenDoc.{doc_seen};
 ghost use Rattle.vault_model.specs.Tree.{BareDoc};
-ghost use Rattle.tree_changes.specs.NewNodes.{lent_value};
+ghost use Rattle.tree_core.specs.NewNodes.{lent_value};
 ghost use Rattle.cli_answers.specs.Phases.{IsPlainStop, IsStreamStop, Returns, ReturnsAskedStream, TellsStream};
 ghost use Rattle.cli_lines.specs.Lines.{IsTextLine};
 ghost use Rattle.cli_words.specs.Needs.{needs_of};

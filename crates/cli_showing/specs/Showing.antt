@@ -8,8 +8,8 @@ use Rattle.vault_model.specs.Bare.{BareAttachment, BareField}
 use Rattle.vault_model.specs.Db.{NodeId}
 use Rattle.vault_model.specs.Shape.{EntryRecord}
 use Rattle.vault_model.specs.Tree.{BareDoc}
-use Rattle.tree_changes.specs.After.{Holding, entry_named}
-use Rattle.tree_changes.specs.declared.fails.TreeFail.{TreeFail}
+use Rattle.tree_core.specs.After.{Holding, entry_named}
+use Rattle.tree_core.specs.declared.fails.TreeFail.{TreeFail}
 use Rattle.find_references.specs.Terms.{terms_of}
 use Rattle.find_references.specs.declared.fail.FindFail.{FindFail}
 use Rattle.find_references.specs.Fields.{fields_of, is_other, named_keys}

@@ -25,16 +25,16 @@ use Rattle.join_laws.proofs.SoundDoc.{as_map}
 use Rattle.join_laws.proofs.Tables.{gathered_singles}
 use Rattle.join_laws.proofs.Unite.{get-unite_all}
 use Rattle.tree_core.specs.Finding.{entry_found, group_found, has_entry_path}
-use Rattle.tree_changes.specs.declared.fails.TreeFail.TheVariants.{AlreadyThere, IdTaken, NameTaken}
-use Rattle.tree_changes.specs.After.{AfterRemoval, Holding, edited_entry, entry_deleted, entry_moved_to, entry_named, entry_recycled, is_recycled, named_or_refusal, needs_bin, refuse_if, time_after, with_bin, with_bin_made}
-use Rattle.tree_changes.specs.Changes.{changed_at, entry_at, group_with, has_group, holder, is_free, own_entry, without, without_entry}
-use Rattle.tree_changes.specs.Histories.{with_version}
-use Rattle.tree_changes.specs.NewNodes.{edited_version, empty_bin, new_entry, new_fields}
-use Rattle.tree_changes.specs.NewPaths.{after_last, before_last, new_path}
-use Rattle.tree_changes.proofs.Around.{found_group}
-use Rattle.tree_changes.proofs.EntriesMoved.{same_there}
-use Rattle.tree_changes.proofs.EntriesRemoved.{found_at, own_id}
-use Rattle.tree_changes.proofs.Named.{named_group}
+use Rattle.tree_core.specs.declared.fails.TreeFail.TheVariants.{AlreadyThere, IdTaken, NameTaken}
+use Rattle.tree_core.specs.After.{AfterRemoval, Holding, edited_entry, entry_deleted, entry_moved_to, entry_named, entry_recycled, is_recycled, named_or_refusal, needs_bin, refuse_if, time_after, with_bin, with_bin_made}
+use Rattle.tree_core.specs.Changes.{changed_at, entry_at, group_with, has_group, holder, is_free, own_entry, without, without_entry}
+use Rattle.tree_core.specs.Histories.{with_version}
+use Rattle.tree_core.specs.NewNodes.{edited_version, empty_bin, new_entry, new_fields}
+use Rattle.tree_core.specs.NewPaths.{after_last, before_last, new_path}
+use Rattle.tree_core.proofs.Around.{found_group}
+use Rattle.tree_core.proofs.EntriesMoved.{same_there}
+use Rattle.tree_core.proofs.EntriesRemoved.{found_at, own_id}
+use Rattle.tree_core.proofs.Named.{named_group}
 use Rattle.tree_removals.specs.Removes.{with_bin_in}
 use Rattle.tree_removals.proofs.LastGroups.{entry_with_last, has_root, holds_there, last_there}
 use Rattle.tree_removals.proofs.NewBins.{bin_is_doc, free_absent}

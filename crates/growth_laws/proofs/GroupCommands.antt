@@ -10,16 +10,16 @@ use Rattle.vault_model.specs.Tree.{BareDoc, IsDoc, LEVELS, Tree, height, id_of, 
 use Rattle.vault_model.proofs.Tests.{apart, decide, is_false}
 use Rattle.join_laws.proofs.Joins.{meta_joins}
 use Rattle.tree_core.specs.Finding.{group_found, without_slashes}
-use Rattle.tree_changes.specs.declared.fails.TreeFail.TheVariants.{AlreadyThere, IdTaken, IntoItself, NameTaken, RootFixed, TooDeep}
-use Rattle.tree_changes.specs.After.{AfterRemoval, after_new_group, after_recycling, bin_level, group_deleted, group_moved_to, group_named, group_recycled, is_group_taken, is_parent, is_recycled, named_or_refusal, needs_bin, refuse_if, time_after, with_bin_made}
-use Rattle.tree_changes.specs.Changes.{changed_at, child_with, group_moved, group_with, has_group, is_free, level_of, parent_of, placed_of, tree_buried, without_group}
-use Rattle.tree_changes.specs.NewNodes.{empty_bin, empty_group}
-use Rattle.tree_changes.specs.NewPaths.{after_last, before_last, new_path}
-use Rattle.tree_changes.proofs.Around.{found_group, found_id}
-use Rattle.tree_changes.proofs.Counted.{once}
-use Rattle.tree_changes.proofs.GroupMoves.{to_there}
-use Rattle.tree_changes.proofs.Named.{named_group}
-use Rattle.tree_changes.proofs.Options.{never}
+use Rattle.tree_core.specs.declared.fails.TreeFail.TheVariants.{AlreadyThere, IdTaken, IntoItself, NameTaken, RootFixed, TooDeep}
+use Rattle.tree_core.specs.After.{AfterRemoval, after_new_group, after_recycling, bin_level, group_deleted, group_moved_to, group_named, group_recycled, is_group_taken, is_parent, is_recycled, named_or_refusal, needs_bin, refuse_if, time_after, with_bin_made}
+use Rattle.tree_core.specs.Changes.{changed_at, child_with, group_moved, group_with, has_group, is_free, level_of, parent_of, placed_of, tree_buried, without_group}
+use Rattle.tree_core.specs.NewNodes.{empty_bin, empty_group}
+use Rattle.tree_core.specs.NewPaths.{after_last, before_last, new_path}
+use Rattle.tree_core.proofs.Around.{found_group, found_id}
+use Rattle.tree_core.proofs.Counted.{once}
+use Rattle.tree_core.proofs.GroupMoves.{to_there}
+use Rattle.tree_core.proofs.Named.{named_group}
+use Rattle.tree_core.proofs.Options.{never}
 use Rattle.tree_group_moves.specs.GroupPlaces.{group_at}
 use Rattle.tree_group_moves.proofs.GroupChildren.{found_child, off_goal}
 use Rattle.tree_group_moves.proofs.GroupParents.{flipped, parent_found}

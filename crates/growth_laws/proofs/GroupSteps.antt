@@ -9,8 +9,8 @@ use Rattle.vault_model.proofs.Ids.{same_id}
 use Rattle.vault_model.proofs.Tests.{decide, in_back, in_front}
 use Rattle.join_laws.proofs.Joins.{meta_joins, state_joins}
 use Rattle.join_laws.proofs.SoundDoc.{IsKid}
-use Rattle.tree_changes.specs.Changes.{changed_at, child_with, group_moved, group_with, moved_group, own_group, placed_of, with_group, without_group}
-use Rattle.tree_changes.proofs.Options.{never}
+use Rattle.tree_core.specs.Changes.{changed_at, child_with, group_moved, group_with, moved_group, own_group, placed_of, with_group, without_group}
+use Rattle.tree_core.proofs.Options.{never}
 use Rattle.growth_laws.proofs.Carries.{Carries, Entry, Group, carries_at, entry_in, group_in, kid_in, put_group_carries, put_group_entry, put_group_group, put_group_kid, put_group_root, take_group_carries, was_group_in}
 use Rattle.growth_laws.proofs.Stays.{KidAfter, Stays, group_stay, places_stay}
 use Rattle.growth_laws.proofs.Steps.{carries_then, entry_same, group_same, kid_later, kid_same, other, put_group_keeps, root_same, take_group_root, tomb_same}

@@ -4,9 +4,9 @@ use Rattle.std.specs.Prelude.{if◌then◌else◌}
 use Rattle.outside_core.specs.Results.{◌>>=◌}
 use Rattle.time_core.specs.Times.{last_stamp}
 use Rattle.vault_model.proofs.Tests.{decide}
-use Rattle.tree_changes.specs.declared.fails.TreeFail.{TreeFail}
-use Rattle.tree_changes.specs.declared.fails.TreeFail.TheVariants.{StampLimit}
-use Rattle.tree_changes.specs.After.{named_or_refusal, refuse_if, time_after}
+use Rattle.tree_core.specs.declared.fails.TreeFail.{TreeFail}
+use Rattle.tree_core.specs.declared.fails.TreeFail.TheVariants.{StampLimit}
+use Rattle.tree_core.specs.After.{named_or_refusal, refuse_if, time_after}
 
 abbrev value : {A E : Type 0} → A → Result A E → A
 value x (Ok y) = y

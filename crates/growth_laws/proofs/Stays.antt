@@ -15,8 +15,8 @@ use Rattle.join_laws.proofs.Joins.{meta_joins, places_joins, state_joins, versio
 use Rattle.join_laws.proofs.SoundDoc.{IsKid, db_place, kid_place, place_kid, shape_entry, shape_group, version_marks}
 use Rattle.join_laws.proofs.Tables.{find_in}
 use Rattle.join_laws.proofs.Unite.{from_keys}
-use Rattle.tree_changes.proofs.Counted.{occurs, once, one_if}
-use Rattle.tree_changes.proofs.Rows.{keys, none_found}
+use Rattle.tree_core.proofs.Counted.{occurs, once, one_if}
+use Rattle.tree_core.proofs.Rows.{keys, none_found}
 use Rattle.tree_group_removals.proofs.ManyTombs.{rows_count}
 use Rattle.growth_laws.proofs.Grown.{grown}
 

@@ -23,8 +23,8 @@ use Rattle.vault_model.specs.Join.{IsIn}
 use Rattle.join_laws.proofs.Laid.{db_entries, db_groups}
 use Rattle.join_laws.proofs.SoundDoc.{db_root, db_shared, db_tomb, document_sound, entry_at, group_at}
 use Rattle.join_laws.proofs.Tables.{find_in}
-use Rattle.tree_changes.proofs.Counted.{occurs, one_if}
-use Rattle.tree_changes.proofs.Rows.{keys}
+use Rattle.tree_core.proofs.Counted.{occurs, one_if}
+use Rattle.tree_core.proofs.Rows.{keys}
 use Rattle.growth_laws.proofs.Grown.{grown}
 use Rattle.growth_laws.proofs.Stays.{Buried, GroupAfter, Stays, entry_is, group_is, row_found, versions_time}
 

@@ -15,10 +15,10 @@ use Rattle.vault_model.proofs.Ids.{is_same_id, same_id}
 use Rattle.vault_model.proofs.Tests.{apart, decide, in_front}
 use Rattle.join_laws.proofs.Joins.{meta_joins, places_joins, state_joins, versions_joins}
 use Rattle.join_laws.proofs.SoundDoc.{IsKid, below_node, is_node, kid_below}
-use Rattle.tree_changes.specs.Changes.{changed_at, changed_entry, entry_moved, group_with, moved_entry, own_entry, with_entry, with_group, without_entry, without_group}
-use Rattle.tree_changes.proofs.Around.{found_id, same_root}
-use Rattle.tree_changes.proofs.Changed.{changed_by}
-use Rattle.tree_changes.proofs.Options.{never}
+use Rattle.tree_core.specs.Changes.{changed_at, changed_entry, entry_moved, group_with, moved_entry, own_entry, with_entry, with_group, without_entry, without_group}
+use Rattle.tree_core.proofs.Around.{found_id, same_root}
+use Rattle.tree_core.proofs.Changed.{changed_by}
+use Rattle.tree_core.proofs.Options.{never}
 use Rattle.growth_laws.proofs.Carries.{Carries, Entry, Group, carries_at, entry_in, kid_in, put_entry_carries, put_entry_kid, put_entry_row, put_group_carries, take_entry_carries, was_entry_in}
 use Rattle.growth_laws.proofs.Stays.{Buried, EntryAfter, GroupAfter, KidAfter, Stays, entry_stay, group_stay, places_stay}
 

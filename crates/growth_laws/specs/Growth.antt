@@ -5,9 +5,9 @@ use Rattle.vault_model.specs.Db.{NodeId}
 use Rattle.vault_model.specs.Join.{join}
 use Rattle.vault_model.specs.Plans.{IsStep, World, change}
 use Rattle.vault_model.specs.Tree.{BareDoc, IsDoc, db_in}
-use Rattle.tree_changes.specs.After.{AfterRemoval, Holding, after_add, after_edit, after_make_group, after_move_entry, after_move_group, after_remove_entry, after_remove_group, entry_named, needs_bin}
-use Rattle.tree_changes.specs.Histories.{rising_versions, within_limits}
-use Rattle.tree_changes.specs.NewNodes.{GivenValues}
+use Rattle.tree_core.specs.After.{AfterRemoval, Holding, after_add, after_edit, after_make_group, after_move_entry, after_move_group, after_remove_entry, after_remove_group, entry_named, needs_bin}
+use Rattle.tree_core.specs.Histories.{rising_versions, within_limits}
+use Rattle.tree_core.specs.NewNodes.{GivenValues}
 
 -- the database of a document is that of another, grown
 abbrev pub GrowsTo : BareDoc → BareDoc → Type 0

@@ -11,7 +11,7 @@ use Rattle.vault_model.specs.SeenNodes.{are_entries_proper, are_groups_proper}
 use Rattle.vault_model.specs.Tree.{Tree, Trees, beside, entry_rows, entry_rows_all, group_rows, group_rows_all, is_elsewhere, is_proper_entry, node, node_ids, node_ids_all, none}
 use Rattle.vault_model.specs.Walk.{name_of}
 use Rattle.vault_model.proofs.Tests.{and_both, and_true, map_append, not_false, not_true, or_false}
-use Rattle.tree_changes.proofs.Counted.{all_append, all_front}
+use Rattle.tree_core.proofs.Counted.{all_append, all_front}
 use Rattle.import_tree.specs.Entries.{named_id}
 use Rattle.import_tree.specs.Trees.{new_groups, with_entry, with_entry_among}
 use Rattle.import_tree.proofs.NamedIds.{named_not_nil, other_than_nil}

@@ -7,7 +7,7 @@ use Rattle.vault_model.specs.Bare.{BareField}
 use Rattle.vault_model.specs.Proper.{is_proper_content, is_text_content, is_text_field, rises}
 use Rattle.vault_model.specs.Tree.{is_proper_entry}
 use Rattle.vault_model.proofs.Tests.{and_both}
-use Rattle.tree_changes.proofs.Counted.{all_append}
+use Rattle.tree_core.proofs.Counted.{all_append}
 use Rattle.import_tree.specs.Entries.{AreTexts, ImportedEntry, content_at, entry_at, field, fields_of, history_field}
 
 -- one field after another

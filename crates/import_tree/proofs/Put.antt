@@ -14,10 +14,10 @@ use Rattle.vault_model.specs.Walk.{name_of}
 use Rattle.vault_model.specs.declared.nodes.Group.{Group, out-Group}
 use Rattle.vault_model.proofs.SeenGroups.{seen_group}
 use Rattle.vault_model.proofs.Tests.{decide, is_false, or_false}
-use Rattle.tree_changes.proofs.Options.{never}
-use Rattle.tree_changes.specs.Changes as changes
-use Rattle.tree_changes.specs.Changes.{with_group, with_last}
-use Rattle.tree_changes.specs.NewNodes.{empty_group}
+use Rattle.tree_core.proofs.Options.{never}
+use Rattle.tree_core.specs.Changes as changes
+use Rattle.tree_core.specs.Changes.{with_group, with_last}
+use Rattle.tree_core.specs.NewNodes.{empty_group}
 use Rattle.tree_groups.proofs.GroupPuts.{group_put}
 use Rattle.tree_steps.proofs.InPlace.{entry_put, record_seen, seen_with_groups, trees, with_entries, with_groups}
 use Rattle.vault_model.specs.declared.nodes.Entry.{Entry}

@@ -4,7 +4,7 @@ ghost use Rattle.std.specs.Prelude.{◌≡◌, [], IfOk, OnErr, OnOk, position, 
 ghost use Rattle.std.specs.List.{list_all};
 ghost use Rattle.std.specs.Str.{is_utf8};
 ghost use Rattle.import_tree.specs.Trees as spec;
-ghost use Rattle.tree_changes.specs.Changes.{with_group};
+ghost use Rattle.tree_core.specs.Changes.{with_group};
 ghost use Rattle.vault_model.specs.SeenNodes.{entry_row, tree_seen};
 ghost use Rattle.vault_model.specs.Walk.{name_of};
 ghost use Rattle.vault_model.specs.declared.nodes.Group.{out-Group};

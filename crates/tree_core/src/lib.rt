@@ -1,8 +1,14 @@
 //! Paths in a document: which entry and which group a text names.
+//! What the commands that change a document make of it, as definitions: the new document, or the
+//! first refusal. The code that does it is in `tree_edits` and `tree_moves`.
 #![tactic(auto)]
 
+pub mod fails;
 mod finding;
 mod path;
+pub mod values;
 
+pub use fails::{Removed, TreeFail};
 pub use finding::{find_entry, find_group, find_group_of, is_entry_path, is_group_path, title};
 pub use path::without_slashes;
+pub use values::Values;

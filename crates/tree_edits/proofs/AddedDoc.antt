@@ -5,11 +5,11 @@ use Rattle.vault_model.specs.Db.{NodeId}
 use Rattle.vault_model.specs.Shape.{EntryRecord}
 use Rattle.vault_model.specs.Tree.{BareDoc, IsDoc, Tree, is_proper_entry}
 use Rattle.tree_core.specs.Finding.{group_found}
-use Rattle.tree_changes.specs.Changes.{changed_at, has_group, is_free, with_entry}
-use Rattle.tree_changes.specs.NewNodes.{GivenValues, new_entry, new_fields}
-use Rattle.tree_changes.specs.NewPaths.{after_last, before_last}
-use Rattle.tree_changes.proofs.Added.{put_is_doc}
-use Rattle.tree_changes.proofs.Named.{named_group}
+use Rattle.tree_core.specs.Changes.{changed_at, has_group, is_free, with_entry}
+use Rattle.tree_core.specs.NewNodes.{GivenValues, new_entry, new_fields}
+use Rattle.tree_core.specs.NewPaths.{after_last, before_last}
+use Rattle.tree_core.proofs.Added.{put_is_doc}
+use Rattle.tree_core.proofs.Named.{named_group}
 use Rattle.tree_edits.specs.Texts.{AreTexts}
 use Rattle.tree_edits.proofs.Proper.{new_entry_proper}
 

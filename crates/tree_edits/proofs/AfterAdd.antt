@@ -3,12 +3,12 @@ use Rattle.std.proofs.Common.{◌≡◌, ℕ, Bool, true, false, not, List, Opti
 use Rattle.vault_model.specs.Db.{NodeId}
 use Rattle.vault_model.specs.Tree.{BareDoc}
 use Rattle.tree_core.specs.Finding.{group_found, has_entry_path}
-use Rattle.tree_changes.specs.declared.fails.TreeFail.TheVariants.{IdTaken, NameTaken, NoSuchPath}
-use Rattle.tree_changes.specs.After.{after_add}
-use Rattle.tree_changes.specs.Changes.{changed_at, is_free, with_entry}
-use Rattle.tree_changes.specs.NewNodes.{GivenValues, new_entry, new_fields}
-use Rattle.tree_changes.specs.NewPaths.{after_last, before_last, new_path}
-use Rattle.tree_changes.proofs.Binds.{names, names_none, passes, refuses}
+use Rattle.tree_core.specs.declared.fails.TreeFail.TheVariants.{IdTaken, NameTaken, NoSuchPath}
+use Rattle.tree_core.specs.After.{after_add}
+use Rattle.tree_core.specs.Changes.{changed_at, is_free, with_entry}
+use Rattle.tree_core.specs.NewNodes.{GivenValues, new_entry, new_fields}
+use Rattle.tree_core.specs.NewPaths.{after_last, before_last, new_path}
+use Rattle.tree_core.proofs.Binds.{names, names_none, passes, refuses}
 
 module _ (path : List ℕ) (id : NodeId) (v : GivenValues) (now : ℕ) (d : BareDoc) where
   pub add_no_path : group_found d (before_last path) ≡ None → after_add path id v now d ≡ Err NoSuchPath

@@ -6,13 +6,13 @@ use Rattle.vault_model.specs.Shape.{EntryRecord}
 use Rattle.vault_model.specs.Tree.{BareDoc}
 use Rattle.outside_core.specs.Results.{◌>>=◌}
 use Rattle.tree_core.specs.Finding.{entry_found}
-use Rattle.tree_changes.specs.declared.fails.TreeFail.{TreeFail}
-use Rattle.tree_changes.specs.declared.fails.TreeFail.TheVariants.{NoSuchPath}
-use Rattle.tree_changes.specs.After.{Holding, after_edit, edited_entry, entry_named, time_after}
-use Rattle.tree_changes.specs.Changes.{changed_at, changed_entry, entry_at, holder}
-use Rattle.tree_changes.specs.NewNodes.{GivenValues}
-use Rattle.tree_changes.proofs.Binds.{ends, goes_on, names, names_none}
-use Rattle.tree_changes.proofs.Edited.{changed_same}
+use Rattle.tree_core.specs.declared.fails.TreeFail.{TreeFail}
+use Rattle.tree_core.specs.declared.fails.TreeFail.TheVariants.{NoSuchPath}
+use Rattle.tree_core.specs.After.{Holding, after_edit, edited_entry, entry_named, time_after}
+use Rattle.tree_core.specs.Changes.{changed_at, changed_entry, entry_at, holder}
+use Rattle.tree_core.specs.NewNodes.{GivenValues}
+use Rattle.tree_core.proofs.Binds.{ends, goes_on, names, names_none}
+use Rattle.tree_core.proofs.Edited.{changed_same}
 
 module _ (path : List ℕ) (v : GivenValues) (now : ℕ) (d : BareDoc) where
   abbrev rest : Holding → Result BareDoc TreeFail

@@ -5,10 +5,10 @@ use Rattle.vault_model.specs.SeenNodes.{entry_time}
 use Rattle.vault_model.specs.Shape.{BareVersion, EntryRecord}
 use Rattle.vault_model.specs.Tree.{BareDoc, IsDoc, Tree, is_proper_entry}
 use Rattle.tree_core.specs.Finding.{entry_found}
-use Rattle.tree_changes.specs.After.{after_edit, edited_entry, time_after}
-use Rattle.tree_changes.specs.Changes.{changed_at, changed_entry, entry_at, holder}
-use Rattle.tree_changes.specs.NewNodes.{GivenValues}
-use Rattle.tree_changes.proofs.Edited.{changed_same, entry_is_proper, found_key, set_is_doc}
+use Rattle.tree_core.specs.After.{after_edit, edited_entry, time_after}
+use Rattle.tree_core.specs.Changes.{changed_at, changed_entry, entry_at, holder}
+use Rattle.tree_core.specs.NewNodes.{GivenValues}
+use Rattle.tree_core.proofs.Edited.{changed_same, entry_is_proper, found_key, set_is_doc}
 use Rattle.tree_edits.specs.Texts.{AreTexts}
 use Rattle.tree_edits.proofs.AfterEdit.{edit_done}
 use Rattle.tree_edits.proofs.Proper.{edited_entry_proper}

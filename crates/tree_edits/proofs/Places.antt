@@ -7,8 +7,8 @@ use Rattle.std.specs.declared.cmp.Ordering.TheVariants.{Less, Equal, Greater}
 use Rattle.std.specs.List.{slice_get, slice_set}
 use Rattle.vault_model.proofs.Tests.{map_append}
 use Rattle.vault_model.specs.Unite.{by_order}
-use Rattle.tree_changes.specs.InOrder.{put_in_order}
-use Rattle.tree_changes.proofs.Options.{never}
+use Rattle.tree_core.specs.InOrder.{put_in_order}
+use Rattle.tree_core.proofs.Options.{never}
 use Rattle.tree_edits.specs.Spots.{changed_nth, further, spot}
 
 module _ {A B : Type 0} (see : A → B) (f : B → B) where

@@ -24,11 +24,11 @@ use Rattle.vault_model.proofs.Orders.{bytes_order, mark_order}
 use Rattle.vault_model.proofs.Tests.{and_both, and_true, from_map}
 use Rattle.join_laws.proofs.SoundDoc.{all_in, version_marks}
 use Rattle.join_laws.proofs.Tables.{entry_get}
-use Rattle.tree_changes.specs.After.{edited_entry}
-use Rattle.tree_changes.specs.Histories.{is_within, rising_versions, versions_size, within_limits}
-use Rattle.tree_changes.specs.InOrder.{put_in_order}
+use Rattle.tree_core.specs.After.{edited_entry}
+use Rattle.tree_core.specs.Histories.{is_within, rising_versions, versions_size, within_limits}
+use Rattle.tree_core.specs.InOrder.{put_in_order}
 use Rattle.tree_edits.specs.Texts.{AreTexts, is_text_value}
-use Rattle.tree_changes.specs.NewNodes.{GivenValues, edited_fields, edited_version, field, lent_value, new_content, new_entry, new_fields, with_given, with_value}
+use Rattle.tree_core.specs.NewNodes.{GivenValues, edited_fields, edited_version, field, lent_value, new_content, new_entry, new_fields, with_given, with_value}
 
 -- ---- texts
 

@@ -20,7 +20,7 @@ use Rattle.vault_model.proofs.Orders.{mark_order}
 use Rattle.vault_model.proofs.Tests.{decide}
 use Rattle.join_laws.proofs.Joins.{stats_joins, versions_joins}
 use Rattle.join_laws.proofs.Unite.{tie, get-unite}
-use Rattle.tree_changes.specs.Histories.{rising_versions}
+use Rattle.tree_core.specs.Histories.{rising_versions}
 use Rattle.tree_edits.specs.Versions.{AreRising, put_version}
 
 -- a version as a map of its own

@@ -9,7 +9,7 @@ use Rattle.vault_model.specs.Seen.{bare_content}
 use Rattle.vault_model.specs.SeenNodes.{bare_version}
 use Rattle.vault_model.specs.Shape.{BareVersion}
 use Rattle.vault_model.specs.declared.nodes.Version.{Version}
-use Rattle.tree_changes.specs.Histories.{content_size, is_within, versions_size, within_limits}
+use Rattle.tree_core.specs.Histories.{content_size, is_within, versions_size, within_limits}
 use Rattle.tree_edits.specs.Rooms.{IsStart, is_under, limit_of, room_left, surplus_over}
 use Rattle.tree_edits.proofs.Rooms.{has_room, left_some}
 

@@ -1,7 +1,7 @@
 -- Limits, and room that is used up piece by piece.
 use Rattle.std.specs.Prelude.{◌≡◌, ◌⊎◌, ◌≤◌, ℕ, ℤ, Bool, true, ◌-◌, cond, List, length, drop, Option, None, Some, is_some, nat_le, negsuc, pos}
 use Rattle.vault_model.specs.Shape.{BareVersion}
-use Rattle.tree_changes.specs.Histories.{versions_size}
+use Rattle.tree_core.specs.Histories.{versions_size}
 
 -- the room that is left, where so much was there
 abbrev pub room_left : ℕ → ℕ → Option ℕ

@@ -1,7 +1,7 @@
 -- Values that are texts.
 use Rattle.std.specs.Prelude.{◌≡◌, ℕ, Bool, true, List, Option, None, Some}
 use Rattle.std.specs.Str.{is_utf8}
-use Rattle.tree_changes.specs.NewNodes.{GivenValues}
+use Rattle.tree_core.specs.NewNodes.{GivenValues}
 
 -- a value is in UTF-8, where it is given
 abbrev pub is_text_value : Option (List ℕ) → Bool

@@ -5,7 +5,7 @@ use Rattle.std.specs.Ordering.{is_gt}
 use Rattle.vault_model.specs.Db.{Versions, mark_cmp}
 use Rattle.vault_model.specs.Join.{stats_join}
 use Rattle.vault_model.specs.Shape.{BareVersion, version_of}
-use Rattle.tree_changes.specs.InOrder.{put_in_order}
+use Rattle.tree_core.specs.InOrder.{put_in_order}
 
 -- versions with one more in its place; of one mark they are made one
 abbrev pub put_version : BareVersion → List BareVersion → List BareVersion

@@ -3,13 +3,13 @@
 ghost use Rattle.std.specs.Prelude.{◌≡◌, IfSome, true};
 ghost use Rattle.std.specs.Str.{is_utf8};
 ghost use Rattle.vault_model.specs.SeenDoc.{doc_seen};
-ghost use Rattle.tree_changes.specs.After.{Changes, after_add};
-ghost use Rattle.tree_changes.specs.NewNodes.{given_values};
+ghost use Rattle.tree_core.specs.After.{Changes, after_add};
+ghost use Rattle.tree_core.specs.NewNodes.{given_values};
 
 use crate::new_entries::{new_entry, new_fields};
 use crate::texts::values_are_utf8;
 use std::alloc::Global;
-use tree_changes::{TreeFail, Values};
+use tree_core::{TreeFail, Values};
 use tree_core::{find_group_of, is_entry_path};
 use tree_steps::{before_last, is_free, name_after, path_of_new, put_entry};
 use uuid_core::Uuid;

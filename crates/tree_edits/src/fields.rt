@@ -4,7 +4,7 @@ ghost use Rattle.std.specs.Prelude.{◌≡◌, [], ◌∷◌, ◌++◌, ◌≤�
 ghost use Rattle.std.specs.Option.{option_map, unwrap_or};
 ghost use Rattle.vault_model.specs.Orders.{bytes_cmp};
 ghost use Rattle.vault_model.specs.Seen.{bare_field};
-ghost use Rattle.tree_changes.specs.NewNodes as spec;
+ghost use Rattle.tree_core.specs.NewNodes as spec;
 ghost use Rattle.tree_edits.specs.Spots.{changed_nth, spot};
 ghost use Rattle.vault_model.specs.Bare.{BareField};
 

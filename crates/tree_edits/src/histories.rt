@@ -5,7 +5,7 @@ ghost use Rattle.vault_model.specs.Db.{mark_cmp};
 ghost use Rattle.vault_model.specs.Join.{stats_join};
 ghost use Rattle.vault_model.specs.SeenNodes.{bare_version, entry_record};
 ghost use Rattle.vault_model.specs.Shape.{BareVersion};
-ghost use Rattle.tree_changes.specs.Histories as spec;
+ghost use Rattle.tree_core.specs.Histories as spec;
 ghost use Rattle.tree_edits.specs.Versions as order;
 ghost use Rattle.tree_edits.specs.Versions.{AreRising, put_version};
 ghost use Rattle.tree_edits.specs.Spots.{changed_nth, spot};

@@ -3,7 +3,7 @@
 ghost use Rattle.std.specs.Prelude.{◌≡◌, ◌≤◌, drop, length, map, sum};
 ghost use Rattle.vault_model.specs.Seen.{bare_attachment, bare_content, bare_field};
 ghost use Rattle.vault_model.specs.SeenNodes.{bare_version, entry_record};
-ghost use Rattle.tree_changes.specs.Histories as spec;
+ghost use Rattle.tree_core.specs.Histories as spec;
 ghost use Rattle.tree_edits.specs.Rooms.{IsStart, limit_of, room_left, surplus_over};
 
 use crate::cutting::cut_start;

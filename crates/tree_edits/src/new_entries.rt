@@ -5,12 +5,12 @@ ghost use Rattle.std.specs.Option.{unwrap_or};
 ghost use Rattle.vault_model.specs.Db.{nil_id};
 ghost use Rattle.vault_model.specs.Seen.{bare_content, bare_field};
 ghost use Rattle.vault_model.specs.SeenNodes.{entry_row};
-ghost use Rattle.tree_changes.specs.NewNodes as spec;
+ghost use Rattle.tree_core.specs.NewNodes as spec;
 
 use crate::fields::new_field;
 use outside_core::{List, NoMemory, Text};
 use std::alloc::Global;
-use tree_changes::Values;
+use tree_core::Values;
 use tree_steps::put_last;
 use uuid_core::Uuid;
 use vault_model::{AutoType, Content, Entry, Field, Protection, Stamp, Stats, Version};

@@ -2,10 +2,10 @@
 
 ghost use Rattle.std.specs.Prelude.{◌≡◌, IfSome, true};
 ghost use Rattle.std.specs.Str.{is_utf8};
-ghost use Rattle.tree_changes.specs.NewNodes.{given_values, lent_value};
+ghost use Rattle.tree_core.specs.NewNodes.{given_values, lent_value};
 ghost use Rattle.tree_edits.specs.Texts.{AreTexts, is_text_value};
 
-use tree_changes::Values;
+use tree_core::Values;
 
 // A text is in UTF-8, where it is given.
 fn text_is_utf8(text: Option<&str>)

@@ -13,12 +13,12 @@ use Rattle.vault_model.specs.declared.nodes.Group.{Group, out-Group}
 use Rattle.vault_model.proofs.SeenGroups.{seen_group}
 use Rattle.vault_model.proofs.Tests.{decide, not_true}
 use Rattle.tree_core.specs.Finding.{group_found}
-use Rattle.tree_changes.specs.declared.fails.TreeFail.{TreeFail}
-use Rattle.tree_changes.specs.declared.fails.TreeFail.TheVariants.{AlreadyThere, IntoItself, NoMemory, NoSuchPath, RootFixed, TooDeep}
-use Rattle.tree_changes.specs.After.{Changes, after_move_group, group_moved_to, is_parent, named_or_refusal, refuse_if, time_after}
-use Rattle.tree_changes.specs.Changes.{group_moved, group_with, has_group, level_of, parent_of, placed_of}
-use Rattle.tree_changes.proofs.Around.{found_id}
-use Rattle.tree_changes.proofs.Binds.{names, names_none, passes, refuses}
+use Rattle.tree_core.specs.declared.fails.TreeFail.{TreeFail}
+use Rattle.tree_core.specs.declared.fails.TreeFail.TheVariants.{AlreadyThere, IntoItself, NoMemory, NoSuchPath, RootFixed, TooDeep}
+use Rattle.tree_core.specs.After.{Changes, after_move_group, group_moved_to, is_parent, named_or_refusal, refuse_if, time_after}
+use Rattle.tree_core.specs.Changes.{group_moved, group_with, has_group, level_of, parent_of, placed_of}
+use Rattle.tree_core.proofs.Around.{found_id}
+use Rattle.tree_core.proofs.Binds.{names, names_none, passes, refuses}
 use Rattle.tree_group_moves.specs.GroupPlaces.{group_at, time_of_move}
 
 -- ---- levels

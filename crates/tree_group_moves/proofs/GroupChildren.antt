@@ -6,17 +6,17 @@ use Rattle.vault_model.specs.Join.{is_id}
 use Rattle.vault_model.specs.Tree.{Tree, Trees, beside, id_of, is_elsewhere, node, node_ids, node_ids_all, none}
 use Rattle.vault_model.proofs.Ids.{is_same_id, same_id}
 use Rattle.vault_model.proofs.Tests.{decide, is_false, some_of}
-use Rattle.tree_changes.specs.Changes.{changed_at, changed_in, child_with, group_among, group_moved, group_with, has_group, have_group, moved_group, on_groups, own_group, with_group, with_last, without_group}
-use Rattle.tree_changes.proofs.Around.{found_group, found_id, ids_rows, occurs_change, rows_change}
-use Rattle.tree_changes.proofs.Changed.{absent_group, changed_by}
-use Rattle.tree_changes.proofs.Counted.{elsewhere_occurs, occurs, occurs-append, one_if}
-use Rattle.tree_changes.proofs.GroupDocs.{put_root, take_counts, take_root}
-use Rattle.tree_changes.proofs.GroupMoves.{Off, OffIn, either_order, from_there, off_first, off_rest, root_stays, to_there}
-use Rattle.tree_changes.proofs.Holders.{has_counts}
-use Rattle.tree_changes.proofs.Options.{never}
-use Rattle.tree_changes.specs.NewNodes.{empty_group}
-use Rattle.tree_changes.proofs.Rows.{keys}
-use Rattle.tree_changes.proofs.Ways.{below, first, here, later}
+use Rattle.tree_core.specs.Changes.{changed_at, changed_in, child_with, group_among, group_moved, group_with, has_group, have_group, moved_group, on_groups, own_group, with_group, with_last, without_group}
+use Rattle.tree_core.proofs.Around.{found_group, found_id, ids_rows, occurs_change, rows_change}
+use Rattle.tree_core.proofs.Changed.{absent_group, changed_by}
+use Rattle.tree_core.proofs.Counted.{elsewhere_occurs, occurs, occurs-append, one_if}
+use Rattle.tree_core.proofs.GroupDocs.{put_root, take_counts, take_root}
+use Rattle.tree_core.proofs.GroupMoves.{Off, OffIn, either_order, from_there, off_first, off_rest, root_stays, to_there}
+use Rattle.tree_core.proofs.Holders.{has_counts}
+use Rattle.tree_core.proofs.Options.{never}
+use Rattle.tree_core.specs.NewNodes.{empty_group}
+use Rattle.tree_core.proofs.Rows.{keys}
+use Rattle.tree_core.proofs.Ways.{below, first, here, later}
 use Rattle.tree_group_moves.specs.GroupPlaces.{groups_filled, group_at, group_placed}
 
 -- ---- two changes of one group are one

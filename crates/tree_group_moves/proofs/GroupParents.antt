@@ -12,11 +12,11 @@ use Rattle.vault_model.proofs.Ids.{is_same_id, same_id}
 use Rattle.vault_model.proofs.SeenGroups.{seen_group}
 use Rattle.vault_model.proofs.Tests.{apart, decide, is_false, or_left, or_right, some_of}
 use Rattle.tree_core.specs.Finding.{or_else}
-use Rattle.tree_changes.specs.Changes.{child_with, group_among, group_with, has_group, have_group, own_group, parent_among, parent_of}
-use Rattle.tree_changes.proofs.Counted.{occurs, occurs-append, once, one_if}
-use Rattle.tree_changes.proofs.Holders.{has_counts, have_counts}
-use Rattle.tree_changes.proofs.Options.{never}
-use Rattle.tree_changes.proofs.Rows.{keys}
+use Rattle.tree_core.specs.Changes.{child_with, group_among, group_with, has_group, have_group, own_group, parent_among, parent_of}
+use Rattle.tree_core.proofs.Counted.{occurs, occurs-append, once, one_if}
+use Rattle.tree_core.proofs.Holders.{has_counts, have_counts}
+use Rattle.tree_core.proofs.Options.{never}
+use Rattle.tree_core.proofs.Rows.{keys}
 use Rattle.tree_group_moves.specs.GroupPlaces.{group_at}
 use Rattle.tree_steps.proofs.InPlace.{trees}
 

@@ -9,12 +9,12 @@ use Rattle.vault_model.specs.Proper.{is_proper_group_content}
 use Rattle.vault_model.specs.Shape.{EntryRecord, GroupRecord}
 use Rattle.vault_model.specs.Tree.{BareDoc, IsDoc, LEVELS, Tree, Trees, beside, entry_rows, entry_rows_all, group_rows, group_rows_all, height, id_of, is_elsewhere, is_proper_entry, node, node_ids, none}
 use Rattle.vault_model.proofs.Tests.{decide}
-use Rattle.tree_changes.specs.Changes.{changed_at, child_with, group_moved, has_group, level_of, moved_group, own_group, with_group, without_group}
-use Rattle.tree_changes.proofs.Around.{AreRows, entries_rows, found_group, found_id, groups_rows, rows_change}
-use Rattle.tree_changes.proofs.Counted.{all_both, all_front, elsewhere_occurs, occurs, occurs_elsewhere, once}
-use Rattle.tree_changes.proofs.GroupDocs.{counted_less, put_is_doc, take_is_doc}
-use Rattle.tree_changes.proofs.GroupMoves.{level_there, to_there}
-use Rattle.tree_changes.proofs.Options.{never}
+use Rattle.tree_core.specs.Changes.{changed_at, child_with, group_moved, has_group, level_of, moved_group, own_group, with_group, without_group}
+use Rattle.tree_core.proofs.Around.{AreRows, entries_rows, found_group, found_id, groups_rows, rows_change}
+use Rattle.tree_core.proofs.Counted.{all_both, all_front, elsewhere_occurs, occurs, occurs_elsewhere, once}
+use Rattle.tree_core.proofs.GroupDocs.{counted_less, put_is_doc, take_is_doc}
+use Rattle.tree_core.proofs.GroupMoves.{level_there, to_there}
+use Rattle.tree_core.proofs.Options.{never}
 use Rattle.tree_group_moves.proofs.GroupChildren.{found_child, found_child_id, off_goal}
 use Rattle.tree_group_moves.specs.GroupPlaces.{group_at}
 

@@ -12,9 +12,9 @@ use Rattle.vault_model.specs.declared.nodes.Group.{Group, out-Group, roll-Group}
 use Rattle.vault_model.specs.declared.nodes.Group.TheFolds.{fold-roll-Group}
 use Rattle.vault_model.proofs.SeenGroups.{seen_group}
 use Rattle.vault_model.proofs.Tests.{decide}
-use Rattle.tree_changes.proofs.Changed.{absent_group, changed_by, changed_not}
-use Rattle.tree_changes.proofs.Options.{never}
-use Rattle.tree_changes.specs.Changes.{but_group, changed_at, child_with, has_group, moved_group, on_groups, own_group, without_group}
+use Rattle.tree_core.proofs.Changed.{absent_group, changed_by, changed_not}
+use Rattle.tree_core.proofs.Options.{never}
+use Rattle.tree_core.specs.Changes.{but_group, changed_at, child_with, has_group, moved_group, on_groups, own_group, without_group}
 use Rattle.tree_group_moves.specs.GroupPlaces.{groups_filled, group_at}
 use Rattle.tree_steps.specs.ChangedAt.{ChangedAt}
 use Rattle.tree_steps.proofs.InPlace.{record_seen, seen_with_groups, trees, with_groups}

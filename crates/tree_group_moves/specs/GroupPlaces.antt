@@ -5,10 +5,10 @@ use Rattle.outside_core.specs.Results.{◌>>=◌}
 use Rattle.vault_model.specs.Db.{NodeId, nil_id}
 use Rattle.vault_model.specs.Join.{is_id}
 use Rattle.vault_model.specs.Tree.{LEVELS, Tree, Trees, beside, height, id_of, none}
-use Rattle.tree_changes.specs.declared.fails.TreeFail.{TreeFail}
-use Rattle.tree_changes.specs.declared.fails.TreeFail.TheVariants.{IntoItself, TooDeep}
-use Rattle.tree_changes.specs.After.{refuse_if, time_after}
-use Rattle.tree_changes.specs.Changes.{changed_at, child_with, group_with, has_group, level_of, moved_group, on_groups, placed_of, without_group}
+use Rattle.tree_core.specs.declared.fails.TreeFail.{TreeFail}
+use Rattle.tree_core.specs.declared.fails.TreeFail.TheVariants.{IntoItself, TooDeep}
+use Rattle.tree_core.specs.After.{refuse_if, time_after}
+use Rattle.tree_core.specs.Changes.{changed_at, child_with, group_with, has_group, level_of, moved_group, on_groups, placed_of, without_group}
 
 -- the group of this id in the group of another
 abbrev pub group_at : NodeId → NodeId → Tree → Option Tree

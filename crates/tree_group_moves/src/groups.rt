@@ -5,7 +5,7 @@ ghost use Rattle.vault_model.specs.Join.{is_id};
 ghost use Rattle.vault_model.specs.SeenNodes.{tree_seen};
 ghost use Rattle.vault_model.specs.Tree.{all_trees};
 ghost use Rattle.vault_model.specs.declared.nodes.Group.{out-Group};
-ghost use Rattle.tree_changes.specs.Changes.{changed_at, on_groups, without_group};
+ghost use Rattle.tree_core.specs.Changes.{changed_at, on_groups, without_group};
 ghost use Rattle.tree_group_moves.specs.GroupPlaces.{groups_filled, group_at};
 
 use outside_core::List;
@@ -30,7 +30,7 @@ struct TakeGroup {
 impl Change for TakeGroup {
     ghost use Rattle.std.specs.Prelude.{◌≡◌, MatchOption, None, Some};
     ghost use Rattle.vault_model.specs.SeenNodes.{tree_seen};
-    ghost use Rattle.tree_changes.specs.Changes.{child_with, without_group};
+    ghost use Rattle.tree_core.specs.Changes.{child_with, without_group};
 
     type Out = Option<Group>;
 
@@ -79,7 +79,7 @@ struct FillGroup {
 impl Change for FillGroup {
     ghost use Rattle.std.specs.Prelude.{◌≡◌};
     ghost use Rattle.vault_model.specs.SeenNodes.{tree_seen};
-    ghost use Rattle.tree_changes.specs.Changes.{on_groups};
+    ghost use Rattle.tree_core.specs.Changes.{on_groups};
     ghost use Rattle.tree_group_moves.specs.GroupPlaces.{groups_filled};
 
     type Out = ();

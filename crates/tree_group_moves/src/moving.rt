@@ -5,15 +5,15 @@ ghost use Rattle.vault_model.specs.Db.{nil_id};
 ghost use Rattle.vault_model.specs.SeenDoc.{doc_seen};
 ghost use Rattle.vault_model.specs.SeenNodes.{tree_seen};
 ghost use Rattle.vault_model.specs.Tree.{is_elsewhere};
-ghost use Rattle.tree_changes.specs.After as after;
-ghost use Rattle.tree_changes.specs.Changes as spec;
+ghost use Rattle.tree_core.specs.After as after;
+ghost use Rattle.tree_core.specs.Changes as spec;
 ghost use Rattle.tree_group_moves.specs.GroupPlaces as places;
 
 use crate::groups::{fill_group, take_group};
 use crate::parents::parent_of;
 use outside_core::NoMemory;
 use std::alloc::Global;
-use tree_changes::TreeFail;
+use tree_core::TreeFail;
 use tree_core::find_group;
 use tree_groups::{LEVELS, fits, levels_below, new_group, put_group};
 use tree_steps::{group_of, has_group, is_same, time_after};

@@ -3,7 +3,7 @@
 ghost use Rattle.std.specs.Prelude.{◌≡◌, is_some, map};
 ghost use Rattle.vault_model.specs.SeenNodes.{tree_seen};
 ghost use Rattle.vault_model.specs.Tree.{all_trees};
-ghost use Rattle.tree_changes.specs.Changes as spec;
+ghost use Rattle.tree_core.specs.Changes as spec;
 
 use tree_steps::is_same;
 use uuid_core::Uuid;

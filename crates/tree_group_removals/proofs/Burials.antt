@@ -10,7 +10,7 @@ use Rattle.vault_model.specs.SeenNodes.{entry_row, tree_seen}
 use Rattle.vault_model.specs.Tree.{Tree, Trees, beside, entry_rows, entry_rows_all, group_rows, group_rows_all, none}
 use Rattle.vault_model.proofs.SeenGroups.{seen_group}
 use Rattle.vault_model.proofs.Tests.{map_append}
-use Rattle.tree_changes.specs.Changes.{tomb_at}
+use Rattle.tree_core.specs.Changes.{tomb_at}
 use Rattle.tree_group_removals.specs.Tombs.{entry_tomb, entry_tombs, entry_tombs_all, group_tomb, group_tombs, group_tombs_all}
 use Rattle.tree_steps.proofs.InPlace.{trees}
 

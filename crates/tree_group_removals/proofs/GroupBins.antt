@@ -12,14 +12,14 @@ use Rattle.vault_model.proofs.Ids.{is_same_id, same_id}
 use Rattle.vault_model.proofs.SeenGroups.{seen_group}
 use Rattle.vault_model.proofs.Tests.{and_true, apart, decide, is_false, or_false, or_left, or_right, some_of}
 use Rattle.tree_core.specs.Finding.{or_else}
-use Rattle.tree_changes.proofs.Around.{ids_rows, found_id, occurs_change, rows_change}
-use Rattle.tree_changes.proofs.Changed.{absent_group}
-use Rattle.tree_changes.proofs.Counted.{elsewhere_occurs, occurs}
-use Rattle.tree_changes.proofs.GroupDocs.{take_counts, take_root}
-use Rattle.tree_changes.proofs.Holders.{has_counts}
-use Rattle.tree_changes.proofs.Options.{never}
-use Rattle.tree_changes.specs.Changes.{changed_at, child_with, group_among, group_moved, group_with, has_group, have_group, is_free, level_among, level_of, own_group, parent_among, parent_of, with_group, with_last, without_group}
-use Rattle.tree_changes.specs.NewNodes.{empty_bin, empty_group}
+use Rattle.tree_core.proofs.Around.{ids_rows, found_id, occurs_change, rows_change}
+use Rattle.tree_core.proofs.Changed.{absent_group}
+use Rattle.tree_core.proofs.Counted.{elsewhere_occurs, occurs}
+use Rattle.tree_core.proofs.GroupDocs.{take_counts, take_root}
+use Rattle.tree_core.proofs.Holders.{has_counts}
+use Rattle.tree_core.proofs.Options.{never}
+use Rattle.tree_core.specs.Changes.{changed_at, child_with, group_among, group_moved, group_with, has_group, have_group, is_free, level_among, level_of, own_group, parent_among, parent_of, with_group, with_last, without_group}
+use Rattle.tree_core.specs.NewNodes.{empty_bin, empty_group}
 use Rattle.tree_group_moves.proofs.GroupChildren.{found_child, found_child_id, hole_nil, hole_off, moved_some, place_some}
 use Rattle.tree_group_moves.proofs.GroupsMoved.{moved_is_doc}
 use Rattle.tree_group_moves.proofs.GroupParents.{no_parent}

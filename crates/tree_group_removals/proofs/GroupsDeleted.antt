@@ -7,13 +7,13 @@ use Rattle.vault_model.specs.Db.{NodeId}
 use Rattle.vault_model.specs.SeenNodes.{tree_seen}
 use Rattle.vault_model.specs.Tree.{BareDoc, IsDoc, Tree, id_of}
 use Rattle.vault_model.proofs.Tests.{some_of}
-use Rattle.tree_changes.specs.declared.fails.Removed.{Removed}
-use Rattle.tree_changes.specs.declared.fails.Removed.TheVariants.{Deleted}
-use Rattle.tree_changes.specs.declared.fails.TreeFail.{TreeFail}
-use Rattle.tree_changes.specs.After.{AfterRemoval, group_deleted}
-use Rattle.tree_changes.specs.Changes.{changed_at, group_with, parent_of, tree_buried, without_group}
-use Rattle.tree_changes.proofs.Around.{found_id}
-use Rattle.tree_changes.proofs.Options.{never}
+use Rattle.tree_core.specs.declared.fails.Removed.{Removed}
+use Rattle.tree_core.specs.declared.fails.Removed.TheVariants.{Deleted}
+use Rattle.tree_core.specs.declared.fails.TreeFail.{TreeFail}
+use Rattle.tree_core.specs.After.{AfterRemoval, group_deleted}
+use Rattle.tree_core.specs.Changes.{changed_at, group_with, parent_of, tree_buried, without_group}
+use Rattle.tree_core.proofs.Around.{found_id}
+use Rattle.tree_core.proofs.Options.{never}
 use Rattle.tree_group_moves.proofs.GroupParents.{parent_child}
 use Rattle.tree_group_moves.specs.GroupPlaces.{group_at}
 use Rattle.tree_removals.specs.Removes.{Removes}

@@ -9,14 +9,14 @@ use Rattle.vault_model.specs.Join.{is_id}
 use Rattle.vault_model.specs.Tree.{BareDoc, IsDoc, LEVELS, Tree, height, id_of, node}
 use Rattle.vault_model.proofs.Tests.{and_true, apart, not_true, or_right}
 use Rattle.tree_core.specs.Finding.{group_found}
-use Rattle.tree_changes.specs.declared.fails.Removed.TheVariants.{Recycled}
-use Rattle.tree_changes.specs.declared.fails.TreeFail.{TreeFail}
-use Rattle.tree_changes.specs.declared.fails.TreeFail.TheVariants.{IdTaken, IntoItself, NoSuchPath, RootFixed, TooDeep}
-use Rattle.tree_changes.specs.After.{AfterRemoval, after_recycling, after_remove_group, bin_level, group_deleted, group_moved_to, group_recycled, has_group_in, is_in_bin, is_recycled, named_or_refusal, refuse_if, time_after, with_bin, with_bin_made}
-use Rattle.tree_changes.specs.Changes.{changed_at, child_with, group_moved, group_with, has_group, have_group, is_free, level_of, parent_of, placed_of, with_group}
-use Rattle.tree_changes.specs.NewNodes.{empty_bin}
-use Rattle.tree_changes.proofs.Around.{found_id}
-use Rattle.tree_changes.proofs.Binds.{passes, refuses}
+use Rattle.tree_core.specs.declared.fails.Removed.TheVariants.{Recycled}
+use Rattle.tree_core.specs.declared.fails.TreeFail.{TreeFail}
+use Rattle.tree_core.specs.declared.fails.TreeFail.TheVariants.{IdTaken, IntoItself, NoSuchPath, RootFixed, TooDeep}
+use Rattle.tree_core.specs.After.{AfterRemoval, after_recycling, after_remove_group, bin_level, group_deleted, group_moved_to, group_recycled, has_group_in, is_in_bin, is_recycled, named_or_refusal, refuse_if, time_after, with_bin, with_bin_made}
+use Rattle.tree_core.specs.Changes.{changed_at, child_with, group_moved, group_with, has_group, have_group, is_free, level_of, parent_of, placed_of, with_group}
+use Rattle.tree_core.specs.NewNodes.{empty_bin}
+use Rattle.tree_core.proofs.Around.{found_id}
+use Rattle.tree_core.proofs.Binds.{passes, refuses}
 use Rattle.tree_group_moves.proofs.AfterGroupMove.{moved, not_moved}
 use Rattle.tree_group_moves.proofs.GroupChildren.{found_child}
 use Rattle.tree_group_moves.proofs.GroupParents.{own_has, parent_child}

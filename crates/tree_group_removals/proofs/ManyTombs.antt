@@ -9,11 +9,11 @@ use Rattle.vault_model.specs.Shape.{EntryRecord, GroupRecord}
 use Rattle.vault_model.specs.Tree.{BareDoc, IsDoc, Tree, Trees, beside, entry_rows, entry_rows_all, group_rows, group_rows_all, is_elsewhere, node, node_ids, node_ids_all, none}
 use Rattle.vault_model.proofs.Ids.{id_itself, same_id}
 use Rattle.vault_model.proofs.Tests.{and_both, and_true, is_false, map_append, not_false}
-use Rattle.tree_changes.specs.Changes.{changed_at, entries_buried, groups_buried, tree_buried, with_tomb, without_group}
-use Rattle.tree_changes.proofs.Counted.{all_both, elsewhere_occurs, occurs, occurs-append, occurs_elsewhere, once, one_if}
-use Rattle.tree_changes.proofs.EntriesRemoved.{tombs_all, tombs_rise}
-use Rattle.tree_changes.proofs.GroupDocs.{counted_less, take_is_doc}
-use Rattle.tree_changes.proofs.Rows.{keys}
+use Rattle.tree_core.specs.Changes.{changed_at, entries_buried, groups_buried, tree_buried, with_tomb, without_group}
+use Rattle.tree_core.proofs.Counted.{all_both, elsewhere_occurs, occurs, occurs-append, occurs_elsewhere, once, one_if}
+use Rattle.tree_core.proofs.EntriesRemoved.{tombs_all, tombs_rise}
+use Rattle.tree_core.proofs.GroupDocs.{counted_less, take_is_doc}
+use Rattle.tree_core.proofs.Rows.{keys}
 use Rattle.tree_group_moves.proofs.GroupChildren.{found_child}
 use Rattle.tree_group_moves.specs.GroupPlaces.{group_at}
 use Rattle.tree_group_removals.specs.Tombs.{entry_tomb, group_tomb, tombs_of}

@@ -14,8 +14,8 @@ use Rattle.vault_model.specs.Tree.{Tree}
 use Rattle.vault_model.proofs.Ids.{id_itself, same_id}
 use Rattle.vault_model.proofs.Orders.{id_order}
 use Rattle.vault_model.proofs.Tests.{and_both, and_true, apart, decide, not_false, not_true}
-use Rattle.tree_changes.proofs.Counted.{one_if}
-use Rattle.tree_changes.specs.Changes.{tree_buried, with_tomb}
+use Rattle.tree_core.proofs.Counted.{one_if}
+use Rattle.tree_core.specs.Changes.{tree_buried, with_tomb}
 use Rattle.tree_group_removals.specs.Tombs.{AreSorted, ids_rise, tombs_of}
 use Rattle.tree_group_removals.proofs.ManyTombs.{put_all, tree_put}
 

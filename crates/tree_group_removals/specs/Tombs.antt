@@ -7,7 +7,7 @@ use Rattle.vault_model.specs.Proper.{rises}
 use Rattle.vault_model.specs.SeenNodes.{entry_time}
 use Rattle.vault_model.specs.Shape.{EntryRecord, GroupRecord}
 use Rattle.vault_model.specs.Tree.{Tree, Trees, entry_rows, entry_rows_all, group_rows, group_rows_all}
-use Rattle.tree_changes.specs.Changes.{tomb_at}
+use Rattle.tree_core.specs.Changes.{tomb_at}
 
 -- the tombstone of an entry that is deleted now
 abbrev pub entry_tomb : ℕ → NodeId × EntryRecord → Tombstone

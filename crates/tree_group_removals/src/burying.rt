@@ -3,7 +3,7 @@
 ghost use Rattle.std.specs.Prelude.{◌≡◌, ◌++◌, IfOk, OnOk, map, true};
 ghost use Rattle.std.specs.List.Sorted.{IsPermutation};
 ghost use Rattle.vault_model.specs.SeenNodes.{entry_row, tree_seen};
-ghost use Rattle.tree_changes.specs.Changes.{tree_buried};
+ghost use Rattle.tree_core.specs.Changes.{tree_buried};
 ghost use Rattle.tree_group_removals.specs.Tombs.{AreSorted, entry_tomb, entry_tombs, group_tombs, ids_rise, tombs_of};
 
 use outside_core::{List, NoMemory};

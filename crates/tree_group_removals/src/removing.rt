@@ -2,13 +2,13 @@
 
 ghost use Rattle.std.specs.Prelude.{◌≡◌, is_some};
 ghost use Rattle.vault_model.specs.SeenDoc.{doc_seen};
-ghost use Rattle.tree_changes.specs.After.{after_remove_group, needs_bin};
+ghost use Rattle.tree_core.specs.After.{after_remove_group, needs_bin};
 ghost use Rattle.tree_removals.specs.Removes.{Removes};
 
 use crate::deleting::delete_group;
 use crate::recycling::{recycle_group, recycle_with_new_bin};
 use std::alloc::Global;
-use tree_changes::{Removed, TreeFail};
+use tree_core::{Removed, TreeFail};
 use tree_core::find_group;
 use tree_group_moves::parent_of;
 use tree_removals::is_recycled;

@@ -3,12 +3,12 @@ use Rattle.std.proofs.Common.{◌≡◌, ℕ, true, false, not, nat_lt, ◌+◌,
 use Rattle.vault_model.specs.Db.{NodeId}
 use Rattle.vault_model.specs.Tree.{BareDoc, LEVELS}
 use Rattle.tree_core.specs.Finding.{group_found}
-use Rattle.tree_changes.specs.declared.fails.TreeFail.TheVariants.{IdTaken, NameTaken, NoSuchPath, TooDeep}
-use Rattle.tree_changes.specs.After.{after_new_group, is_group_taken}
-use Rattle.tree_changes.specs.Changes.{changed_at, is_free, level_of, with_group}
-use Rattle.tree_changes.specs.NewNodes.{empty_group}
-use Rattle.tree_changes.specs.NewPaths.{after_last, before_last, new_path}
-use Rattle.tree_changes.proofs.Binds.{names, names_none, passes, refuses}
+use Rattle.tree_core.specs.declared.fails.TreeFail.TheVariants.{IdTaken, NameTaken, NoSuchPath, TooDeep}
+use Rattle.tree_core.specs.After.{after_new_group, is_group_taken}
+use Rattle.tree_core.specs.Changes.{changed_at, is_free, level_of, with_group}
+use Rattle.tree_core.specs.NewNodes.{empty_group}
+use Rattle.tree_core.specs.NewPaths.{after_last, before_last, new_path}
+use Rattle.tree_core.proofs.Binds.{names, names_none, passes, refuses}
 
 module _ (path : List ℕ) (id : NodeId) (now : ℕ) (d : BareDoc) where
   pub make_no_path : group_found d (before_last path) ≡ None → after_new_group path id now d ≡ Err NoSuchPath

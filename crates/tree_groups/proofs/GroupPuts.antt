@@ -4,7 +4,7 @@ use Rattle.vault_model.specs.SeenNodes.{entry_row, tree_seen}
 use Rattle.vault_model.specs.Tree.{beside, node}
 use Rattle.vault_model.specs.declared.nodes.Group.{Group, out-Group}
 use Rattle.vault_model.proofs.SeenGroups.{seen_group}
-use Rattle.tree_changes.specs.Changes.{with_group, with_last}
+use Rattle.tree_core.specs.Changes.{with_group, with_last}
 use Rattle.tree_steps.proofs.InPlace.{record_seen, seen_with_groups, trees, with_groups}
 
 last_put : (gs : List Group) (x : Group) → trees (gs ++ x ∷ []) ≡ with_last (tree_seen x) (trees gs)

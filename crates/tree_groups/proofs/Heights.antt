@@ -11,7 +11,7 @@ use Rattle.vault_model.specs.Tree.{height, height_all}
 use Rattle.vault_model.specs.declared.nodes.Group.{Group, out-Group}
 use Rattle.vault_model.proofs.SeenGroups.{seen_group}
 use Rattle.vault_model.proofs.Tests.{decide}
-use Rattle.tree_changes.specs.Changes.{has_group, level_among, level_of}
+use Rattle.tree_core.specs.Changes.{has_group, level_among, level_of}
 use Rattle.tree_steps.proofs.InPlace.{trees}
 
 -- ---- heights

@@ -12,11 +12,11 @@ use Rattle.vault_model.specs.Shape.{GroupRecord}
 use Rattle.vault_model.specs.Tree.{BareDoc, IsDoc, LEVELS, Tree, is_elsewhere, node, node_ids, none}
 use Rattle.vault_model.proofs.Ids.{same_id}
 use Rattle.vault_model.proofs.Tests.{and_both, and_true, decide}
-use Rattle.tree_changes.proofs.Around.{found_group}
-use Rattle.tree_changes.proofs.Counted.{all_both, elsewhere_occurs, occurs, once, one_if}
-use Rattle.tree_changes.proofs.GroupDocs.{put_is_doc}
-use Rattle.tree_changes.specs.Changes.{changed_at, has_group, is_free, level_of, with_group}
-use Rattle.tree_changes.specs.NewNodes.{empty_group}
+use Rattle.tree_core.proofs.Around.{found_group}
+use Rattle.tree_core.proofs.Counted.{all_both, elsewhere_occurs, occurs, once, one_if}
+use Rattle.tree_core.proofs.GroupDocs.{put_is_doc}
+use Rattle.tree_core.specs.Changes.{changed_at, has_group, is_free, level_of, with_group}
+use Rattle.tree_core.specs.NewNodes.{empty_group}
 
 -- ---- what a new group says
 

@@ -2,7 +2,7 @@
 
 ghost use Rattle.std.specs.Prelude.{◌≡◌, MatchOption, MatchResult, false};
 ghost use Rattle.vault_model.specs.SeenNodes.{tree_seen};
-ghost use Rattle.tree_changes.specs.Changes.{changed_at, has_group, with_group};
+ghost use Rattle.tree_core.specs.Changes.{changed_at, has_group, with_group};
 
 use outside_core::NoMemory;
 use tree_steps::{Change, change_at, put_last};
@@ -18,7 +18,7 @@ struct PutGroup {
 impl Change for PutGroup {
     ghost use Rattle.std.specs.Prelude.{◌≡◌, MatchResult};
     ghost use Rattle.vault_model.specs.SeenNodes.{tree_seen};
-    ghost use Rattle.tree_changes.specs.Changes.{with_group};
+    ghost use Rattle.tree_core.specs.Changes.{with_group};
 
     type Out = Result<(), NoMemory>;
 

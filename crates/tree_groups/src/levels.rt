@@ -3,7 +3,7 @@
 ghost use Rattle.std.specs.Prelude.{◌≡◌, ◌+◌, ◌<◌, MatchOption, nat_le};
 ghost use Rattle.vault_model.specs.SeenNodes.{tree_seen};
 ghost use Rattle.vault_model.specs.Tree.{height};
-ghost use Rattle.tree_changes.specs.Changes.{level_of};
+ghost use Rattle.tree_core.specs.Changes.{level_of};
 
 use tree_steps::{has_group, is_same};
 use uuid_core::Uuid;

@@ -3,15 +3,15 @@
 ghost use Rattle.std.specs.Prelude.{◌≡◌};
 ghost use Rattle.vault_model.specs.SeenDoc.{doc_seen};
 ghost use Rattle.tree_core.specs.Finding as named;
-ghost use Rattle.tree_changes.specs.After.{Changes, after_make_group, after_new_group};
-ghost use Rattle.tree_changes.specs.NewPaths.{after_last};
+ghost use Rattle.tree_core.specs.After.{Changes, after_make_group, after_new_group};
+ghost use Rattle.tree_core.specs.NewPaths.{after_last};
 
 use crate::groups::put_group;
 use crate::levels::{LEVELS, levels_below};
 use crate::new_groups::new_group;
 use crate::paths::is_taken;
 use std::alloc::Global;
-use tree_changes::TreeFail;
+use tree_core::TreeFail;
 use tree_core::find_group_of;
 use tree_steps::{before_last, is_free, name_after, path_of_new};
 use uuid_core::Uuid;

@@ -4,7 +4,7 @@ ghost use Rattle.std.specs.Prelude.{◌≡◌, [], IfOk};
 ghost use Rattle.vault_model.specs.Empty as empty;
 ghost use Rattle.vault_model.specs.SeenNodes.{tree_seen};
 ghost use Rattle.vault_model.specs.Tree.{node, none};
-ghost use Rattle.tree_changes.specs.NewNodes.{empty_bin, empty_group};
+ghost use Rattle.tree_core.specs.NewNodes.{empty_bin, empty_group};
 
 use outside_core::{List, NoMemory, Text};
 use std::alloc::Global;

@@ -2,8 +2,8 @@
 
 ghost use Rattle.std.specs.Prelude.{◌≡◌};
 ghost use Rattle.vault_model.specs.SeenDoc.{doc_seen};
-ghost use Rattle.tree_changes.specs.After.{is_group_taken};
-ghost use Rattle.tree_changes.specs.NewPaths as spec;
+ghost use Rattle.tree_core.specs.After.{is_group_taken};
+ghost use Rattle.tree_core.specs.NewPaths as spec;
 
 use tree_core::{is_group_path, without_slashes};
 use vault_model::Doc;

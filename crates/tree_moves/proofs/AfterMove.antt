@@ -6,11 +6,11 @@ use Rattle.vault_model.specs.Shape.{EntryRecord}
 use Rattle.vault_model.specs.Tree.{BareDoc}
 use Rattle.outside_core.specs.Results.{◌>>=◌}
 use Rattle.tree_core.specs.Finding.{entry_found, group_found}
-use Rattle.tree_changes.specs.declared.fails.TreeFail.{TreeFail}
-use Rattle.tree_changes.specs.declared.fails.TreeFail.TheVariants.{AlreadyThere, NoSuchPath}
-use Rattle.tree_changes.specs.After.{Holding, after_move_entry, entry_moved_to, entry_named, named_or_refusal, refuse_if, time_after}
-use Rattle.tree_changes.specs.Changes.{entry_at, entry_moved, holder}
-use Rattle.tree_changes.proofs.Binds.{ends, goes_on, names, names_none, passes, refuses}
+use Rattle.tree_core.specs.declared.fails.TreeFail.{TreeFail}
+use Rattle.tree_core.specs.declared.fails.TreeFail.TheVariants.{AlreadyThere, NoSuchPath}
+use Rattle.tree_core.specs.After.{Holding, after_move_entry, entry_moved_to, entry_named, named_or_refusal, refuse_if, time_after}
+use Rattle.tree_core.specs.Changes.{entry_at, entry_moved, holder}
+use Rattle.tree_core.proofs.Binds.{ends, goes_on, names, names_none, passes, refuses}
 
 module _ (path goal : List ℕ) (now : ℕ) (d : BareDoc) where
   abbrev rest : Holding → Result BareDoc TreeFail

@@ -6,13 +6,13 @@ use Rattle.vault_model.specs.Shape.{EntryRecord}
 use Rattle.vault_model.specs.Tree.{Tree, is_elsewhere, node, node_ids, node_ids_all}
 use Rattle.vault_model.proofs.Ids.{is_same_id, same_id}
 use Rattle.vault_model.proofs.Tests.{apart, decide}
-use Rattle.tree_changes.specs.Changes.{changed_at, entry_at, entry_moved, group_with, has_group, on_entries, own_entry, with_entry, without, without_entry}
-use Rattle.tree_changes.proofs.Around.{found_group, found_id, ids_rows, occurs_change, rows_change}
-use Rattle.tree_changes.proofs.Changed.{changed_by}
-use Rattle.tree_changes.proofs.Counted.{elsewhere_occurs, occurs, occurs-append, one_if}
-use Rattle.tree_changes.proofs.EntriesMoved.{at_once, either_order, placed_at, same_there, still_at}
-use Rattle.tree_changes.proofs.EntriesRemoved.{found_at, one_less, own_id, same_group}
-use Rattle.tree_changes.proofs.Rows.{keys}
+use Rattle.tree_core.specs.Changes.{changed_at, entry_at, entry_moved, group_with, has_group, on_entries, own_entry, with_entry, without, without_entry}
+use Rattle.tree_core.proofs.Around.{found_group, found_id, ids_rows, occurs_change, rows_change}
+use Rattle.tree_core.proofs.Changed.{changed_by}
+use Rattle.tree_core.proofs.Counted.{elsewhere_occurs, occurs, occurs-append, one_if}
+use Rattle.tree_core.proofs.EntriesMoved.{at_once, either_order, placed_at, same_there, still_at}
+use Rattle.tree_core.proofs.EntriesRemoved.{found_at, one_less, own_id, same_group}
+use Rattle.tree_core.proofs.Rows.{keys}
 use Rattle.tree_moves.specs.Places.{entries_filled}
 
 abbrev Entries : Type 0

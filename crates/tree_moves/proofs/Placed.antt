@@ -4,9 +4,9 @@ use Rattle.vault_model.specs.Db.{NodeId, nil_id}
 use Rattle.vault_model.specs.Shape.{EntryRecord}
 use Rattle.vault_model.specs.Tree.{Tree, is_elsewhere}
 use Rattle.vault_model.proofs.Tests.{some_of}
-use Rattle.tree_changes.proofs.EntriesMoved.{placed_at, still_at}
-use Rattle.tree_changes.proofs.EntriesRemoved.{found_at, own_id}
-use Rattle.tree_changes.specs.Changes.{changed_at, entry_at, entry_moved, has_group, on_entries, with_entry, without_entry}
+use Rattle.tree_core.proofs.EntriesMoved.{placed_at, still_at}
+use Rattle.tree_core.proofs.EntriesRemoved.{found_at, own_id}
+use Rattle.tree_core.specs.Changes.{changed_at, entry_at, entry_moved, has_group, on_entries, with_entry, without_entry}
 use Rattle.tree_moves.specs.Places.{entry_placed, entries_filled}
 use Rattle.tree_moves.proofs.KeptPlaces.{move_done}
 

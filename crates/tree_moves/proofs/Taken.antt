@@ -12,9 +12,9 @@ use Rattle.vault_model.specs.declared.nodes.Entry.{Entry}
 use Rattle.vault_model.specs.declared.nodes.Group.{Group, out-Group}
 use Rattle.vault_model.proofs.SeenGroups.{seen_group}
 use Rattle.vault_model.proofs.Tests.{decide}
-use Rattle.tree_changes.proofs.Changed.{absent_group, changed_by, changed_not}
-use Rattle.tree_changes.proofs.Options.{never}
-use Rattle.tree_changes.specs.Changes.{changed_at, entry_at, has_group, own_entry, without, without_entry}
+use Rattle.tree_core.proofs.Changed.{absent_group, changed_by, changed_not}
+use Rattle.tree_core.proofs.Options.{never}
+use Rattle.tree_core.specs.Changes.{changed_at, entry_at, has_group, own_entry, without, without_entry}
 use Rattle.tree_moves.specs.Places.{entries_filled}
 use Rattle.tree_steps.specs.ChangedAt.{ChangedAt}
 use Rattle.tree_steps.proofs.InPlace.{record_seen, seen_with_entries, trees, with_entries}

@@ -4,7 +4,7 @@ use Rattle.vault_model.specs.Db.{NodeId, nil_id}
 use Rattle.vault_model.specs.Join.{is_id}
 use Rattle.vault_model.specs.Shape.{EntryRecord}
 use Rattle.vault_model.specs.Tree.{Tree}
-use Rattle.tree_changes.specs.Changes.{changed_at, moved_entry, on_entries, without_entry}
+use Rattle.tree_core.specs.Changes.{changed_at, moved_entry, on_entries, without_entry}
 
 -- entries with one in the place of the first without an id, which was kept for it
 abbrev pub entries_filled : NodeId × EntryRecord → List (NodeId × EntryRecord)

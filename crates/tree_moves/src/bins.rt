@@ -2,7 +2,7 @@
 
 ghost use Rattle.std.specs.Prelude.{◌≡◌};
 ghost use Rattle.vault_model.specs.SeenDoc.{doc_seen};
-ghost use Rattle.tree_changes.specs.After as spec;
+ghost use Rattle.tree_core.specs.After as spec;
 
 use tree_steps::has_group;
 use vault_model::Doc;

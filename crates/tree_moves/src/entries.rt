@@ -3,7 +3,7 @@
 ghost use Rattle.std.specs.Prelude.{◌≡◌, MatchOption, None, Some, map, position};
 ghost use Rattle.vault_model.specs.Join.{is_id};
 ghost use Rattle.vault_model.specs.SeenNodes.{entry_row, tree_seen};
-ghost use Rattle.tree_changes.specs.Changes.{changed_at, entry_at, on_entries, without_entry};
+ghost use Rattle.tree_core.specs.Changes.{changed_at, entry_at, on_entries, without_entry};
 ghost use Rattle.tree_moves.specs.Places.{entries_filled};
 
 use outside_core::List;
@@ -28,7 +28,7 @@ struct TakeEntry {
 impl Change for TakeEntry {
     ghost use Rattle.std.specs.Prelude.{◌≡◌, MatchOption, None, Some};
     ghost use Rattle.vault_model.specs.SeenNodes.{entry_row};
-    ghost use Rattle.tree_changes.specs.Changes.{own_entry, without_entry};
+    ghost use Rattle.tree_core.specs.Changes.{own_entry, without_entry};
 
     type Out = Option<Entry>;
 
@@ -75,7 +75,7 @@ struct FillEntry {
 impl Change for FillEntry {
     ghost use Rattle.std.specs.Prelude.{◌≡◌};
     ghost use Rattle.vault_model.specs.SeenNodes.{entry_row};
-    ghost use Rattle.tree_changes.specs.Changes.{on_entries};
+    ghost use Rattle.tree_core.specs.Changes.{on_entries};
     ghost use Rattle.tree_moves.specs.Places.{entries_filled};
 
     type Out = ();

@@ -5,14 +5,14 @@ ghost use Rattle.vault_model.specs.Db.{nil_id};
 ghost use Rattle.vault_model.specs.SeenDoc.{doc_seen};
 ghost use Rattle.vault_model.specs.SeenNodes.{tree_seen};
 ghost use Rattle.vault_model.specs.Tree.{is_elsewhere};
-ghost use Rattle.tree_changes.specs.After.{Changes, after_move_entry};
-ghost use Rattle.tree_changes.specs.Changes.{entry_at, entry_moved, has_group};
+ghost use Rattle.tree_core.specs.After.{Changes, after_move_entry};
+ghost use Rattle.tree_core.specs.Changes.{entry_at, entry_moved, has_group};
 ghost use Rattle.tree_moves.specs.Places.{entry_placed};
 
 use crate::entries::{fill_entry, take_entry};
 use outside_core::{List, NoMemory, Text};
 use std::alloc::Global;
-use tree_changes::TreeFail;
+use tree_core::TreeFail;
 use tree_core::{find_entry, find_group};
 use tree_steps::{entry_of, holder, is_same, put_entry, time_after};
 use uuid_core::Uuid;

@@ -8,7 +8,7 @@ use Rattle.std.specs.Ordering.{is_lt}
 use Rattle.vault_model.specs.declared.nodes.Tombstone.{Tombstone}
 use Rattle.vault_model.specs.Db.{id_cmp}
 use Rattle.vault_model.proofs.Tests.{decide}
-use Rattle.tree_changes.specs.Changes.{with_tomb}
+use Rattle.tree_core.specs.Changes.{with_tomb}
 
 pub tomb_put : (t : Tombstone) (xs : List Tombstone) (at : ℕ) → position_or_len (λ (x : Tombstone). is_lt (id_cmp t.id x.id)) xs ≡ at → insert xs at t ≡ with_tomb t xs
 tomb_put t [] at e = ap (λ n. insert [] n t) (sym e)

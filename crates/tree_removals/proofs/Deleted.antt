@@ -8,11 +8,11 @@ use Rattle.vault_model.specs.SeenNodes.{entry_row, entry_time}
 use Rattle.vault_model.specs.Shape.{EntryRecord}
 use Rattle.vault_model.specs.Tree.{BareDoc, IsDoc, Tree}
 use Rattle.vault_model.proofs.Tests.{and_true, apart, not_true, some_of}
-use Rattle.tree_changes.proofs.Around.{found_group, found_id}
-use Rattle.tree_changes.proofs.EntriesRemoved.{deleted_is_doc, found_at, own_id}
-use Rattle.tree_changes.proofs.Options.{never}
-use Rattle.tree_changes.specs.After.{has_group_in, is_in_bin, is_recycled}
-use Rattle.tree_changes.specs.Changes.{changed_at, entries_buried, entry_at, group_with, tomb_at, with_tomb, without_entry}
+use Rattle.tree_core.proofs.Around.{found_group, found_id}
+use Rattle.tree_core.proofs.EntriesRemoved.{deleted_is_doc, found_at, own_id}
+use Rattle.tree_core.proofs.Options.{never}
+use Rattle.tree_core.specs.After.{has_group_in, is_in_bin, is_recycled}
+use Rattle.tree_core.specs.Changes.{changed_at, entries_buried, entry_at, group_with, tomb_at, with_tomb, without_entry}
 use Rattle.tree_removals.proofs.LastGroups.{has_root, holds_there}
 
 abbrev Buried : NodeId → NodeId → ℕ → Tree → List Tombstone → Tree → List Tombstone → Type 0

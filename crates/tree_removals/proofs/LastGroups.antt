@@ -5,11 +5,11 @@ use Rattle.vault_model.specs.Join.{is_id}
 use Rattle.vault_model.specs.Tree.{Tree, Trees, beside, id_of, is_elsewhere, node, node_ids, node_ids_all, none}
 use Rattle.vault_model.proofs.Ids.{is_same_id}
 use Rattle.vault_model.proofs.Tests.{apart, decide, is_false, or_false, or_left, or_right}
-use Rattle.tree_changes.proofs.Around.{found_group, found_id, ids_rows, rows_change}
-use Rattle.tree_changes.proofs.Changed.{absent_group}
-use Rattle.tree_changes.proofs.Counted.{elsewhere_occurs, occurs, occurs-append, one_if}
-use Rattle.tree_changes.proofs.Ways.{below, first, here, later}
-use Rattle.tree_changes.specs.Changes.{changed_at, changed_in, entry_at, group_among, group_with, has_group, have_group, own_entry, with_group, with_last}
+use Rattle.tree_core.proofs.Around.{found_group, found_id, ids_rows, rows_change}
+use Rattle.tree_core.proofs.Changed.{absent_group}
+use Rattle.tree_core.proofs.Counted.{elsewhere_occurs, occurs, occurs-append, one_if}
+use Rattle.tree_core.proofs.Ways.{below, first, here, later}
+use Rattle.tree_core.specs.Changes.{changed_at, changed_in, entry_at, group_among, group_with, has_group, have_group, own_entry, with_group, with_last}
 
 -- ---- the root
 

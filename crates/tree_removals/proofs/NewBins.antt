@@ -15,9 +15,9 @@ use Rattle.vault_model.specs.Tree.{BareDoc, IsDoc, Tree, id_of, is_elsewhere, no
 use Rattle.vault_model.proofs.Ids.{same_id}
 use Rattle.vault_model.proofs.SeenGroups.{seen_group}
 use Rattle.vault_model.proofs.Tests.{and_true, apart, is_false, some_of}
-use Rattle.tree_changes.proofs.EntriesMoved.{moved_is_doc}
-use Rattle.tree_changes.specs.Changes.{changed_at, entry_at, entry_moved, has_group, is_free, level_among, level_of, with_entry, with_group}
-use Rattle.tree_changes.specs.NewNodes.{as_bin, empty_bin}
+use Rattle.tree_core.proofs.EntriesMoved.{moved_is_doc}
+use Rattle.tree_core.specs.Changes.{changed_at, entry_at, entry_moved, has_group, is_free, level_among, level_of, with_entry, with_group}
+use Rattle.tree_core.specs.NewNodes.{as_bin, empty_bin}
 use Rattle.tree_groups.proofs.MadeDoc.{leaf_is_doc}
 use Rattle.tree_moves.proofs.Placed.{moved_in_place, still_there}
 use Rattle.tree_moves.specs.Places.{entry_placed}

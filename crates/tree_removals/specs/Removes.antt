@@ -2,12 +2,12 @@
 use Rattle.std.specs.Prelude.{◌≡◌, ◌⊎◌, ℕ, Result, Ok, Err, MatchResult}
 use Rattle.vault_model.specs.Db.{NodeId}
 use Rattle.vault_model.specs.Tree.{BareDoc, Tree, id_of}
-use Rattle.tree_changes.specs.declared.fails.Removed.{Removed}
-use Rattle.tree_changes.specs.declared.fails.TreeFail.{TreeFail}
-use Rattle.tree_changes.specs.declared.fails.TreeFail.TheVariants.{NoMemory}
-use Rattle.tree_changes.specs.After.{AfterRemoval}
-use Rattle.tree_changes.specs.Changes.{changed_at, with_group}
-use Rattle.tree_changes.specs.NewNodes.{empty_bin}
+use Rattle.tree_core.specs.declared.fails.Removed.{Removed}
+use Rattle.tree_core.specs.declared.fails.TreeFail.{TreeFail}
+use Rattle.tree_core.specs.declared.fails.TreeFail.TheVariants.{NoMemory}
+use Rattle.tree_core.specs.After.{AfterRemoval}
+use Rattle.tree_core.specs.Changes.{changed_at, with_group}
+use Rattle.tree_core.specs.NewNodes.{empty_bin}
 
 -- A call that removes a node: the document is the defined one, and the answer is what became of the
 -- node; or the document is as before, and the answer is the defined refusal, or that memory ran out.

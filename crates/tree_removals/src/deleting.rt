@@ -3,13 +3,13 @@
 ghost use Rattle.std.specs.Prelude.{◌≡◌, ◌∷◌, [], IfSome, IsSome, MatchResult, Ok};
 ghost use Rattle.vault_model.specs.SeenDoc.{doc_seen};
 ghost use Rattle.vault_model.specs.SeenNodes.{tree_seen};
-ghost use Rattle.tree_changes.specs.After.{entry_deleted};
-ghost use Rattle.tree_changes.specs.Changes.{changed_at, entries_buried, entry_at, without_entry};
+ghost use Rattle.tree_core.specs.After.{entry_deleted};
+ghost use Rattle.tree_core.specs.Changes.{changed_at, entries_buried, entry_at, without_entry};
 ghost use Rattle.tree_removals.specs.Removes.{Removes};
 
 use crate::tombs::{later, put_tomb};
 use outside_core::{List, NoMemory};
-use tree_changes::{Removed, TreeFail};
+use tree_core::{Removed, TreeFail};
 use tree_moves::take_entry;
 use tree_steps::entry_of;
 use uuid_core::Uuid;

@@ -7,14 +7,14 @@ ghost use Rattle.vault_model.specs.Tree.{is_elsewhere};
 ghost use Rattle.vault_model.specs.SeenDoc.{doc_seen};
 ghost use Rattle.vault_model.specs.SeenNodes.{tree_seen};
 ghost use Rattle.vault_model.specs.declared.nodes.Group.{out-Group};
-ghost use Rattle.tree_changes.specs.After as spec;
-ghost use Rattle.tree_changes.specs.Changes.{changed_at, entry_at, entry_moved, group_with, has_group, with_entry, with_group};
-ghost use Rattle.tree_changes.specs.NewNodes.{empty_bin};
+ghost use Rattle.tree_core.specs.After as spec;
+ghost use Rattle.tree_core.specs.Changes.{changed_at, entry_at, entry_moved, group_with, has_group, with_entry, with_group};
+ghost use Rattle.tree_core.specs.NewNodes.{empty_bin};
 ghost use Rattle.tree_removals.specs.Removes.{Removes, with_bin_in};
 
 use outside_core::NoMemory;
 use std::alloc::Global;
-use tree_changes::{Removed, TreeFail};
+use tree_core::{Removed, TreeFail};
 use tree_groups::{new_bin, put_group};
 use tree_moves::{move_in, move_to_place, no_entry};
 use tree_steps::{entry_of, group_of, has_group, is_free, put_entry, time_after};

@@ -2,13 +2,13 @@
 
 ghost use Rattle.std.specs.Prelude.{◌≡◌, is_some};
 ghost use Rattle.vault_model.specs.SeenDoc.{doc_seen};
-ghost use Rattle.tree_changes.specs.After.{after_remove_entry, needs_bin};
+ghost use Rattle.tree_core.specs.After.{after_remove_entry, needs_bin};
 ghost use Rattle.tree_removals.specs.Removes.{Removes};
 
 use crate::deleting::delete_entry;
 use crate::recycling::{is_recycled, recycle_entry, recycle_with_new_bin};
 use std::alloc::Global;
-use tree_changes::{Removed, TreeFail};
+use tree_core::{Removed, TreeFail};
 use tree_core::find_entry;
 use tree_steps::{entry_of, holder};
 use uuid_core::Uuid;

@@ -4,7 +4,7 @@ ghost use Rattle.std.specs.Prelude.{◌≡◌, OnErr, OnOk, max, position};
 ghost use Rattle.std.specs.List.{position_or_len};
 ghost use Rattle.std.specs.Ordering.{is_lt};
 ghost use Rattle.vault_model.specs.Db.{id_cmp};
-ghost use Rattle.tree_changes.specs.Changes.{with_tomb};
+ghost use Rattle.tree_core.specs.Changes.{with_tomb};
 
 use outside_core::{List, NoMemory};
 use uuid_core::Uuid;

@@ -8,8 +8,8 @@ use Rattle.vault_model.specs.SeenNodes.{entry_record, entry_row}
 use Rattle.vault_model.specs.Shape.{EntryRecord}
 use Rattle.vault_model.specs.declared.nodes.Entry.{Entry}
 use Rattle.vault_model.proofs.Tests.{decide}
-use Rattle.tree_changes.proofs.Options.{never}
-use Rattle.tree_changes.specs.Changes.{with_changed}
+use Rattle.tree_core.proofs.Options.{never}
+use Rattle.tree_core.specs.Changes.{with_changed}
 use borrow.Author.Tests.{ltb-false}
 
 abbrev there : NodeId → Entry → Bool

@@ -9,7 +9,7 @@ use Rattle.vault_model.specs.Shape.{EntryRecord}
 use Rattle.vault_model.specs.declared.nodes.Group.{Group, out-Group}
 use Rattle.vault_model.proofs.SeenGroups.{seen_group}
 use Rattle.tree_core.specs.Finding.{or_else}
-use Rattle.tree_changes.specs.Changes.{holder, holder_among}
+use Rattle.tree_core.specs.Changes.{holder, holder_among}
 use Rattle.tree_steps.proofs.InPlace.{trees}
 
 abbrev own : NodeId → Group → Bool

@@ -14,11 +14,11 @@ use Rattle.vault_model.specs.declared.nodes.Entry.{Entry}
 use Rattle.vault_model.specs.declared.nodes.Group.{Group, out-Group, roll-Group}
 use Rattle.vault_model.specs.declared.nodes.Group.TheFolds.{fold_out-Group, fold-roll-Group}
 use Rattle.vault_model.proofs.Tests.{apart, decide, is_false, map_append, or_false}
-use Rattle.tree_changes.proofs.Options.{never}
-use Rattle.tree_changes.proofs.Changed.{absent_group, changed_by, changed_not, changed_off}
+use Rattle.tree_core.proofs.Options.{never}
+use Rattle.tree_core.proofs.Changed.{absent_group, changed_by, changed_not, changed_off}
 use Rattle.vault_model.proofs.SeenGroups.{seen_group}
 use Rattle.tree_steps.specs.ChangedAt.{ChangedAt}
-use Rattle.tree_changes.specs.Changes.{changed_at, changed_in, group_among, group_with, has_group, have_group, own_entry, entry_at, with_entry, without, without_entry}
+use Rattle.tree_core.specs.Changes.{changed_at, changed_in, group_among, group_with, has_group, have_group, own_entry, entry_at, with_entry, without, without_entry}
 
 abbrev pub trees : List Group → Trees
 trees gs = all_trees (map tree_seen gs)

@@ -7,9 +7,9 @@ use Rattle.std.proofs.lemmas.Bool.Decides.{Decides-eqb}
 use Rattle.std.proofs.lemmas.Option.{same_Some}
 use Rattle.std.specs.Str.{IsCharBoundary}
 use Rattle.std.specs.Str.Pattern.{RFindsChar}
-use Rattle.tree_changes.proofs.Options.{never}
+use Rattle.tree_core.proofs.Options.{never}
 use Rattle.vault_model.proofs.Tests.{decide, is_false, or_right}
-use Rattle.tree_changes.specs.NewPaths.{after_last, before_last, has_slash}
+use Rattle.tree_core.specs.NewPaths.{after_last, before_last, has_slash}
 
 slash_there : (xs ys : List ℕ) → has_slash (xs ++ 47 ∷ ys) ≡ true
 slash_there [] ys = refl

@@ -3,7 +3,7 @@
 ghost use Rattle.std.specs.Prelude.{◌≡◌, MatchOption, false};
 ghost use Rattle.vault_model.specs.SeenNodes.{tree_seen};
 ghost use Rattle.vault_model.specs.Tree.{Tree};
-ghost use Rattle.tree_changes.specs.Changes.{has_group};
+ghost use Rattle.tree_core.specs.Changes.{has_group};
 ghost use Rattle.tree_steps.specs.ChangedAt.{ChangedAt};
 
 use crate::searches::{is_same, way_to};

@@ -3,7 +3,7 @@
 ghost use Rattle.std.specs.Prelude.{◌≡◌, ◌++◌, ◌∷◌, [], MatchOption, MatchResult, OnErr, OnOk, false, map, position};
 ghost use Rattle.vault_model.specs.Join.{is_id};
 ghost use Rattle.vault_model.specs.SeenNodes.{bare_version, entry_row, tree_seen};
-ghost use Rattle.tree_changes.specs.Changes.{changed_at, changed_entry, has_group, with_changed, with_entry};
+ghost use Rattle.tree_core.specs.Changes.{changed_at, changed_entry, has_group, with_changed, with_entry};
 
 use crate::changes::{Change, change_at};
 use crate::searches::is_same;
@@ -32,7 +32,7 @@ struct PutEntry {
 impl Change for PutEntry {
     ghost use Rattle.std.specs.Prelude.{◌≡◌, MatchResult};
     ghost use Rattle.vault_model.specs.SeenNodes.{entry_row};
-    ghost use Rattle.tree_changes.specs.Changes.{with_entry};
+    ghost use Rattle.tree_core.specs.Changes.{with_entry};
 
     type Out = Result<(), NoMemory>;
 
@@ -106,7 +106,7 @@ struct SetVersions {
 impl Change for SetVersions {
     ghost use Rattle.std.specs.Prelude.{◌≡◌, map};
     ghost use Rattle.vault_model.specs.SeenNodes.{bare_version};
-    ghost use Rattle.tree_changes.specs.Changes.{changed_entry};
+    ghost use Rattle.tree_core.specs.Changes.{changed_entry};
 
     type Out = ();
 

@@ -1,7 +1,7 @@
 //! The paths of new nodes.
 
 ghost use Rattle.std.specs.Prelude.{◌≡◌, IfOk};
-ghost use Rattle.tree_changes.specs.NewPaths as spec;
+ghost use Rattle.tree_core.specs.NewPaths as spec;
 
 use outside_core::{Bytes, NoMemory};
 use std::alloc::Global;

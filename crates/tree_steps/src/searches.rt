@@ -7,7 +7,7 @@ ghost use Rattle.vault_model.specs.SeenDoc.{doc_seen};
 ghost use Rattle.vault_model.specs.SeenNodes.{entry_row, tree_seen};
 ghost use Rattle.vault_model.specs.Tree.{node_ids};
 ghost use Rattle.vault_model.specs.declared.nodes.Group.{out-Group};
-ghost use Rattle.tree_changes.specs.Changes as spec;
+ghost use Rattle.tree_core.specs.Changes as spec;
 
 use uuid_core::Uuid;
 use vault_model::{Doc, Entry, Group};

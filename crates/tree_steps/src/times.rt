@@ -1,9 +1,9 @@
 //! The times of changes.
 
 ghost use Rattle.std.specs.Prelude.{◌≡◌};
-ghost use Rattle.tree_changes.specs.After as spec;
+ghost use Rattle.tree_core.specs.After as spec;
 
-use tree_changes::TreeFail;
+use tree_core::TreeFail;
 use vault_model::Stamp;
 
 /// The later of now and a second after another time, or a refusal where that is after the year 9999.

@@ -1,7 +1,7 @@
 -- The entry that a path names, step by step.
 use Rattle.std.specs.Prelude.{ℕ, List, Option}
 use Rattle.std.specs.Option.{option_and_then}
-use Rattle.tree_changes.specs.Changes.{entry_at, holder}
+use Rattle.tree_core.specs.Changes.{entry_at, holder}
 use Rattle.tree_core.specs.Finding.{entry_found}
 use Rattle.vault_model.specs.Db.{NodeId}
 use Rattle.vault_model.specs.Shape.{EntryRecord}

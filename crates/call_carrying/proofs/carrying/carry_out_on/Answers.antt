@@ -1,7 +1,7 @@
 use Rattle.std.proofs.Common.{subst, sym, ◌∙◌, refl}
 use Rattle.std.proofs.lemmas.Result.{err_from_is_err_and}
 use Rattle.vault_model.specs.SeenDoc.{doc_seen}
-use Rattle.tree_changes.specs.NewNodes.{lent_value}
+use Rattle.tree_core.specs.NewNodes.{lent_value}
 use Rattle.cli_lines.specs.Lines.{IsTextLine}
 use Rattle.cli_commands.specs.SeenChange.{change_seen, lent_settings}
 use Rattle.cli_files.specs.SeenTask.{task_seen}

@@ -1,5 +1,5 @@
 use Rattle.std.proofs.Common.{◌≡◌, ◌⊎◌, Err, subst}
-use Rattle.tree_changes.specs.declared.fails.TreeFail.TheVariants as fail
+use Rattle.tree_core.specs.declared.fails.TreeFail.TheVariants as fail
 use Rattle.vault_model.specs.SeenDoc.{doc_seen}
 use Rattle.cli_changes.specs.Entries.{after_add_command, with_entry_at}
 use Rattle.cli_changes.proofs.Stopped.{stopped}

@@ -1,6 +1,6 @@
 use Rattle.std.proofs.Common.{map}
 use Rattle.vault_model.specs.SeenDoc.{doc_seen}
-use Rattle.tree_changes.specs.NewNodes.{lent_value}
+use Rattle.tree_core.specs.NewNodes.{lent_value}
 use Rattle.cli_commands.specs.Commands.{change_with, drawn_id}
 use Rattle.cli_commands.specs.SeenChange.{lent_settings}
 use Rattle.cli_commands.proofs.Changes.{none_made, returns_drawn, some_drawn, stream_stop, tells_made}

@@ -7,10 +7,10 @@ use Rattle.vault_model.specs.SeenDoc.{doc_seen}
 use Rattle.vault_model.specs.SeenNodes.{entry_row, tree_seen}
 use Rattle.tree_core.specs.Finding.{group_found, has_entry_path}
 use Rattle.vault_model.proofs.Tests.{apart}
-use Rattle.tree_changes.proofs.Named.{named_group}
-use Rattle.tree_changes.specs.Changes.{changed_at, has_group, with_entry}
-use Rattle.tree_changes.specs.NewNodes.{given_values, new_entry, new_fields}
-use Rattle.tree_changes.specs.NewPaths.{before_last}
+use Rattle.tree_core.proofs.Named.{named_group}
+use Rattle.tree_core.specs.Changes.{changed_at, has_group, with_entry}
+use Rattle.tree_core.specs.NewNodes.{given_values, new_entry, new_fields}
+use Rattle.tree_core.specs.NewPaths.{before_last}
 use Rattle.tree_edits.proofs.AddedDoc.{add_is_doc}
 use Rattle.tree_edits.proofs.AfterAdd.{add_done, add_id_taken, add_no_path, add_taken}
 use Rattle.tree_edits.proofs.adding.add.Goals as goal

@@ -3,8 +3,8 @@ use Rattle.std.specs.Prelude.{option_map}
 use Rattle.vault_model.proofs.DocumentLaws.{is_doc}
 use Rattle.vault_model.specs.SeenDoc.{doc_seen}
 use Rattle.vault_model.specs.SeenNodes.{bare_version, entry_row, tree_seen}
-use Rattle.tree_changes.specs.After.{time_after}
-use Rattle.tree_changes.specs.NewNodes.{given_values}
+use Rattle.tree_core.specs.After.{time_after}
+use Rattle.tree_core.specs.NewNodes.{given_values}
 use Rattle.tree_edits.proofs.AfterEdit.{edit_no_entry, edit_no_holder, edit_no_path}
 use Rattle.tree_edits.proofs.EditedDoc.{edit_comes, edit_is_doc}
 use Rattle.tree_edits.proofs.editing.edit.Goals as goal

@@ -1,7 +1,7 @@
 use Rattle.std.proofs.Common.{ap, ◌∙◌}
 use Rattle.vault_model.specs.SeenNodes.{bare_version, entry_record}
 use Rattle.vault_model.specs.Shape.{BareVersion}
-use Rattle.tree_changes.specs.Histories.{settled_history, with_version}
+use Rattle.tree_core.specs.Histories.{settled_history, with_version}
 use Rattle.tree_edits.proofs.editing.edited_versions.Goals as goal
 
 pub returns-in-Ok : goal.returns-in-Ok

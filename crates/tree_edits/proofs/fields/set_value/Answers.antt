@@ -3,7 +3,7 @@ use Rattle.vault_model.specs.Bare.{BareField}
 use Rattle.vault_model.specs.Orders.{bytes_cmp}
 use Rattle.vault_model.specs.Seen.{bare_field}
 use Rattle.vault_model.specs.declared.contents.Field.{Field}
-use Rattle.tree_changes.specs.NewNodes.{field}
+use Rattle.tree_core.specs.NewNodes.{field}
 use Rattle.tree_edits.specs.Spots.{spot}
 use Rattle.tree_edits.proofs.Places.{inserted_at_spot, joined_at_spot, spot_end, spot_seen}
 use Rattle.std.proofs.Common.{List}

@@ -3,7 +3,7 @@ use Rattle.std.proofs.lemmas.Int.{to_z-of_z}
 use Rattle.std.proofs.lemmas.List.{drop-map}
 use Rattle.vault_model.specs.SeenNodes.{bare_version}
 use Rattle.vault_model.specs.declared.nodes.Version.{Version}
-use Rattle.tree_changes.specs.Histories.{within_limits}
+use Rattle.tree_core.specs.Histories.{within_limits}
 use Rattle.tree_edits.proofs.limits.limit_history.Goals as goal
 
 pub cut_start-requires : goal.cut_start-requires

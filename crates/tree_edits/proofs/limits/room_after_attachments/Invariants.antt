@@ -1,6 +1,6 @@
 use Rattle.std.proofs.Common.{◌≡◌, drop, map, sum}
 use Rattle.vault_model.specs.Seen.{bare_attachment}
-use Rattle.tree_changes.specs.Histories.{attachment_size}
+use Rattle.tree_core.specs.Histories.{attachment_size}
 use Rattle.tree_edits.specs.Rooms.{room_left}
 use Rattle.tree_edits.proofs.limits.room_after_attachments.Given as goal
 

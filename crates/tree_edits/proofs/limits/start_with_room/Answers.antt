@@ -1,7 +1,7 @@
 use Rattle.std.proofs.Common.{◌≢◌, length, arith, refl, sym, ap, ◌∙◌}
 use Rattle.vault_model.specs.Seen.{bare_content}
 use Rattle.vault_model.specs.declared.nodes.Version.{Version}
-use Rattle.tree_changes.specs.Histories.{content_size}
+use Rattle.tree_core.specs.Histories.{content_size}
 use Rattle.tree_edits.specs.Rooms.{room_left}
 use Rattle.tree_edits.proofs.Suffixes.{room_next, starts_first, starts_full, whole_room}
 use Rattle.tree_edits.proofs.limits.start_with_room.Goals as goal

@@ -1,7 +1,7 @@
 use Rattle.std.proofs.Common.{Bor, List, ℕ, Option, sym, ap, ◌∙◌}
 use Rattle.std.proofs.lemmas.Str.{is_utf8-from_IsUtf8}
 use Rattle.std.specs.Str.{is_utf8}
-use Rattle.tree_changes.specs.NewNodes.{lent_value}
+use Rattle.tree_core.specs.NewNodes.{lent_value}
 use Rattle.tree_edits.specs.Texts.{is_text_value}
 use Rattle.tree_edits.proofs.texts.text_is_utf8.Goals as goal
 

@@ -1,5 +1,5 @@
 use Rattle.vault_model.specs.SeenNodes.{tree_seen}
-use Rattle.tree_changes.specs.Changes.{on_groups}
+use Rattle.tree_core.specs.Changes.{on_groups}
 use Rattle.tree_group_moves.specs.GroupPlaces.{groups_filled}
 use Rattle.tree_steps.proofs.InPlace.{always_of}
 use Rattle.tree_group_moves.proofs.groups.fill_group.Goals as goal

@@ -5,10 +5,10 @@ use Rattle.vault_model.proofs.Tests.{apart}
 use Rattle.vault_model.specs.Join.{is_id}
 use Rattle.vault_model.specs.SeenDoc.{doc_seen}
 use Rattle.vault_model.specs.Tree.{BareDoc, Tree}
-use Rattle.tree_changes.proofs.Around.{found_group}
-use Rattle.tree_changes.proofs.Named.{named_group}
-use Rattle.tree_changes.specs.After.{Changes, group_moved_to, is_parent}
-use Rattle.tree_changes.specs.declared.fails.TreeFail.{TreeFail}
+use Rattle.tree_core.proofs.Around.{found_group}
+use Rattle.tree_core.proofs.Named.{named_group}
+use Rattle.tree_core.specs.After.{Changes, group_moved_to, is_parent}
+use Rattle.tree_core.specs.declared.fails.TreeFail.{TreeFail}
 use Rattle.tree_group_moves.proofs.AfterGroupMove.{already, fixed, moves_on}
 use Rattle.tree_group_moves.proofs.GroupParents.{no_parent_fixed, parent_moves}
 use Rattle.tree_group_moves.proofs.moving.move_group.Goals as goal

@@ -1,6 +1,6 @@
 use Rattle.std.proofs.Common.{◌∙◌, [], ap, Some}
 use Rattle.vault_model.specs.SeenNodes.{tree_seen}
-use Rattle.tree_changes.specs.NewNodes.{empty_group}
+use Rattle.tree_core.specs.NewNodes.{empty_group}
 use Rattle.tree_group_moves.proofs.GroupChildren.{hole_nil, hole_off, moved_some, place_some}
 use Rattle.tree_group_moves.proofs.moving.move_group_in.Goals as goal
 

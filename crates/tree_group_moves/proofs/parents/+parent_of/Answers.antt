@@ -1,6 +1,6 @@
 use Rattle.std.proofs.Common.{◌∙◌, sym, ap, is_some, List}
 use Rattle.vault_model.specs.declared.nodes.Group.{Group}
-use Rattle.tree_changes.specs.Changes.{own_group}
+use Rattle.tree_core.specs.Changes.{own_group}
 use Rattle.tree_steps.proofs.InPlace.{trees}
 use Rattle.tree_group_moves.proofs.GroupParents.{parent_below, parent_here, parent_nowhere}
 use Rattle.tree_group_moves.proofs.parents.+parent_of.Goals as goal

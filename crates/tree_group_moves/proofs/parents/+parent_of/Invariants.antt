@@ -2,7 +2,7 @@ use Rattle.std.proofs.Common.{◌≡◌, drop}
 use Rattle.std.specs.Prelude.{map}
 use Rattle.vault_model.specs.SeenNodes.{tree_seen}
 use Rattle.vault_model.specs.Tree.{all_trees}
-use Rattle.tree_changes.specs.Changes.{parent_among}
+use Rattle.tree_core.specs.Changes.{parent_among}
 use Rattle.tree_group_moves.proofs.parents.+parent_of.Given as goal
 
 abbrev pub invariant-loop-child : goal.invariant-loop-child

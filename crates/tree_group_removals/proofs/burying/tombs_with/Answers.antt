@@ -2,7 +2,7 @@ use Rattle.std.proofs.Common.{List, subst}
 use Rattle.std.specs.List.Sorted.{IsPermutation}
 use Rattle.vault_model.specs.SeenNodes.{tree_seen}
 use Rattle.vault_model.specs.declared.nodes.Tombstone.{Tombstone}
-use Rattle.tree_changes.specs.Changes.{tree_buried}
+use Rattle.tree_core.specs.Changes.{tree_buried}
 use Rattle.tree_group_removals.proofs.SortedTombs.{copied, tombs_sorted}
 use Rattle.tree_group_removals.proofs.burying.tombs_with.Goals as goal
 

@@ -3,7 +3,7 @@ use Rattle.std.specs.Prelude.{option_map}
 use Rattle.vault_model.specs.SeenNodes.{tree_seen}
 use Rattle.vault_model.specs.Tree.{Tree}
 use Rattle.vault_model.specs.declared.nodes.Tombstone.{Tombstone}
-use Rattle.tree_changes.specs.Changes.{tree_buried}
+use Rattle.tree_core.specs.Changes.{tree_buried}
 use Rattle.tree_group_removals.proofs.GroupsDeleted.{bury_done}
 use Rattle.tree_group_removals.specs.Tombs.{ids_rise}
 use Rattle.tree_group_removals.proofs.deleting.bury_group.Goals as goal

@@ -1,6 +1,6 @@
 use Rattle.std.proofs.Common.{◌∙◌, [], ap, Err, MatchResult, Ok, Result}
 use Rattle.vault_model.specs.SeenNodes.{tree_seen}
-use Rattle.tree_changes.specs.NewNodes.{empty_group}
+use Rattle.tree_core.specs.NewNodes.{empty_group}
 use Rattle.tree_group_removals.proofs.GroupBins.{bin_put}
 use Rattle.tree_group_removals.proofs.recycling.put_bin.Goals as goal
 

@@ -6,11 +6,11 @@ use Rattle.vault_model.proofs.SeenGroups.{seen_group}
 use Rattle.vault_model.specs.SeenDoc.{doc_seen}
 use Rattle.vault_model.specs.SeenNodes.{tree_seen}
 use Rattle.vault_model.specs.Tree.{Tree}
-use Rattle.tree_changes.specs.declared.fails.Removed.TheVariants.{Recycled}
-use Rattle.tree_changes.specs.After.{group_recycled, time_after}
-use Rattle.tree_changes.specs.Changes.{group_moved, group_with, placed_of}
-use Rattle.tree_changes.specs.NewNodes.{empty_bin}
-use Rattle.tree_changes.proofs.Around.{found_id}
+use Rattle.tree_core.specs.declared.fails.Removed.TheVariants.{Recycled}
+use Rattle.tree_core.specs.After.{group_recycled, time_after}
+use Rattle.tree_core.specs.Changes.{group_moved, group_with, placed_of}
+use Rattle.tree_core.specs.NewNodes.{empty_bin}
+use Rattle.tree_core.proofs.Around.{found_id}
 use Rattle.tree_group_moves.proofs.GroupParents.{parent_child}
 use Rattle.tree_removals.proofs.NewBins.{bin_is_doc, free_absent}
 use Rattle.tree_removals.specs.Removes.{Removes, with_bin_in}

@@ -2,10 +2,10 @@ use Rattle.std.proofs.Common.{◌∙◌, IfSome, None, Ok, Option, Result, Some,
 use Rattle.vault_model.proofs.DocumentLaws.{is_doc}
 use Rattle.vault_model.specs.SeenDoc.{doc_seen}
 use Rattle.vault_model.specs.Tree.{Tree}
-use Rattle.tree_changes.specs.declared.fails.TreeFail.{TreeFail}
-use Rattle.tree_changes.proofs.Around.{found_group}
-use Rattle.tree_changes.proofs.Named.{named_group}
-use Rattle.tree_changes.specs.After.{AfterRemoval, group_deleted, group_recycled}
+use Rattle.tree_core.specs.declared.fails.TreeFail.{TreeFail}
+use Rattle.tree_core.proofs.Around.{found_group}
+use Rattle.tree_core.proofs.Named.{named_group}
+use Rattle.tree_core.specs.After.{AfterRemoval, group_deleted, group_recycled}
 use Rattle.tree_group_moves.proofs.GroupParents.{no_parent_fixed, parent_moves}
 use Rattle.tree_removals.specs.Removes.{Removes}
 use Rattle.tree_group_removals.proofs.GroupsRecycled.{fixed, goes_into_bin, is_deleted, not_bin}

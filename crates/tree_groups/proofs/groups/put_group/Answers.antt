@@ -1,5 +1,5 @@
 use Rattle.vault_model.specs.SeenNodes.{tree_seen}
-use Rattle.tree_changes.specs.Changes.{with_group}
+use Rattle.tree_core.specs.Changes.{with_group}
 use Rattle.tree_steps.proofs.InPlace.{put_of}
 use Rattle.tree_groups.proofs.groups.put_group.Goals as goal
 

@@ -1,6 +1,6 @@
 use Rattle.std.proofs.Common.{◌∙◌, sym}
 use Rattle.vault_model.specs.SeenNodes.{tree_seen}
-use Rattle.tree_changes.specs.Changes.{level_of}
+use Rattle.tree_core.specs.Changes.{level_of}
 use Rattle.tree_groups.proofs.Heights.{left_below, level_found}
 use Rattle.tree_groups.proofs.levels.+levels_below.Goals as goal
 

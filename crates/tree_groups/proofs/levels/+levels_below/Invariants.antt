@@ -2,7 +2,7 @@ use Rattle.std.proofs.Common.{◌≡◌, drop}
 use Rattle.std.specs.Prelude.{map}
 use Rattle.vault_model.specs.SeenNodes.{tree_seen}
 use Rattle.vault_model.specs.Tree.{all_trees}
-use Rattle.tree_changes.specs.Changes.{level_among}
+use Rattle.tree_core.specs.Changes.{level_among}
 use Rattle.tree_groups.proofs.levels.+levels_below.Given as goal
 
 abbrev pub invariant-loop-child : goal.invariant-loop-child

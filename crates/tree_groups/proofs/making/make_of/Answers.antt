@@ -8,11 +8,11 @@ use Rattle.vault_model.specs.SeenDoc.{doc_seen}
 use Rattle.vault_model.specs.SeenNodes.{tree_seen}
 use Rattle.vault_model.specs.Tree.{LEVELS, Tree}
 use Rattle.tree_core.specs.Finding.{group_found}
-use Rattle.tree_changes.proofs.Named.{named_group}
-use Rattle.tree_changes.specs.After.{is_group_taken}
-use Rattle.tree_changes.specs.Changes.{changed_at, has_group, level_of, with_group}
-use Rattle.tree_changes.specs.NewNodes.{empty_group}
-use Rattle.tree_changes.specs.NewPaths.{before_last}
+use Rattle.tree_core.proofs.Named.{named_group}
+use Rattle.tree_core.specs.After.{is_group_taken}
+use Rattle.tree_core.specs.Changes.{changed_at, has_group, level_of, with_group}
+use Rattle.tree_core.specs.NewNodes.{empty_group}
+use Rattle.tree_core.specs.NewPaths.{before_last}
 use Rattle.tree_groups.proofs.AfterMake.{make_done, make_id_taken, make_no_path, make_taken}
 use Rattle.tree_groups.proofs.MadeDoc.{level_left, make_is_doc}
 use Rattle.tree_groups.proofs.making.make_of.Goals as goal

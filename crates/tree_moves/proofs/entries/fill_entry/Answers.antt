@@ -1,5 +1,5 @@
 use Rattle.vault_model.specs.SeenNodes.{entry_row, tree_seen}
-use Rattle.tree_changes.specs.Changes.{on_entries}
+use Rattle.tree_core.specs.Changes.{on_entries}
 use Rattle.tree_moves.specs.Places.{entries_filled}
 use Rattle.tree_steps.proofs.InPlace.{always_of}
 use Rattle.tree_moves.proofs.entries.fill_entry.Goals as goal

@@ -8,9 +8,9 @@ use Rattle.vault_model.specs.Join.{is_id}
 use Rattle.vault_model.specs.Shape.{EntryRecord}
 use Rattle.vault_model.specs.SeenDoc.{doc_seen}
 use Rattle.vault_model.specs.SeenNodes.{entry_row, tree_seen}
-use Rattle.tree_changes.proofs.EntriesMoved.{move_is_doc}
-use Rattle.tree_changes.proofs.Named.{named_group}
-use Rattle.tree_changes.specs.Changes.{entry_moved}
+use Rattle.tree_core.proofs.EntriesMoved.{move_is_doc}
+use Rattle.tree_core.proofs.Named.{named_group}
+use Rattle.tree_core.specs.Changes.{entry_moved}
 use Rattle.tree_moves.proofs.AfterMove.{move_comes, move_no_entry, move_no_group, move_no_holder, move_no_path, move_there_already}
 use Rattle.tree_moves.proofs.moving.move_entry.Goals as goal
 

@@ -1,7 +1,7 @@
 use Rattle.std.proofs.Common.{◌≡◌, ◌∙◌, sym, ap, max, Some}
 use Rattle.std.specs.Prelude.{option_map}
 use Rattle.vault_model.specs.SeenNodes.{entry_row, tree_seen}
-use Rattle.tree_changes.specs.Changes.{entry_at, with_tomb}
+use Rattle.tree_core.specs.Changes.{entry_at, with_tomb}
 use Rattle.tree_removals.proofs.Deleted.{bury_done}
 use Rattle.tree_removals.proofs.deleting.bury_entry.Goals as goal
 

@@ -1,7 +1,7 @@
 use Rattle.vault_model.proofs.DocumentLaws.{is_doc}
 use Rattle.vault_model.specs.SeenDoc.{doc_seen}
 use Rattle.vault_model.specs.SeenNodes.{tree_seen}
-use Rattle.tree_changes.proofs.EntriesMoved.{move_is_doc}
+use Rattle.tree_core.proofs.EntriesMoved.{move_is_doc}
 use Rattle.tree_removals.proofs.recycling.recycle_entry.Goals as goal
 
 pub invariant_of-doc : goal.invariant_of-doc

@@ -1,7 +1,7 @@
 use Rattle.std.proofs.Common.{◌∙◌, not, sym, ap}
 use Rattle.vault_model.specs.SeenDoc.{doc_seen}
 use Rattle.vault_model.specs.SeenNodes.{entry_row, tree_seen}
-use Rattle.tree_changes.specs.Changes.{entry_at}
+use Rattle.tree_core.specs.Changes.{entry_at}
 use Rattle.tree_removals.proofs.Deleted.{not_bin, some_seen}
 use Rattle.tree_removals.proofs.removing.remove_entry.Goals as goal
 

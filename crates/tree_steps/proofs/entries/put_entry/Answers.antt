@@ -1,5 +1,5 @@
 use Rattle.vault_model.specs.SeenNodes.{entry_row, tree_seen}
-use Rattle.tree_changes.specs.Changes.{with_entry}
+use Rattle.tree_core.specs.Changes.{with_entry}
 use Rattle.tree_steps.proofs.InPlace.{put_of}
 use Rattle.tree_steps.proofs.entries.put_entry.Goals as goal
 

@@ -1,7 +1,7 @@
 use Rattle.std.specs.Prelude.{map}
 use Rattle.vault_model.specs.SeenNodes.{bare_version, tree_seen}
 use Rattle.vault_model.specs.Shape.{EntryRecord}
-use Rattle.tree_changes.specs.Changes.{changed_entry}
+use Rattle.tree_core.specs.Changes.{changed_entry}
 use Rattle.tree_steps.proofs.InPlace.{always_of}
 use Rattle.tree_steps.proofs.entries.set_versions.Goals as goal
 

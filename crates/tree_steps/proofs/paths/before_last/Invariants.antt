@@ -1,5 +1,5 @@
 use Rattle.std.proofs.Common.{◌≡◌, length}
-use Rattle.tree_changes.specs.NewPaths.{before_last}
+use Rattle.tree_core.specs.NewPaths.{before_last}
 use Rattle.tree_steps.proofs.paths.before_last.Given as goal
 
 abbrev pub invariant-loop-front : goal.invariant-loop-front

@@ -2,7 +2,7 @@ use Rattle.std.proofs.Common.{◌||◌, ◌+◌, List, drop, map, sym, ap, ◌�
 use Rattle.vault_model.specs.SeenNodes.{tree_seen}
 use Rattle.vault_model.specs.Tree.{all_trees}
 use Rattle.vault_model.specs.declared.nodes.Group.{Group}
-use Rattle.tree_changes.specs.Changes.{have_group}
+use Rattle.tree_core.specs.Changes.{have_group}
 use Rattle.tree_steps.proofs.Steps.{drop_next}
 use Rattle.tree_steps.proofs.searches.+has_group.Goals as goal
 

@@ -4,7 +4,7 @@ use Rattle.std.specs.List.{list_all}
 use Rattle.vault_model.specs.Join.{is_id}
 use Rattle.vault_model.specs.SeenDoc.{doc_seen}
 use Rattle.vault_model.specs.declared.nodes.Tombstone.{Tombstone}
-use Rattle.tree_changes.proofs.Added.{free_is}
+use Rattle.tree_core.proofs.Added.{free_is}
 use Rattle.tree_steps.proofs.Steps.{drop_next}
 use Rattle.tree_steps.proofs.searches.is_free.Goals as goal
 

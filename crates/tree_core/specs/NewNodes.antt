@@ -10,8 +10,8 @@ use Rattle.vault_model.specs.Empty.{new_group}
 use Rattle.vault_model.specs.Orders.{bytes_cmp}
 use Rattle.vault_model.specs.Shape.{BareVersion, EntryRecord, GroupRecord}
 use Rattle.vault_model.specs.Tree.{Tree, node, none}
-use Rattle.tree_changes.specs.declared.values.Values.{Values}
-use Rattle.tree_changes.specs.InOrder.{put_in_order}
+use Rattle.tree_core.specs.declared.values.Values.{Values}
+use Rattle.tree_core.specs.InOrder.{put_in_order}
 
 -- The values that an entry is given, each where it is given.
 pub record GivenValues : Type 0 where

@@ -7,8 +7,8 @@ use Rattle.vault_model.specs.Shape.{Children, EntryRecord}
 use Rattle.vault_model.specs.Tree.{Tree, Trees, beside, child_rows, child_rows_all, entry_rows, entry_rows_all, node, node_ids, node_ids_all, none}
 use Rattle.vault_model.proofs.Ids.{same_id}
 use Rattle.vault_model.proofs.Tests.{decide, is_false, map_append}
-use Rattle.tree_changes.proofs.Options.{never}
-use Rattle.tree_changes.proofs.Counted.{occurs, occurs-append, one_if}
+use Rattle.tree_core.proofs.Options.{never}
+use Rattle.tree_core.proofs.Counted.{occurs, occurs-append, one_if}
 
 module _ {X : Type 0} where
   abbrev pub keys : List (NodeId × X) → List NodeId

@@ -1,9 +1,9 @@
 -- Steps of a definition that may be refused: the first refusal, or the next step.
 use Rattle.std.proofs.Common.{◌≡◌, Bool, true, false, Option, None, Some, Result, Ok, Err, ap}
 use Rattle.outside_core.specs.Results.{◌>>=◌}
-use Rattle.tree_changes.specs.declared.fails.TreeFail.{TreeFail}
-use Rattle.tree_changes.specs.declared.fails.TreeFail.TheVariants.{NoSuchPath}
-use Rattle.tree_changes.specs.After.{named_or_refusal, refuse_if}
+use Rattle.tree_core.specs.declared.fails.TreeFail.{TreeFail}
+use Rattle.tree_core.specs.declared.fails.TreeFail.TheVariants.{NoSuchPath}
+use Rattle.tree_core.specs.After.{named_or_refusal, refuse_if}
 
 module _ {A B : Type 0} (next : A → Result B TreeFail) where
   pub goes_on : (r : Result A TreeFail) (a : A) → r ≡ Ok a → (r >>= next) ≡ next a

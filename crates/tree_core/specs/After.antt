@@ -11,14 +11,14 @@ use Rattle.vault_model.specs.SeenNodes.{entry_time}
 use Rattle.vault_model.specs.Shape.{EntryRecord}
 use Rattle.vault_model.specs.Tree.{BareDoc, LEVELS, Tree, height, id_of}
 use Rattle.tree_core.specs.Finding.{entry_found, group_found, has_entry_path, has_group_path, without_slashes}
-use Rattle.tree_changes.specs.declared.fails.Removed.{Removed}
-use Rattle.tree_changes.specs.declared.fails.Removed.TheVariants.{Deleted, Recycled}
-use Rattle.tree_changes.specs.declared.fails.TreeFail.{TreeFail}
-use Rattle.tree_changes.specs.declared.fails.TreeFail.TheVariants.{AlreadyThere, IdTaken, IntoItself, NameTaken, NoMemory, NoSuchPath, RootFixed, StampLimit, TooDeep}
-use Rattle.tree_changes.specs.Changes.{changed_at, changed_entry, entries_buried, entry_at, entry_moved, group_moved, group_with, has_group, holder, is_free, level_of, parent_of, placed_of, tree_buried, with_entry, with_group, without_entry, without_group}
-use Rattle.tree_changes.specs.Histories.{settled_history, with_version}
-use Rattle.tree_changes.specs.NewNodes.{GivenValues, edited_version, empty_bin, empty_group, new_entry, new_fields}
-use Rattle.tree_changes.specs.NewPaths.{after_last, before_last, names_root, new_path}
+use Rattle.tree_core.specs.declared.fails.Removed.{Removed}
+use Rattle.tree_core.specs.declared.fails.Removed.TheVariants.{Deleted, Recycled}
+use Rattle.tree_core.specs.declared.fails.TreeFail.{TreeFail}
+use Rattle.tree_core.specs.declared.fails.TreeFail.TheVariants.{AlreadyThere, IdTaken, IntoItself, NameTaken, NoMemory, NoSuchPath, RootFixed, StampLimit, TooDeep}
+use Rattle.tree_core.specs.Changes.{changed_at, changed_entry, entries_buried, entry_at, entry_moved, group_moved, group_with, has_group, holder, is_free, level_of, parent_of, placed_of, tree_buried, with_entry, with_group, without_entry, without_group}
+use Rattle.tree_core.specs.Histories.{settled_history, with_version}
+use Rattle.tree_core.specs.NewNodes.{GivenValues, edited_version, empty_bin, empty_group, new_entry, new_fields}
+use Rattle.tree_core.specs.NewPaths.{after_last, before_last, names_root, new_path}
 
 -- ---- what a call answers
 

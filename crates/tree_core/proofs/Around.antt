@@ -8,10 +8,10 @@ use Rattle.vault_model.specs.Shape.{EntryRecord, GroupRecord}
 use Rattle.vault_model.specs.Tree.{Tree, Trees, beside, child_rows, child_rows_all, entry_rows, entry_rows_all, group_rows, group_rows_all, height, height_all, id_of, ids_of, node, node_ids, node_ids_all, none}
 use Rattle.vault_model.proofs.Ids.{same_id}
 use Rattle.vault_model.proofs.Tests.{apart, decide}
-use Rattle.tree_changes.proofs.Options.{never}
-use Rattle.tree_changes.specs.Changes.{changed_at, changed_in, group_among, group_with, has_group, have_group}
-use Rattle.tree_changes.proofs.Changed.{absent_group, changed_by, changed_not}
-use Rattle.tree_changes.proofs.Counted.{all_append, all_front, occurs, occurs-append}
+use Rattle.tree_core.proofs.Options.{never}
+use Rattle.tree_core.specs.Changes.{changed_at, changed_in, group_among, group_with, has_group, have_group}
+use Rattle.tree_core.proofs.Changed.{absent_group, changed_by, changed_not}
+use Rattle.tree_core.proofs.Counted.{all_append, all_front, occurs, occurs-append}
 
 -- a group that is found has the id
 mutual

@@ -1,7 +1,7 @@
 //! Why a document is not changed, and what became of a node that is removed.
 
 ghost use Rattle.std.specs.Prelude.{◌≡◌};
-ghost use Rattle.tree_changes.specs.declared.fails.TreeFail.TheVariants as fail;
+ghost use Rattle.tree_core.specs.declared.fails.TreeFail.TheVariants as fail;
 
 use outside_core::NoMemory;
 use uuid_core::Uuid;

@@ -11,8 +11,8 @@ use Rattle.vault_model.proofs.Ids.{id_itself}
 use Rattle.vault_model.proofs.Tests.{or_left, or_right}
 use Rattle.tree_core.specs.Finding.{first, group_found, group_named, or_else, without_slashes}
 use Rattle.tree_core.proofs.Walks.{first_append}
-use Rattle.tree_changes.specs.Changes.{has_group, have_group}
-use Rattle.tree_changes.proofs.Options.{never}
+use Rattle.tree_core.specs.Changes.{has_group, have_group}
+use Rattle.tree_core.proofs.Options.{never}
 
 -- one or the other
 either : {A P : Type 0} (x y : Option A) (a : A) → (x ≡ Some a → P) → (y ≡ Some a → P) → or_else x y ≡ Some a → P

@@ -5,8 +5,8 @@ use Rattle.vault_model.specs.Join.{is_id}
 use Rattle.vault_model.specs.Tree.{Tree, Trees, beside, height, height_all, id_of, node, none}
 use Rattle.vault_model.proofs.Ids.{same_id}
 use Rattle.vault_model.proofs.Tests.{decide}
-use Rattle.tree_changes.specs.Changes.{but_group, changed_at, changed_in, child_with, group_among, group_with, has_group, have_group, level_among, level_of, own_group, with_group, with_last, without_group}
-use Rattle.tree_changes.proofs.Ways.{below, first, here, later}
+use Rattle.tree_core.specs.Changes.{but_group, changed_at, changed_in, child_with, group_among, group_with, has_group, have_group, level_among, level_of, own_group, with_group, with_last, without_group}
+use Rattle.tree_core.proofs.Ways.{below, first, here, later}
 
 -- ---- levels
 

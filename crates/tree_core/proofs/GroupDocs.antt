@@ -9,13 +9,13 @@ use Rattle.vault_model.specs.Proper.{is_proper_group_content}
 use Rattle.vault_model.specs.Shape.{EntryRecord, GroupRecord}
 use Rattle.vault_model.specs.Tree.{BareDoc, IsDoc, LEVELS, Tree, Trees, beside, entry_rows, entry_rows_all, group_rows, group_rows_all, height, height_all, id_of, is_elsewhere, is_proper_entry, node, node_ids, node_ids_all, none}
 use Rattle.vault_model.proofs.Tests.{and_both, and_true, decide}
-use Rattle.tree_changes.proofs.Options.{never}
-use Rattle.tree_changes.specs.Changes.{but_group, changed_at, child_with, group_with, level_of, own_group, with_group, with_last, without_group}
-use Rattle.tree_changes.proofs.Around.{all_change, entries_rows, found_id, groups_rows, ids_rows, no_higher, occurs_change, rows_change}
-use Rattle.tree_changes.proofs.Changed.{changed_by}
-use Rattle.tree_changes.proofs.Counted.{all_append, all_both, all_front, distinct, elsewhere_occurs, occurs, occurs-append, occurs_elsewhere, once}
-use Rattle.tree_changes.proofs.GroupMoves.{put_height}
-use Rattle.tree_changes.proofs.Rows.{keys}
+use Rattle.tree_core.proofs.Options.{never}
+use Rattle.tree_core.specs.Changes.{but_group, changed_at, child_with, group_with, level_of, own_group, with_group, with_last, without_group}
+use Rattle.tree_core.proofs.Around.{all_change, entries_rows, found_id, groups_rows, ids_rows, no_higher, occurs_change, rows_change}
+use Rattle.tree_core.proofs.Changed.{changed_by}
+use Rattle.tree_core.proofs.Counted.{all_append, all_both, all_front, distinct, elsewhere_occurs, occurs, occurs-append, occurs_elsewhere, once}
+use Rattle.tree_core.proofs.GroupMoves.{put_height}
+use Rattle.tree_core.proofs.Rows.{keys}
 
 abbrev proper_entry : NodeId × EntryRecord → Bool
 proper_entry r = is_proper_entry r.1

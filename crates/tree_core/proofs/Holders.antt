@@ -7,11 +7,11 @@ use Rattle.vault_model.specs.Shape.{EntryRecord}
 use Rattle.vault_model.specs.Tree.{Tree, Trees, beside, node, node_ids, node_ids_all, none}
 use Rattle.vault_model.proofs.Ids.{is_same_id, same_id}
 use Rattle.vault_model.proofs.Tests.{apart, decide, is_false, or_cases}
-use Rattle.tree_changes.proofs.Options.{never}
+use Rattle.tree_core.proofs.Options.{never}
 use Rattle.tree_core.specs.Finding.{or_else}
-use Rattle.tree_changes.specs.Changes.{entry_at, group_among, group_with, has_group, have_group, holder, holder_among, own_entry}
-use Rattle.tree_changes.proofs.Counted.{occurs, occurs-append, one_if}
-use Rattle.tree_changes.proofs.Rows.{keys}
+use Rattle.tree_core.specs.Changes.{entry_at, group_among, group_with, has_group, have_group, holder, holder_among, own_entry}
+use Rattle.tree_core.proofs.Counted.{occurs, occurs-append, one_if}
+use Rattle.tree_core.proofs.Rows.{keys}
 
 either : (a b : Bool) → b ≡ true → (a || b) ≡ true
 either true b e = refl

@@ -14,13 +14,13 @@ use Rattle.vault_model.specs.Tree.{BareDoc, IsDoc, Tree, entry_rows, entry_rows_
 use Rattle.vault_model.proofs.Ids.{id_itself, is_same_id, same_id}
 use Rattle.vault_model.proofs.Orders.{id_order}
 use Rattle.vault_model.proofs.Tests.{and_both, and_true, apart, decide, is_false, map_append, not_false, not_true}
-use Rattle.tree_changes.proofs.Options.{never}
+use Rattle.tree_core.proofs.Options.{never}
 use Rattle.vault_model.specs.SeenNodes.{entry_time}
-use Rattle.tree_changes.specs.Changes.{changed_at, entry_at, group_with, own_entry, tomb_at, with_tomb, without, without_entry}
-use Rattle.tree_changes.proofs.Around.{RowsChange, all_change, entries_rows, found_id, groups_rows, ids_rows, no_higher, occurs_change, rows_change}
-use Rattle.tree_changes.proofs.Changed.{changed_by}
-use Rattle.tree_changes.proofs.Counted.{all_append, all_both, all_front, distinct, elsewhere_occurs, occurs, occurs-append, occurs_elsewhere, once, one_if}
-use Rattle.tree_changes.proofs.Rows.{keys}
+use Rattle.tree_core.specs.Changes.{changed_at, entry_at, group_with, own_entry, tomb_at, with_tomb, without, without_entry}
+use Rattle.tree_core.proofs.Around.{RowsChange, all_change, entries_rows, found_id, groups_rows, ids_rows, no_higher, occurs_change, rows_change}
+use Rattle.tree_core.proofs.Changed.{changed_by}
+use Rattle.tree_core.proofs.Counted.{all_append, all_both, all_front, distinct, elsewhere_occurs, occurs, occurs-append, occurs_elsewhere, once, one_if}
+use Rattle.tree_core.proofs.Rows.{keys}
 
 -- ---- entries around the first of an id
 

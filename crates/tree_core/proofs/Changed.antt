@@ -5,7 +5,7 @@ use Rattle.vault_model.specs.Db.{NodeId}
 use Rattle.vault_model.specs.Join.{is_id}
 use Rattle.vault_model.specs.Tree.{Tree, Trees, beside, node, none}
 use Rattle.vault_model.proofs.Tests.{decide, or_false}
-use Rattle.tree_changes.specs.Changes.{changed_at, changed_in, group_among, group_with, has_group, have_group}
+use Rattle.tree_core.specs.Changes.{changed_at, changed_in, group_among, group_with, has_group, have_group}
 
 -- ---- a group that is not there
 

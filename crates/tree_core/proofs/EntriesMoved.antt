@@ -8,12 +8,12 @@ use Rattle.vault_model.specs.declared.nodes.Tombstone.{Tombstone}
 use Rattle.vault_model.specs.Tree.{BareDoc, IsDoc, Tree, Trees, beside, entry_rows, entry_rows_all, is_elsewhere, is_proper_entry, node, node_ids, none}
 use Rattle.vault_model.proofs.Ids.{same_id}
 use Rattle.vault_model.proofs.Tests.{and_both, and_true, decide, is_false, not_false, some_of}
-use Rattle.tree_changes.specs.Changes.{changed_at, changed_in, entry_at, entry_moved, group_among, group_with, has_group, have_group, is_free, moved_entry, on_entries, own_entry, with_entry, without, without_entry}
-use Rattle.tree_changes.proofs.Added.{added_is_doc}
-use Rattle.tree_changes.proofs.Around.{entries_rows, found_group, found_id, rows_change}
-use Rattle.tree_changes.proofs.EntriesRemoved.{found_at, gone, own_id, removed_is_doc, split, untombed, was_once}
-use Rattle.tree_changes.proofs.Ways.{below, first, here, later}
-use Rattle.tree_changes.proofs.Counted.{all_front, elsewhere_occurs, occurs}
+use Rattle.tree_core.specs.Changes.{changed_at, changed_in, entry_at, entry_moved, group_among, group_with, has_group, have_group, is_free, moved_entry, on_entries, own_entry, with_entry, without, without_entry}
+use Rattle.tree_core.proofs.Added.{added_is_doc}
+use Rattle.tree_core.proofs.Around.{entries_rows, found_group, found_id, rows_change}
+use Rattle.tree_core.proofs.EntriesRemoved.{found_at, gone, own_id, removed_is_doc, split, untombed, was_once}
+use Rattle.tree_core.proofs.Ways.{below, first, here, later}
+use Rattle.tree_core.proofs.Counted.{all_front, elsewhere_occurs, occurs}
 
 -- an entry as it is in the group that it is moved to
 abbrev pub placed_at : NodeId → ℕ → NodeId × EntryRecord → NodeId × EntryRecord

@@ -10,12 +10,12 @@ use Rattle.vault_model.specs.Tree.{BareDoc, IsDoc, Tree, are_distinct, entry_row
 use Rattle.vault_model.proofs.Ids.{same_id}
 use Rattle.vault_model.proofs.Tests.{and_both, and_true, decide}
 use Rattle.std.proofs.lemmas.Option.{same_Some}
-use Rattle.tree_changes.proofs.Options.{never}
-use Rattle.tree_changes.specs.Changes.{changed_at, changed_entry, entry_at, own_entry, group_with, has_group, on_entries, with_changed}
-use Rattle.tree_changes.proofs.Around.{all_change, entries_rows, found_group, found_id, groups_rows, ids_rows, no_higher, rows_change}
-use Rattle.tree_changes.proofs.Changed.{changed_by, changed_off}
-use Rattle.tree_changes.proofs.Counted.{all_append, all_both, all_front}
-use Rattle.tree_changes.proofs.Rows.{keys}
+use Rattle.tree_core.proofs.Options.{never}
+use Rattle.tree_core.specs.Changes.{changed_at, changed_entry, entry_at, own_entry, group_with, has_group, on_entries, with_changed}
+use Rattle.tree_core.proofs.Around.{all_change, entries_rows, found_group, found_id, groups_rows, ids_rows, no_higher, rows_change}
+use Rattle.tree_core.proofs.Changed.{changed_by, changed_off}
+use Rattle.tree_core.proofs.Counted.{all_append, all_both, all_front}
+use Rattle.tree_core.proofs.Rows.{keys}
 
 module _ (u : NodeId) (f : EntryRecord → EntryRecord) where
   abbrev k : List (NodeId × EntryRecord) → List (NodeId × EntryRecord)

@@ -9,10 +9,10 @@ use Rattle.vault_model.specs.Shape.{EntryRecord, GroupRecord}
 use Rattle.vault_model.specs.Tree.{BareDoc, IsDoc, Tree, entry_rows, entry_rows_all, group_rows, height, id_of, is_elsewhere, is_proper_entry, node, node_ids, node_ids_all}
 use Rattle.vault_model.proofs.Ids.{same_id}
 use Rattle.vault_model.proofs.Tests.{and_both, and_true, apart, decide, is_false, map_append, not_true}
-use Rattle.tree_changes.specs.Changes.{changed_at, group_with, has_group, is_free, with_entry}
-use Rattle.tree_changes.proofs.Around.{RowsChange, all_change, entries_rows, found_group, found_id, groups_rows, ids_rows, no_higher, occurs_change, rows_change}
-use Rattle.tree_changes.proofs.Changed.{changed_by}
-use Rattle.tree_changes.proofs.Counted.{all_append, all_both, all_front, distinct, elsewhere_occurs, occurs, occurs-append, occurs_elsewhere, once, one_if}
+use Rattle.tree_core.specs.Changes.{changed_at, group_with, has_group, is_free, with_entry}
+use Rattle.tree_core.proofs.Around.{RowsChange, all_change, entries_rows, found_group, found_id, groups_rows, ids_rows, no_higher, occurs_change, rows_change}
+use Rattle.tree_core.proofs.Changed.{changed_by}
+use Rattle.tree_core.proofs.Counted.{all_append, all_both, all_front, distinct, elsewhere_occurs, occurs, occurs-append, occurs_elsewhere, once, one_if}
 
 -- ---- a group with one more entry
 

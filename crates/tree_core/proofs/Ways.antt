@@ -4,7 +4,7 @@ use Rattle.vault_model.specs.Db.{NodeId}
 use Rattle.vault_model.specs.Join.{is_id}
 use Rattle.vault_model.specs.Shape.{EntryRecord, GroupRecord}
 use Rattle.vault_model.specs.Tree.{Tree, Trees, beside, node}
-use Rattle.tree_changes.specs.Changes.{changed_at, changed_in, has_group}
+use Rattle.tree_core.specs.Changes.{changed_at, changed_in, has_group}
 
 module _ (u : NodeId) (f : Tree → Tree) where
   pub here : (v : NodeId) (r : GroupRecord) (es : List (NodeId × EntryRecord)) (ts : Trees) → is_id v u ≡ true → changed_at u f (node v r es ts) ≡ f (node v r es ts)

@@ -1,6 +1,0 @@
-pub mod After
-pub mod Changes
-pub mod Histories
-pub mod InOrder
-pub mod NewNodes
-pub mod NewPaths
