@@ -13,7 +13,7 @@ use crate::{Given, entry_title, time_of, unchanged};
 use secret_core::Secret;
 use std::alloc::Global;
 use tree_core::TreeFail;
-use tree_group_moves::move_group;
+use tree_moves::move_group;
 use tree_moves::move_entry;
 use vault_model::Doc;
 

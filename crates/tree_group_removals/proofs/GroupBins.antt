@@ -20,10 +20,10 @@ use Rattle.tree_core.proofs.Holders.{has_counts}
 use Rattle.tree_core.proofs.Options.{never}
 use Rattle.tree_core.specs.Changes.{changed_at, child_with, group_among, group_moved, group_with, has_group, have_group, is_free, level_among, level_of, own_group, parent_among, parent_of, with_group, with_last, without_group}
 use Rattle.tree_core.specs.NewNodes.{empty_bin, empty_group}
-use Rattle.tree_group_moves.proofs.GroupChildren.{found_child, found_child_id, hole_nil, hole_off, moved_some, place_some}
-use Rattle.tree_group_moves.proofs.GroupsMoved.{moved_is_doc}
-use Rattle.tree_group_moves.proofs.GroupParents.{no_parent}
-use Rattle.tree_group_moves.specs.GroupPlaces.{group_at, group_placed}
+use Rattle.tree_moves.proofs.GroupChildren.{found_child, found_child_id, hole_nil, hole_off, moved_some, place_some}
+use Rattle.tree_moves.proofs.GroupsMoved.{moved_is_doc}
+use Rattle.tree_moves.proofs.GroupParents.{no_parent}
+use Rattle.tree_moves.specs.GroupPlaces.{group_at, group_placed}
 use Rattle.tree_removals.specs.Removes.{with_bin_in}
 use Rattle.tree_removals.proofs.LastGroups.{among_last, at_root, elsewhere_absent, last_there, put_in_last}
 use Rattle.tree_removals.proofs.NewBins.{bin_is_doc}

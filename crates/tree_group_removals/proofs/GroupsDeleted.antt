@@ -14,8 +14,8 @@ use Rattle.tree_core.specs.After.{AfterRemoval, group_deleted}
 use Rattle.tree_core.specs.Changes.{changed_at, group_with, parent_of, tree_buried, without_group}
 use Rattle.tree_core.proofs.Around.{found_id}
 use Rattle.tree_core.proofs.Options.{never}
-use Rattle.tree_group_moves.proofs.GroupParents.{parent_child}
-use Rattle.tree_group_moves.specs.GroupPlaces.{group_at}
+use Rattle.tree_moves.proofs.GroupParents.{parent_child}
+use Rattle.tree_moves.specs.GroupPlaces.{group_at}
 use Rattle.tree_removals.specs.Removes.{Removes}
 use Rattle.tree_group_removals.specs.Tombs.{ids_rise}
 use Rattle.tree_group_removals.proofs.ManyTombs.{deleted_is_doc}

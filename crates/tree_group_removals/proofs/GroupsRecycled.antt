@@ -17,10 +17,10 @@ use Rattle.tree_core.specs.Changes.{changed_at, child_with, group_moved, group_w
 use Rattle.tree_core.specs.NewNodes.{empty_bin}
 use Rattle.tree_core.proofs.Around.{found_id}
 use Rattle.tree_core.proofs.Binds.{passes, refuses}
-use Rattle.tree_group_moves.proofs.AfterGroupMove.{moved, not_moved}
-use Rattle.tree_group_moves.proofs.GroupChildren.{found_child}
-use Rattle.tree_group_moves.proofs.GroupParents.{own_has, parent_child}
-use Rattle.tree_group_moves.specs.GroupPlaces.{time_of_move}
+use Rattle.tree_moves.proofs.AfterGroupMove.{moved, not_moved}
+use Rattle.tree_moves.proofs.GroupChildren.{found_child}
+use Rattle.tree_moves.proofs.GroupParents.{own_has, parent_child}
+use Rattle.tree_moves.specs.GroupPlaces.{time_of_move}
 use Rattle.tree_removals.specs.Removes.{Removes}
 
 -- ---- a bin that is there

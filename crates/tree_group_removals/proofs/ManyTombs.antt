@@ -14,8 +14,8 @@ use Rattle.tree_core.proofs.Counted.{all_both, elsewhere_occurs, occurs, occurs-
 use Rattle.tree_core.proofs.EntriesRemoved.{tombs_all, tombs_rise}
 use Rattle.tree_core.proofs.GroupDocs.{counted_less, take_is_doc}
 use Rattle.tree_core.proofs.Rows.{keys}
-use Rattle.tree_group_moves.proofs.GroupChildren.{found_child}
-use Rattle.tree_group_moves.specs.GroupPlaces.{group_at}
+use Rattle.tree_moves.proofs.GroupChildren.{found_child}
+use Rattle.tree_moves.specs.GroupPlaces.{group_at}
 use Rattle.tree_group_removals.specs.Tombs.{entry_tomb, group_tomb, tombs_of}
 
 -- ---- the tombstones of a tree as one list

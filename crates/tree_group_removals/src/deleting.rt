@@ -6,7 +6,7 @@ ghost use Rattle.vault_model.specs.SeenNodes.{tree_seen};
 ghost use Rattle.vault_model.specs.Tree.{id_of};
 ghost use Rattle.tree_core.specs.After.{group_deleted};
 ghost use Rattle.tree_core.specs.Changes.{changed_at, group_with, parent_of, tree_buried, without_group};
-ghost use Rattle.tree_group_moves.specs.GroupPlaces.{group_at};
+ghost use Rattle.tree_moves.specs.GroupPlaces.{group_at};
 ghost use Rattle.tree_removals.specs.Removes.{Removes};
 ghost use Rattle.tree_group_removals.specs.Tombs.{ids_rise};
 
@@ -14,7 +14,7 @@ use crate::burying::tombs_with;
 use outside_core::{List, NoMemory};
 use std::alloc::Global;
 use tree_core::{Removed, TreeFail};
-use tree_group_moves::take_group;
+use tree_moves::take_group;
 use tree_steps::group_of;
 use uuid_core::Uuid;
 use vault_model::{Doc, Group, Stamp, Tombstone};

@@ -9,13 +9,13 @@ ghost use Rattle.vault_model.specs.declared.nodes.Group.{out-Group};
 ghost use Rattle.tree_core.specs.After as spec;
 ghost use Rattle.tree_core.specs.Changes.{changed_at, group_moved, group_with, has_group, parent_of, with_group};
 ghost use Rattle.tree_core.specs.NewNodes.{empty_group};
-ghost use Rattle.tree_group_moves.specs.GroupPlaces.{group_at};
+ghost use Rattle.tree_moves.specs.GroupPlaces.{group_at};
 ghost use Rattle.tree_removals.specs.Removes.{Removes, with_bin_in};
 
 use outside_core::NoMemory;
 use std::alloc::Global;
 use tree_core::{Removed, TreeFail};
-use tree_group_moves::{move_found, move_group_to_place};
+use tree_moves::{move_found, move_group_to_place};
 use tree_groups::{LEVELS, fits, new_bin, new_group, put_group};
 use tree_steps::{group_of, is_free, time_after};
 use uuid_core::Uuid;

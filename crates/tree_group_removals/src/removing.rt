@@ -10,7 +10,7 @@ use crate::recycling::{recycle_group, recycle_with_new_bin};
 use std::alloc::Global;
 use tree_core::{Removed, TreeFail};
 use tree_core::find_group;
-use tree_group_moves::parent_of;
+use tree_moves::parent_of;
 use tree_removals::is_recycled;
 use uuid_core::Uuid;
 use vault_model::{Doc, Stamp};

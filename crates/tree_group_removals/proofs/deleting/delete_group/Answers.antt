@@ -3,7 +3,7 @@ use Rattle.vault_model.proofs.Tests.{some_of}
 use Rattle.vault_model.specs.SeenDoc.{doc_seen}
 use Rattle.vault_model.specs.SeenNodes.{tree_seen}
 use Rattle.tree_core.specs.Changes.{group_with}
-use Rattle.tree_group_moves.proofs.GroupParents.{parent_child}
+use Rattle.tree_moves.proofs.GroupParents.{parent_child}
 use Rattle.tree_group_removals.proofs.GroupsDeleted.{bury_is_doc, delete_done, held_group, rising_group}
 use Rattle.tree_group_removals.proofs.deleting.delete_group.Goals as goal
 

@@ -11,7 +11,7 @@ use Rattle.tree_core.specs.After.{group_recycled, time_after}
 use Rattle.tree_core.specs.Changes.{group_moved, group_with, placed_of}
 use Rattle.tree_core.specs.NewNodes.{empty_bin}
 use Rattle.tree_core.proofs.Around.{found_id}
-use Rattle.tree_group_moves.proofs.GroupParents.{parent_child}
+use Rattle.tree_moves.proofs.GroupParents.{parent_child}
 use Rattle.tree_removals.proofs.NewBins.{bin_is_doc, free_absent}
 use Rattle.tree_removals.specs.Removes.{Removes, with_bin_in}
 use Rattle.tree_group_removals.proofs.GroupBins.{absent_inside, free_elsewhere, into_bin_is_doc, level_of_last, parent_of_last, u_off_bin}

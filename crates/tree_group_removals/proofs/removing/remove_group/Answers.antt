@@ -6,7 +6,7 @@ use Rattle.tree_core.specs.declared.fails.TreeFail.{TreeFail}
 use Rattle.tree_core.proofs.Around.{found_group}
 use Rattle.tree_core.proofs.Named.{named_group}
 use Rattle.tree_core.specs.After.{AfterRemoval, group_deleted, group_recycled}
-use Rattle.tree_group_moves.proofs.GroupParents.{no_parent_fixed, parent_moves}
+use Rattle.tree_moves.proofs.GroupParents.{no_parent_fixed, parent_moves}
 use Rattle.tree_removals.specs.Removes.{Removes}
 use Rattle.tree_group_removals.proofs.GroupsRecycled.{fixed, goes_into_bin, is_deleted, not_bin}
 use Rattle.tree_group_removals.proofs.removing.remove_group.Goals as goal

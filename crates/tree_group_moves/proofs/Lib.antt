@@ -1,5 +1,0 @@
-pub mod AfterGroupMove
-pub mod GroupChildren
-pub mod GroupParents
-pub mod GroupsMoved
-pub mod GroupsTaken
