@@ -16,7 +16,7 @@ use outside_core::NoMemory;
 use secret_core::Secret;
 use std::alloc::Global;
 use tree_core::{Removed, TreeFail};
-use tree_group_removals::remove_group;
+use tree_removals::remove_group;
 use tree_removals::remove_entry;
 use uuid_core::Uuid;
 use vault_model::Doc;

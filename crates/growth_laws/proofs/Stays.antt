@@ -17,7 +17,7 @@ use Rattle.join_laws.proofs.Tables.{find_in}
 use Rattle.join_laws.proofs.Unite.{from_keys}
 use Rattle.tree_core.proofs.Counted.{occurs, once, one_if}
 use Rattle.tree_core.proofs.Rows.{keys, none_found}
-use Rattle.tree_group_removals.proofs.ManyTombs.{rows_count}
+use Rattle.tree_removals.proofs.ManyTombs.{rows_count}
 use Rattle.growth_laws.proofs.Grown.{grown}
 
 -- ---- rows after a change

@@ -1,1 +1,2 @@
 pub mod Removes
+pub mod Tombs
