@@ -3,13 +3,13 @@ use Rattle.std.proofs.Common.{◌≡◌, inl, inr, ℕ, Bool, true, false, not, 
 use Rattle.std.specs.List.{list_all}
 use Rattle.std.specs.Option.{option_and_then}
 use Rattle.std.proofs.lemmas.Bool.Decides.{Decides-eqb}
-use Rattle.cli_options.specs.declared.names.CommandName.{CommandName}
-use Rattle.cli_options.specs.declared.forms.CommandOption.{CommandOption}
-use Rattle.cli_options.specs.declared.forms.CommandOption.TheVariants.{Recursive, Flat, Quiet, Plain, NoPassword, KeyFile, Title, User, Url, Notes, EntryPassword, SameCredentials, DryRun, KeyFileFrom, NoPasswordFrom, Clear, All, Attachments, Format, Attribute, SetPassword, SetKeyFile, ImportFormat}
+use Rattle.cli_saying.specs.declared.names.CommandName.{CommandName}
+use Rattle.cli_saying.specs.declared.forms.CommandOption.{CommandOption}
+use Rattle.cli_saying.specs.declared.forms.CommandOption.TheVariants.{Recursive, Flat, Quiet, Plain, NoPassword, KeyFile, Title, User, Url, Notes, EntryPassword, SameCredentials, DryRun, KeyFileFrom, NoPasswordFrom, Clear, All, Attachments, Format, Attribute, SetPassword, SetKeyFile, ImportFormat}
 use Rattle.cli_saying.specs.Laws.{IsFlagWord, are_flag_letters, is_flag, is_flag_letter, lack_end}
-use Rattle.cli_options.specs.Options.{form_of, has_value, letter_option, name_option}
-use Rattle.cli_options.proofs.Letters.{no_dash}
-use Rattle.cli_options.proofs.Named.{named}
+use Rattle.cli_saying.specs.Options.{form_of, has_value, letter_option, name_option}
+use Rattle.cli_saying.proofs.Letters.{no_dash}
+use Rattle.cli_saying.proofs.Named.{named}
 use Rattle.cli_saying.specs.Prefixes.{strip_prefix}
 use Rattle.cli_saying.specs.Said.{Said, by_letter, is_option, nothing_said, with_due, with_flag, with_given, with_joined, with_letters, with_long, with_name, with_next, with_option, with_position, with_word, with_words}
 use Rattle.cli_saying.proofs.Flags.{flags_appended, flags_exchanged, same_step, with_flags}

@@ -3,9 +3,9 @@ use Rattle.std.proofs.Common.{◌≡◌, ◌≢◌, ◌⊎◌, inl, inr, ℕ, ze
 use Rattle.std.specs.Option.{option_and_then}
 use Rattle.std.proofs.lemmas.Bool.{cases_eq}
 use Rattle.std.proofs.lemmas.List.{get_or-set_other}
-use Rattle.cli_options.specs.declared.forms.CommandOption.{CommandOption}
-use Rattle.cli_options.specs.Options.{is_repeatable, place_of}
-use Rattle.cli_options.proofs.Places.{one_repeatable, same_option}
+use Rattle.cli_saying.specs.declared.forms.CommandOption.{CommandOption}
+use Rattle.cli_saying.specs.Options.{is_repeatable, place_of}
+use Rattle.cli_saying.proofs.Places.{one_repeatable, same_option}
 use Rattle.cli_saying.specs.Said.{Said, is_given, unless_given, with_given, with_text}
 
 -- The flags of a list, one after another.

@@ -8,3 +8,8 @@ pub mod PrefixCases
 pub mod Saying
 pub mod Stripping
 pub mod Texts
+pub mod Found
+pub mod Letters
+pub mod Named
+pub mod Places
+pub mod Taken

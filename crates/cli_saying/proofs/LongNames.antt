@@ -1,7 +1,7 @@
 -- An option of two `-` and its name.
 use Rattle.std.proofs.Common.{◌≡◌, ◌==◌, ℕ, true, false, length, List, [], ◌∷◌, refl}
-use Rattle.cli_options.specs.declared.names.CommandName.{CommandName}
-use Rattle.cli_options.specs.Options.{name_option}
+use Rattle.cli_saying.specs.declared.names.CommandName.{CommandName}
+use Rattle.cli_saying.specs.Options.{name_option}
 use Rattle.cli_saying.specs.Prefixes.{after_sign, before_sign}
 use Rattle.cli_saying.specs.Said.{Said, with_long, with_name}
 

@@ -1,9 +1,9 @@
 -- A word names one option.
 use Rattle.std.proofs.Common.{◌≡◌, ℕ, List, [], ◌∷◌, Some, None, sym, ap, ◌∙◌}
-use Rattle.cli_options.specs.declared.names.CommandName.{CommandName}
-use Rattle.cli_options.specs.declared.forms.CommandOption.{CommandOption}
-use Rattle.cli_options.specs.Options.{letter_option}
-use Rattle.cli_options.proofs.Letters.{no_dash}
+use Rattle.cli_saying.specs.declared.names.CommandName.{CommandName}
+use Rattle.cli_saying.specs.declared.forms.CommandOption.{CommandOption}
+use Rattle.cli_saying.specs.Options.{letter_option}
+use Rattle.cli_saying.proofs.Letters.{no_dash}
 use Rattle.cli_saying.specs.Laws.{IsNameOf, long, short}
 
 -- A word of a letter is none of a long name.

@@ -3,12 +3,12 @@ use Rattle.std.proofs.Common.{◌≡◌, ◌≢◌, ◌==◌, inl, ℕ, Bool, tr
 use Rattle.std.specs.Option.{option_and_then}
 use Rattle.std.proofs.lemmas.Bool.Decides.{Decides-eqb}
 use Rattle.std.proofs.lemmas.List.{append_assoc}
-use Rattle.cli_options.specs.declared.names.CommandName.{CommandName}
-use Rattle.cli_options.specs.declared.forms.CommandOption.{CommandOption}
-use Rattle.cli_options.specs.declared.forms.CommandOption.TheVariants.{Recursive, Flat, Quiet, Plain, NoPassword, KeyFile, Title, User, Url, Notes, EntryPassword, SameCredentials, DryRun, KeyFileFrom, NoPasswordFrom, Clear, All, Attachments, Format, Attribute, SetPassword, SetKeyFile, ImportFormat}
-use Rattle.cli_options.specs.Options.{form_of, has_value, letter_option, name_option}
-use Rattle.cli_options.proofs.Letters.{no_dash}
-use Rattle.cli_options.proofs.Named.{named}
+use Rattle.cli_saying.specs.declared.names.CommandName.{CommandName}
+use Rattle.cli_saying.specs.declared.forms.CommandOption.{CommandOption}
+use Rattle.cli_saying.specs.declared.forms.CommandOption.TheVariants.{Recursive, Flat, Quiet, Plain, NoPassword, KeyFile, Title, User, Url, Notes, EntryPassword, SameCredentials, DryRun, KeyFileFrom, NoPasswordFrom, Clear, All, Attachments, Format, Attribute, SetPassword, SetKeyFile, ImportFormat}
+use Rattle.cli_saying.specs.Options.{form_of, has_value, letter_option, name_option}
+use Rattle.cli_saying.proofs.Letters.{no_dash}
+use Rattle.cli_saying.proofs.Named.{named}
 use Rattle.cli_saying.specs.Laws.{IsNameOf, long, short, SayOption, flag, apart, after_sign, after_letter, lack_end}
 use Rattle.cli_saying.specs.Said.{Said, by_letter, is_option, is_used, nothing_said, unless_given, with_due, with_flag, with_given, with_joined, with_letters, with_long, with_name, with_option, with_option_text, with_word, with_words, without_sign}
 use Rattle.cli_saying.proofs.Flags.{given_past_given, joined}

@@ -2,8 +2,8 @@
 use Rattle.std.proofs.Common.{◌≡◌, ℕ, Bool, true, false, not, ◌&&◌, cond, List, [], ◌∷◌, ◌++◌, codes, Option, Some, None, refl, sym, ap, ◌∙◌}
 use Rattle.std.proofs.lemmas.List.{append-nil, append_assoc}
 use Rattle.std.specs.Option.{option_and_then}
-use Rattle.cli_options.specs.declared.names.CommandName.{CommandName}
-use Rattle.cli_options.specs.declared.forms.CommandOption.{CommandOption}
+use Rattle.cli_saying.specs.declared.names.CommandName.{CommandName}
+use Rattle.cli_saying.specs.declared.forms.CommandOption.{CommandOption}
 use Rattle.cli_saying.specs.Prefixes.{strip_prefix}
 use Rattle.cli_saying.specs.Said.{Said, is_option, nothing_said, with_next, with_option, with_position, with_word, with_words}
 use Rattle.cli_saying.proofs.FlagWords.{read_option}

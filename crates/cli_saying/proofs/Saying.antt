@@ -3,10 +3,10 @@ use Rattle.std.proofs.Common.{◌≡◌, ◌≢◌, ℕ, Bool, true, false, not,
 use Rattle.std.specs.Option.{option_and_then}
 use Rattle.std.proofs.lemmas.Bool.Decides.{Decides-eqb}
 use Rattle.std.proofs.lemmas.Slice.Eq.{bytes_eq-Decides}
-use Rattle.cli_options.specs.declared.names.CommandName.{CommandName}
-use Rattle.cli_options.specs.declared.forms.CommandOption.{CommandOption}
+use Rattle.cli_saying.specs.declared.names.CommandName.{CommandName}
+use Rattle.cli_saying.specs.declared.forms.CommandOption.{CommandOption}
 use Rattle.cli_saying.specs.Laws.{lack_end}
-use Rattle.cli_options.specs.Options.{has_value, is_repeatable, letter_option, name_option}
+use Rattle.cli_saying.specs.Options.{has_value, is_repeatable, letter_option, name_option}
 use Rattle.cli_saying.specs.Prefixes.{after_sign, before_sign, strip_prefix}
 use Rattle.cli_saying.specs.Said.{Said, by_letter, is_option, unless_given, with_due, with_flag, with_given, with_joined, with_letters, with_long, with_next, with_option, with_option_text, with_position, with_short, with_text, with_word, with_words, without_sign}
 use Rattle.cli_saying.proofs.Flags.{joined, same_step, with_flags}

@@ -1,6 +1,6 @@
 -- What is said to open databases, and whether it fits them.
 use Rattle.std.specs.Prelude.{Bool, not, ◌&&◌, ◌||◌, if◌then◌else◌}
-use Rattle.cli_options.specs.declared.forms.CommandOption.TheVariants as option
+use Rattle.cli_saying.specs.declared.forms.CommandOption.TheVariants as option
 use Rattle.cli_saying.specs.Said.{Said, is_due, is_given}
 
 -- What opens a database fits it: nothing at a plain document, else a password or a key file.

@@ -1,9 +1,9 @@
 -- What the words of a call say.
 use Rattle.std.specs.Prelude.{ℕ, Bool, true, false, not, ◌&&◌, ◌==◌, if◌then◌else◌, is_some, List, [], ◌∷◌, ◌++◌, codes, replicate, Option, None, Some, option_and_then, slice_index_or, slice_set}
 use Rattle.cli_saying.specs.Prefixes.{after_sign, before_sign, strip_prefix}
-use Rattle.cli_options.specs.declared.names.CommandName.{CommandName}
-use Rattle.cli_options.specs.declared.forms.CommandOption.{CommandOption}
-use Rattle.cli_options.specs.Options.{has_value, is_repeatable, letter_option, name_option, place_of}
+use Rattle.cli_saying.specs.declared.names.CommandName.{CommandName}
+use Rattle.cli_saying.specs.declared.forms.CommandOption.{CommandOption}
+use Rattle.cli_saying.specs.Options.{has_value, is_repeatable, letter_option, name_option, place_of}
 
 -- ---- what words say
 

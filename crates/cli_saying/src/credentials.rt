@@ -4,7 +4,7 @@ ghost use Rattle.cli_saying.specs.Credentials as spec;
 ghost use Rattle.cli_saying.specs.SaidWords.{said_seen};
 
 use crate::said::{SaidWords, is_given};
-use cli_options::CommandOption;
+use crate::CommandOption;
 
 // Reports whether what opens a database fits it.
 fn is_fit(plain: bool, no_password: bool, has_key: bool) -> bool

@@ -1,7 +1,7 @@
 //! What holds of the words of every call. The functions do nothing, and take no memory.
 ghost use Rattle.std.specs.Prelude.{◌≡◌, ℕ, List};
-ghost use Rattle.cli_options.specs.declared.names.CommandName.{CommandName};
-ghost use Rattle.cli_options.specs.declared.forms.CommandOption.{CommandOption};
+ghost use Rattle.cli_saying.specs.declared.names.CommandName.{CommandName};
+ghost use Rattle.cli_saying.specs.declared.forms.CommandOption.{CommandOption};
 ghost use Rattle.cli_saying.specs.Laws.{IsNameOf};
 
 /// A word names one option of a command: by its letter, or by its long name.

@@ -1,14 +1,22 @@
 //! What the words of a call say: its options with their values, and its positions.
+//! The commands by their names, and the options that each of them takes.
 #![tactic(auto)]
 
 mod credentials;
+mod forms;
 pub mod laws;
+mod names;
+pub mod option_laws;
 mod said;
+mod taking;
 mod words;
 
 pub use credentials::{is_fit_new, is_whole};
+pub use forms::{CommandOption, OPTIONS, has_value, is_repeatable, place_of};
+pub use names::{CommandName, command_named};
 pub use said::{
     GivenTexts, ReadingState, SaidWords, WordsFail, copies_of, copy_of, empty_state, is_given,
     no_texts, text_of,
 };
+pub use taking::{letter_option, name_option};
 pub use words::add_words;

@@ -4,7 +4,7 @@ ghost use Rattle.cli_saying.specs.SaidWords.{Gives, reading_seen, said_seen, tex
 ghost use Rattle.cli_saying.specs.Said as spec;
 ghost use Rattle.cli_saying.specs.declared.said.WordsFail.TheVariants as fail;
 
-use cli_options::{CommandOption, OPTIONS, is_repeatable, place_of};
+use crate::{CommandOption, OPTIONS, is_repeatable, place_of};
 use outside_core::{List, NoMemory, Text};
 use std::alloc::Global;
 

@@ -7,7 +7,7 @@ ghost use Rattle.cli_saying.specs.Said as spec;
 ghost use Rattle.cli_saying.specs.Said.{with_words};
 
 use crate::said::{GivenTexts, ReadingState, WordsFail, add_due, add_given, add_position};
-use cli_options::{CommandName, CommandOption, has_value, letter_option, name_option};
+use crate::{CommandName, CommandOption, has_value, letter_option, name_option};
 
 // Reports whether a word is an option: two or more bytes, of which the first is `-`.
 fn is_option(word: &str) -> bool

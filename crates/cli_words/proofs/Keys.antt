@@ -4,11 +4,11 @@ use Rattle.std.specs.Prelude.{IfSome, not, ◌&&◌, ◌||◌, if◌then◌else�
 use Rattle.std.specs.Option.{option_and_then}
 use Rattle.cli_words.specs.declared.command.Access.{Access}
 use Rattle.cli_words.specs.declared.command.Command.{Command}
-use Rattle.cli_options.specs.declared.names.CommandName.{CommandName}
-use Rattle.cli_options.specs.declared.names.CommandName.TheVariants as name
-use Rattle.cli_options.specs.declared.forms.CommandOption.TheVariants as option
+use Rattle.cli_saying.specs.declared.names.CommandName.{CommandName}
+use Rattle.cli_saying.specs.declared.names.CommandName.TheVariants as name
+use Rattle.cli_saying.specs.declared.forms.CommandOption.TheVariants as option
 use Rattle.cli_words.specs.Needs.{HasKey, HasKeys, asks_password, needs_of, target_access, without_sources}
-use Rattle.cli_options.specs.Options.{command_named}
+use Rattle.cli_saying.specs.Options.{command_named}
 use Rattle.cli_words.specs.declared.command.ExportFormat.{ExportFormat}
 use Rattle.cli_words.specs.declared.command.ImportFormat.{ImportFormat}
 use Rattle.cli_saying.specs.Credentials.{is_fit, is_fit_from, is_fit_new, is_whole}

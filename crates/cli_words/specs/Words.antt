@@ -12,10 +12,10 @@ use Rattle.cli_words.specs.declared.command.ExportFormat.{ExportFormat}
 use Rattle.cli_words.specs.declared.command.ExportFormat.TheVariants as format
 use Rattle.cli_words.specs.declared.command.ImportFormat.{ImportFormat}
 use Rattle.cli_words.specs.declared.command.ImportFormat.TheVariants.{Xml, Psafe, Csv}
-use Rattle.cli_options.specs.declared.names.CommandName.{CommandName}
-use Rattle.cli_options.specs.declared.names.CommandName.TheVariants as name
-use Rattle.cli_options.specs.declared.forms.CommandOption.TheVariants as option
-use Rattle.cli_options.specs.Options.{command_named}
+use Rattle.cli_saying.specs.declared.names.CommandName.{CommandName}
+use Rattle.cli_saying.specs.declared.names.CommandName.TheVariants as name
+use Rattle.cli_saying.specs.declared.forms.CommandOption.TheVariants as option
+use Rattle.cli_saying.specs.Options.{command_named}
 use Rattle.cli_saying.specs.Credentials.{is_fit_new, is_whole}
 use Rattle.cli_saying.specs.Said.{Said, is_given, nothing_said, text_of, with_words}
 

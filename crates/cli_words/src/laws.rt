@@ -1,9 +1,9 @@
 //! What holds of the words of every call. The functions do nothing, and take no memory.
 ghost use Rattle.std.specs.Prelude.{◌≡◌, ◌≢◌, ◌++◌, ◌∷◌, ℕ, List, None, Some, codes, false, true};
-ghost use Rattle.cli_options.specs.declared.names.CommandName.{CommandName};
-ghost use Rattle.cli_options.specs.declared.forms.CommandOption.{CommandOption};
+ghost use Rattle.cli_saying.specs.declared.names.CommandName.{CommandName};
+ghost use Rattle.cli_saying.specs.declared.forms.CommandOption.{CommandOption};
 ghost use Rattle.cli_saying.specs.Laws.{IsFlagWord, SayOption, are_flag_letters, lack_end};
-ghost use Rattle.cli_options.specs.Options.{command_named};
+ghost use Rattle.cli_saying.specs.Options.{command_named};
 ghost use Rattle.cli_saying.specs.Said.{Said, nothing_said, with_words};
 ghost use Rattle.cli_words.specs.Words.{command_of, command_saying, or_wrong_words};
 

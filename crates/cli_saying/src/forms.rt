@@ -1,7 +1,7 @@
 //! The options, and how each of them is written.
 ghost use Rattle.std.specs.Prelude.{◌≡◌, ◌<◌};
-ghost use Rattle.cli_options.specs.Options as spec;
-ghost use Rattle.cli_options.specs.SeenForms.{form_seen};
+ghost use Rattle.cli_saying.specs.Options as spec;
+ghost use Rattle.cli_saying.specs.SeenForms.{form_seen};
 
 /// An option of a command.
 #[derive(Clone, Copy)]

@@ -1,6 +1,6 @@
 //! The commands by their names.
 ghost use Rattle.std.specs.Prelude.{◌≡◌};
-ghost use Rattle.cli_options.specs.Options as spec;
+ghost use Rattle.cli_saying.specs.Options as spec;
 
 /// A command by its name.
 #[derive(Clone, Copy)]

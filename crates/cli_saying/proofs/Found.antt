@@ -2,8 +2,8 @@
 use Rattle.std.proofs.Common.{◌≡◌, ℕ, List}
 use Rattle.std.specs.Option.{option_or}
 use Rattle.std.proofs.lemmas.List.Folds.{find-append}
-use Rattle.cli_options.specs.declared.names.CommandName.{CommandName}
-use Rattle.cli_options.specs.Options.{letter_option, name_option, own_options, shared_options, with_letter, with_name}
+use Rattle.cli_saying.specs.declared.names.CommandName.{CommandName}
+use Rattle.cli_saying.specs.Options.{letter_option, name_option, own_options, shared_options, with_letter, with_name}
 
 -- An option of this letter is one of the command's own, or else a shared one.
 pub letter_found : (command : CommandName) (letter : ℕ)

@@ -1,9 +1,9 @@
 //! What holds of the options of every command. The functions do nothing, and take no memory.
 ghost use Rattle.std.specs.Prelude.{◌≡◌, ℕ, All, List};
-ghost use Rattle.cli_options.specs.declared.names.CommandName.{CommandName};
-ghost use Rattle.cli_options.specs.declared.forms.CommandOption.{CommandOption};
-ghost use Rattle.cli_options.specs.Options.{options_of};
-ghost use Rattle.cli_options.specs.Taken.{IsFound, TakesLetter, TakesName};
+ghost use Rattle.cli_saying.specs.declared.names.CommandName.{CommandName};
+ghost use Rattle.cli_saying.specs.declared.forms.CommandOption.{CommandOption};
+ghost use Rattle.cli_saying.specs.Options.{options_of};
+ghost use Rattle.cli_saying.specs.Taken.{IsFound, TakesLetter, TakesName};
 
 /// Each option that a command takes is found by its long name, and by its letter where it has one.
 pub fn options_are_found()

@@ -1,6 +1,6 @@
 -- What is seen of how an option is written.
-use Rattle.cli_options.specs.declared.forms.OptionForm as declared
-use Rattle.cli_options.specs.Options.{OptionForm}
+use Rattle.cli_saying.specs.declared.forms.OptionForm as declared
+use Rattle.cli_saying.specs.Options.{OptionForm}
 
 -- the same without the loan
 abbrev pub form_seen : declared.OptionForm → OptionForm

@@ -1,6 +1,6 @@
 //! Which options each command takes.
 ghost use Rattle.std.specs.Prelude.{◌≡◌, ◌<◌, IfSome};
-ghost use Rattle.cli_options.specs.Options as spec;
+ghost use Rattle.cli_saying.specs.Options as spec;
 
 use crate::forms::{CommandOption, form_of};
 use crate::names::CommandName;

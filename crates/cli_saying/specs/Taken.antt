@@ -1,8 +1,8 @@
 -- What a word after `-` or `--` can be.
 use Rattle.std.specs.Prelude.{◌≡◌, ℕ, true, Contains, List, Some, IfSome}
-use Rattle.cli_options.specs.declared.names.CommandName.{CommandName}
-use Rattle.cli_options.specs.declared.forms.CommandOption.{CommandOption}
-use Rattle.cli_options.specs.Options.{form_of, has_letter, letter_option, name_option, options_of}
+use Rattle.cli_saying.specs.declared.names.CommandName.{CommandName}
+use Rattle.cli_saying.specs.declared.forms.CommandOption.{CommandOption}
+use Rattle.cli_saying.specs.Options.{form_of, has_letter, letter_option, name_option, options_of}
 
 -- An option is found by its long name, and by its letter where it has one.
 abbrev pub IsFound : CommandName → CommandOption → Type 0

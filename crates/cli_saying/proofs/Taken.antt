@@ -4,11 +4,11 @@ use Rattle.std.specs.Prelude.{All, IfSome}
 use Rattle.std.specs.List.{AllByRecursion}
 use Rattle.std.proofs.lemmas.Bool.Decides.{Decides-eqb}
 use Rattle.std.proofs.lemmas.List.Elements.{All-contains, All-from_recursion}
-use Rattle.cli_options.specs.declared.names.CommandName.{CommandName}
-use Rattle.cli_options.specs.declared.names.CommandName.TheVariants as name
-use Rattle.cli_options.specs.declared.forms.CommandOption.{CommandOption}
-use Rattle.cli_options.specs.Options.{form_of, is_letter, letter_option, name_option, options_of}
-use Rattle.cli_options.specs.Taken.{IsFound, TakesLetter, TakesName}
+use Rattle.cli_saying.specs.declared.names.CommandName.{CommandName}
+use Rattle.cli_saying.specs.declared.names.CommandName.TheVariants as name
+use Rattle.cli_saying.specs.declared.forms.CommandOption.{CommandOption}
+use Rattle.cli_saying.specs.Options.{form_of, is_letter, letter_option, name_option, options_of}
+use Rattle.cli_saying.specs.Taken.{IsFound, TakesLetter, TakesName}
 
 -- Each option is found, command by command.
 found_each : (command : CommandName) → AllByRecursion (IsFound command) (options_of command)

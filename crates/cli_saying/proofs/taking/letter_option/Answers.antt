@@ -1,7 +1,7 @@
 use Rattle.std.proofs.Common.{◌<◌, sym, subst}
 use Rattle.std.specs.Prelude.{IfSome}
-use Rattle.cli_options.proofs.Letters.{found_low}
-use Rattle.cli_options.proofs.taking.letter_option.Goals as goal
+use Rattle.cli_saying.proofs.Letters.{found_low}
+use Rattle.cli_saying.proofs.taking.letter_option.Goals as goal
 
 pub returns-in-None-clause-ascii : goal.returns-in-None-clause-ascii
 returns-in-None-clause-ascii c =

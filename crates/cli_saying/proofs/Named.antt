@@ -1,9 +1,9 @@
 -- The names of options.
 use Rattle.std.proofs.Common.{◌≡◌, ℕ, Bool, true, false, cond, List, [], ◌∷◌, bytes_eq, Option, Some, None, refl, subst}
 use Rattle.std.proofs.lemmas.Slice.Eq.{bytes_eq-Decides}
-use Rattle.cli_options.specs.declared.names.CommandName.{CommandName}
-use Rattle.cli_options.specs.declared.forms.CommandOption.{CommandOption}
-use Rattle.cli_options.specs.Options.{form_of, name_option, options_of, with_name}
+use Rattle.cli_saying.specs.declared.names.CommandName.{CommandName}
+use Rattle.cli_saying.specs.declared.forms.CommandOption.{CommandOption}
+use Rattle.cli_saying.specs.Options.{form_of, name_option, options_of, with_name}
 
 -- An option, if there is one, has this name.
 abbrev IsNamed : List ℕ → Option CommandOption → Type 0

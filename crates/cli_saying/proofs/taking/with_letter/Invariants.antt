@@ -1,6 +1,6 @@
 use Rattle.std.proofs.Common.{◌≡◌, drop}
-use Rattle.cli_options.specs.Options.{with_letter}
-use Rattle.cli_options.proofs.taking.with_letter.Given as goal
+use Rattle.cli_saying.specs.Options.{with_letter}
+use Rattle.cli_saying.proofs.taking.with_letter.Given as goal
 
 abbrev pub invariant-loop-option : goal.invariant-loop-option
 invariant-loop-option l =

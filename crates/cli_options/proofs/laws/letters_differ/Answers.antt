@@ -1,5 +1,0 @@
-use Rattle.cli_options.proofs.Taken.{one_letter}
-use Rattle.cli_options.proofs.laws.letters_differ.Goals as goal
-
-pub returns : goal.returns
-returns c = one_letter

@@ -1,5 +1,0 @@
-use Rattle.cli_options.proofs.Taken.{found}
-use Rattle.cli_options.proofs.laws.options_are_found.Goals as goal
-
-pub returns : goal.returns
-returns c = found
