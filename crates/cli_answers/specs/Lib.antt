@@ -1,2 +1,4 @@
 pub mod Messages
 pub mod Phases
+pub mod Pages
+pub mod Texts

@@ -1,7 +1,11 @@
 //! What the program refuses with: reasons, their statuses and texts, and how a phase of a call
 //! stops.
+//! The pages that the program prints where one word alone asks for one: its help, and its version.
 #![tactic(auto)]
 
 mod answers;
+mod pages;
+mod texts;
 
 pub use answers::{Reason, Refusal, Stop, line, refused, status, text_of_reason};
+pub use pages::page_of;

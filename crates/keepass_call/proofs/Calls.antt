@@ -19,7 +19,7 @@ use Rattle.cli_lines.proofs.Inputs.{left_alone}
 use Rattle.cli_words.specs.declared.command.Command.{Command}
 use Rattle.call_carrying.specs.Endings.{Ending, Ends, EndsSo, ending_without}
 use Rattle.keepass_call.specs.Held.{IsAuthentic, IsComplete}
-use Rattle.cli_pages.specs.Pages.{page_of}
+use Rattle.cli_answers.specs.Pages.{page_of}
 use Rattle.keepass_call.specs.Outcome.{Counts, Gains, IsAsSaid, IsCut, IsOfSomeFile, IsOfTask, IsRefused, IsSafe, NoFaults, Outcome, Seen, Tells, WhereTold, World, answer_of, ended, may_write_by, outcome, page_or_answer}
 use Rattle.cli_words.specs.Words.{command_of}
 use Rattle.cli_files.specs.Tasks.{draws_by}

@@ -5,7 +5,7 @@ use Rattle.std.proofs.lemmas.Slice.Eq.{bytes_eq-Decides}
 use Rattle.cli_answers.specs.Messages.{refusal_of}
 use Rattle.cli_answers.specs.declared.answers.Reason.TheVariants.{WrongWords}
 use Rattle.cli_answers.specs.declared.answers.Refusal.{Refusal}
-use Rattle.cli_pages.specs.Pages.{page_of}
+use Rattle.cli_answers.specs.Pages.{page_of}
 use Rattle.cli_words.specs.Words.{command_of}
 use Rattle.cli_words.specs.declared.command.Command.{Command}
 

@@ -18,7 +18,7 @@ use call_carrying::carry_out;
 use call_reading::read_task;
 use cli_answers::{Reason, Stop, line, status, text_of_reason};
 use cli_commands::{Output, lend_text};
-use cli_pages::page_of;
+use cli_answers::page_of;
 use outside_core::{Dice, FileStore, NoMemory, Sink, SinkFail, Source, write_all};
 use std::alloc::Global;
 

@@ -1,7 +1,7 @@
 use Rattle.std.proofs.Common.{◌≡◌, None, Ok, Err, map, refl, sym}
 use Rattle.std.specs.Prelude.{string_bytes}
 use Rattle.cli_commands.specs.SeenChange.{output_text}
-use Rattle.cli_pages.specs.Pages.{page_of}
+use Rattle.cli_answers.specs.Pages.{page_of}
 use Rattle.keepass_call.proofs.Answered.{ends_as}
 use Rattle.keepass_call.proofs.Calls.{no_none, page_call, printed_call, stopped_call}
 use Rattle.keepass_call.proofs.run.keepass.Goals as goal

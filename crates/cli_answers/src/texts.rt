@@ -1,6 +1,6 @@
 //! The texts of the pages. Made by docs/make-words from docs/commands.toml.
 ghost use Rattle.std.specs.Prelude.{◌≡◌};
-ghost use Rattle.cli_pages.specs.Texts as spec;
+ghost use Rattle.cli_answers.specs.Texts as spec;
 
 /// How the program is called.
 pub(crate) fn help() -> &'static str

@@ -1,6 +1,6 @@
 //! The page that the words of a call ask for.
 ghost use Rattle.std.specs.Prelude.{◌≡◌, map, option_map, string_bytes};
-ghost use Rattle.cli_pages.specs.Pages as spec;
+ghost use Rattle.cli_answers.specs.Pages as spec;
 
 use crate::texts::{help, version};
 

@@ -2,7 +2,7 @@
 -- These two words are commands of their own, which open no file and read no line.
 use Rattle.std.specs.Prelude.{ℕ, if◌then◌else◌, List, [], ◌∷◌, codes, Option, None, Some}
 use Rattle.std.specs.Str.{bytes_eq}
-use Rattle.cli_pages.specs.Texts.{help, version}
+use Rattle.cli_answers.specs.Texts.{help, version}
 
 -- The page of a word.
 abbrev pub page_named : List ℕ → Option (List ℕ)
