@@ -2,3 +2,27 @@ pub mod ByteLists
 mod Examples
 pub mod IsoTexts
 pub mod PlainCodes
+pub mod Attrs
+pub mod EscapedUtf8
+pub mod FittingPieces
+pub mod FoundAgain
+pub mod Frame
+pub mod GoodDocs
+pub mod Goods
+pub mod NewDocs
+pub mod PoolPairs
+pub mod RangeTests
+pub mod ReadAttachments
+pub mod ReadDocuments
+pub mod ReadEntries
+pub mod ReadFields
+pub mod ReadGroups
+pub mod ReadLists
+pub mod ReadMetas
+pub mod ReadOptions
+pub mod ReadTimes
+pub mod ReadsBack
+pub mod ResolvedAgain
+pub mod SoundPieces
+pub mod TimeTexts
+pub mod ValueTexts

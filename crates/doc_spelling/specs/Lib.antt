@@ -7,3 +7,4 @@ pub mod Pieces
 pub mod Pool
 pub mod Ranges
 pub mod Values
+pub mod ResolvedParts
