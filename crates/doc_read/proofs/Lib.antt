@@ -1,2 +1,3 @@
 mod OnlyRoot
 mod TextPieces
+pub mod ReadDocuments

@@ -1,9 +1,11 @@
 //! Reading the document of a vault: from markup to the tree of groups and entries.
+//! The law that what is read is a document: a function whose contract it is, and no code.
 #![tactic(auto)]
 
 mod document;
 mod outermost;
 mod reading;
+pub mod reading_laws;
 
 pub use doc_forms::{DocFail, DocParts, ReadDoc, RequiredElement};
 pub use doc_resolving::resolve;

@@ -7,7 +7,7 @@ use Rattle.vault_model.specs.declared.forms.DocForm.TheVariants.{Plain}
 use Rattle.doc_forms.specs.Documents.{DocumentAndHash, document}
 use Rattle.doc_forms.specs.ElementTexts.{Setting}
 use Rattle.doc_forms.specs.declared.fails.DocFail.{DocFail}
-use Rattle.read_laws.proofs.ReadDocuments.{read_is_doc}
+use Rattle.doc_read.proofs.ReadDocuments.{read_is_doc}
 use Rattle.kdbx_frame.specs.Forms.{form_of}
 use Rattle.kdbx_open.specs.Documents.{attachment, document_or_refusal}
 use Rattle.kdbx_open.specs.Opening.{FileContents}

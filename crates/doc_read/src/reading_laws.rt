@@ -1,6 +1,6 @@
 //! What holds of each document that is read.
 
-ghost use Rattle.read_laws.specs.Documents.{ReadsDocuments};
+ghost use Rattle.doc_read.specs.Documents.{ReadsDocuments};
 
 /// What is read of a text keeps what every document keeps.
 pub fn reads_documents()
