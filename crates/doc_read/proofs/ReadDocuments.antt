@@ -14,7 +14,7 @@ use Rattle.doc_forms.specs.KeptParts.{are_kept, is_kept_half, is_kept_meta, is_k
 use Rattle.doc_forms.specs.Metas.{MetaParts, ReadBinary}
 use Rattle.doc_forms.specs.declared.fails.DocFail.{DocFail}
 use Rattle.doc_forms.specs.declared.fails.RequiredElement.TheVariants.{Root, Group}
-use Rattle.doc_laws.proofs.KeptDocuments.{parts_kept}
+use Rattle.doc_read.proofs.KeptDocuments.{parts_kept}
 use Rattle.doc_resolving.proofs.ResolvedDocuments.{no_duplicate, resolved_doc}
 
 -- where two steps give something, each of them does

@@ -1,2 +1,3 @@
 pub mod TextSteps
 pub mod Documents
+pub mod Trees

@@ -1,8 +1,10 @@
 //! Reading the document of a vault: from markup to the tree of groups and entries.
 //! The law that what is read is a document: a function whose contract it is, and no code.
+//! Laws of what a document says: functions whose contracts are these laws, and no code.
 #![tactic(auto)]
 
 mod document;
+pub mod document_laws;
 mod outermost;
 mod reading;
 pub mod reading_laws;

@@ -1,6 +1,6 @@
 -- What was read of the text is kept, as resolving it requires; the stream is the one that was given.
 use Rattle.std.proofs.lemmas.Result.{err_from_is_err_and}
-use Rattle.doc_laws.proofs.KeptDocuments.{parts_kept}
+use Rattle.doc_read.proofs.KeptDocuments.{parts_kept}
 use Rattle.doc_read.proofs.reading.read_parts.Goals as goal
 
 pub invariant_of-result : goal.invariant_of-result

@@ -4,7 +4,7 @@ ghost use Rattle.doc_forms.specs.Documents.{DocumentAndHash, FileParts, document
 ghost use Rattle.doc_forms.specs.ElementTexts.{Setting};
 ghost use Rattle.doc_forms.specs.KeptParts.{are_kept};
 ghost use Rattle.doc_forms.specs.declared.fails.DocFail.TheVariants.{NoMemory};
-ghost use Rattle.doc_laws.specs.Trees.{document_of_tree};
+ghost use Rattle.doc_read.specs.Trees.{document_of_tree};
 ghost use Rattle.markup_grammar.specs.Tree.{IsText, Tree, height};
 ghost use Rattle.std.specs.Prelude.{◌≡◌, ◌≢◌, ◌≤◌, ℕ, Bool, Err, List, Ok, Option, true};
 

@@ -21,8 +21,8 @@ use Rattle.outside_core.specs.Results.{◌>>=◌}
 use Rattle.doc_forms.specs.Refusals.{checked_value}
 use Rattle.doc_forms.specs.Tables.{custom_data, item_rows, items_rows, no_item, no_times, times, times_rows}
 use Rattle.doc_forms.specs.Values.{bytes_in, number64, text_in}
-use Rattle.doc_laws.proofs.Cuts.{AreSound, IsSound, Respects, container_sound, count_respects, cut_respects, element_respects, end_respects, hidden_sound, names_sound, one_of, refusal_respects, step_then, steps, value_respects, value_sound, within_respects}
-use Rattle.doc_laws.proofs.Keeping.{◌&◌}
+use Rattle.doc_read.proofs.Cuts.{AreSound, IsSound, Respects, container_sound, count_respects, cut_respects, element_respects, end_respects, hidden_sound, names_sound, one_of, refusal_respects, step_then, steps, value_respects, value_sound, within_respects}
+use Rattle.doc_read.proofs.Keeping.{◌&◌}
 
 -- ---- tables
 

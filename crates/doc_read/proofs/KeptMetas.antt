@@ -12,9 +12,9 @@ use Rattle.doc_forms.specs.KeptParts.{is_kept_meta}
 use Rattle.doc_forms.specs.Metas.{MetaParts, binaries_rows, binary, icon_rows, icons_rows, meta_rows, metas, no_icon, no_meta, protection_rows}
 use Rattle.doc_forms.specs.ElementTexts.{Setting}
 use Rattle.vault_model.specs.Empty.{new_protection}
-use Rattle.doc_laws.proofs.Keeping.{◌&◌, Keeps, Rows, container_keeps, text_row, any_row, any_container}
-use Rattle.doc_laws.proofs.KeptEntries.{empty_text, KeptItems, custom_data_row}
-use Rattle.doc_laws.proofs.Rising.{Rising, one_more}
+use Rattle.doc_read.proofs.Keeping.{◌&◌, Keeps, Rows, container_keeps, text_row, any_row, any_container}
+use Rattle.doc_read.proofs.KeptEntries.{empty_text, KeptItems, custom_data_row}
+use Rattle.doc_read.proofs.Rising.{Rising, one_more}
 
 abbrev KeptIcons : List Icon → Type 0
 KeptIcons icons = Rising (λ (i : Icon). i.id) is_text_icon icons

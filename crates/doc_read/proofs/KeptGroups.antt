@@ -18,9 +18,9 @@ use Rattle.doc_forms.specs.KeptParts.{are_kept_trees, is_kept_entry, is_kept_tre
 use Rattle.doc_forms.specs.Children.{by_name, count_node, name_of, offset_of}
 use Rattle.doc_forms.specs.ElementTexts.{Setting, text_at_end}
 use Rattle.outside_core.specs.Results.{◌>>=◌}
-use Rattle.doc_laws.proofs.Keeping.{◌&◌, step_and_next, any_and_next, either_step, refusal_keeps, Rows, by_name_keeps, text_row, any_row}
-use Rattle.doc_laws.proofs.KeptEntries.{KeptItems, times_row, custom_data_row, id_row, node_kept, entry_row}
-use Rattle.doc_laws.proofs.Rising.{all_later}
+use Rattle.doc_read.proofs.Keeping.{◌&◌, step_and_next, any_and_next, either_step, refusal_keeps, Rows, by_name_keeps, text_row, any_row}
+use Rattle.doc_read.proofs.KeptEntries.{KeptItems, times_row, custom_data_row, id_row, node_kept, entry_row}
+use Rattle.doc_read.proofs.Rising.{all_later}
 
 -- what is known of a group is in order, with at most so many levels below it
 abbrev KeptGroup : ℕ → GroupParts → Type 0

@@ -23,8 +23,8 @@ use Rattle.doc_forms.specs.ElementTexts.{Setting, is_hidden, read_element}
 use Rattle.doc_forms.specs.Refusals.{checked_value}
 use Rattle.doc_forms.specs.Tables.{custom_data, item_rows, items_rows, no_item, no_times, put, times_rows, times}
 use Rattle.doc_forms.specs.Values.{text_in}
-use Rattle.doc_laws.proofs.Keeping.{◌&◌, step_and_next, any_and_next, either_step, Keeps, Rows, element_keeps, container_keeps, hidden_value_keeps, is_text, text_row, any_row, any_container}
-use Rattle.doc_laws.proofs.Rising.{all_later, Rising, one_more}
+use Rattle.doc_read.proofs.Keeping.{◌&◌, step_and_next, any_and_next, either_step, Keeps, Rows, element_keeps, container_keeps, hidden_value_keeps, is_text, text_row, any_row, any_container}
+use Rattle.doc_read.proofs.Rising.{all_later, Rising, one_more}
 
 -- no text at all is UTF-8
 pub empty_text : is_utf8 [] ≡ true

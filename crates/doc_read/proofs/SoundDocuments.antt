@@ -26,9 +26,9 @@ use Rattle.doc_forms.specs.Groups.{ReadTree}
 use Rattle.doc_forms.specs.Ids.{least_duplicate, refuse_duplicate}
 use Rattle.doc_forms.specs.Metas.{MetaParts, ReadBinary}
 use Rattle.outside_core.specs.Results.{◌>>=◌}
-use Rattle.doc_laws.specs.Trees.{document_of_tree}
-use Rattle.doc_laws.proofs.Cuts.{IsDefined, Respects, all_respect, names_sound, step_then}
-use Rattle.doc_laws.proofs.SoundRows.{document_rows_sound}
+use Rattle.doc_read.specs.Trees.{document_of_tree}
+use Rattle.doc_read.proofs.Cuts.{IsDefined, Respects, all_respect, names_sound, step_then}
+use Rattle.doc_read.proofs.SoundRows.{document_rows_sound}
 
 -- ---- after the end
 

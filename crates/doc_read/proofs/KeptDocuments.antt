@@ -10,9 +10,9 @@ use Rattle.doc_forms.specs.Groups.{group}
 use Rattle.doc_forms.specs.KeptParts.{are_kept, is_kept_half, is_kept_meta, is_kept_root, is_kept_tree}
 use Rattle.doc_forms.specs.Children.{by_name, children_and_end}
 use Rattle.doc_forms.specs.ElementTexts.{Setting, start}
-use Rattle.doc_laws.proofs.Keeping.{◌&◌, step_and_next, either_step, Keeps, Rows, by_name_keeps, all_keep, element_keeps, container_keeps, any_container}
-use Rattle.doc_laws.proofs.KeptGroups.{group_kept}
-use Rattle.doc_laws.proofs.KeptMetas.{no_meta_kept, meta_is_kept, meta_row}
+use Rattle.doc_read.proofs.Keeping.{◌&◌, step_and_next, either_step, Keeps, Rows, by_name_keeps, all_keep, element_keeps, container_keeps, any_container}
+use Rattle.doc_read.proofs.KeptGroups.{group_kept}
+use Rattle.doc_read.proofs.KeptMetas.{no_meta_kept, meta_is_kept, meta_row}
 
 abbrev KeptRoot : RootParts → Type 0
 KeptRoot p = is_kept_root p.tree ≡ true
