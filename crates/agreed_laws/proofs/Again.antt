@@ -7,7 +7,7 @@ use Rattle.vault_model.proofs.Tests.{in_either, in_front}
 use Rattle.merge_core.specs.JoinLaws.{AreParts, end_to_end}
 use Rattle.merge_core.proofs.PlanLaws.{alike_join}
 use Rattle.merge_core.proofs.Regroup.{end_part, join_of_joins, joins_agreed}
-use Rattle.merge_laws.specs.Refusals.{members}
+use Rattle.merge_core.specs.Refusals.{members}
 use Rattle.document_merge.specs.declared.merging.MergeFail.TheVariants.{TooDeep}
 use Rattle.document_merge.specs.Merging.{merge_result, unless_found}
 use Rattle.agreed_laws.specs.Merges.{AreDocs}

@@ -11,9 +11,9 @@ use Rattle.join_laws.proofs.Versions.{never}
 use Rattle.merge_core.specs.JoinLaws.{AreParts, IsThere, end_to_end}
 use Rattle.merge_core.proofs.MoreLaws.{kept_version, version_there}
 use Rattle.merge_core.proofs.Regroup.{end_part, join_of_joins, joins_agreed}
-use Rattle.merge_laws.specs.Marking.{strays}
-use Rattle.merge_laws.specs.Refusals.{CanMerge, kind_clashes, least, members, root_clashes, too_deep}
-use Rattle.merge_laws.proofs.Refused.{merged_is}
+use Rattle.merge_core.specs.Marking.{strays}
+use Rattle.merge_core.specs.Refusals.{CanMerge, kind_clashes, least, members, root_clashes, too_deep}
+use Rattle.merge_core.proofs.Refused.{merged_is}
 use Rattle.merge_checks.specs.Cycles.{cycle_above}
 use Rattle.document_merge.specs.declared.merging.MergeFail.{MergeFail}
 use Rattle.document_merge.specs.declared.merging.MergeFail.TheVariants.{RootClash, KindClash, MoveCycle, TooDeep}

@@ -11,9 +11,9 @@ use Rattle.vault_model.proofs.Tests.{and_true, not_true, any_found, apart, from_
 use Rattle.join_laws.specs.NodesBelow.{below_ids}
 use Rattle.join_laws.proofs.Allowed.{own_arrives}
 use Rattle.join_laws.proofs.SoundDoc.{AreDistinct, db_root, distinct_from, distinct_head, entry_ids}
-use Rattle.merge_laws.specs.Marking.{is_stray, strays}
-use Rattle.merge_laws.specs.Refusals.{is_entry, is_group, kind_clashes, least, members, root_clashes}
-use Rattle.merge_laws.proofs.Rooted.{rooted_at_home}
+use Rattle.merge_core.specs.Marking.{is_stray, strays}
+use Rattle.merge_core.specs.Refusals.{is_entry, is_group, kind_clashes, least, members, root_clashes}
+use Rattle.merge_core.proofs.Rooted.{rooted_at_home}
 use Rattle.merge_core.proofs.Regroup.{part_allowed}
 use Rattle.agreed_laws.proofs.Shallow.{none_pass, on_trail}
 

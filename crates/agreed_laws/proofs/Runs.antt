@@ -9,7 +9,7 @@ use Rattle.vault_model.proofs.Tests.{from_map, in_front}
 use Rattle.merge_core.specs.JoinLaws.{AreParts, LearnsWithin}
 use Rattle.merge_core.proofs.Regroup.{joins_agreed, some_end}
 use Rattle.merge_core.proofs.ScheduleLaws.{learned_join, learned_same}
-use Rattle.merge_laws.specs.Refusals.{members}
+use Rattle.merge_core.specs.Refusals.{members}
 use Rattle.agreed_laws.specs.Merges.{AreDocs}
 use Rattle.agreed_laws.specs.Runs.{AreWritings, IsRun, IsWriting, Writing, after_writing, after_writings, docs_of, growth, joining, step_of}
 use Rattle.agreed_laws.proofs.Merged.{merged_so, settled_as}

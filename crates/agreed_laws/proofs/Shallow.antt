@@ -11,7 +11,7 @@ use Rattle.join_laws.proofs.Facts.{held_id, join_groups, join_places, join_root,
 use Rattle.join_laws.proofs.Allowed.{kept_above, kept_held, kept_reaches, trail_step}
 use Rattle.join_laws.proofs.SoundJoin.{column_kept, cond_some, group_kept, join_sound}
 use Rattle.join_laws.proofs.Versions.{never}
-use Rattle.merge_laws.specs.Refusals.{allowed_steps, is_entry, is_too_deep, least, lesser, too_deep}
+use Rattle.merge_core.specs.Refusals.{allowed_steps, is_entry, is_too_deep, least, lesser, too_deep}
 
 -- what no member passes filters nothing
 pub none_pass : {A : Type 0} (test : A → Bool) (xs : List A) → ((x : A) → IsIn x xs → test x ≡ false) → filter test xs ≡ []

@@ -3,7 +3,7 @@ use Rattle.std.specs.Prelude.{◌≡◌, ◌<◌, ℕ, List, None, ◌↔◌}
 use Rattle.vault_model.specs.Db.{Db, Sound}
 use Rattle.vault_model.specs.Join.{join, IsIn, Allowed}
 use Rattle.vault_model.specs.Tree.{BareDoc, LEVELS, FitsLevels, IsDoc, db_in}
-use Rattle.merge_laws.specs.Refusals.{least, too_deep}
+use Rattle.merge_core.specs.Refusals.{least, too_deep}
 
 -- the database of a document fits its levels
 abbrev pub DocumentsFit : Type 0

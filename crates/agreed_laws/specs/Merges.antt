@@ -7,7 +7,7 @@ use Rattle.vault_model.specs.Db.{NodeId, Mark, Versions, Db}
 use Rattle.vault_model.specs.Join.{kept, join, IsIn, IsPart, Agreed}
 use Rattle.vault_model.specs.Tree.{BareDoc, LEVELS, FitsLevels, IsDoc, IsSettled, db_in}
 use Rattle.merge_core.specs.JoinLaws.{AreParts, IsThere, end_to_end}
-use Rattle.merge_laws.specs.Refusals.{members}
+use Rattle.merge_core.specs.Refusals.{members}
 use Rattle.document_merge.specs.declared.merging.MergeFail.TheVariants.{RootClash, KindClash, MoveCycle, TooDeep, NoMemory}
 use Rattle.document_merge.specs.Merging.{MergeResult, merge_result}
 

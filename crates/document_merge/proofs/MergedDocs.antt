@@ -10,9 +10,9 @@ use Rattle.vault_model.specs.Shape.{Shape, lay, laid_group}
 use Rattle.vault_model.specs.Tree.{BareDoc, IsDoc, LEVELS}
 use Rattle.join_laws.proofs.Laid.{lay_groups, lay_root}
 use Rattle.vault_model.proofs.Tests.{from_map}
-use Rattle.merge_laws.specs.Marking.{strays}
-use Rattle.merge_laws.specs.Refusals.{CanMerge, kind_clashes, least, members, root_clashes, too_deep}
-use Rattle.merge_laws.proofs.Refused.{acyclic, merged_is, one_kind, one_root, sound}
+use Rattle.merge_core.specs.Marking.{strays}
+use Rattle.merge_core.specs.Refusals.{CanMerge, kind_clashes, least, members, root_clashes, too_deep}
+use Rattle.merge_core.proofs.Refused.{acyclic, merged_is, one_kind, one_root, sound}
 use Rattle.merge_join.specs.declared.marking.JoinRefusal.{JoinRefusal}
 use Rattle.merge_join.specs.declared.marking.JoinRefusal.TheVariants.{Stray}
 use Rattle.merge_join.specs.declared.marking.JoinRefusal.TheVariants as refusal

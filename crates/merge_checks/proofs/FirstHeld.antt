@@ -10,9 +10,9 @@ use Rattle.join_laws.proofs.Allowed.{kept_held}
 use Rattle.join_laws.proofs.Facts.{held_by, held_id}
 use Rattle.join_laws.proofs.Laid.{in_list, list_in}
 use Rattle.vault_model.proofs.Tests.{and_true, any_found, from_filter, in_filter, or_left}
-use Rattle.merge_laws.specs.Marking.{first_such}
-use Rattle.merge_laws.specs.Refusals.{allowed_steps, is_entry, is_group, is_too_deep, least}
-use Rattle.merge_laws.proofs.Refused.{first_least, same_least}
+use Rattle.merge_core.specs.Marking.{first_such}
+use Rattle.merge_core.specs.Refusals.{allowed_steps, is_entry, is_group, is_too_deep, least}
+use Rattle.merge_core.proofs.Refused.{first_least, same_least}
 use Rattle.merge_join.specs.Marks.{AllSound, AreKnown}
 use Rattle.merge_join.proofs.KnownIds.{held_known}
 use Rattle.merge_checks.specs.Clashes.{is_of_two_kinds}

@@ -7,8 +7,8 @@ use Rattle.vault_model.specs.Tree.{BareDoc, Tree, Trees, node, none, beside, id_
 use Rattle.vault_model.specs.Unite.{join_options}
 use Rattle.join_laws.specs.NodesBelow.{below_ids}
 use Rattle.join_laws.proofs.Semilattice.{merged_join}
-use Rattle.merge_laws.specs.Refusals.{least, lesser}
-use Rattle.merge_laws.proofs.Refused.{lesser_joins}
+use Rattle.merge_core.specs.Refusals.{least, lesser}
+use Rattle.merge_core.proofs.Refused.{lesser_joins}
 use Rattle.merge_checks.specs.Clashes.{least_with, least_with_all, clash_below, clash_in_all, clash_in_docs}
 
 module _ (test : NodeId → Bool) where

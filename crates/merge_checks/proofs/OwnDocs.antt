@@ -7,9 +7,9 @@ use Rattle.vault_model.specs.Join.{IsIn}
 use Rattle.vault_model.specs.SeenDoc.{doc_seen}
 use Rattle.vault_model.specs.Tree.{BareDoc, IsDoc, id_of, rooted}
 use Rattle.vault_model.proofs.Tests.{from_map, in_map, map_append}
-use Rattle.merge_laws.specs.Refusals.{least, root_clashes}
-use Rattle.merge_laws.proofs.Refused.{source_is}
-use Rattle.merge_laws.proofs.Rooted.{rooted_at_home}
+use Rattle.merge_core.specs.Refusals.{least, root_clashes}
+use Rattle.merge_core.proofs.Refused.{source_is}
+use Rattle.merge_core.proofs.Rooted.{rooted_at_home}
 use Rattle.reference_tables.specs.declared.databases.Database.{Database}
 use Rattle.reference_tables.specs.Databases.{database}
 use Rattle.merge_checks.proofs.SeenBelow.{seen_id}

@@ -4,7 +4,7 @@ use Rattle.vault_model.specs.Db.{NodeId, Db}
 use Rattle.vault_model.specs.Shape.{EntryRecord}
 use Rattle.vault_model.specs.Tree.{BareDoc, Tree, Trees, node, none, beside, id_of}
 use Rattle.vault_model.specs.Unite.{join_options}
-use Rattle.merge_laws.specs.Refusals.{is_entry, is_group, lesser}
+use Rattle.merge_core.specs.Refusals.{is_entry, is_group, lesser}
 
 -- an id is an entry's in one member and a group's in another
 abbrev pub is_of_two_kinds : List Db → NodeId → Bool

@@ -2,7 +2,7 @@
 ghost use Rattle.std.specs.Prelude.{◌≡◌, [], ◌∷◌, None, IfOk, OnOk, map};
 ghost use Rattle.vault_model.specs.SeenDoc.{doc_seen};
 ghost use Rattle.vault_model.specs.Tree.{db_in};
-ghost use Rattle.merge_laws.specs.Refusals.{least, members, root_clashes};
+ghost use Rattle.merge_core.specs.Refusals.{least, members, root_clashes};
 ghost use Rattle.reference_tables.specs.Databases.{database, databases};
 
 use merge_reading::lending::database_of;

@@ -1,8 +1,8 @@
 //! Ids of an entry in one member and of a group in another.
 ghost use Rattle.std.specs.Prelude.{◌≡◌, true};
 ghost use Rattle.vault_model.specs.Proper.{rises};
-ghost use Rattle.merge_laws.specs.Marking.{first_such};
-ghost use Rattle.merge_laws.specs.Refusals.{is_entry, is_group, kind_clashes, least};
+ghost use Rattle.merge_core.specs.Marking.{first_such};
+ghost use Rattle.merge_core.specs.Refusals.{is_entry, is_group, kind_clashes, least};
 ghost use Rattle.reference_tables.specs.Databases.{databases};
 ghost use Rattle.merge_checks.specs.Clashes.{is_of_two_kinds};
 ghost use Rattle.merge_join.specs.Marks.{AreKnown};

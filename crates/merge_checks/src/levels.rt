@@ -4,8 +4,8 @@ ghost use Rattle.std.specs.List.{list_any};
 ghost use Rattle.vault_model.specs.Join.{Allowed, is_id, root_of, trail};
 ghost use Rattle.vault_model.specs.Proper.{rises};
 ghost use Rattle.vault_model.specs.Tree.{LEVELS};
-ghost use Rattle.merge_laws.specs.Marking.{first_such};
-ghost use Rattle.merge_laws.specs.Refusals.{allowed_steps, is_too_deep, least, too_deep};
+ghost use Rattle.merge_core.specs.Marking.{first_such};
+ghost use Rattle.merge_core.specs.Refusals.{allowed_steps, is_too_deep, least, too_deep};
 ghost use Rattle.reference_tables.specs.Databases.{databases};
 ghost use Rattle.merge_join.specs.Marks.{AllSound, AreKept, AreKnown};
 

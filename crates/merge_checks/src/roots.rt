@@ -7,8 +7,8 @@ ghost use Rattle.vault_model.specs.Join.{is_id};
 ghost use Rattle.vault_model.specs.SeenDoc.{doc_seen};
 ghost use Rattle.vault_model.specs.SeenNodes.{tree_seen};
 ghost use Rattle.vault_model.specs.Tree.{id_of};
-ghost use Rattle.merge_laws.specs.Marking.{is_marked};
-ghost use Rattle.merge_laws.specs.Refusals.{least, lesser, root_clashes};
+ghost use Rattle.merge_core.specs.Marking.{is_marked};
+ghost use Rattle.merge_core.specs.Refusals.{least, lesser, root_clashes};
 ghost use Rattle.merge_checks.specs.Clashes.{clash_below, clash_in_docs, least_with};
 
 use outside_core::NoMemory;

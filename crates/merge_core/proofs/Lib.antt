@@ -4,3 +4,10 @@ pub mod PlanLaws
 pub mod Ranked
 pub mod Regroup
 pub mod ScheduleLaws
+pub mod Distinct
+pub mod LaidDocs
+pub mod LaidParts
+pub mod LaidTrees
+pub mod Marked
+pub mod Refused
+pub mod Rooted

@@ -1,2 +1,5 @@
 pub mod Example
 pub mod JoinLaws
+pub mod Documents
+pub mod Marking
+pub mod Refusals

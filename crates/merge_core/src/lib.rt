@@ -1,4 +1,9 @@
 //! Merging copies of one vault: the laws of their join.
+//! Laws that a merge of documents rests on: what is laid over a document is one, which nodes are
+//! kept, and what each refusal names.
 #![tactic(auto)]
 
+pub mod document_laws;
 pub mod laws;
+
+

@@ -11,11 +11,11 @@ use Rattle.join_laws.proofs.Laid.{in_list, list_in}
 use Rattle.vault_model.proofs.Orders.{id_order}
 use Rattle.vault_model.proofs.Tests.{or_cases, and_true, any_found, in_front, in_back, in_flat, in_filter, from_filter}
 use Rattle.join_laws.proofs.Unite.{in_keys}
-use Rattle.merge_laws.specs.Marking.{first_such, is_stray, strays}
-use Rattle.merge_laws.specs.Refusals.{least}
-use Rattle.merge_laws.proofs.Distinct.{sorted_rises}
+use Rattle.merge_core.specs.Marking.{first_such, is_stray, strays}
+use Rattle.merge_core.specs.Refusals.{least}
+use Rattle.merge_core.proofs.Distinct.{sorted_rises}
 use Rattle.join_laws.proofs.Allowed.{own_held}
-use Rattle.merge_laws.proofs.Refused.{first_least, same_least}
+use Rattle.merge_core.proofs.Refused.{first_least, same_least}
 use Rattle.reference_join.specs.KnownIds.{known_in, known_ids}
 use Rattle.merge_join.specs.Marks.{AllSound, AreKnown}
 

@@ -5,8 +5,8 @@ use Rattle.vault_model.specs.Db.{NodeId, id_cmp, Db}
 use Rattle.vault_model.specs.Join.{IsNotEmpty}
 use Rattle.reference_tables.specs.declared.databases.Database.{Database}
 use Rattle.reference_tables.specs.Databases.{databases}
-use Rattle.merge_laws.specs.Marking.{mark_own, strays}
-use Rattle.merge_laws.specs.Refusals.{least}
+use Rattle.merge_core.specs.Marking.{mark_own, strays}
+use Rattle.merge_core.specs.Refusals.{least}
 use Rattle.merge_join.specs.declared.marking.JoinRefusal.{JoinRefusal}
 use Rattle.merge_join.specs.declared.marking.JoinRefusal.TheVariants.{NoMemory, Stray}
 use Rattle.merge_join.specs.Marks.{IsKeptResult, IsMarkRefusal}

@@ -3,7 +3,7 @@ ghost use Rattle.std.specs.Prelude.{◌≡◌, ◌<◌, length, true, OnOk, Some
 ghost use Rattle.vault_model.specs.Join.{above, HaveOneRoot};
 ghost use Rattle.vault_model.specs.Proper.{rises};
 ghost use Rattle.reference_tables.specs.Databases.{databases};
-ghost use Rattle.merge_laws.specs.Marking.{climb, is_marked, mark_own, mark_up};
+ghost use Rattle.merge_core.specs.Marking.{climb, is_marked, mark_own, mark_up};
 ghost use Rattle.merge_join.specs.Marks.{AllSound, AreKnown, IsKeptResult, IsMarkRefusal};
 
 use outside_core::NoMemory;

@@ -7,7 +7,7 @@ use Rattle.vault_model.specs.Join.{join}
 use Rattle.vault_model.specs.SeenDoc.{doc_seen}
 use Rattle.vault_model.specs.Shape.{lay}
 use Rattle.vault_model.specs.Tree.{BareDoc, IsDoc, LEVELS, doc_of, lay_doc}
-use Rattle.merge_laws.specs.Refusals.{members}
+use Rattle.merge_core.specs.Refusals.{members}
 use Rattle.reference_tables.specs.Databases.{database}
 use Rattle.reference_shapes.specs.Shapes.{shape}
 use Rattle.document_merge.proofs.merging.laid.Goals as goal

@@ -4,7 +4,7 @@ use Rattle.vault_model.specs.declared.documents.Doc.{Doc}
 use Rattle.vault_model.specs.Db.{Db}
 use Rattle.vault_model.specs.SeenDoc.{doc_seen}
 use Rattle.vault_model.specs.Tree.{BareDoc, db_in, id_of, rooted}
-use Rattle.merge_laws.specs.Refusals.{members}
+use Rattle.merge_core.specs.Refusals.{members}
 use Rattle.reference_tables.specs.Databases.{database}
 use Rattle.reference_tables.proofs.ListSteps.{drop_next}
 use Rattle.merge_checks.proofs.SeenBelow.{seen_id}

@@ -1,5 +1,5 @@
 use Rattle.std.proofs.Common.{◌≡◌, drop}
-use Rattle.merge_laws.specs.Refusals.{is_entry}
+use Rattle.merge_core.specs.Refusals.{is_entry}
 use Rattle.reference_tables.specs.Databases.{databases}
 use Rattle.merge_checks.proofs.kinds.is_entry.Given as goal
 

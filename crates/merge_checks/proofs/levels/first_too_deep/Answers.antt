@@ -1,8 +1,8 @@
 -- What is passed over is not too deep.
 use Rattle.std.proofs.Common.{◌+◌, Some, cond, drop, sym, ap, ◌∙◌}
 use Rattle.vault_model.specs.Tree.{LEVELS}
-use Rattle.merge_laws.specs.Marking.{first_such}
-use Rattle.merge_laws.specs.Refusals.{is_too_deep}
+use Rattle.merge_core.specs.Marking.{first_such}
+use Rattle.merge_core.specs.Refusals.{is_too_deep}
 use Rattle.reference_tables.specs.Databases.{databases}
 use Rattle.reference_tables.proofs.ListSteps.{drop_next}
 use Rattle.merge_checks.proofs.levels.first_too_deep.Goals as goal

@@ -1,6 +1,6 @@
 use Rattle.std.proofs.Common.{◌≡◌, ◌∷◌, None, drop, map}
 use Rattle.vault_model.specs.SeenDoc.{doc_seen}
-use Rattle.merge_laws.specs.Marking.{is_marked}
+use Rattle.merge_core.specs.Marking.{is_marked}
 use Rattle.merge_checks.specs.Clashes.{clash_in_docs}
 use Rattle.merge_checks.proofs.roots.clash_in_docs.Given as goal
 

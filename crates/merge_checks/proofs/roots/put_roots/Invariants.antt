@@ -4,7 +4,7 @@ use Rattle.vault_model.specs.Db.{NodeId}
 use Rattle.vault_model.specs.Join.{is_id}
 use Rattle.vault_model.specs.SeenDoc.{doc_seen}
 use Rattle.vault_model.specs.Tree.{BareDoc, id_of}
-use Rattle.merge_laws.specs.Marking.{is_marked}
+use Rattle.merge_core.specs.Marking.{is_marked}
 use Rattle.merge_checks.proofs.roots.put_roots.Given as goal
 
 abbrev pub invariant-loop-source : goal.invariant-loop-source

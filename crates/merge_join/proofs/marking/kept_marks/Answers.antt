@@ -7,7 +7,7 @@ use Rattle.vault_model.specs.Join.{root_of}
 use Rattle.reference_tables.specs.Databases.{databases}
 use Rattle.reference_join.proofs.Members.{root_first}
 use Rattle.reference_tables.proofs.ListSteps.{drop_next, drop_end}
-use Rattle.merge_laws.proofs.Marked.{IsMarking, begin, next, stuck, done}
+use Rattle.merge_core.proofs.Marked.{IsMarking, begin, next, stuck, done}
 use Rattle.merge_join.proofs.KnownIds.{held_known, stray_least}
 use Rattle.merge_join.proofs.NotEmpty.{not_empty, refused}
 use Rattle.merge_join.proofs.marking.kept_marks.Goals as goal

@@ -1,6 +1,6 @@
 use Rattle.std.proofs.Common.{drop}
 use Rattle.reference_tables.specs.Databases.{databases}
-use Rattle.merge_laws.proofs.Marked.{IsMarking}
+use Rattle.merge_core.proofs.Marked.{IsMarking}
 use Rattle.merge_join.proofs.marking.kept_marks.Given as goal
 
 abbrev pub invariant-loop-id : goal.invariant-loop-id

@@ -1,6 +1,6 @@
 use Rattle.std.proofs.Common.{◌≡◌}
 use Rattle.reference_tables.specs.Databases.{databases}
-use Rattle.merge_laws.specs.Marking.{mark_up}
+use Rattle.merge_core.specs.Marking.{mark_up}
 use Rattle.merge_join.proofs.marking.mark.Given as goal
 
 abbrev pub invariant-loop-left : goal.invariant-loop-left

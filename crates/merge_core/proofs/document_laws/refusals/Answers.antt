@@ -1,6 +1,6 @@
 -- Nothing to refuse, and the least in any order.
-use Rattle.merge_laws.proofs.Refused.{first_least, merged_is, same_least}
-use Rattle.merge_laws.proofs.laws.refusals.Goals as goal
+use Rattle.merge_core.proofs.Refused.{first_least, merged_is, same_least}
+use Rattle.merge_core.proofs.document_laws.refusals.Goals as goal
 
 pub returns-clause-merged : goal.returns-clause-merged
 returns-clause-merged c t ss is all clear kinds no_strays levels = merged_is t ss is all clear kinds no_strays levels

@@ -1,7 +1,7 @@
 -- What is laid is a document, and what is rooted elsewhere is.
-use Rattle.merge_laws.proofs.LaidDocs.{laid_is_doc}
-use Rattle.merge_laws.proofs.Rooted.{rooted_is_doc, rooted_at_home}
-use Rattle.merge_laws.proofs.laws.documents.Goals as goal
+use Rattle.merge_core.proofs.LaidDocs.{laid_is_doc}
+use Rattle.merge_core.proofs.Rooted.{rooted_is_doc, rooted_at_home}
+use Rattle.merge_core.proofs.document_laws.documents.Goals as goal
 
 pub returns-clause-laid : goal.returns-clause-laid
 returns-clause-laid c m t s fits is = laid_is_doc m t s fits is

@@ -13,7 +13,7 @@ use Rattle.vault_model.proofs.Ids.{same_id, is_same_id}
 use Rattle.join_laws.proofs.SoundDoc.{all_in}
 use Rattle.vault_model.proofs.Tests.{and_true, and_both, not_true, not_false, or_false, is_false, apart, from_filter, map_append}
 use Rattle.join_laws.specs.NodesBelow.{below_ids}
-use Rattle.merge_laws.proofs.Distinct.{in_all}
+use Rattle.merge_core.proofs.Distinct.{in_all}
 
 -- ---- a tree with another root
 

@@ -15,7 +15,7 @@ use Rattle.join_laws.proofs.Unite.{from_keys}
 use Rattle.join_laws.proofs.Versions.{never}
 use Rattle.join_laws.proofs.SoundDoc.{AreDistinct, distinct_head}
 use Rattle.join_laws.proofs.TreeShape.{records_right}
-use Rattle.merge_laws.proofs.Distinct.{not_among, distinct_both, distinct_filter, distinct_order, distinct_keys}
+use Rattle.merge_core.proofs.Distinct.{not_among, distinct_both, distinct_filter, distinct_order, distinct_keys}
 
 -- ---- the records of some ids
 

@@ -23,11 +23,11 @@ use Rattle.join_laws.proofs.SoundJoin.{join_sound}
 use Rattle.vault_model.proofs.Tests.{or_left, or_right, or_false, and_true, and_both, not_true, is_false, apart, decide, some_of, any_true, any_found, in_map, from_map, in_flat, in_filter, from_filter}
 use Rattle.join_laws.proofs.Versions.{never, some_from}
 use Rattle.join_laws.specs.NodesBelow.{below_ids}
-use Rattle.merge_laws.specs.Marking.{first_such, is_stray, strays}
-use Rattle.merge_laws.specs.Refusals.{lesser, least, members, root_clashes, is_entry, is_group, kind_clashes, allowed_steps, is_too_deep, too_deep, CanMerge}
-use Rattle.merge_laws.proofs.LaidDocs.{laid_is_doc}
+use Rattle.merge_core.specs.Marking.{first_such, is_stray, strays}
+use Rattle.merge_core.specs.Refusals.{lesser, least, members, root_clashes, is_entry, is_group, kind_clashes, allowed_steps, is_too_deep, too_deep, CanMerge}
+use Rattle.merge_core.proofs.LaidDocs.{laid_is_doc}
 use Rattle.join_laws.proofs.Allowed.{own_held, trail_step}
-use Rattle.merge_laws.proofs.Rooted.{rooted_is_doc}
+use Rattle.merge_core.proofs.Rooted.{rooted_is_doc}
 
 -- ---- the least of some ids
 

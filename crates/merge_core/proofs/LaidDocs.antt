@@ -20,9 +20,9 @@ use Rattle.vault_model.proofs.Tests.{apart, not_false, is_false, in_back, in_eit
 use Rattle.join_laws.proofs.Versions.{never}
 use Rattle.join_laws.proofs.SoundDoc.{AreDistinct, entry_ids, heads_nodes, distinct_from, distinct_head, distinct_front, distinct_back, shape_kids}
 use Rattle.join_laws.proofs.TreeShape.{entries_right, groups_right}
-use Rattle.merge_laws.proofs.Distinct.{distinct_to, not_among, in_all, sorted_rises}
-use Rattle.merge_laws.proofs.LaidParts.{proper_entry, proper_group, laid_icons_rise, laid_items_rise, laid_meta_text}
-use Rattle.merge_laws.proofs.LaidTrees.{node_under, distinct_tree, fits_height}
+use Rattle.merge_core.proofs.Distinct.{distinct_to, not_among, in_all, sorted_rises}
+use Rattle.merge_core.proofs.LaidParts.{proper_entry, proper_group, laid_icons_rise, laid_items_rise, laid_meta_text}
+use Rattle.merge_core.proofs.LaidTrees.{node_under, distinct_tree, fits_height}
 
 -- ---- the children of a document's groups stand once
 

@@ -14,7 +14,7 @@ use Rattle.vault_model.proofs.Orders.{id_order}
 use Rattle.join_laws.proofs.Paths.{steps_add, reached_within, later, at_number}
 use Rattle.vault_model.proofs.Tests.{or_cases, or_left, or_right, is_false, apart, decide}
 use Rattle.join_laws.proofs.Versions.{never}
-use Rattle.merge_laws.specs.Marking.{climb, is_marked, mark_own, mark_up, is_stray, first_such}
+use Rattle.merge_core.specs.Marking.{climb, is_marked, mark_own, mark_up, is_stray, first_such}
 
 -- ---- climbing
 

@@ -1,8 +1,8 @@
 //! The laws of merging documents. Each function has a law as its contract, for all documents; it
 //! does nothing, and takes no memory.
 
-ghost use Rattle.merge_laws.specs.Documents.{LaysAreDocuments, RootedAreDocuments, RootedAtHome};
-ghost use Rattle.merge_laws.specs.Refusals.{FirstIsLeast, LeastIsOfIds, MergesAreDocuments};
+ghost use Rattle.merge_core.specs.Documents.{LaysAreDocuments, RootedAreDocuments, RootedAtHome};
+ghost use Rattle.merge_core.specs.Refusals.{FirstIsLeast, LeastIsOfIds, MergesAreDocuments};
 
 /// A sound database that fits the levels, laid over a document, keeps what every document keeps, and
 /// so does a document whose root takes an id that no other node of it has; under the id of its own

@@ -20,7 +20,7 @@ use Rattle.vault_model.proofs.Orders.{id_order, mark_order, bytes_order}
 use Rattle.join_laws.proofs.Tables.{entry_get}
 use Rattle.vault_model.proofs.Tests.{and_both, from_map}
 use Rattle.join_laws.proofs.Versions.{never}
-use Rattle.merge_laws.proofs.Distinct.{in_all, sorted_rises}
+use Rattle.merge_core.proofs.Distinct.{in_all, sorted_rises}
 
 -- ---- versions
 

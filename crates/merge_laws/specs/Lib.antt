@@ -1,3 +1,0 @@
-pub mod Documents
-pub mod Marking
-pub mod Refusals
