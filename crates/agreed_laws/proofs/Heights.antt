@@ -6,7 +6,7 @@ use Rattle.vault_model.specs.Join.{IsIn}
 use Rattle.vault_model.specs.Shape.{Children, EntryRecord}
 use Rattle.vault_model.specs.Tree.{Tree, node, Trees, none, beside, BareDoc, IsDeep, IsDoc, LEVELS, FitsLevels, child_rows, child_rows_all, db_in, entry_rows, entry_rows_all, height, height_all, id_of, ids_of, node_ids, node_ids_all}
 use Rattle.vault_model.proofs.Tests.{apart, from_map, in_back, in_either, in_front}
-use Rattle.join_laws.proofs.SoundDoc.{AreDistinct, db_root, distinct_apart, distinct_back, distinct_from, distinct_front, distinct_head, document_sound, entry_ids, entry_there, one_row, place_kid, row_node}
+use Rattle.merge_core.proofs.SoundDoc.{AreDistinct, db_root, distinct_apart, distinct_back, distinct_from, distinct_front, distinct_head, document_sound, entry_ids, entry_there, one_row, place_kid, row_node}
 
 -- ---- groups so many levels below a root
 

@@ -5,9 +5,9 @@ use Rattle.vault_model.specs.declared.contents.Stats.{Stats}
 use Rattle.vault_model.specs.Db.{NodeId, Mark, Versions, Db}
 use Rattle.vault_model.specs.Join.{kept, join, IsIn, IsNotEmpty, IsPart, Agreed}
 use Rattle.vault_model.specs.Tree.{BareDoc, LEVELS, FitsLevels, IsDoc, IsSettled, db_in, lay_doc}
-use Rattle.join_laws.proofs.Facts.{part_roots}
-use Rattle.join_laws.proofs.TreeShape.{laid_document}
-use Rattle.join_laws.proofs.Versions.{never}
+use Rattle.merge_core.proofs.Facts.{part_roots}
+use Rattle.merge_core.proofs.TreeShape.{laid_document}
+use Rattle.merge_core.proofs.Versions.{never}
 use Rattle.merge_core.specs.JoinLaws.{AreParts, IsThere, end_to_end}
 use Rattle.merge_core.proofs.MoreLaws.{kept_version, version_there}
 use Rattle.merge_core.proofs.Regroup.{end_part, join_of_joins, joins_agreed}

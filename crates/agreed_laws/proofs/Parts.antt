@@ -8,9 +8,9 @@ use Rattle.vault_model.specs.Join.{is_id, root_of, ids, own, path, IsIn, Allowed
 use Rattle.vault_model.specs.Tree.{Tree, node, BareDoc, IsDoc, db_in, id_of, node_ids, node_ids_all, rooted}
 use Rattle.vault_model.proofs.Ids.{same_id}
 use Rattle.vault_model.proofs.Tests.{and_true, not_true, any_found, apart, from_flat, in_map, is_false, map_same}
-use Rattle.join_laws.specs.NodesBelow.{below_ids}
-use Rattle.join_laws.proofs.Allowed.{own_arrives}
-use Rattle.join_laws.proofs.SoundDoc.{AreDistinct, db_root, distinct_from, distinct_head, entry_ids}
+use Rattle.merge_core.specs.NodesBelow.{below_ids}
+use Rattle.merge_core.proofs.Allowed.{own_arrives}
+use Rattle.merge_core.proofs.SoundDoc.{AreDistinct, db_root, distinct_from, distinct_head, entry_ids}
 use Rattle.merge_core.specs.Marking.{is_stray, strays}
 use Rattle.merge_core.specs.Refusals.{is_entry, is_group, kind_clashes, least, members, root_clashes}
 use Rattle.merge_core.proofs.Rooted.{rooted_at_home}

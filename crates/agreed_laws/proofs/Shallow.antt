@@ -7,10 +7,10 @@ use Rattle.vault_model.specs.Join.{is_id, root_of, latest, above, ids, trail, ke
 use Rattle.vault_model.specs.Tree.{IsDeep, FitsLevels}
 use Rattle.vault_model.specs.Unite.{gather, join_options}
 use Rattle.vault_model.proofs.Tests.{or_cases, or_right, and_true, and_both, not_true, not_false, any_true, any_found, in_filter, apart, decide, is_false}
-use Rattle.join_laws.proofs.Facts.{held_id, join_groups, join_places, join_root, trail_head}
-use Rattle.join_laws.proofs.Allowed.{kept_above, kept_held, kept_reaches, trail_step}
-use Rattle.join_laws.proofs.SoundJoin.{column_kept, cond_some, group_kept, join_sound}
-use Rattle.join_laws.proofs.Versions.{never}
+use Rattle.merge_core.proofs.Facts.{held_id, join_groups, join_places, join_root, trail_head}
+use Rattle.merge_core.proofs.Allowed.{kept_above, kept_held, kept_reaches, trail_step}
+use Rattle.merge_core.proofs.SoundJoin.{column_kept, cond_some, group_kept, join_sound}
+use Rattle.merge_core.proofs.Versions.{never}
 use Rattle.merge_core.specs.Refusals.{allowed_steps, is_entry, is_too_deep, least, lesser, too_deep}
 
 -- what no member passes filters nothing

@@ -8,7 +8,7 @@ use Rattle.vault_model.specs.Join.{Allowed, HaveOneRoot, IsIn, IsNotEmpty}
 use Rattle.vault_model.specs.SeenDoc.{doc_seen}
 use Rattle.vault_model.specs.Shape.{Shape, lay, laid_group}
 use Rattle.vault_model.specs.Tree.{BareDoc, IsDoc, LEVELS}
-use Rattle.join_laws.proofs.Laid.{lay_groups, lay_root}
+use Rattle.merge_core.proofs.Laid.{lay_groups, lay_root}
 use Rattle.vault_model.proofs.Tests.{from_map}
 use Rattle.merge_core.specs.Marking.{strays}
 use Rattle.merge_core.specs.Refusals.{CanMerge, kind_clashes, least, members, root_clashes, too_deep}

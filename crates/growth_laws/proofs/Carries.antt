@@ -6,7 +6,7 @@ use Rattle.vault_model.specs.Join.{IsIn, is_id}
 use Rattle.vault_model.specs.Shape.{Children, EntryRecord, GroupRecord}
 use Rattle.vault_model.specs.Tree.{Tree, Trees, beside, child_rows, child_rows_all, entry_rows, entry_rows_all, group_rows, group_rows_all, id_of, ids_of, node, none}
 use Rattle.vault_model.proofs.Tests.{decide, in_back, in_either, in_front, map_append}
-use Rattle.join_laws.proofs.SoundDoc.{IsKid}
+use Rattle.merge_core.proofs.SoundDoc.{IsKid}
 use Rattle.tree_core.specs.Changes.{but_group, changed_at, changed_entry, child_with, group_with, own_entry, own_group, with_changed, with_entry, with_group, with_last, without, without_entry, without_group}
 use Rattle.tree_core.proofs.Around.{AreRows, children_rows, entries_rows, found_id, groups_rows, rows_change}
 use Rattle.tree_core.proofs.Edited.{same_keys}

@@ -20,10 +20,10 @@ use Rattle.vault_model.specs.Unite.{by_order, gather, unite, unite_all}
 use Rattle.vault_model.proofs.Ids.{same_id}
 use Rattle.vault_model.proofs.Orders.{mark_order}
 use Rattle.vault_model.proofs.Tests.{and_true, apart, decide, is_false, map_map}
-use Rattle.join_laws.proofs.Joins.{meta_joins, versions_joins}
-use Rattle.join_laws.proofs.SoundDoc.{as_map}
-use Rattle.join_laws.proofs.Tables.{gathered_singles}
-use Rattle.join_laws.proofs.Unite.{get-unite_all}
+use Rattle.merge_core.proofs.Joins.{meta_joins, versions_joins}
+use Rattle.merge_core.proofs.SoundDoc.{as_map}
+use Rattle.merge_core.proofs.Tables.{gathered_singles}
+use Rattle.merge_core.proofs.Unite.{get-unite_all}
 use Rattle.tree_core.specs.Finding.{entry_found, group_found, has_entry_path}
 use Rattle.tree_core.specs.declared.fails.TreeFail.TheVariants.{AlreadyThere, IdTaken, NameTaken}
 use Rattle.tree_core.specs.After.{AfterRemoval, Holding, edited_entry, entry_deleted, entry_moved_to, entry_named, entry_recycled, is_recycled, named_or_refusal, needs_bin, refuse_if, time_after, with_bin, with_bin_made}

@@ -8,7 +8,7 @@ use Rattle.vault_model.specs.Join.{is_id}
 use Rattle.vault_model.specs.Shape.{shared_of}
 use Rattle.vault_model.specs.Tree.{BareDoc, IsDoc, LEVELS, Tree, height, id_of, node_ids}
 use Rattle.vault_model.proofs.Tests.{apart, decide, is_false}
-use Rattle.join_laws.proofs.Joins.{meta_joins}
+use Rattle.merge_core.proofs.Joins.{meta_joins}
 use Rattle.tree_core.specs.Finding.{group_found, without_slashes}
 use Rattle.tree_core.specs.declared.fails.TreeFail.TheVariants.{AlreadyThere, IdTaken, IntoItself, NameTaken, RootFixed, TooDeep}
 use Rattle.tree_core.specs.After.{AfterRemoval, after_new_group, after_recycling, bin_level, group_deleted, group_moved_to, group_named, group_recycled, is_group_taken, is_parent, is_recycled, named_or_refusal, needs_bin, refuse_if, time_after, with_bin_made}

@@ -7,8 +7,8 @@ use Rattle.vault_model.specs.Shape.{EntryRecord, GroupRecord, shared_of, stay_of
 use Rattle.vault_model.specs.Tree.{BareDoc, IsDoc, Tree, Trees, beside, child_rows, entry_rows, group_rows, group_rows_all, id_of, node, none, shape_of}
 use Rattle.vault_model.proofs.Ids.{same_id}
 use Rattle.vault_model.proofs.Tests.{decide, in_back, in_front}
-use Rattle.join_laws.proofs.Joins.{meta_joins, state_joins}
-use Rattle.join_laws.proofs.SoundDoc.{IsKid}
+use Rattle.merge_core.proofs.Joins.{meta_joins, state_joins}
+use Rattle.merge_core.proofs.SoundDoc.{IsKid}
 use Rattle.tree_core.specs.Changes.{changed_at, child_with, group_moved, group_with, moved_group, own_group, placed_of, with_group, without_group}
 use Rattle.tree_core.proofs.Options.{never}
 use Rattle.growth_laws.proofs.Carries.{Carries, Entry, Group, carries_at, entry_in, group_in, kid_in, put_group_carries, put_group_entry, put_group_group, put_group_kid, put_group_root, take_group_carries, was_group_in}

@@ -7,11 +7,11 @@ use Rattle.vault_model.specs.Db.{NodeId, Place, place_cmp, Db, holds, parent_or,
 use Rattle.vault_model.specs.Join.{is_id, stats_join, state_join, latest, above, stamp, is_from, is_held, buried, own, ids, path, kept, join}
 use Rattle.vault_model.specs.Unite.{greater, gather, join_options, unite}
 use Rattle.vault_model.proofs.Ids.{same_id}
-use Rattle.join_laws.proofs.Facts.{join_entries, join_groups, join_places, join_tombs, join_root, held_by, held_id, trail_head, trail_keeps}
-use Rattle.join_laws.proofs.Joins.{places_joins, state_joins, versions_joins}
+use Rattle.merge_core.proofs.Facts.{join_entries, join_groups, join_places, join_tombs, join_root, held_by, held_id, trail_head, trail_keeps}
+use Rattle.merge_core.proofs.Joins.{places_joins, state_joins, versions_joins}
 use Rattle.vault_model.proofs.Orders.{id_order}
-use Rattle.join_laws.proofs.Semilattice.{max_join, merged_none}
-use Rattle.join_laws.proofs.SoundJoin.{join_meta}
+use Rattle.merge_core.proofs.Semilattice.{max_join, merged_none}
+use Rattle.merge_core.proofs.SoundJoin.{join_meta}
 use Rattle.vault_model.proofs.Tests.{or_cases, or_right, or_false, and_true, and_both, not_true, not_false, apart, decide, none_of, any_true, any_found, any_none}
 use Rattle.growth_laws.proofs.GrowsAt.{Grows}
 

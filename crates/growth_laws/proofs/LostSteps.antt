@@ -10,8 +10,8 @@ use Rattle.vault_model.specs.Tree.{BareDoc, IsDoc, Tree, child_rows, entry_rows,
 use Rattle.vault_model.specs.Unite.{unite}
 use Rattle.vault_model.proofs.Ids.{same_id}
 use Rattle.vault_model.proofs.Tests.{decide}
-use Rattle.join_laws.proofs.Joins.{meta_joins}
-use Rattle.join_laws.proofs.SoundDoc.{IsKid, below_node, is_node, kid_below}
+use Rattle.merge_core.proofs.Joins.{meta_joins}
+use Rattle.merge_core.proofs.SoundDoc.{IsKid, below_node, is_node, kid_below}
 use Rattle.tree_core.specs.Changes.{changed_at, changed_entry, child_with, entries_buried, group_with, groups_buried, own_entry, tomb_at, tree_buried, with_tomb, without_entry, without_group}
 use Rattle.growth_laws.proofs.Carries.{Carries, Entry, Group, carries_at, change_entry_carries, change_entry_row, entry_in, take_entry_carries, take_group_carries, was_entry_in}
 use Rattle.growth_laws.proofs.Stays.{Buried, EntryAfter, Stays, entry_stay, group_stay, places_stay}

@@ -11,10 +11,10 @@ use Rattle.vault_model.specs.Unite.{greater, unite}
 use Rattle.vault_model.proofs.Ids.{id_itself}
 use Rattle.vault_model.proofs.Orders.{id_order, mark_order}
 use Rattle.vault_model.proofs.Tests.{decide, from_flat, from_map, greatest_above, greatest_below, in_map, some_of}
-use Rattle.join_laws.proofs.Joins.{meta_joins, places_joins, state_joins, versions_joins}
-use Rattle.join_laws.proofs.SoundDoc.{IsKid, db_place, kid_place, place_kid, shape_entry, shape_group, version_marks}
-use Rattle.join_laws.proofs.Tables.{find_in}
-use Rattle.join_laws.proofs.Unite.{from_keys}
+use Rattle.merge_core.proofs.Joins.{meta_joins, places_joins, state_joins, versions_joins}
+use Rattle.merge_core.proofs.SoundDoc.{IsKid, db_place, kid_place, place_kid, shape_entry, shape_group, version_marks}
+use Rattle.merge_core.proofs.Tables.{find_in}
+use Rattle.merge_core.proofs.Unite.{from_keys}
 use Rattle.tree_core.proofs.Counted.{occurs, once, one_if}
 use Rattle.tree_core.proofs.Rows.{keys, none_found}
 use Rattle.tree_removals.proofs.ManyTombs.{rows_count}

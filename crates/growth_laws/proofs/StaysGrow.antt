@@ -20,9 +20,9 @@ use Rattle.vault_model.proofs.Ids.{same_id}
 use Rattle.vault_model.proofs.Orders.{id_order}
 use Rattle.vault_model.proofs.Tests.{and_true, apart, decide, from_map, in_map, is_false, none_of, or_cases, or_false, or_left, or_right, some_of}
 use Rattle.vault_model.specs.Join.{IsIn}
-use Rattle.join_laws.proofs.Laid.{db_entries, db_groups}
-use Rattle.join_laws.proofs.SoundDoc.{db_root, db_shared, db_tomb, document_sound, entry_at, group_at}
-use Rattle.join_laws.proofs.Tables.{find_in}
+use Rattle.merge_core.proofs.Laid.{db_entries, db_groups}
+use Rattle.merge_core.proofs.SoundDoc.{db_root, db_shared, db_tomb, document_sound, entry_at, group_at}
+use Rattle.merge_core.proofs.Tables.{find_in}
 use Rattle.tree_core.proofs.Counted.{occurs, one_if}
 use Rattle.tree_core.proofs.Rows.{keys}
 use Rattle.growth_laws.proofs.Grown.{grown}

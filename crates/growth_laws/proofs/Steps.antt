@@ -13,8 +13,8 @@ use Rattle.vault_model.specs.Tree.{BareDoc, IsDoc, Tree, child_rows, entry_rows,
 use Rattle.vault_model.specs.Unite.{by_order, greater}
 use Rattle.vault_model.proofs.Ids.{is_same_id, same_id}
 use Rattle.vault_model.proofs.Tests.{apart, decide, in_front}
-use Rattle.join_laws.proofs.Joins.{meta_joins, places_joins, state_joins, versions_joins}
-use Rattle.join_laws.proofs.SoundDoc.{IsKid, below_node, is_node, kid_below}
+use Rattle.merge_core.proofs.Joins.{meta_joins, places_joins, state_joins, versions_joins}
+use Rattle.merge_core.proofs.SoundDoc.{IsKid, below_node, is_node, kid_below}
 use Rattle.tree_core.specs.Changes.{changed_at, changed_entry, entry_moved, group_with, moved_entry, own_entry, with_entry, with_group, without_entry, without_group}
 use Rattle.tree_core.proofs.Around.{found_id, same_root}
 use Rattle.tree_core.proofs.Changed.{changed_by}

@@ -6,9 +6,9 @@ use Rattle.std.specs.List.{list_any, filter}
 use Rattle.vault_model.specs.Db.{Db, NodeId}
 use Rattle.vault_model.specs.Join.{is_held, ids, is_id, root_of, trail, kept, Allowed}
 use Rattle.vault_model.specs.Proper.{rises}
-use Rattle.join_laws.proofs.Allowed.{kept_held}
-use Rattle.join_laws.proofs.Facts.{held_by, held_id}
-use Rattle.join_laws.proofs.Laid.{in_list, list_in}
+use Rattle.merge_core.proofs.Allowed.{kept_held}
+use Rattle.merge_core.proofs.Facts.{held_by, held_id}
+use Rattle.merge_core.proofs.Laid.{in_list, list_in}
 use Rattle.vault_model.proofs.Tests.{and_true, any_found, from_filter, in_filter, or_left}
 use Rattle.merge_core.specs.Marking.{first_such}
 use Rattle.merge_core.specs.Refusals.{allowed_steps, is_entry, is_group, is_too_deep, least}

@@ -5,8 +5,8 @@ use Rattle.vault_model.specs.Db.{NodeId}
 use Rattle.vault_model.specs.Shape.{EntryRecord}
 use Rattle.vault_model.specs.Tree.{BareDoc, Tree, Trees, node, none, beside, id_of, node_ids, node_ids_all}
 use Rattle.vault_model.specs.Unite.{join_options}
-use Rattle.join_laws.specs.NodesBelow.{below_ids}
-use Rattle.join_laws.proofs.Semilattice.{merged_join}
+use Rattle.merge_core.specs.NodesBelow.{below_ids}
+use Rattle.merge_core.proofs.Semilattice.{merged_join}
 use Rattle.merge_core.specs.Refusals.{least, lesser}
 use Rattle.merge_core.proofs.Refused.{lesser_joins}
 use Rattle.merge_checks.specs.Clashes.{least_with, least_with_all, clash_below, clash_in_all, clash_in_docs}

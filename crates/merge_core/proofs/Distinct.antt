@@ -12,9 +12,9 @@ use Rattle.vault_model.specs.Proper.{rises}
 use Rattle.vault_model.specs.Shape.{in_order}
 use Rattle.vault_model.specs.Tree.{are_distinct}
 use Rattle.vault_model.proofs.Ids.{is_same_id}
-use Rattle.join_laws.proofs.SoundDoc.{AreDistinct, distinct_head}
-use Rattle.join_laws.proofs.Tables.{both_parts, below_in}
-use Rattle.join_laws.proofs.Laid.{in_list, list_in}
+use Rattle.merge_core.proofs.SoundDoc.{AreDistinct, distinct_head}
+use Rattle.merge_core.proofs.Tables.{both_parts, below_in}
+use Rattle.merge_core.proofs.Laid.{in_list, list_in}
 use Rattle.vault_model.proofs.Orders.{id_order}
 use Rattle.vault_model.proofs.Tests.{and_both, not_true, not_false, is_false, apart, in_either, from_filter, from_map}
 

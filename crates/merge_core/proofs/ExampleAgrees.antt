@@ -12,11 +12,11 @@ use Rattle.vault_model.specs.Proper.{is_proper_content, is_proper_group_content}
 use Rattle.vault_model.specs.Shape.{BareVersion, EntryRecord, GroupRecord, Children}
 use Rattle.vault_model.specs.Tree.{BareDoc, id_of, entry_rows, group_rows, child_rows, IsDoc, db_in}
 use Rattle.vault_model.proofs.Ids.{same_id}
-use Rattle.join_laws.proofs.SoundDoc.{all_in, version_marks, entry_at, group_at, place_kid, db_tomb, db_root, document_sound}
+use Rattle.merge_core.proofs.SoundDoc.{all_in, version_marks, entry_at, group_at, place_kid, db_tomb, db_root, document_sound}
 use Rattle.vault_model.proofs.Tests.{not_true, apart, is_false, some_of, from_map, greatest_below}
-use Rattle.join_laws.proofs.Tables.{find_in}
+use Rattle.merge_core.proofs.Tables.{find_in}
 use Rattle.vault_model.proofs.Orders.{id_order, mark_order}
-use Rattle.join_laws.proofs.Unite.{from_keys}
+use Rattle.merge_core.proofs.Unite.{from_keys}
 use Rattle.merge_core.specs.Example.{root, bank, mail, as_it_was, edited, moved, copies}
 use Rattle.merge_core.proofs.Ranked.{ranked_agreed}
 

@@ -13,13 +13,13 @@ use Rattle.vault_model.specs.Join.{is_id, IsIn}
 use Rattle.vault_model.specs.Proper.{rises, is_proper_group_content, is_text_meta}
 use Rattle.vault_model.specs.Shape.{EntryRecord, GroupRecord, Children, Shape, no_children, kids, laid_group, laid_meta, lay}
 use Rattle.vault_model.specs.Tree.{Tree, node, Trees, none, beside, BareDoc, ids_of, node_ids, node_ids_all, child_rows, child_rows_all, entry_rows, group_rows, are_distinct, is_elsewhere, is_proper_entry, height, shape_of, no_group, tree_of, doc_of, lay_doc, LEVELS, FitsLevels, IsDoc}
-use Rattle.join_laws.proofs.Laid.{lay_groups, lay_root, lay_tombs, lay_meta}
+use Rattle.merge_core.proofs.Laid.{lay_groups, lay_root, lay_tombs, lay_meta}
 use Rattle.vault_model.proofs.Orders.{id_order}
-use Rattle.join_laws.proofs.Tables.{find_in, entry_get}
+use Rattle.merge_core.proofs.Tables.{find_in, entry_get}
 use Rattle.vault_model.proofs.Tests.{apart, not_false, is_false, in_back, in_either, from_map}
-use Rattle.join_laws.proofs.Versions.{never}
-use Rattle.join_laws.proofs.SoundDoc.{AreDistinct, entry_ids, heads_nodes, distinct_from, distinct_head, distinct_front, distinct_back, shape_kids}
-use Rattle.join_laws.proofs.TreeShape.{entries_right, groups_right}
+use Rattle.merge_core.proofs.Versions.{never}
+use Rattle.merge_core.proofs.SoundDoc.{AreDistinct, entry_ids, heads_nodes, distinct_from, distinct_head, distinct_front, distinct_back, shape_kids}
+use Rattle.merge_core.proofs.TreeShape.{entries_right, groups_right}
 use Rattle.merge_core.proofs.Distinct.{distinct_to, not_among, in_all, sorted_rises}
 use Rattle.merge_core.proofs.LaidParts.{proper_entry, proper_group, laid_icons_rise, laid_items_rise, laid_meta_text}
 use Rattle.merge_core.proofs.LaidTrees.{node_under, distinct_tree, fits_height}

@@ -15,11 +15,11 @@ use Rattle.vault_model.specs.Join.{IsIn}
 use Rattle.vault_model.specs.Proper.{rises, is_proper_content, is_proper_group_content, is_text_icon, is_text_item, is_text_meta}
 use Rattle.vault_model.specs.Shape.{BareVersion, EntryRecord, GroupRecord, Shape, Stay, last_of, but_last, version_of, record_of, stay_in, laid_group, laid_meta, versions_in, lay}
 use Rattle.vault_model.specs.Tree.{is_proper_entry}
-use Rattle.join_laws.proofs.Laid.{lay_entries, lay_groups}
+use Rattle.merge_core.proofs.Laid.{lay_entries, lay_groups}
 use Rattle.vault_model.proofs.Orders.{id_order, mark_order, bytes_order}
-use Rattle.join_laws.proofs.Tables.{entry_get}
+use Rattle.merge_core.proofs.Tables.{entry_get}
 use Rattle.vault_model.proofs.Tests.{and_both, from_map}
-use Rattle.join_laws.proofs.Versions.{never}
+use Rattle.merge_core.proofs.Versions.{never}
 use Rattle.merge_core.proofs.Distinct.{in_all, sorted_rises}
 
 -- ---- versions

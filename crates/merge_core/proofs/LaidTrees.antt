@@ -8,13 +8,13 @@ use Rattle.vault_model.specs.Db.{NodeId, id_cmp, Place, Db, holds, Sound}
 use Rattle.vault_model.specs.Join.{IsIn}
 use Rattle.vault_model.specs.Shape.{EntryRecord, GroupRecord, Children, Shape, kids, stands_in, laid_children, ids_in_group, no_children, lay}
 use Rattle.vault_model.specs.Tree.{Tree, node_ids, node_ids_all, height, height_all, with_record, with_records, all_trees, tree_of, IsDeep, FitsLevels}
-use Rattle.join_laws.proofs.Laid.{lay_children, from_order, from_standing}
+use Rattle.merge_core.proofs.Laid.{lay_children, from_order, from_standing}
 use Rattle.vault_model.proofs.Orders.{id_order}
 use Rattle.vault_model.proofs.Tests.{or_left, or_right, apart, in_either, in_map, from_map}
-use Rattle.join_laws.proofs.Unite.{from_keys}
-use Rattle.join_laws.proofs.Versions.{never}
-use Rattle.join_laws.proofs.SoundDoc.{AreDistinct, distinct_head}
-use Rattle.join_laws.proofs.TreeShape.{records_right}
+use Rattle.merge_core.proofs.Unite.{from_keys}
+use Rattle.merge_core.proofs.Versions.{never}
+use Rattle.merge_core.proofs.SoundDoc.{AreDistinct, distinct_head}
+use Rattle.merge_core.proofs.TreeShape.{records_right}
 use Rattle.merge_core.proofs.Distinct.{not_among, distinct_both, distinct_filter, distinct_order, distinct_keys}
 
 -- ---- the records of some ids

@@ -11,3 +11,15 @@ pub mod LaidTrees
 pub mod Marked
 pub mod Refused
 pub mod Rooted
+pub mod Allowed
+pub mod Facts
+pub mod Joins
+pub mod Laid
+pub mod Paths
+pub mod Semilattice
+pub mod SoundDoc
+pub mod SoundJoin
+pub mod Tables
+pub mod TreeShape
+pub mod Unite
+pub mod Versions

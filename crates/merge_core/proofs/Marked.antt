@@ -8,12 +8,12 @@ use Rattle.std.specs.Option.{option_map}
 use Rattle.vault_model.specs.Db.{NodeId, id_cmp, Db, steps, Reaches, Sound}
 use Rattle.vault_model.specs.Join.{is_id, root_of, above, is_held, own, ids, trail, path, kept, IsIn, IsNotEmpty, HaveOneRoot}
 use Rattle.vault_model.proofs.Ids.{same_id, id_itself}
-use Rattle.join_laws.proofs.Allowed.{root_stays, own_held, root_own, steps_held, keeper, keeps, trail_step}
-use Rattle.join_laws.proofs.Facts.{held_id, trail_head, trail_keeps}
+use Rattle.merge_core.proofs.Allowed.{root_stays, own_held, root_own, steps_held, keeper, keeps, trail_step}
+use Rattle.merge_core.proofs.Facts.{held_id, trail_head, trail_keeps}
 use Rattle.vault_model.proofs.Orders.{id_order}
-use Rattle.join_laws.proofs.Paths.{steps_add, reached_within, later, at_number}
+use Rattle.merge_core.proofs.Paths.{steps_add, reached_within, later, at_number}
 use Rattle.vault_model.proofs.Tests.{or_cases, or_left, or_right, is_false, apart, decide}
-use Rattle.join_laws.proofs.Versions.{never}
+use Rattle.merge_core.proofs.Versions.{never}
 use Rattle.merge_core.specs.Marking.{climb, is_marked, mark_own, mark_up, is_stray, first_such}
 
 -- ---- climbing

@@ -5,12 +5,12 @@ use Rattle.vault_model.specs.declared.contents.Stats.{Stats}
 use Rattle.vault_model.specs.Db.{NodeId, Mark, Versions, Place, place_cmp, Db, holds, newest, state_time, stamp_in, parent_or, parent_in, Sound}
 use Rattle.vault_model.specs.Join.{stats_join, root_of, latest, above, kept, join, IsIn, IsNotEmpty, IsPart, KeepsParents, IsAcyclic, Compatible, Agreed}
 use Rattle.vault_model.specs.Unite.{greater, gather, unite}
-use Rattle.join_laws.proofs.Facts.{join_entries, latest_found, held_by, alive_from_own, own_from_alive}
-use Rattle.join_laws.proofs.Joins.{places_joins}
-use Rattle.join_laws.proofs.Paths.{steps_same}
-use Rattle.join_laws.proofs.Semilattice.{some-gather, gather-same}
+use Rattle.merge_core.proofs.Facts.{join_entries, latest_found, held_by, alive_from_own, own_from_alive}
+use Rattle.merge_core.proofs.Joins.{places_joins}
+use Rattle.merge_core.proofs.Paths.{steps_same}
+use Rattle.merge_core.proofs.Semilattice.{some-gather, gather-same}
 use Rattle.vault_model.proofs.Tests.{or_left, or_right, is_false, none_of, some_is, any_found, in_map, from_map, or_false}
-use Rattle.join_laws.proofs.Versions.{never, version_stays}
+use Rattle.merge_core.proofs.Versions.{never, version_stays}
 use Rattle.merge_core.specs.JoinLaws.{IsThere}
 use Rattle.merge_core.proofs.Regroup.{part_kept}
 

@@ -8,13 +8,13 @@ use Rattle.vault_model.specs.Join.{no_meta, own, kept, join, IsIn, IsWithin, IsN
 use Rattle.vault_model.specs.Plans.{Plan, leaf, merge, Plans, none, more, value, values, tree, tree_dbs, leaves, all_leaves, IsAllowed, AreAllowed, Fits, AllFit}
 use Rattle.vault_model.specs.Tree.{BareDoc, db_in, lay_doc, IsSettled}
 use Rattle.vault_model.specs.Unite.{gather}
-use Rattle.join_laws.proofs.Facts.{placed_held, join_entries, join_groups, join_places, join_tombs, join_root, part_root, alive_from_own, own_from_alive, held_by}
-use Rattle.join_laws.proofs.Joins.{versions_joins, state_joins, places_joins, meta_joins}
+use Rattle.merge_core.proofs.Facts.{placed_held, join_entries, join_groups, join_places, join_tombs, join_root, part_root, alive_from_own, own_from_alive, held_by}
+use Rattle.merge_core.proofs.Joins.{versions_joins, state_joins, places_joins, meta_joins}
 use Rattle.vault_model.proofs.Orders.{id_order}
-use Rattle.join_laws.proofs.Semilattice.{IsJoin, max_join, gather-same, merged_none}
-use Rattle.join_laws.proofs.SoundJoin.{join_meta}
+use Rattle.merge_core.proofs.Semilattice.{IsJoin, max_join, gather-same, merged_none}
+use Rattle.merge_core.proofs.SoundJoin.{join_meta}
 use Rattle.vault_model.proofs.Tests.{some_of, any_found, in_map, from_map, in_front, in_back, in_either, or_cases, or_left, or_right, apart}
-use Rattle.join_laws.proofs.TreeShape.{laid_document}
+use Rattle.merge_core.proofs.TreeShape.{laid_document}
 use Rattle.merge_core.specs.JoinLaws.{AreParts, end_to_end, Names}
 use Rattle.merge_core.proofs.Regroup.{part_kept, part_join_sound, join_of_joins, joins_allowed, end_part, some_end}
 

@@ -6,10 +6,10 @@ use Rattle.vault_model.specs.Db.{NodeId, Place, place_cmp, Db, holds, parent_or,
 use Rattle.vault_model.specs.Join.{is_id, root_of, latest, above, own, IsIn, IsPart, KeepsParents, IsAcyclic, Compatible, Agreed}
 use Rattle.vault_model.specs.Unite.{greater}
 use Rattle.vault_model.proofs.Ids.{same_id, is_same_id}
-use Rattle.join_laws.proofs.Facts.{latest_found, part_sound, part_roots, alive_from_own, next_own}
-use Rattle.join_laws.proofs.SoundJoin.{some_column}
+use Rattle.merge_core.proofs.Facts.{latest_found, part_sound, part_roots, alive_from_own, next_own}
+use Rattle.merge_core.proofs.SoundJoin.{some_column}
 use Rattle.vault_model.proofs.Tests.{apart, any_found, decide}
-use Rattle.join_laws.proofs.Versions.{never}
+use Rattle.merge_core.proofs.Versions.{never}
 
 module _ (S : List Db) (a : Compatible S)
     (closed : (m n : Db) (u : NodeId) (p : Place) (d : ℕ) → IsIn m S → IsIn n S → get m.places u ≡ Some p → get n.tombs p.parent ≡ Some d → (e : ℕ) × (get n.tombs u ≡ Some e))

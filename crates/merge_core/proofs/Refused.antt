@@ -14,19 +14,19 @@ use Rattle.vault_model.specs.Tree.{Tree, node, BareDoc, LEVELS, IsDoc, id_of, is
 use Rattle.vault_model.specs.Proper.{rises}
 use Rattle.vault_model.specs.Unite.{by_order, gather, join_options}
 use Rattle.vault_model.proofs.Ids.{is_same_id, id_itself}
-use Rattle.join_laws.proofs.Facts.{held_id, held_by, join_places, join_groups, join_root}
-use Rattle.join_laws.proofs.Laid.{list_in, in_list}
+use Rattle.merge_core.proofs.Facts.{held_id, held_by, join_places, join_groups, join_root}
+use Rattle.merge_core.proofs.Laid.{list_in, in_list}
 use Rattle.vault_model.proofs.Orders.{id_order}
-use Rattle.join_laws.proofs.Semilattice.{IsJoin, greater_join, greater_one, gather-same, gather-selects}
-use Rattle.join_laws.proofs.SoundDoc.{all_in, document_sound, db_root}
-use Rattle.join_laws.proofs.SoundJoin.{join_sound}
+use Rattle.merge_core.proofs.Semilattice.{IsJoin, greater_join, greater_one, gather-same, gather-selects}
+use Rattle.merge_core.proofs.SoundDoc.{all_in, document_sound, db_root}
+use Rattle.merge_core.proofs.SoundJoin.{join_sound}
 use Rattle.vault_model.proofs.Tests.{or_left, or_right, or_false, and_true, and_both, not_true, is_false, apart, decide, some_of, any_true, any_found, in_map, from_map, in_flat, in_filter, from_filter}
-use Rattle.join_laws.proofs.Versions.{never, some_from}
-use Rattle.join_laws.specs.NodesBelow.{below_ids}
+use Rattle.merge_core.proofs.Versions.{never, some_from}
+use Rattle.merge_core.specs.NodesBelow.{below_ids}
 use Rattle.merge_core.specs.Marking.{first_such, is_stray, strays}
 use Rattle.merge_core.specs.Refusals.{lesser, least, members, root_clashes, is_entry, is_group, kind_clashes, allowed_steps, is_too_deep, too_deep, CanMerge}
 use Rattle.merge_core.proofs.LaidDocs.{laid_is_doc}
-use Rattle.join_laws.proofs.Allowed.{own_held, trail_step}
+use Rattle.merge_core.proofs.Allowed.{own_held, trail_step}
 use Rattle.merge_core.proofs.Rooted.{rooted_is_doc}
 
 -- ---- the least of some ids

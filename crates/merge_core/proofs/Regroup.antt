@@ -8,14 +8,14 @@ use Rattle.vault_model.specs.declared.nodes.GroupState.{GroupState}
 use Rattle.vault_model.specs.Db.{NodeId, id_cmp, Versions, Place, SharedMeta, Db, holds, newest, state_time, stamp_in, parent_or, Sound}
 use Rattle.vault_model.specs.Join.{stats_join, state_join, meta_join, no_meta, root_of, latest, above, is_held, own, kept, join, IsIn, IsWithin, IsNotEmpty, IsPart, IsAcyclic, Allowed, KeepsParents, Compatible, Agreed}
 use Rattle.vault_model.specs.Unite.{join_options, gather, unite}
-use Rattle.join_laws.proofs.Facts.{join_entries, join_groups, join_places, join_tombs, join_root, part_root, part_sound, part_roots, alive_from_own, own_from_alive, next_own, kept-own, placed_held, held_by}
-use Rattle.join_laws.proofs.Joins.{versions_joins, state_joins, places_joins, meta_joins}
+use Rattle.merge_core.proofs.Facts.{join_entries, join_groups, join_places, join_tombs, join_root, part_root, part_sound, part_roots, alive_from_own, own_from_alive, next_own, kept-own, placed_held, held_by}
+use Rattle.merge_core.proofs.Joins.{versions_joins, state_joins, places_joins, meta_joins}
 use Rattle.vault_model.proofs.Orders.{id_order}
-use Rattle.join_laws.proofs.Paths.{steps_same}
-use Rattle.join_laws.proofs.Semilattice.{IsJoin, max_join, gather-append, gather-selects, none-gather, some-gather}
-use Rattle.join_laws.proofs.SoundJoin.{join_holds, join_sound, join_meta, entry_kept, group_kept}
+use Rattle.merge_core.proofs.Paths.{steps_same}
+use Rattle.merge_core.proofs.Semilattice.{IsJoin, max_join, gather-append, gather-selects, none-gather, some-gather}
+use Rattle.merge_core.proofs.SoundJoin.{join_holds, join_sound, join_meta, entry_kept, group_kept}
 use Rattle.vault_model.proofs.Tests.{or_left, or_right, apart, is_false, decide, none_of, any_found, in_front, in_back, in_either, in_map, from_map, map_append}
-use Rattle.join_laws.proofs.Versions.{never, newest_below, state_below}
+use Rattle.merge_core.proofs.Versions.{never, newest_below, state_below}
 use Rattle.merge_core.specs.JoinLaws.{AreParts, end_to_end}
 
 -- ---- one part

@@ -10,9 +10,9 @@ use Rattle.vault_model.specs.Proper.{rises, is_proper_group_content}
 use Rattle.vault_model.specs.Shape.{EntryRecord, GroupRecord}
 use Rattle.vault_model.specs.Tree.{Tree, node, Trees, none, beside, BareDoc, id_of, node_ids, node_ids_all, entry_rows, entry_rows_all, group_rows, group_rows_all, are_distinct, is_elsewhere, is_proper_entry, height, height_all, new_previous, with_entry_previous, with_previous, with_previous_all, with_id, rooted, LEVELS, IsDoc}
 use Rattle.vault_model.proofs.Ids.{same_id, is_same_id}
-use Rattle.join_laws.proofs.SoundDoc.{all_in}
+use Rattle.merge_core.proofs.SoundDoc.{all_in}
 use Rattle.vault_model.proofs.Tests.{and_true, and_both, not_true, not_false, or_false, is_false, apart, from_filter, map_append}
-use Rattle.join_laws.specs.NodesBelow.{below_ids}
+use Rattle.merge_core.specs.NodesBelow.{below_ids}
 use Rattle.merge_core.proofs.Distinct.{in_all}
 
 -- ---- a tree with another root

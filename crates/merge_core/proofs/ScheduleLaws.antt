@@ -6,7 +6,7 @@ use Rattle.vault_model.specs.Join.{join, IsIn, IsWithin, IsNotEmpty, IsPart, Agr
 use Rattle.vault_model.specs.Plans.{Replica, World, Step, change, merged, begin, learned_by, dbs_of, put, after_step, run, IsStep, IsSchedule}
 use Rattle.vault_model.specs.Tree.{BareDoc, db_in, lay_doc}
 use Rattle.vault_model.proofs.Tests.{in_front, in_back}
-use Rattle.join_laws.proofs.TreeShape.{laid_document}
+use Rattle.merge_core.proofs.TreeShape.{laid_document}
 use Rattle.merge_core.specs.JoinLaws.{AreParts, end_to_end, LearnsWithin}
 use Rattle.merge_core.proofs.PlanLaws.{join_one, alike_join}
 use Rattle.merge_core.proofs.Regroup.{part_join_sound, join_of_joins, end_part, some_end}

@@ -5,7 +5,7 @@ use Rattle.std.specs.List.{list_any}
 use Rattle.vault_model.specs.Db.{NodeId, nil_id, Db, Sound}
 use Rattle.vault_model.specs.Join.{is_id}
 use Rattle.vault_model.specs.Tree.{BareDoc, LEVELS, FitsLevels, IsDoc, id_of, lay_doc, rooted}
-use Rattle.join_laws.specs.NodesBelow.{below_ids}
+use Rattle.merge_core.specs.NodesBelow.{below_ids}
 
 -- what is laid over a document keeps what every document keeps
 abbrev pub LaysAreDocuments : Type 0

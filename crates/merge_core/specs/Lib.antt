@@ -3,3 +3,5 @@ pub mod JoinLaws
 pub mod Documents
 pub mod Marking
 pub mod Refusals
+pub mod Laws
+pub mod NodesBelow

@@ -8,7 +8,7 @@ use Rattle.vault_model.specs.Join.{is_id, root_of, ids, trail, kept, join, IsIn,
 use Rattle.vault_model.specs.Proper.{rises}
 use Rattle.vault_model.specs.Tree.{BareDoc, LEVELS, IsDoc, id_of, db_in, lay_doc, rooted}
 use Rattle.vault_model.specs.Unite.{by_order, gather}
-use Rattle.join_laws.specs.NodesBelow.{below_ids}
+use Rattle.merge_core.specs.NodesBelow.{below_ids}
 use Rattle.merge_core.specs.Marking.{first_such, strays}
 
 -- the lesser of two ids

@@ -2,7 +2,7 @@
 //! list, plan or schedule; it does nothing, and takes no memory.
 
 ghost use Rattle.vault_model.specs.Join.{Agreed};
-ghost use Rattle.join_laws.specs.Laws.{DocumentsAreSound, JoinsAreSound, LaysSettle};
+ghost use Rattle.merge_core.specs.Laws.{DocumentsAreSound, JoinsAreSound, LaysSettle};
 ghost use Rattle.merge_core.specs.Example.{copies};
 ghost use Rattle.merge_core.specs.JoinLaws.{OwnIsAlive, ParentsAreOwn, KeptIsOwn, JoinHoldsOwn, JoinKeepsTombs, JoinsAgree, JoinOfJoins, PlansAgree, DocumentsAgree, KeptVersionsStay, VersionsStay, MergesAgain, SchedulesAgree, SameLearnedSameDb, OneIsAgreed};
 

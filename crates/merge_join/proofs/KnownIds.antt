@@ -6,15 +6,15 @@ use Rattle.std.specs.List.{list_any, filter}
 use Rattle.vault_model.specs.Db.{NodeId, id_cmp, Db, holds}
 use Rattle.vault_model.specs.Join.{is_id, root_of, is_held, own, path, ids, IsIn, IsNotEmpty, HaveOneRoot}
 use Rattle.vault_model.specs.Proper.{rises}
-use Rattle.join_laws.proofs.Facts.{held_id}
-use Rattle.join_laws.proofs.Laid.{in_list, list_in}
+use Rattle.merge_core.proofs.Facts.{held_id}
+use Rattle.merge_core.proofs.Laid.{in_list, list_in}
 use Rattle.vault_model.proofs.Orders.{id_order}
 use Rattle.vault_model.proofs.Tests.{or_cases, and_true, any_found, in_front, in_back, in_flat, in_filter, from_filter}
-use Rattle.join_laws.proofs.Unite.{in_keys}
+use Rattle.merge_core.proofs.Unite.{in_keys}
 use Rattle.merge_core.specs.Marking.{first_such, is_stray, strays}
 use Rattle.merge_core.specs.Refusals.{least}
 use Rattle.merge_core.proofs.Distinct.{sorted_rises}
-use Rattle.join_laws.proofs.Allowed.{own_held}
+use Rattle.merge_core.proofs.Allowed.{own_held}
 use Rattle.merge_core.proofs.Refused.{first_least, same_least}
 use Rattle.reference_join.specs.KnownIds.{known_in, known_ids}
 use Rattle.merge_join.specs.Marks.{AllSound, AreKnown}

@@ -6,8 +6,8 @@ use Rattle.vault_model.specs.Join.{IsIn}
 use Rattle.vault_model.specs.Shape.{EntryRecord}
 use Rattle.vault_model.specs.Tree.{Tree, node, Trees, none, beside, BareDoc, entry_rows, entry_rows_all, group_rows, group_rows_all, child_rows, child_rows_all, shape_of, IsDoc}
 use Rattle.vault_model.proofs.Orders.{id_order}
-use Rattle.join_laws.proofs.SoundDoc.{distinct, one_row, shape_entry, shape_group, shape_kids}
-use Rattle.join_laws.proofs.Tables.{find_in, some_find}
+use Rattle.merge_core.proofs.SoundDoc.{distinct, one_row, shape_entry, shape_group, shape_kids}
+use Rattle.merge_core.proofs.Tables.{find_in, some_find}
 use Rattle.merge_reading.proofs.ReadColumns.{put_all, put_append, put_is, one_entry, one_group}
 use Rattle.merge_shapes.specs.declared.nodes.NodeTables.{NodeTables}
 use Rattle.merge_shapes.specs.NodeTables.{children_in, with_row, with_rows, with_nodes, with_all_nodes}

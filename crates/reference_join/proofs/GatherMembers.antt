@@ -4,7 +4,7 @@ use Rattle.std.specs.declared.cmp.Ordering.{Ordering}
 use Rattle.std.specs.Cmp.{IsTotalOrder}
 use Rattle.std.specs.FinMap.{FinMap, IsAntisymmetric, empty}
 use Rattle.vault_model.specs.Unite.{join_options, unite}
-use Rattle.join_laws.proofs.Semilattice.{IsJoin, merged_join}
+use Rattle.merge_core.proofs.Semilattice.{IsJoin, merged_join}
 use Rattle.reference_tables.proofs.UniteMaps.{unite_with_none}
 
 -- what was joined so far takes in the next

@@ -5,7 +5,7 @@ use Rattle.std.proofs.lemmas.List.Folds.{list_any-append}
 use Rattle.std.specs.FinMap.{FinMap, keys, contains_key-keys, get}
 use Rattle.vault_model.specs.Db.{NodeId, id_cmp, Db, place_cmp}
 use Rattle.vault_model.specs.Join.{is_id, kept, join, stats_join, state_join}
-use Rattle.join_laws.proofs.Facts.{join_entries, join_groups, join_places, join_tombs}
+use Rattle.merge_core.proofs.Facts.{join_entries, join_groups, join_places, join_tombs}
 use Rattle.vault_model.specs.Unite.{join_options, greater, gather, unite}
 use Rattle.vault_model.proofs.Tests.{or_false, none_of}
 use Rattle.reference_join.specs.KnownIds.{known_in, known_ids}

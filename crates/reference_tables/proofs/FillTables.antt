@@ -8,8 +8,8 @@ use Rattle.vault_model.proofs.Orders.{id_order}
 use Rattle.reference_tables.proofs.ListSteps.{drop_next}
 use Rattle.vault_model.specs.Unite.{put_some, tabulate}
 use Rattle.vault_model.proofs.Tests.{decide, none_of}
-use Rattle.join_laws.proofs.Unite.{tie, get-tabulate}
-use Rattle.join_laws.proofs.Laid.{list_in}
+use Rattle.merge_core.proofs.Unite.{tie, get-tabulate}
+use Rattle.merge_core.proofs.Laid.{list_in}
 
 same_both : {A : Type 0} (b : Bool) (x : A) → cond b x x ≡ x
 same_both true x = refl

@@ -5,10 +5,10 @@ use Rattle.std.specs.Cmp.{IsTotalOrder}
 use Rattle.std.specs.FinMap.{FinMap, IsAntisymmetric, empty, get, insert, entries, entries_sorted, get-entries, get-empty, get-insert, same_map}
 use Rattle.std.specs.Ordering.{eq_by_cmp}
 use Rattle.vault_model.specs.Unite.{join_options, gather, unite, unite_all}
-use Rattle.join_laws.proofs.Semilattice.{IsJoin}
-use Rattle.join_laws.proofs.Tables.{gathered_singles}
+use Rattle.merge_core.proofs.Semilattice.{IsJoin}
+use Rattle.merge_core.proofs.Tables.{gathered_singles}
 use Rattle.vault_model.proofs.Tests.{decide, map_map}
-use Rattle.join_laws.proofs.Unite.{tie, get-unite, get-unite_all, unite_join}
+use Rattle.merge_core.proofs.Unite.{tie, get-unite, get-unite_all, unite_join}
 
 -- the value that is put where a value comes to what stands there
 abbrev pub join_with : {A : Type 0} → (A → A → A) → A → Option A → A

@@ -22,8 +22,8 @@ use Rattle.vault_model.specs.Tree.{is_proper_entry}
 use Rattle.vault_model.specs.Unite.{by_order}
 use Rattle.vault_model.proofs.Orders.{bytes_order, mark_order}
 use Rattle.vault_model.proofs.Tests.{and_both, and_true, from_map}
-use Rattle.join_laws.proofs.SoundDoc.{all_in, version_marks}
-use Rattle.join_laws.proofs.Tables.{entry_get}
+use Rattle.merge_core.proofs.SoundDoc.{all_in, version_marks}
+use Rattle.merge_core.proofs.Tables.{entry_get}
 use Rattle.tree_core.specs.After.{edited_entry}
 use Rattle.tree_core.specs.Histories.{is_within, rising_versions, versions_size, within_limits}
 use Rattle.tree_core.specs.InOrder.{put_in_order}

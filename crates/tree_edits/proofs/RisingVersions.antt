@@ -18,8 +18,8 @@ use Rattle.vault_model.specs.Shape.{BareVersion, EntryRecord, version_of, versio
 use Rattle.vault_model.specs.Unite.{by_order, join_options, unite, unite_all}
 use Rattle.vault_model.proofs.Orders.{mark_order}
 use Rattle.vault_model.proofs.Tests.{decide}
-use Rattle.join_laws.proofs.Joins.{stats_joins, versions_joins}
-use Rattle.join_laws.proofs.Unite.{tie, get-unite}
+use Rattle.merge_core.proofs.Joins.{stats_joins, versions_joins}
+use Rattle.merge_core.proofs.Unite.{tie, get-unite}
 use Rattle.tree_core.specs.Histories.{rising_versions}
 use Rattle.tree_edits.specs.Versions.{AreRising, put_version}
 

@@ -4,7 +4,7 @@ use Rattle.std.specs.List.{filter, flat_map}
 use Rattle.vault_model.specs.Db.{NodeId}
 use Rattle.vault_model.specs.SeenDoc.{doc_seen}
 use Rattle.vault_model.specs.Tree.{BareDoc}
-use Rattle.join_laws.specs.NodesBelow.{below_ids}
+use Rattle.merge_core.specs.NodesBelow.{below_ids}
 use Rattle.merge_core.specs.Marking.{is_marked}
 use Rattle.merge_core.specs.Refusals.{least}
 use Rattle.merge_checks.proofs.LeastClash.{docs_least}

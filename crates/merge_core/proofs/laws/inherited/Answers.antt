@@ -1,5 +1,5 @@
 -- Facts of one part and of several parts of an agreed set.
-use Rattle.join_laws.proofs.Facts.{own-alive, above_own}
+use Rattle.merge_core.proofs.Facts.{own-alive, above_own}
 use Rattle.merge_core.proofs.Regroup.{part_kept, holds_own, keeps_tombs, joins_agreed, join_of_joins}
 use Rattle.merge_core.proofs.laws.inherited.Goals as goal
 

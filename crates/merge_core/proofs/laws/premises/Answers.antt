@@ -1,6 +1,6 @@
 -- Sound databases that can be joined, and one alone.
-use Rattle.join_laws.proofs.SoundDoc.{document_sound}
-use Rattle.join_laws.proofs.SoundJoin.{join_sound}
+use Rattle.merge_core.proofs.SoundDoc.{document_sound}
+use Rattle.merge_core.proofs.SoundJoin.{join_sound}
 use Rattle.merge_core.proofs.ExampleAgrees.{example_agreed}
 use Rattle.merge_core.proofs.MoreLaws.{alone_agreed}
 use Rattle.merge_core.proofs.laws.premises.Goals as goal

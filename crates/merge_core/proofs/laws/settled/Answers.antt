@@ -1,5 +1,5 @@
 -- The tree that is made of a laid document has its shape.
-use Rattle.join_laws.proofs.TreeShape.{laid_document}
+use Rattle.merge_core.proofs.TreeShape.{laid_document}
 use Rattle.merge_core.proofs.laws.settled.Goals as goal
 
 pub returns : goal.returns

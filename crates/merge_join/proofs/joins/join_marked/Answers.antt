@@ -1,6 +1,6 @@
 -- The nodes are those of the join, and the root and the shared values too.
 use Rattle.std.proofs.Common.{sym, ◌∙◌}
-use Rattle.join_laws.proofs.Facts.{join_root}
+use Rattle.merge_core.proofs.Facts.{join_root}
 use Rattle.vault_model.specs.Join.{join}
 use Rattle.reference_tables.specs.Databases.{databases}
 use Rattle.reference_join.proofs.Members.{root_first}

@@ -5,7 +5,7 @@ use Rattle.std.specs.FinMap.{get}
 use Rattle.vault_model.specs.Db.{Db, Versions}
 use Rattle.vault_model.specs.Join.{stats_join}
 use Rattle.vault_model.specs.Unite.{gather, unite}
-use Rattle.join_laws.proofs.Facts.{join_entries}
+use Rattle.merge_core.proofs.Facts.{join_entries}
 use Rattle.reference_tables.specs.Databases.{databases}
 use Rattle.merge_join.proofs.joins.joined_entry.Goals as goal
 

@@ -4,7 +4,7 @@ use Rattle.std.specs.FinMap.{get}
 use Rattle.vault_model.specs.Db.{Db}
 use Rattle.vault_model.specs.Join.{state_join}
 use Rattle.vault_model.specs.Unite.{gather}
-use Rattle.join_laws.proofs.Facts.{join_groups}
+use Rattle.merge_core.proofs.Facts.{join_groups}
 use Rattle.reference_tables.specs.Databases.{databases}
 use Rattle.merge_join.proofs.joins.joined_group.Goals as goal
 

@@ -1,7 +1,7 @@
 -- What is kept is_marked what all members have of it.
 use Rattle.std.proofs.Common.{cond, None, ap, sym, ◌∙◌}
 use Rattle.vault_model.specs.Join.{latest}
-use Rattle.join_laws.proofs.Facts.{join_places}
+use Rattle.merge_core.proofs.Facts.{join_places}
 use Rattle.reference_tables.specs.Databases.{databases}
 use Rattle.merge_join.proofs.joins.joined_place.Goals as goal
 

@@ -3,7 +3,7 @@ use Rattle.std.proofs.Common.{cond, not, max, map, None, ap, sym, ◌∙◌}
 use Rattle.std.specs.FinMap.{get}
 use Rattle.vault_model.specs.Db.{Db}
 use Rattle.vault_model.specs.Unite.{gather}
-use Rattle.join_laws.proofs.Facts.{join_tombs}
+use Rattle.merge_core.proofs.Facts.{join_tombs}
 use Rattle.reference_tables.specs.Databases.{databases}
 use Rattle.merge_join.proofs.joins.joined_tomb.Goals as goal
 

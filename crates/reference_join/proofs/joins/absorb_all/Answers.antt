@@ -3,7 +3,7 @@ use Rattle.std.proofs.Common.{◌<◌, ◌≤◌, ◌+◌, List, Some, length, d
 use Rattle.vault_model.specs.Db.{Db, SharedMeta}
 use Rattle.vault_model.specs.Join.{meta_join}
 use Rattle.vault_model.specs.Unite.{gather, join_options}
-use Rattle.join_laws.proofs.Joins.{meta_joins}
+use Rattle.merge_core.proofs.Joins.{meta_joins}
 use Rattle.reference_tables.specs.declared.databases.Database.{Database}
 use Rattle.reference_tables.specs.Databases.{databases, shared_meta}
 use Rattle.reference_join.proofs.GatherMembers.{gather_next}

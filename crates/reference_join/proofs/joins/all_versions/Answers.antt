@@ -4,7 +4,7 @@ use Rattle.std.specs.FinMap.{get}
 use Rattle.vault_model.specs.Db.{Db}
 use Rattle.vault_model.specs.Join.{stats_join}
 use Rattle.vault_model.specs.Unite.{gather, join_options, unite}
-use Rattle.join_laws.proofs.Joins.{versions_joins}
+use Rattle.merge_core.proofs.Joins.{versions_joins}
 use Rattle.reference_tables.specs.declared.databases.Database.{Database}
 use Rattle.reference_tables.specs.Databases.{databases}
 use Rattle.reference_join.proofs.GatherMembers.{gather_next}

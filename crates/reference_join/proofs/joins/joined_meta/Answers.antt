@@ -4,7 +4,7 @@ use Rattle.std.specs.Option.{unwrap_or}
 use Rattle.vault_model.specs.Db.{Db, SharedMeta}
 use Rattle.vault_model.specs.Join.{meta_join, no_meta}
 use Rattle.vault_model.specs.Unite.{gather, join_options}
-use Rattle.join_laws.proofs.SoundJoin.{join_meta}
+use Rattle.merge_core.proofs.SoundJoin.{join_meta}
 use Rattle.reference_tables.specs.declared.databases.Database.{Database}
 use Rattle.reference_tables.specs.Databases.{databases}
 use Rattle.reference_join.proofs.Members.{first_and_rest}

@@ -4,7 +4,7 @@ use Rattle.std.specs.FinMap.{get}
 use Rattle.vault_model.specs.Db.{Db}
 use Rattle.vault_model.specs.Join.{state_join}
 use Rattle.vault_model.specs.Unite.{gather, join_options}
-use Rattle.join_laws.proofs.Joins.{state_joins}
+use Rattle.merge_core.proofs.Joins.{state_joins}
 use Rattle.reference_tables.specs.declared.databases.Database.{Database}
 use Rattle.reference_tables.specs.Databases.{databases}
 use Rattle.reference_join.proofs.GatherMembers.{gather_next}

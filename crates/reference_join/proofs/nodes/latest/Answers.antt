@@ -4,7 +4,7 @@ use Rattle.std.specs.FinMap.{get}
 use Rattle.vault_model.specs.Db.{place_cmp}
 use Rattle.vault_model.specs.Join.{latest}
 use Rattle.vault_model.specs.Unite.{greater, join_options}
-use Rattle.join_laws.proofs.Joins.{places_joins}
+use Rattle.merge_core.proofs.Joins.{places_joins}
 use Rattle.reference_tables.specs.declared.databases.Database.{Database}
 use Rattle.reference_tables.specs.Databases.{databases}
 use Rattle.reference_join.proofs.GatherMembers.{gather_next}

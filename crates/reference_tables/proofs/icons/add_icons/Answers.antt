@@ -5,7 +5,7 @@ use Rattle.vault_model.specs.declared.metas.Icon.{Icon}
 use Rattle.vault_model.specs.Orders.{bytes_cmp, icon_cmp}
 use Rattle.vault_model.specs.Unite.{greater, unite}
 use Rattle.vault_model.proofs.Orders.{id_order, icon_order}
-use Rattle.join_laws.proofs.Semilattice.{greater_join}
+use Rattle.merge_core.proofs.Semilattice.{greater_join}
 use Rattle.reference_tables.proofs.UniteMaps.{unite_rows, unite_entries, unite_next, unite_none}
 use Rattle.reference_tables.proofs.icons.add_icons.Goals as goal
 

@@ -5,7 +5,7 @@ use Rattle.vault_model.specs.declared.contents.Item.{Item}
 use Rattle.vault_model.specs.Orders.{bytes_cmp, later_item_cmp}
 use Rattle.vault_model.specs.Unite.{greater, unite}
 use Rattle.vault_model.proofs.Orders.{bytes_order, later_item_order}
-use Rattle.join_laws.proofs.Semilattice.{greater_join}
+use Rattle.merge_core.proofs.Semilattice.{greater_join}
 use Rattle.reference_tables.proofs.UniteMaps.{unite_rows, unite_entries, unite_next, unite_none}
 use Rattle.reference_tables.proofs.ListSteps.{drop_next, drop_end}
 use Rattle.reference_tables.proofs.icons.ItemTable.add_all.Goals as goal

@@ -5,7 +5,7 @@ use Rattle.vault_model.specs.declared.contents.Stats.{Stats}
 use Rattle.vault_model.specs.Db.{Mark, Versions}
 use Rattle.vault_model.specs.Join.{stats_join}
 use Rattle.vault_model.specs.Unite.{unite}
-use Rattle.join_laws.proofs.Joins.{stats_joins}
+use Rattle.merge_core.proofs.Joins.{stats_joins}
 use Rattle.vault_model.proofs.Orders.{mark_order}
 use Rattle.reference_tables.proofs.UniteMaps.{unite_rows, unite_entries, unite_next, unite_none}
 use Rattle.reference_tables.proofs.ListSteps.{drop_next, drop_end}

@@ -17,15 +17,15 @@ use Rattle.vault_model.specs.Join.{is_id, stats_join, IsIn}
 use Rattle.vault_model.specs.Proper.{is_proper_content, is_proper_group_content, is_text_icon, is_text_item}
 use Rattle.vault_model.specs.Shape.{BareVersion, EntryRecord, GroupRecord, Children, Shape, versions_of, stay_of, place_at, place_rows, shared_of, db_of}
 use Rattle.vault_model.specs.Tree.{Tree, node, Trees, none, beside, BareDoc, id_of, ids_of, entry_rows, entry_rows_all, group_rows, group_rows_all, child_rows, child_rows_all, node_ids, node_ids_all, are_distinct, is_elsewhere, is_proper_entry, IsDoc, shape_of, db_in}
-use Rattle.join_laws.proofs.Laid.{db_entries, db_groups, in_list, list_in}
+use Rattle.merge_core.proofs.Laid.{db_entries, db_groups, in_list, list_in}
 use Rattle.vault_model.proofs.Orders.{id_order, mark_order, bytes_order}
-use Rattle.join_laws.proofs.Paths.{steps_add}
-use Rattle.join_laws.proofs.Semilattice.{some-gather}
-use Rattle.join_laws.specs.NodesBelow.{below_ids}
-use Rattle.join_laws.proofs.Tables.{find_in, some_find, get_entry, entry_get, get_single}
+use Rattle.merge_core.proofs.Paths.{steps_add}
+use Rattle.merge_core.proofs.Semilattice.{some-gather}
+use Rattle.merge_core.specs.NodesBelow.{below_ids}
+use Rattle.merge_core.proofs.Tables.{find_in, some_find, get_entry, entry_get, get_single}
 use Rattle.vault_model.proofs.Tests.{and_true, not_true, or_cases, or_left, or_right, apart, is_false, none_of, some_of, some_is, decide, in_front, in_back, in_either, in_map, from_map, in_flat, from_flat}
-use Rattle.join_laws.proofs.Unite.{get-unite_all, tie, ties}
-use Rattle.join_laws.proofs.Versions.{never, some_from, some_versions}
+use Rattle.merge_core.proofs.Unite.{get-unite_all, tie, ties}
+use Rattle.merge_core.proofs.Versions.{never, some_from, some_versions}
 
 pub all_in : {A : Type 0} (test : A → Bool) (xs : List A) (x : A) → list_all test xs ≡ true → IsIn x xs → test x ≡ true
 all_in test [] x a h = absurd h

@@ -10,10 +10,10 @@ use Rattle.std.specs.FinMap.Entries.{below_all}
 use Rattle.std.specs.Ordering.{eq_by_cmp, is_eq, is_lt, ordering_reverse}
 use Rattle.vault_model.specs.Join.{IsIn}
 use Rattle.vault_model.specs.Unite.{gather, join_options}
-use Rattle.join_laws.proofs.Semilattice.{none-gather}
+use Rattle.merge_core.proofs.Semilattice.{none-gather}
 use Rattle.vault_model.proofs.Tests.{decide, apart, some_of, none_of, is_false, from_map}
-use Rattle.join_laws.proofs.Unite.{tie, ties}
-use Rattle.join_laws.proofs.Versions.{never}
+use Rattle.merge_core.proofs.Unite.{tie, ties}
+use Rattle.merge_core.proofs.Versions.{never}
 
 pub both_parts : (a b : Bool) → T (a && b) → T a × T b
 both_parts true b h = (tt, h)

@@ -1,6 +1,6 @@
 -- The tree that is made of a laid document has its shape.
-use Rattle.join_laws.proofs.TreeShape.{laid_document}
-use Rattle.join_laws.proofs.laws.laid.Goals as goal
+use Rattle.merge_core.proofs.TreeShape.{laid_document}
+use Rattle.merge_core.proofs.join_laws.laid.Goals as goal
 
 pub returns : goal.returns
 returns c n m t s root fits = laid_document n m t s fits

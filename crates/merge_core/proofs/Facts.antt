@@ -9,10 +9,10 @@ use Rattle.vault_model.specs.Join.{stats_join, state_join, is_id, root_of, lates
 use Rattle.vault_model.specs.Unite.{greater, gather, unite, unite_all}
 use Rattle.vault_model.proofs.Ids.{same_id, id_itself}
 use Rattle.vault_model.proofs.Orders.{id_order}
-use Rattle.join_laws.proofs.Semilattice.{gather-selects, greater_one}
+use Rattle.merge_core.proofs.Semilattice.{gather-selects, greater_one}
 use Rattle.vault_model.proofs.Orders.{place_order}
 use Rattle.vault_model.proofs.Tests.{or_cases, or_left, or_right, and_true, and_both, not_true, not_false, apart, some_is, any_true, any_found, any_none, in_front, in_back, in_flat, map_map, greatest_below, from_map}
-use Rattle.join_laws.proofs.Unite.{get-unite_all, in_keys}
+use Rattle.merge_core.proofs.Unite.{get-unite_all, in_keys}
 
 -- ---- the join at an id
 

@@ -10,12 +10,12 @@ use Rattle.vault_model.specs.Join.{is_id, IsIn}
 use Rattle.vault_model.specs.Shape.{EntryRecord, GroupRecord, Children, Shape, kids, laid_children, laid_group, stay_in, record_of, versions_in, ids_in_group, no_children, lay, db_of}
 use Rattle.vault_model.specs.Tree.{Tree, BareDoc, id_of, ids_of, entry_rows, entry_rows_all, group_rows, group_rows_all, child_rows, child_rows_all, shape_of, with_record, with_records, all_trees, tree_of, no_group, doc_of, lay_doc, IsSettled, db_in, IsDeep, FitsLevels}
 use Rattle.vault_model.proofs.Ids.{same_id, id_itself}
-use Rattle.join_laws.proofs.Laid.{lay_entries, lay_groups, lay_children, lay_root, into_order, from_order, into_standing, from_standing, laid_db, laid_again}
+use Rattle.merge_core.proofs.Laid.{lay_entries, lay_groups, lay_children, lay_root, into_order, from_order, into_standing, from_standing, laid_db, laid_again}
 use Rattle.vault_model.proofs.Orders.{id_order}
-use Rattle.join_laws.proofs.Tables.{made_from, made_of_entries}
+use Rattle.merge_core.proofs.Tables.{made_from, made_of_entries}
 use Rattle.vault_model.proofs.Tests.{or_left, or_right, apart, decide, some_of, in_front, in_back, in_either, in_map, from_map, map_map}
-use Rattle.join_laws.proofs.Unite.{in_keys, from_keys}
-use Rattle.join_laws.proofs.Versions.{never}
+use Rattle.merge_core.proofs.Unite.{in_keys, from_keys}
+use Rattle.merge_core.proofs.Versions.{never}
 
 -- ---- the records of some ids
 

@@ -6,9 +6,9 @@ use Rattle.vault_model.specs.Db.{NodeId, Place, place_cmp, Db, parent_or, steps,
 use Rattle.vault_model.specs.Join.{is_id, root_of, latest, above, is_held, buried, own, ids, trail, path, kept, IsIn, IsNotEmpty, HaveOneRoot, Allowed}
 use Rattle.vault_model.specs.Unite.{greater}
 use Rattle.vault_model.proofs.Ids.{same_id, id_itself}
-use Rattle.join_laws.proofs.Facts.{held_by, held_id, latest_found, root_held, trail_head, trail_keeps}
-use Rattle.join_laws.proofs.Paths.{steps_add, reached_within, at_number}
-use Rattle.join_laws.proofs.Semilattice.{none-gather}
+use Rattle.merge_core.proofs.Facts.{held_by, held_id, latest_found, root_held, trail_head, trail_keeps}
+use Rattle.merge_core.proofs.Paths.{steps_add, reached_within, at_number}
+use Rattle.merge_core.proofs.Semilattice.{none-gather}
 use Rattle.vault_model.proofs.Tests.{or_cases, or_left, or_right, and_true, and_both, apart, any_true, any_found, from_map}
 
 -- what stands on a trail has the next on it too, unless it is where the trail ends

@@ -8,7 +8,7 @@ use Rattle.std.specs.List.{list_any}
 use Rattle.std.specs.Ordering.{eq_by_cmp, is_eq}
 use Rattle.vault_model.specs.Join.{IsIn}
 use Rattle.vault_model.specs.Unite.{join_options, gather, put_some, tabulate, unite, unite_all}
-use Rattle.join_laws.proofs.Semilattice.{IsJoin, merged_join}
+use Rattle.merge_core.proofs.Semilattice.{IsJoin, merged_join}
 use Rattle.vault_model.proofs.Tests.{decide, any_true, any_found}
 
 cond_same : {A : Type 0} (b : Bool) (x : A) → cond b x x ≡ x

@@ -1,7 +1,7 @@
 -- Documents, and joins of sound databases.
-use Rattle.join_laws.proofs.SoundDoc.{document_sound}
-use Rattle.join_laws.proofs.SoundJoin.{join_sound}
-use Rattle.join_laws.proofs.laws.sound.Goals as goal
+use Rattle.merge_core.proofs.SoundDoc.{document_sound}
+use Rattle.merge_core.proofs.SoundJoin.{join_sound}
+use Rattle.merge_core.proofs.join_laws.sound.Goals as goal
 
 pub returns-clause-documents : goal.returns-clause-documents
 returns-clause-documents c d is = document_sound d is

@@ -15,14 +15,14 @@ use Rattle.vault_model.specs.Join.{is_id, stats_join, IsIn}
 use Rattle.vault_model.specs.Shape.{BareVersion, GroupRecord, Children, Shape, versions_of, no_children, Stay, stay_or, stay_of, place_at, place_rows, shared_of, db_of, in_order, last_of, but_last, version_of, record_of, stay_at, stay_in, stands_in, ids_in_group, kids, laid_children, new_view, laid_stay, laid_group, laid_meta, versions_in, lay}
 use Rattle.vault_model.specs.Unite.{join_options, gather, unite_all, tabulate}
 use Rattle.vault_model.proofs.Ids.{same_id, id_itself}
-use Rattle.join_laws.proofs.Facts.{placed_held}
-use Rattle.join_laws.proofs.Joins.{stats_joins}
+use Rattle.merge_core.proofs.Facts.{placed_held}
+use Rattle.merge_core.proofs.Joins.{stats_joins}
 use Rattle.vault_model.proofs.Orders.{id_order, mark_order, bytes_order}
-use Rattle.join_laws.proofs.Semilattice.{merged_join, merged_none, gather-append}
-use Rattle.join_laws.proofs.Tables.{get_entry, entry_get, made_from, made_of_entries, gathered_singles}
+use Rattle.merge_core.proofs.Semilattice.{merged_join, merged_none, gather-append}
+use Rattle.merge_core.proofs.Tables.{get_entry, entry_get, made_from, made_of_entries, gathered_singles}
 use Rattle.vault_model.proofs.Tests.{or_cases, not_false, is_false, apart, decide, none_of, any_true, any_found, in_front, in_back, in_either, in_filter, from_filter, in_map, from_map, in_flat, from_flat, map_map, map_append, map_same}
-use Rattle.join_laws.proofs.Unite.{get-tabulate, get-unite_all, in_keys}
-use Rattle.join_laws.proofs.Versions.{never}
+use Rattle.merge_core.proofs.Unite.{get-tabulate, get-unite_all, in_keys}
+use Rattle.merge_core.proofs.Versions.{never}
 
 -- ---- what a laid document has at an id
 

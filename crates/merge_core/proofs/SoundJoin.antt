@@ -14,14 +14,14 @@ use Rattle.vault_model.specs.Join.{stats_join, state_join, timed_join, meta_join
 use Rattle.vault_model.specs.Orders.{bytes_cmp, icon_cmp, later_item_cmp}
 use Rattle.vault_model.specs.Proper.{is_proper_content, is_proper_group_content}
 use Rattle.vault_model.specs.Unite.{greater, join_options, gather, unite}
-use Rattle.join_laws.proofs.Allowed.{root_latest, kept_held, kept_root, kept_above, kept_reaches}
-use Rattle.join_laws.proofs.Facts.{join_entries, join_groups, join_places, join_tombs, join_root, latest_found}
+use Rattle.merge_core.proofs.Allowed.{root_latest, kept_held, kept_root, kept_above, kept_reaches}
+use Rattle.merge_core.proofs.Facts.{join_entries, join_groups, join_places, join_tombs, join_root, latest_found}
 use Rattle.vault_model.proofs.Orders.{IsOrder, bytes_order, id_order, icon_order, later_item_order, settings_order, timed_order}
-use Rattle.join_laws.proofs.Paths.{steps_same}
-use Rattle.join_laws.proofs.Semilattice.{some-gather, greater_one}
+use Rattle.merge_core.proofs.Paths.{steps_same}
+use Rattle.merge_core.proofs.Semilattice.{some-gather, greater_one}
 use Rattle.vault_model.proofs.Tests.{or_cases, or_left, or_right, apart, is_false, some_of, some_is, any_found, in_map, from_map}
-use Rattle.join_laws.proofs.Unite.{get-unite}
-use Rattle.join_laws.proofs.Versions.{never, some_from, version_from, versions_some, version_stays, some_versions, state_from}
+use Rattle.merge_core.proofs.Unite.{get-unite}
+use Rattle.merge_core.proofs.Versions.{never, some_from, version_from, versions_some, version_stays, some_versions, state_from}
 
 pub cond_some : {A : Type 0} (b : Bool) (o : Option A) (x : A) → cond b o None ≡ Some x → (b ≡ true) × (o ≡ Some x)
 cond_some true o x e = (refl, e)

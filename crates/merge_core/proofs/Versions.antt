@@ -9,11 +9,11 @@ use Rattle.vault_model.specs.declared.nodes.GroupState.{GroupState}
 use Rattle.vault_model.specs.Db.{Mark, Versions, GroupMark, group_mark_cmp, mark_of, newest, state_time}
 use Rattle.vault_model.specs.Join.{stats_join, state_join, IsIn}
 use Rattle.vault_model.specs.Unite.{by_order, join_options, gather, unite}
-use Rattle.join_laws.proofs.Joins.{stats_joins}
+use Rattle.merge_core.proofs.Joins.{stats_joins}
 use Rattle.vault_model.proofs.Orders.{mark_order}
-use Rattle.join_laws.proofs.Semilattice.{gather-absorbs}
+use Rattle.merge_core.proofs.Semilattice.{gather-absorbs}
 use Rattle.vault_model.proofs.Tests.{some_of, some_is, from_map, in_map, greatest_above, greatest_below}
-use Rattle.join_laws.proofs.Unite.{get-unite, in_keys, from_keys}
+use Rattle.merge_core.proofs.Unite.{get-unite, in_keys, from_keys}
 
 pub never : {A B : Type 0} (x : A) → None ≡ Some x → B
 never x e = absurd (let no : None ≡ Some x → ⊥ = λ p. cc p in no e)

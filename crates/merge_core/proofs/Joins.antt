@@ -5,8 +5,8 @@ use Rattle.vault_model.specs.Db.{mark_of, place_cmp, mark_cmp}
 use Rattle.vault_model.specs.Join.{stats_join, state_join, timed_join, meta_join}
 use Rattle.vault_model.specs.Unite.{greater, unite}
 use Rattle.vault_model.proofs.Orders.{IsOrder, bytes_order, bin_order, settings_order, icon_order, later_item_order, timed_order, id_order, mark_order, group_mark_order, place_order}
-use Rattle.join_laws.proofs.Semilattice.{IsJoin, max_join, by_key_join, greater_join}
-use Rattle.join_laws.proofs.Unite.{unite_join}
+use Rattle.merge_core.proofs.Semilattice.{IsJoin, max_join, by_key_join, greater_join}
+use Rattle.merge_core.proofs.Unite.{unite_join}
 
 pub stats_joins : IsJoin stats_join
 stats_joins = record {
