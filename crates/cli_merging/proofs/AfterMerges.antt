@@ -3,8 +3,8 @@ use Rattle.std.proofs.Common.{◌≡◌, ℕ, Bool, true, false, not, List, Ok, 
 use Rattle.outside_core.specs.Results.{◌>>=◌}
 use Rattle.vault_model.specs.SeenDoc.{doc_seen}
 use Rattle.vault_model.specs.Tree.{BareDoc}
-use Rattle.document_equality.specs.Equality.{same_doc}
-use Rattle.document_equality.proofs.SameValues.{doc_decides}
+use Rattle.merge_changes.specs.Equality.{same_doc}
+use Rattle.merge_changes.proofs.SameValues.{doc_decides}
 use Rattle.document_merge.specs.Merging.{IsMergeResult, MergeResult, merge_result}
 use Rattle.document_merge.specs.declared.merging.MergeFail.{MergeFail}
 use Rattle.document_merge.specs.declared.merging.MergeFail.TheVariants as fail

@@ -3,7 +3,7 @@ use Rattle.std.proofs.Common.{◌≡◌, ℕ, List, refl, Bool, true, false, Som
 use Rattle.std.specs.Prelude.{IfOk, ◌&&◌, if◌then◌else◌, not}
 use Rattle.outside_core.specs.Results.{◌>>=◌}
 use Rattle.vault_model.specs.Tree.{BareDoc}
-use Rattle.document_equality.specs.Equality.{same_doc}
+use Rattle.merge_changes.specs.Equality.{same_doc}
 use Rattle.document_merge.specs.Merging.{MergeResult, merge_result}
 use Rattle.cli_merging.specs.Merging.{after_merge, after_merged, changes_between, merged_or_refusal}
 

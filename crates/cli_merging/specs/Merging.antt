@@ -3,7 +3,7 @@ use Rattle.std.specs.Prelude.{◌≡◌, ◌&&◌, not, ℕ, Bool, if◌then◌e
 use Rattle.outside_core.specs.Results.{◌>>=◌}
 use Rattle.vault_model.specs.Join.{join}
 use Rattle.vault_model.specs.Tree.{BareDoc, db_in}
-use Rattle.document_equality.specs.Equality.{same_all, same_doc, same_meta, same_tomb}
+use Rattle.merge_changes.specs.Equality.{same_all, same_doc, same_meta, same_tomb}
 use Rattle.merge_core.specs.Refusals.{members}
 use Rattle.merge_changes.specs.Changes.{all_changes}
 use Rattle.merge_changes.specs.declared.changes.Change.{Change}

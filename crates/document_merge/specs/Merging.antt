@@ -6,7 +6,7 @@ use Rattle.vault_model.specs.Db.{NodeId, Db}
 use Rattle.vault_model.specs.Join.{join}
 use Rattle.vault_model.specs.SeenDoc.{doc_seen}
 use Rattle.vault_model.specs.Tree.{BareDoc, LEVELS, db_in, lay_doc}
-use Rattle.document_equality.specs.Equality.{same_all, same_doc, same_meta, same_tomb}
+use Rattle.merge_changes.specs.Equality.{same_all, same_doc, same_meta, same_tomb}
 use Rattle.merge_core.specs.Marking.{strays}
 use Rattle.merge_core.specs.Refusals.{kind_clashes, least, members, root_clashes, too_deep}
 use Rattle.merge_join.specs.declared.marking.JoinRefusal.{JoinRefusal}

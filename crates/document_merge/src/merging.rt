@@ -7,7 +7,7 @@ ghost use Rattle.vault_model.specs.Proper.{rises};
 ghost use Rattle.vault_model.specs.SeenDoc.{doc_seen};
 ghost use Rattle.vault_model.specs.Shape.{lay};
 ghost use Rattle.vault_model.specs.Tree.{IsDoc, LEVELS, db_in, doc_of, lay_doc};
-ghost use Rattle.document_equality.specs.Equality.{same_all, same_meta, same_tomb};
+ghost use Rattle.merge_changes.specs.Equality.{same_all, same_meta, same_tomb};
 ghost use Rattle.merge_changes.specs.Changes.{all_changes};
 ghost use Rattle.merge_core.specs.Marking.{strays};
 ghost use Rattle.merge_core.specs.Refusals.{CanMerge, kind_clashes, least, members, root_clashes};
@@ -16,7 +16,7 @@ ghost use Rattle.reference_shapes.specs.Shapes.{shape};
 ghost use Rattle.merge_join.specs.Marks.{AreKept, AreKnown};
 ghost use Rattle.document_merge.specs.Merging.{HandsBack, IsFailOf, IsMergeCall, IsMergeResult, level_stage, kind_stage, merge_result, path_stage};
 
-use document_equality::equality::{same_doc, same_meta, same_tombs};
+use merge_changes::equality::{same_doc, same_meta, same_tombs};
 use merge_building::laid::laid_doc;
 use merge_building::metas::made_meta;
 use merge_changes::changes::{Change, changes};

@@ -14,8 +14,8 @@ use Rattle.vault_model.proofs.Ids.{id_itself, same_id}
 use Rattle.vault_model.proofs.Orders.{bytes_order}
 use Rattle.vault_model.proofs.Tests.{is_false}
 use Rattle.merge_core.specs.JoinLaws.{AreParts, end_to_end}
-use Rattle.document_equality.specs.Equality.{same_doc}
-use Rattle.document_equality.proofs.SameValues.{doc_decides}
+use Rattle.merge_changes.specs.Equality.{same_doc}
+use Rattle.merge_changes.proofs.SameValues.{doc_decides}
 use Rattle.document_merge.specs.declared.merging.MergeFail.TheVariants.{RootClash, KindClash, MoveCycle, TooDeep, NoMemory}
 use Rattle.document_merge.specs.Merging.{MergeResult, merge_result}
 use Rattle.agreed_laws.specs.Merges.{AreDocs, MergesInto}

@@ -11,7 +11,7 @@ use Rattle.merge_changes.specs.declared.changes.Change.{Change}
 use Rattle.merge_changes.specs.declared.changes.Change.TheVariants.{Created, Updated, Moved, Deleted, Metadata, Deletions, Order}
 use Rattle.merge_changes.specs.declared.changes.Kind.{Kind}
 use Rattle.merge_changes.specs.declared.changes.Kind.TheVariants.{Entry, Group}
-use Rattle.document_equality.specs.Equality.{same_all, same_nat, same_state, same_stats}
+use Rattle.merge_changes.specs.Equality.{same_all, same_nat, same_state, same_stats}
 
 -- two marks are the same, and used the same
 abbrev pub same_use : Mark × Stats → Mark × Stats → Bool

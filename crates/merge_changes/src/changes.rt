@@ -1,7 +1,7 @@
 //! The changes from one database to another.
 ghost use Rattle.std.specs.Prelude.{◌≡◌, ◌++◌, [], ◌∷◌, cond, IfOk, OnOk, Some, true};
 ghost use Rattle.vault_model.specs.Unite.{tabulate};
-ghost use Rattle.document_equality.specs.Equality.{same_all, same_state, same_stats};
+ghost use Rattle.merge_changes.specs.Equality.{same_all, same_state, same_stats};
 ghost use Rattle.reference_tables.specs.Databases.{database};
 ghost use Rattle.merge_changes.specs.Changes.{all_changes, changes_at, entry_changes, group_changes, node_changes, nodes_of, or_order, rising_ids, same_place, same_use, same_versions};
 

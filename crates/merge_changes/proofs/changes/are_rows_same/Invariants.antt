@@ -1,6 +1,6 @@
 use Rattle.std.proofs.Common.{◌≡◌, drop}
 use Rattle.merge_changes.specs.Changes.{same_use}
-use Rattle.document_equality.specs.Equality.{same_all}
+use Rattle.merge_changes.specs.Equality.{same_all}
 use Rattle.merge_changes.proofs.changes.are_rows_same.Given as goal
 
 abbrev pub invariant-loop-at : goal.invariant-loop-at

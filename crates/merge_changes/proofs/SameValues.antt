@@ -8,7 +8,7 @@ use Rattle.vault_model.proofs.Orders.{IsOrder, bin_order, bool_order, bytes_orde
 use Rattle.vault_model.proofs.Tests.{and_both, and_true}
 use Rattle.merge_core.proofs.Unite.{tie}
 use Rattle.vault_model.specs.Join.{is_id}
-use Rattle.document_equality.specs.Equality.{same_all, same_doc, same_entry, same_group, same_mark, same_meta, same_meta_view, same_nat, same_state, same_stats, same_tomb, same_tree, same_trees, same_version, same_view}
+use Rattle.merge_changes.specs.Equality.{same_all, same_doc, same_entry, same_group, same_mark, same_meta, same_meta_view, same_nat, same_state, same_stats, same_tomb, same_tree, same_trees, same_version, same_view}
 
 -- A test that holds of equal values alone.
 pub record Decides {A : Type 0} (same : A → A → Bool) : Type 0 where

@@ -1,10 +1,10 @@
 -- The groups in two groups, side by side.
 use Rattle.std.proofs.Common.{◌<◌, ◌≤◌, ◌+◌, ◌&&◌, map, length, drop, arith, ap, sym, ◌∙◌}
 use Rattle.vault_model.specs.SeenNodes.{tree_seen}
-use Rattle.document_equality.specs.Equality.{same_all, same_tree}
-use Rattle.document_equality.proofs.SeenGroups.{groups_from}
-use Rattle.document_equality.proofs.Pairs.{done, next}
-use Rattle.document_equality.proofs.equality.+same_group.Goals as goal
+use Rattle.merge_changes.specs.Equality.{same_all, same_tree}
+use Rattle.merge_changes.proofs.SeenGroups.{groups_from}
+use Rattle.merge_changes.proofs.Pairs.{done, next}
+use Rattle.merge_changes.proofs.equality.+same_group.Goals as goal
 
 pub returns-then-not-same_group : goal.returns-then-not-same_group
 returns-then-not-same_group t c =

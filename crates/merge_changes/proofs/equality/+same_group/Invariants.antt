@@ -1,7 +1,7 @@
 use Rattle.std.proofs.Common.{◌≡◌, map, drop}
 use Rattle.vault_model.specs.SeenNodes.{tree_seen}
-use Rattle.document_equality.specs.Equality.{same_all, same_tree}
-use Rattle.document_equality.proofs.equality.+same_group.Given as goal
+use Rattle.merge_changes.specs.Equality.{same_all, same_tree}
+use Rattle.merge_changes.proofs.equality.+same_group.Given as goal
 
 abbrev pub invariant-loop-at : goal.invariant-loop-at
 invariant-loop-at l =

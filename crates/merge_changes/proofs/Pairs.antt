@@ -1,7 +1,7 @@
 -- Two lists gone through side by side.
 use Rattle.std.proofs.Common.{◌≡◌, ◌≢◌, ◌&&◌, ◌<◌, ◌≤◌, ◌+◌, ℕ, suc, Bool, true, false, List, [], ◌∷◌, map, length, get_or, drop, refl, ap, ◌∙◌}
 use Rattle.reference_tables.proofs.ListSteps.{drop_next, drop_end}
-use Rattle.document_equality.specs.Equality.{same_all}
+use Rattle.merge_changes.specs.Equality.{same_all}
 
 and_false : (b : Bool) → (b && false) ≡ false
 and_false true = refl

@@ -4,7 +4,7 @@ use Rattle.vault_model.specs.declared.nodes.Group.{Group, out-Group}
 use Rattle.vault_model.specs.declared.nodes.Group.TheFolds.{fold_out-Group}
 use Rattle.vault_model.specs.SeenNodes.{entry_row, tree_seen, tree_step}
 use Rattle.vault_model.specs.Tree.{Tree, all_trees, node}
-use Rattle.document_equality.specs.Equality.{same_all, same_parts, same_tree, same_trees}
+use Rattle.merge_changes.specs.Equality.{same_all, same_parts, same_tree, same_trees}
 
 seen_group : (g : Group)
     → tree_seen g

@@ -1,9 +1,9 @@
 -- The test holds of equal documents alone.
 use Rattle.std.proofs.Common.{ap, sym, ◌∙◌}
 use Rattle.vault_model.specs.SeenDoc.{doc_seen}
-use Rattle.document_equality.specs.Equality.{same_doc}
-use Rattle.document_equality.proofs.SameValues.{doc_decides}
-use Rattle.document_equality.proofs.equality.same_doc.Goals as goal
+use Rattle.merge_changes.specs.Equality.{same_doc}
+use Rattle.merge_changes.proofs.SameValues.{doc_decides}
+use Rattle.merge_changes.proofs.equality.same_doc.Goals as goal
 
 pub returns-clause-same : goal.returns-clause-same
 returns-clause-same c e = doc_decides.says (doc_seen c.args.first.now) (doc_seen c.args.second.now) (sym c.same_doc_parts.ensures ∙ e)

@@ -7,7 +7,7 @@ ghost use Rattle.vault_model.specs.Orders.{bin_cmp, bytes_cmp, icon_cmp, item_cm
 ghost use Rattle.vault_model.specs.Seen.{bare_content};
 ghost use Rattle.vault_model.specs.SeenDoc.{doc_seen};
 ghost use Rattle.vault_model.specs.SeenNodes.{bare_version, entry_row, tree_seen};
-ghost use Rattle.document_equality.specs.Equality.{same_all, same_choices, same_doc, same_entry, same_meta, same_meta_view, same_parts, same_state, same_stats, same_texts, same_tomb, same_tree, same_version, same_view};
+ghost use Rattle.merge_changes.specs.Equality.{same_all, same_choices, same_doc, same_entry, same_meta, same_meta_view, same_parts, same_state, same_stats, same_texts, same_tomb, same_tree, same_version, same_view};
 
 use outside_core::Text;
 use reference_tables::icons::compare_icons;

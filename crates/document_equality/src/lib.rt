@@ -1,4 +1,0 @@
-//! Whether two documents are equal.
-#![tactic(auto)]
-
-pub mod equality;
