@@ -5,7 +5,7 @@ ghost use Rattle.doc_sinks.specs.Sinks.{count_with};
 
 use crate::coding::coded_len;
 use crate::sink::TextSink;
-use markup_escapes::escaped_bytes_len;
+use text_core::escaped_bytes_len;
 
 /// How many bytes were put; the last number is given for every larger one.
 #[derive(Drop)]

@@ -7,7 +7,7 @@ ghost use Rattle.stream_core.specs.InnerStream.{IsAt, keystream};
 
 use crate::coding::{coded_len, hide, put_base64};
 use crate::sink::TextSink;
-use markup_escapes::{escape_bytes, escaped_bytes_len};
+use text_core::{escape_bytes, escaped_bytes_len};
 use secret_core::Secret;
 use stream_core::InnerStream;
 

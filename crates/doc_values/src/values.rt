@@ -1,7 +1,7 @@
 //! Values by their texts: choices, numbers, ids and times.
 
 ghost use Rattle.std.specs.Prelude.{◌≡◌, ◌≤◌, ◌∷◌, MatchOption, neg_ℤ, pos};
-ghost use Rattle.markup_escapes.specs.Fronts.{DiffersFirst};
+ghost use Rattle.text_core.specs.Fronts.{DiffersFirst};
 ghost use Rattle.doc_forms.specs.Values as spec;
 
 use text_core::{decode_base64_array, is_word};

@@ -5,7 +5,7 @@ ghost use Rattle.std.specs.Prelude.{◌≡◌, IfOk};
 use crate::question::{Fault, NO_MEMORY, NOT_SPELLED};
 use crate::spelling::{put_quoted, spelled};
 use markup_core::Attrs;
-use markup_escapes::{escape, escaped_len, unescape, unescaped_len};
+use text_core::{escape, escaped_len, unescape, unescaped_len};
 use secret_core::Secret;
 use std::alloc::Global;
 use std::str;

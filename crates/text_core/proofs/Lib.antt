@@ -1,2 +1,4 @@
 mod Base64Arrays
 mod Literals
+pub mod Digits
+pub mod Unescaping

@@ -7,7 +7,7 @@ ghost use Rattle.std.specs.Str.{str_eq_ignore_ascii_case};
 ghost use Rattle.text_forms.specs.Texts as texts;
 
 use crate::spaces::is_word;
-use markup_escapes::{unescape, unescaped_len};
+use crate::{unescape, unescaped_len};
 use outside_core::NoMemory;
 use secret_core::Secret;
 use std::alloc::Global;

@@ -1,5 +1,5 @@
-use Rattle.markup_escapes.proofs.Unescaping.{with_feed, without_feed}
-use Rattle.markup_escapes.proofs.escapes.line_feed_len.Goals as goal
+use Rattle.text_core.proofs.Unescaping.{with_feed, without_feed}
+use Rattle.text_core.proofs.raw_markup.line_feed_len.Goals as goal
 
 pub returns-in-Some-clause-text : goal.returns-in-Some-clause-text
 returns-in-Some-clause-text c = with_feed c.args.bytes.now _ c.in-Some.ensures

@@ -1,6 +1,6 @@
 use Rattle.std.proofs.Common.{◌≡◌, ◌≤◌, ◌+◌, length, drop, min}
 use Rattle.markup_grammar.specs.Escapes.{escaped}
-use Rattle.markup_escapes.proofs.escapes.escaped_bytes_len.Given as goal
+use Rattle.text_core.proofs.raw_markup.escaped_bytes_len.Given as goal
 
 abbrev pub invariant-loop-byte : goal.invariant-loop-byte
 invariant-loop-byte l =

@@ -1,6 +1,6 @@
 use Rattle.std.proofs.Common.{◌∙◌, sym, arith}
-use Rattle.markup_escapes.proofs.Unescaping.{none_left}
-use Rattle.markup_escapes.proofs.escapes.unescaped_len.Goals as goal
+use Rattle.text_core.proofs.Unescaping.{none_left}
+use Rattle.text_core.proofs.raw_markup.unescaped_len.Goals as goal
 
 pub returns : goal.returns
 returns c =

@@ -5,8 +5,8 @@ use Rattle.std.proofs.lemmas.Bool.{ne_eqb, eqb-true}
 use Rattle.std.specs.List.{prefix_len}
 use lib.Utf8.{encode}
 use Rattle.markup_grammar.specs.Escapes.{returned, reference, unescaped, unescaped_from, character_of_reference, bytes_of}
-use Rattle.markup_escapes.specs.Fronts.{DiffersFirst}
-use Rattle.markup_escapes.specs.Parts.{is_plain, is_inside_reference}
+use Rattle.text_core.specs.Fronts.{DiffersFirst}
+use Rattle.text_core.specs.Parts.{is_plain, is_inside_reference}
 
 nothing : unescaped [] ≡ []
 unfolding unescaped_from

@@ -2,8 +2,8 @@ use Rattle.std.proofs.Common.{◌∙◌, sym, ap, arith, ◌++◌, drop, ◌+◌
 use Rattle.std.proofs.lemmas.List.{length-take}
 use Rattle.std.proofs.lemmas.Str.{length-encode, len_utf8_bounds}
 use Rattle.markup_grammar.specs.Escapes.{unescaped, bytes_of}
-use Rattle.markup_escapes.proofs.Unescaping.{unended, ended}
-use Rattle.markup_escapes.proofs.escapes.reference_at.Goals as goal
+use Rattle.text_core.proofs.Unescaping.{unended, ended}
+use Rattle.text_core.proofs.raw_markup.reference_at.Goals as goal
 
 pub returns-then-len-bytes-clause-text : goal.returns-then-len-bytes-clause-text
 returns-then-len-bytes-clause-text c =

@@ -11,7 +11,7 @@ use Rattle.std.specs.Option.{SomeIff}
 use Rattle.std.specs.Str.Parse.{digits_value, digits_value_after}
 use lib.Utf8.{scalar}
 use Rattle.markup_grammar.specs.Escapes.{character_by_number, character_of_reference, by_name, behind_hash}
-use Rattle.markup_escapes.specs.Fronts.{DiffersFirst}
+use Rattle.text_core.specs.Fronts.{DiffersFirst}
 
 abbrev digit_in : ℕ → ℕ → Bool
 digit_in radix d = is_digit d radix

@@ -1,6 +1,6 @@
 use Rattle.std.proofs.Common.{◌≡◌, ◌+◌, ◌≤◌, length}
 use Rattle.markup_grammar.specs.Escapes.{unescaped}
-use Rattle.markup_escapes.proofs.escapes.unescaped_len.Given as goal
+use Rattle.text_core.proofs.raw_markup.unescaped_len.Given as goal
 
 abbrev pub invariant-loop-rest : goal.invariant-loop-rest
 invariant-loop-rest l =

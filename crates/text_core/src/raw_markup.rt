@@ -3,7 +3,7 @@
 ghost use Rattle.std.specs.Prelude.{◌≡◌, ◌+◌, ◌<◌, ◌≤◌, ◌++◌, [], ◌∷◌, length, drop, min, OnSome};
 ghost use Rattle.std.specs.List.{prefix_len};
 ghost use Rattle.markup_grammar.specs.Escapes as spec;
-ghost use Rattle.markup_escapes.specs.Parts as parts;
+ghost use Rattle.text_core.specs.Parts as parts;
 
 use crate::fronts::strip;
 use secret_core::Secret;

@@ -1,6 +1,6 @@
 use Rattle.std.proofs.Common.{◌∙◌}
-use Rattle.markup_escapes.proofs.Unescaping.{amp, line_end, plain_run, plain_some}
-use Rattle.markup_escapes.proofs.escapes.part_at.Goals as goal
+use Rattle.text_core.proofs.Unescaping.{amp, line_end, plain_run, plain_some}
+use Rattle.text_core.proofs.raw_markup.part_at.Goals as goal
 
 pub returns-in-Some-clause-text : goal.returns-in-Some-clause-text
 returns-in-Some-clause-text c = rw c.in-Some.ensures (amp c.in-Some.rest.now ∙ c.reference_at.ensures.text)

@@ -1,6 +1,6 @@
 //! Fronts of bytes.
 
-ghost use Rattle.markup_escapes.specs.Fronts.{DiffersFirst};
+ghost use Rattle.text_core.specs.Fronts.{DiffersFirst};
 ghost use Rattle.std.specs.Prelude.{◌≡◌, ◌∷◌, MatchOption};
 
 /// What follows this byte, where the bytes begin with it.

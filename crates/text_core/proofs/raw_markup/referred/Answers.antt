@@ -1,6 +1,6 @@
 use Rattle.std.proofs.Common.{◌∙◌, sym}
-use Rattle.markup_escapes.proofs.Digits.{no_hash, hexadecimal, decimal}
-use Rattle.markup_escapes.proofs.escapes.referred.Goals as goal
+use Rattle.text_core.proofs.Digits.{no_hash, hexadecimal, decimal}
+use Rattle.text_core.proofs.raw_markup.referred.Goals as goal
 
 pub returns-in_default-clause-value : goal.returns-in_default-clause-value
 returns-in_default-clause-value c = c.named.ensures.value ∙ sym (no_hash c.args.name.now c.in_default.ensures)

@@ -1,7 +1,7 @@
 -- Parts of raw markup, in the text that they stand for.
 use Rattle.std.specs.Prelude.{ℕ, Bool, not, ◌&&◌, ◌==◌, List, [], encode_utf8}
-use Rattle.markup_escapes.specs.declared.escapes.Part.{Part}
-use Rattle.markup_escapes.specs.declared.escapes.Part.TheVariants.{Plain, Character, Nothing}
+use Rattle.text_core.specs.declared.raw_markup.Part.{Part}
+use Rattle.text_core.specs.declared.raw_markup.Part.TheVariants.{Plain, Character, Nothing}
 
 -- the bytes of a part
 abbrev pub part_text : Part → List ℕ

@@ -1,6 +1,6 @@
 use Rattle.std.proofs.Common.{◌∙◌, sym, arith, append-nil}
-use Rattle.markup_escapes.proofs.Unescaping.{none_left}
-use Rattle.markup_escapes.proofs.escapes.unescape.Goals as goal
+use Rattle.text_core.proofs.Unescaping.{none_left}
+use Rattle.text_core.proofs.raw_markup.unescape.Goals as goal
 
 pub returns-clause-bytes : goal.returns-clause-bytes
 returns-clause-bytes c =

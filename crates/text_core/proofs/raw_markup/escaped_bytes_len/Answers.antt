@@ -1,6 +1,6 @@
 use Rattle.std.proofs.Common.{◌≡◌, arith, drop, []}
 use Rattle.std.proofs.lemmas.List.{drop_all}
-use Rattle.markup_escapes.proofs.escapes.escaped_bytes_len.Goals as goal
+use Rattle.text_core.proofs.raw_markup.escaped_bytes_len.Goals as goal
 
 pub returns : goal.returns
 returns c =

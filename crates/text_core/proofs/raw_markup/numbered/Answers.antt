@@ -1,7 +1,7 @@
 use Rattle.std.proofs.Common.{sym, ◌∙◌, arith, eqb-true, length}
 use Rattle.std.proofs.lemmas.Bool.{eqb-false}
-use Rattle.markup_escapes.proofs.Digits.{no_digits, wrong_digit, past_last, all_digits}
-use Rattle.markup_escapes.proofs.escapes.numbered.Goals as goal
+use Rattle.text_core.proofs.Digits.{no_digits, wrong_digit, past_last, all_digits}
+use Rattle.text_core.proofs.raw_markup.numbered.Goals as goal
 
 pub returns-then-is_empty-clause-value : goal.returns-then-is_empty-clause-value
 returns-then-is_empty-clause-value c =

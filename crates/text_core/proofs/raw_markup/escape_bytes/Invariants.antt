@@ -1,6 +1,6 @@
 use Rattle.std.proofs.Common.{◌≡◌, ◌+◌, ◌≤◌, ◌++◌, length, drop}
 use Rattle.markup_grammar.specs.Escapes.{escaped}
-use Rattle.markup_escapes.proofs.escapes.escape_bytes.Given as goal
+use Rattle.text_core.proofs.raw_markup.escape_bytes.Given as goal
 
 abbrev pub invariant-loop-byte : goal.invariant-loop-byte
 invariant-loop-byte l =
