@@ -3,3 +3,4 @@ pub mod Fitting
 pub mod Puts
 pub mod Spelling
 pub mod WholeTexts
+pub mod GatheredPairs

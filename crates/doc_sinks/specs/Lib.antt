@@ -3,3 +3,5 @@ pub mod Chunks
 pub mod Sinks
 pub mod States
 pub mod StreamOffsets
+pub mod Gathering
+pub mod Pairs

@@ -6,7 +6,7 @@ ghost use Rattle.doc_spelling.specs.Ranges.{count_all, entry_nodes, tree_nodes};
 ghost use Rattle.doc_write.specs.Written.{binary_len, pool_len};
 ghost use Rattle.vault_model.specs.SeenNodes.{entry_row, tree_seen};
 
-use doc_pool::Pool;
+use doc_sinks::Pool;
 use vault_model::{DocForm, Entry, Group, PoolItem};
 
 /// How many bytes the inner field of a binary takes besides the binary: its number, its length, and

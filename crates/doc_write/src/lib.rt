@@ -12,5 +12,5 @@ mod metas;
 mod versions;
 mod writing;
 
-pub use doc_pool::{Pool, pool_of};
+pub use doc_sinks::{Pool, pool_of};
 pub use writing::{WriteFail, append_doc, doc_len, write_doc};

@@ -11,7 +11,7 @@ ghost use Rattle.vault_model.specs.SeenDoc.{doc_seen};
 
 use crate::documents::put_document;
 use crate::lengths::{apart_len, count_nodes};
-use doc_pool::Pool;
+use doc_sinks::Pool;
 use doc_sinks::{TextCounter, TextFiller};
 use outside_core::NoMemory;
 use secret_core::Secret;
