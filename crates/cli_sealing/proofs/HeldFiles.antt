@@ -6,7 +6,7 @@ use Rattle.kdbx_frame.specs.declared.settings.Settings.{Settings}
 use Rattle.kdbx_writing.specs.declared.draws.Draws.{Draws}
 use Rattle.kdbx_payload.specs.Sealed.{SealedPayload}
 use Rattle.kdbx_seal.specs.Made.{made_file, made_file_payload}
-use Rattle.sealing_laws.proofs.HeldDocuments.{is_held}
+use Rattle.cli_sealing.proofs.HeldDocuments.{is_held}
 use Rattle.cli_writing.specs.Held.{IsWritten}
 use Rattle.cli_writing.specs.Writing.{HasFile, Store}
 use Rattle.cli_sealing.specs.Held.{HoldsSealed}

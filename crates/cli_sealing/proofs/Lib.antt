@@ -1,3 +1,4 @@
 pub mod DrawnParts
 pub mod HeldFiles
 pub mod Sealed
+pub mod HeldDocuments

@@ -1,3 +1,4 @@
 pub mod Draws
 pub mod Held
 pub mod Sealing
+pub mod Contents

@@ -1,8 +1,8 @@
 use Rattle.kdbx_seal.specs.Made.{made_file}
 use Rattle.kdbx_open.proofs.SealedFiles.{is_opened}
-use Rattle.sealing_laws.specs.Contents.{made_contents}
-use Rattle.sealing_laws.proofs.HeldDocuments.{is_held}
-use Rattle.sealing_laws.proofs.laws.sealed_documents_are_opened.Goals as goal
+use Rattle.cli_sealing.specs.Contents.{made_contents}
+use Rattle.cli_sealing.proofs.HeldDocuments.{is_held}
+use Rattle.cli_sealing.proofs.document_laws.sealed_documents_are_opened.Goals as goal
 
 pub returns : goal.returns
 returns c s draws composite d is writable sealed =

@@ -26,7 +26,7 @@ use Rattle.kdbx_writing.specs.Header.{spelled_header}
 use Rattle.kdbx_seal.specs.Made.{attached_file, attached_files, document_text, hash_kept, made_file, made_file_payload}
 use Rattle.kdbx_open.specs.Documents.{KeepsHash, attachment, document_of, document_or_refusal}
 use Rattle.kdbx_open.specs.Sealed.{Sealed}
-use Rattle.sealing_laws.specs.Contents.{made_contents}
+use Rattle.cli_sealing.specs.Contents.{made_contents}
 
 -- The attached files, as the document's reader is given them, are the pool that was written.
 same_pool : (pool : List PoolPair) → map attachment (map attached_file pool) ≡ pool

@@ -9,7 +9,7 @@ ghost use Rattle.kdbx_payload.specs.Sealed.{SealedPayload};
 ghost use Rattle.kdbx_seal.specs.Made.{made_file, made_file_payload};
 ghost use Rattle.kdbx_open.specs.Opening.{opening};
 ghost use Rattle.kdbx_open.specs.Sealed.{Sealed};
-ghost use Rattle.sealing_laws.specs.Contents.{made_contents};
+ghost use Rattle.cli_sealing.specs.Contents.{made_contents};
 
 /// A file that was made of a document holds that document under the composite key that it was made
 /// with, and the settings that were given, with the seed or salt of its own. The premises are what a
