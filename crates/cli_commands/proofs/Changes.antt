@@ -13,7 +13,7 @@ use Rattle.cli_answers.specs.declared.answers.Stop.{Stop}
 use Rattle.cli_answers.specs.declared.answers.Stop.TheVariants.{Refused, FileFault, InputFault, NoMemory}
 use Rattle.cli_answers.specs.Phases.{IsLeft, IsPlainStop, IsStreamStop, Returns, ReturnsAskedStream, StreamAnswer, TellsStream, after_left, then_left, with_left}
 use Rattle.cli_changes.specs.Ids.{new_id}
-use Rattle.cli_drawing.proofs.Drawn.{next_alone}
+use Rattle.cli_writing.proofs.Drawn.{next_alone}
 use Rattle.cli_lines.specs.Lines.{IsTextLine}
 use Rattle.cli_words.specs.declared.command.Command.{Command}
 use Rattle.cli_words.specs.declared.command.Command.TheVariants.{Ls, Show, Search, Add, Edit, Move, Remove, MakeGroup, RemoveGroup, Merge, Import, Export, Info}

@@ -18,7 +18,7 @@ use Rattle.cli_changes.specs.Entries.{AfterCommand, after_add_command, after_edi
 use Rattle.cli_changes.specs.Ids.{new_id}
 use Rattle.cli_changes.specs.Nodes.{after_mkdir, after_mv, after_rm, after_rmdir}
 use Rattle.cli_merging.specs.Merging.{AfterMerge, after_merge}
-use Rattle.cli_drawing.specs.Drawing.{draw_of}
+use Rattle.cli_writing.specs.Drawing.{draw_of}
 
 -- What a command makes of its database: what it prints, and the document that is written, if one
 -- is.

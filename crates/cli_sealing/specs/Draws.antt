@@ -4,7 +4,7 @@ use Rattle.kdbx_frame.specs.declared.settings.Settings.{Settings}
 use Rattle.kdbx_frame.specs.Settings.{iv_len}
 use Rattle.kdbx_writing.specs.declared.draws.Draws.{Draws}
 use Rattle.kdbx_writing.specs.Draws.{start_len, stream_len}
-use Rattle.cli_drawing.specs.Drawing.{next_bytes}
+use Rattle.cli_writing.specs.Drawing.{next_bytes}
 
 -- Bytes of this number: the next n ones of the dice, and zeros after them.
 abbrev pub front_of : (n size : ℕ) → List ℕ → List ℕ

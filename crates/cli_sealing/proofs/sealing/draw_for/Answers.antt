@@ -1,5 +1,5 @@
 use Rattle.std.proofs.Common.{sym, ◌∙◌}
-use Rattle.cli_drawing.proofs.Drawn.{loses}
+use Rattle.cli_writing.proofs.Drawn.{loses}
 use Rattle.cli_sealing.proofs.DrawnParts.{draws_left}
 use Rattle.cli_sealing.proofs.sealing.draw_for.Goals as goal
 

@@ -2,7 +2,7 @@
 ghost use Rattle.std.specs.Prelude.{◌≡◌, ◌≤◌, ℕ, List, drop, length, IfErr, IfOk, Some};
 ghost use Rattle.outside_core.specs.Counts.{Increased};
 ghost use Rattle.outside_core.specs.Streams.{LosesPrefix};
-ghost use Rattle.cli_drawing.specs.Drawing.{next_bytes};
+ghost use Rattle.cli_writing.specs.Drawing.{next_bytes};
 
 use outside_core::{Dice, DiceFail};
 use secret_core::Fresh;

@@ -1,7 +1,7 @@
 use Rattle.std.proofs.Common.{ap, sym, ◌∙◌, ◌≡◌, ◌≤◌, length, take, arith, List, ℕ}
 use Rattle.std.proofs.lemmas.List.{take_all}
-use Rattle.cli_drawing.proofs.Drawn.{loses, next_drawn}
-use Rattle.cli_drawing.proofs.drawing.draw_id.Goals as goal
+use Rattle.cli_writing.proofs.Drawn.{loses, next_drawn}
+use Rattle.cli_writing.proofs.drawing.draw_id.Goals as goal
 
 pub returns-in-Ok-clause-told : goal.returns-in-Ok-clause-told
 returns-in-Ok-clause-told g c = λ d is.

@@ -2,7 +2,7 @@
 use Rattle.std.proofs.Common.{◌≡◌, ◌≤◌, ℕ, List, ◌++◌, Option, None, Some, option_map, length, drop, take, replicate, refl, sym, ap, ◌∙◌, arith}
 use Rattle.std.proofs.lemmas.List.{drop-append-le, drop_all, length-append, length-take-le, take-append-le, take_all}
 use Rattle.outside_core.specs.Streams.{LosesPrefix}
-use Rattle.cli_drawing.specs.Drawing.{next_bytes}
+use Rattle.cli_writing.specs.Drawing.{next_bytes}
 
 -- The bytes that were drawn are the next ones.
 pub next_drawn : (n : ℕ) (fresh dice : List ℕ) (now : Option (List ℕ)) → n ≤ length fresh
