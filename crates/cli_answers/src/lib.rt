@@ -1,6 +1,6 @@
-//! What the program refuses with: reasons, their statuses and texts, and how a phase of a call
-//! stops.
-//! The pages that the program prints where one word alone asks for one: its help, and its version.
+//! What the program answers by itself: why it refuses (reasons, their statuses and texts, and how a
+//! phase of a call stops), and the pages that it prints where one word alone asks for one, its help
+//! and its version.
 #![tactic(auto)]
 
 mod answers;

@@ -1,6 +1,5 @@
-//! What the commands that change a document make of it, and what they report.
-//! What the commands that move nodes, remove them and make groups make of a document, and what they
-//! report.
+//! What the commands that change a document make of it, and what they report: entries added and
+//! changed, nodes moved and removed, and groups made.
 #![tactic(auto)]
 
 mod entries;

@@ -1,5 +1,5 @@
-//! What one file of a call is: a plain document or a key file, or why it cannot be read.
-//! What a call of the program is to do: its command, its lines and its databases.
+//! What a call of the program is to do (its command, its lines and its databases), and what one
+//! file of it is: a plain document or a key file, or why it cannot be read.
 #![tactic(auto)]
 
 mod documents;

@@ -1,6 +1,5 @@
-//! `merge` on documents: what it makes of its target, and what it prints.
-//! What a merge prints: the names of the nodes that it changed, and its sources.
-//! Texts that grow in memory that is wiped.
+//! `merge` on documents: what it makes of its target, and what it prints: the names of the nodes
+//! that it changed, and its sources, in memory that is wiped.
 #![tactic(auto)]
 
 mod merging;

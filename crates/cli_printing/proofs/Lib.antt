@@ -1,3 +1,3 @@
 pub mod Groups
-pub mod Lines
+pub mod ListedLines
 mod Examples

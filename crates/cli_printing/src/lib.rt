@@ -1,7 +1,5 @@
-//! What the commands that only read print.
-//! The text of a listing.
-//! What `db-info` prints of a database.
-//! What `export` prints of a document.
+//! What the commands that only read print of a document: the text of a listing, what `db-info`
+//! prints of a database, and what `export` prints.
 #![tactic(auto)]
 
 mod counts;

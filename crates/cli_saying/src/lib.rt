@@ -1,5 +1,5 @@
-//! What the words of a call say: its options with their values, and its positions.
-//! The commands by their names, and the options that each of them takes.
+//! What the words of a call say: the commands by their names, the options that each of them takes,
+//! with their values, and the positions.
 #![tactic(auto)]
 
 mod credentials;

@@ -1,6 +1,5 @@
-//! The sealed file that a command writes.
-//! The law that a sealed file holds the document that it was made of. The functions do nothing:
-//! their contracts are the law.
+//! The sealed file that a command writes, and the law that a sealed file holds the document that it
+//! was made of: functions that do nothing and whose contracts are the law.
 #![tactic(auto)]
 
 pub mod document_laws;

@@ -1,6 +1,6 @@
-//! Reading the document of a vault: from markup to the tree of groups and entries.
-//! The law that what is read is a document: a function whose contract it is, and no code.
-//! Laws of what a document says: functions whose contracts are these laws, and no code.
+//! Reading the document of a vault: from markup to the tree of groups and entries. `document_laws`
+//! and `reading_laws` are the laws that what a text says, and what is read of it, is a document:
+//! functions whose contracts are these laws, and no code.
 #![tactic(auto)]
 
 mod document;

@@ -5,4 +5,4 @@ pub mod Pieces
 pub mod SoughtEntries
 pub mod Steps
 pub mod TermExamples
-pub mod Parts
+pub mod TermParts

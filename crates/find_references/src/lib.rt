@@ -1,5 +1,5 @@
-//! References in texts, replaced by the values of the entries that they name.
-//! The terms of a search, read from a text.
+//! References in texts, replaced by the values of the entries that they name; and the terms of a
+//! search, read from a text.
 #![tactic(auto)]
 
 mod fail;

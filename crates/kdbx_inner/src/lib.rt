@@ -1,5 +1,5 @@
-//! The inner fields at the start of a deciphered text of KDBX 4: the stream that hides values in the
-//! document, and the attached files.
+//! The inner fields at the start of a deciphered text of KDBX 4: the stream that hides values in
+//! the document, and the attached files.
 #![tactic(auto)]
 
 mod inner;

@@ -1,5 +1,5 @@
-//! What headers, KDF dictionaries and inner fields are made of, and why one of them is refused.
-//! The KDF dictionary of a header of KDBX 4: which key derivation it describes.
+//! What headers, KDF dictionaries and inner fields are made of, why one of them is refused, and
+//! which key derivation the KDF dictionary of a header of KDBX 4 describes.
 #![tactic(auto)]
 
 mod dictionary;

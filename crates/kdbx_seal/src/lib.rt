@@ -1,7 +1,6 @@
-//! Sealing a document: from the document, settings, draws and a composite key to a file of KDBX 3.1,
-//! 4.0 or 4.1 under a name.
-//! From settings, draws, attached files and the text of a document to a file of KDBX 3.1, 4.0 or
-//! 4.1 under a composite key. Nothing here speaks of what the document says.
+//! Sealing a document: from the document, settings, draws and a composite key to a file of KDBX
+//! 3.1, 4.0 or 4.1 under a name. The modules `payload_sealing`, `blocks`, `ciphering` and `hashing`
+//! seal the text of a document and its attached files, whatever the document says.
 #![tactic(auto)]
 
 mod blocks;
@@ -12,7 +11,6 @@ mod payload_fail;
 mod payload_sealing;
 mod sealing;
 
-pub use crate::{Draws, draw};
 pub use fail::SealFail;
 pub use hashing::{hashed_len, put_hashed};
 pub use kdbx_writing::{Draws, draw};

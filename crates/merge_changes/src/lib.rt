@@ -1,8 +1,5 @@
-//! What changes when documents are merged.
-//! Whether two documents are equal.
+//! What changes when documents are merged, and whether two documents are equal.
 #![tactic(auto)]
 
 pub mod changes;
 pub mod equality;
-
-

@@ -1,5 +1,5 @@
-//! Importing a file of Password Safe V3 (formatV3.txt of the Password Safe project): its records as the
-//! entries of a new document.
+//! Importing a file of Password Safe V3 (formatV3.txt of the Password Safe project): its records as
+//! the entries of a new document.
 #![tactic(auto)]
 
 mod entries;

@@ -1,8 +1,6 @@
 //! The file of Password Safe V3 (formatV3.txt of the Password Safe project): from its bytes and a
-//! password to its deciphered blocks, and the check of the MAC of their contents; or why not.
-//! Nothing here speaks of fields and records.
-//! The fields in the deciphered bytes of a file of Password Safe V3, tested for their first fault, and
-//! the records that they make up.
+//! password to its deciphered blocks, and the check of the MAC of their contents; or why not. The
+//! fields in the deciphered bytes, tested for their first fault, and the records that they make up.
 #![tactic(auto)]
 
 mod contents;

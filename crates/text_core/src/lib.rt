@@ -1,5 +1,5 @@
-//! Texts of markup as values: white space, words, base64, and escapes resolved into secret memory.
-//! Raw markup and the text that it stands for, both ways. No call takes memory.
+//! Texts of markup as values: raw markup and the text that it stands for, both ways and without
+//! memory; white space, words, base64, and escapes resolved into secret memory.
 #![tactic(auto)]
 
 mod decoding;

@@ -1,6 +1,6 @@
-//! Paths in a document: which entry and which group a text names.
-//! What the commands that change a document make of it, as definitions: the new document, or the
-//! first refusal. The code that does it is in `tree_edits` and `tree_moves`.
+//! Paths in a document: which entry and which group a text names. What the commands that change a
+//! document make of it, as definitions: the new document, or the first refusal. The code that does
+//! it is in `tree_edits`, `tree_groups`, `tree_moves` and `tree_removals`.
 #![tactic(auto)]
 
 pub mod fails;

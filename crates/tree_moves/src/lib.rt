@@ -1,5 +1,4 @@
-//! Entries moved, and whether a bin has to be made.
-//! Groups moved.
+//! Entries and groups moved, and whether a bin has to be made.
 #![tactic(auto)]
 
 mod bins;

@@ -1,5 +1,4 @@
-//! Entries removed: put into the bin, or deleted.
-//! Groups removed: put into the bin, or deleted with all that is in them.
+//! Entries and groups removed: put into the bin, or deleted, groups with all that is in them.
 #![tactic(auto)]
 
 mod burying;

@@ -1,5 +1,5 @@
 -- A line for each child.
-use Rattle.cli_printing.proofs.Lines.{children_counted, children_listed}
+use Rattle.cli_printing.proofs.ListedLines.{children_counted, children_listed}
 use Rattle.cli_printing.proofs.laws.each_child_has_a_line.Goals as goal
 
 pub returns-clause-lines : goal.returns-clause-lines

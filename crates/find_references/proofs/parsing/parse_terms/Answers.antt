@@ -3,7 +3,7 @@ use Rattle.std.proofs.Common.{◌≡◌, ◌<◌, ◌+◌, ◌-◌, ◌==◌, []
 use Rattle.std.proofs.lemmas.Grind.{common_steps}
 use Rattle.std.proofs.lemmas.Str.Pattern.{strip_prefix_char}
 use Rattle.find_references.specs.Terms.{one_at_least, term_before, terms_from, terms_of, with_texts}
-use Rattle.find_references.proofs.Parts.{empty_term, next_term, no_length, no_terms, shorter, some_terms}
+use Rattle.find_references.proofs.TermParts.{empty_term, next_term, no_length, no_terms, shorter, some_terms}
 use Rattle.find_references.proofs.parsing.parse_terms.Goals as goal
 
 pub returns-then-is_empty : goal.returns-then-is_empty

@@ -1,6 +1,6 @@
 use Rattle.std.proofs.Common.{None, ◌∙◌, arith}
 use Rattle.std.proofs.lemmas.Str.Pattern.{strip_prefix_char}
-use Rattle.find_references.proofs.Parts.{no_sign}
+use Rattle.find_references.proofs.TermParts.{no_sign}
 use Rattle.find_references.proofs.parsing.signs_before.Goals as goal
 
 pub returns-in_default-strip_prefix-2 : goal.returns-in_default-strip_prefix-2

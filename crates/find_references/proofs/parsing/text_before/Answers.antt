@@ -1,6 +1,6 @@
 use Rattle.std.proofs.Common.{None, sym, ap, ◌∙◌, arith}
 use Rattle.std.proofs.lemmas.Str.Pattern.{strip_prefix_char}
-use Rattle.find_references.proofs.Parts.{unquoted}
+use Rattle.find_references.proofs.TermParts.{unquoted}
 use Rattle.find_references.proofs.parsing.text_before.Goals as goal
 
 pub returns-in-None-clause-text : goal.returns-in-None-clause-text
