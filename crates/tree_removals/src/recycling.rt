@@ -65,8 +65,8 @@ pub(crate) fn recycle_entry(
     }
 }
 
-// Puts a group after the other groups of the root.
-fn put_top(root: &mut Group, group: Group) -> Result<(), NoMemory>
+/// Puts a group after the other groups of the root. Where memory runs out nothing has changed.
+pub(crate) fn put_top(root: &mut Group, group: Group) -> Result<(), NoMemory>
     ensures { MatchResult result (λ _. tree_seen root.new
         ≡ changed_at (out-Group root.old).id (with_group (tree_seen group)) (tree_seen root.old))
         (λ _. tree_seen root.new ≡ tree_seen root.old) }

@@ -12,6 +12,7 @@ ghost use Rattle.tree_core.specs.NewNodes.{empty_group};
 ghost use Rattle.tree_moves.specs.GroupPlaces.{group_at};
 ghost use Rattle.tree_removals.specs.Removes.{Removes, with_bin_in};
 
+use crate::recycling::put_top;
 use outside_core::NoMemory;
 use std::alloc::Global;
 use tree_core::{Removed, TreeFail};
@@ -40,19 +41,6 @@ pub(crate) fn recycle_group(
     match move_found(alloc, doc, from, to, id, now) {
         Ok(()) => Ok(Removed::Recycled),
         Err(fail) => Err(fail),
-    }
-}
-
-// Puts a group after the other groups of the root.
-fn put_top(root: &mut Group, group: Group) -> Result<(), NoMemory>
-    ensures { MatchResult result (λ _. tree_seen root.new
-        ≡ changed_at (out-Group root.old).id (with_group (tree_seen group)) (tree_seen root.old))
-        (λ _. tree_seen root.new ≡ tree_seen root.old) }
-{
-    let top = root.id;
-    match put_group(root, top, group) {
-        Some(Ok(())) => Ok(()),
-        _ => Err(NoMemory),
     }
 }
 
