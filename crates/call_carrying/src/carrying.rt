@@ -16,10 +16,9 @@ ghost use Rattle.cli_commands.specs.SeenChange.{doc_if, lent_settings, output_te
 ghost use Rattle.cli_files.specs.SeenTask.{task_seen};
 ghost use Rattle.cli_files.specs.Tasks.{draws};
 
-use cli_files::Task;
 use cli_answers::Stop;
 use cli_commands::{CommandInput, Output, may_write, perform};
-use cli_files::{Opened, bytes_in};
+use cli_files::{Opened, Task, bytes_in};
 use cli_sealing::write_sealed;
 use cli_words::Command;
 use cli_writing::write_plain;

@@ -10,11 +10,11 @@ ghost use Rattle.cli_files.specs.SeenTask.{task_seen};
 ghost use Rattle.cli_words.specs.Words.{command_of};
 ghost use Rattle.call_reading.specs.Reading.{HasSomeFile, asked_by, left_of, task_of};
 
-use cli_files::Task;
+use crate::open_for;
 use cli_answers::Stop;
 use cli_databases::Databases;
+use cli_files::Task;
 use cli_lines::read_lines;
-use crate::open_for;
 use cli_words::read_words;
 use outside_core::{FileStore, Source};
 use std::alloc::Global;

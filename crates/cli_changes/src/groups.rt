@@ -9,12 +9,11 @@ ghost use Rattle.cli_changes.specs.Entries.{CommandChanges};
 ghost use Rattle.cli_changes.specs.Nodes as spec;
 
 use crate::reports::report;
-use cli_answers::Stop;
 use crate::{Given, time_of, unchanged};
+use cli_answers::Stop;
 use secret_core::Secret;
 use std::alloc::Global;
-use tree_core::TreeFail;
-use tree_core::find_group;
+use tree_core::{TreeFail, find_group};
 use tree_groups::{make_group, name_of_new};
 use tree_steps::group_of;
 use uuid_core::Uuid;

@@ -8,13 +8,12 @@ ghost use Rattle.cli_changes.specs.Nodes as spec;
 
 use crate::groups::group_name;
 use crate::reports::report;
-use cli_answers::Stop;
 use crate::{Given, entry_title, time_of, unchanged};
+use cli_answers::Stop;
 use secret_core::Secret;
 use std::alloc::Global;
 use tree_core::TreeFail;
-use tree_moves::move_group;
-use tree_moves::move_entry;
+use tree_moves::{move_entry, move_group};
 use vault_model::Doc;
 
 // Moves an entry at a moment.

@@ -10,14 +10,13 @@ ghost use Rattle.cli_changes.specs.Reports as lines;
 
 use crate::groups::group_name;
 use crate::reports::report;
-use cli_answers::Stop;
 use crate::{Given, entry_title, time_of, unchanged};
+use cli_answers::Stop;
 use outside_core::NoMemory;
 use secret_core::Secret;
 use std::alloc::Global;
 use tree_core::{Removed, TreeFail};
-use tree_removals::remove_group;
-use tree_removals::remove_entry;
+use tree_removals::{remove_entry, remove_group};
 use uuid_core::Uuid;
 use vault_model::Doc;
 

@@ -7,8 +7,8 @@ ghost use Rattle.cli_answers.specs.Phases.{IsLeft, TellsStream};
 ghost use Rattle.cli_commands.specs.Commands as spec;
 
 use cli_changes::new_id;
-use cli_writing::draw_id;
 use cli_words::Command;
+use cli_writing::draw_id;
 use outside_core::{Dice, DiceFail};
 use tree_moves::needs_bin;
 use uuid_core::Uuid;

@@ -16,13 +16,12 @@ ghost use Rattle.cli_printing.specs.Info.{info_shown};
 use crate::ids::{bin_id, draw_if, makes_node};
 use crate::output::{Change, Output, merge_change, printed, reported};
 use cli_answers::{Reason, Stop, refused};
-use cli_changes::{Given, add_entry, edit_entry};
-use cli_printing::export;
-use cli_printing::info;
-use cli_printing::{Manner, add_group, group_listed};
+use cli_changes::{
+    Given, add_entry, edit_entry, make_group_of, move_node, remove_entry_of, remove_group_of,
+};
 use cli_merging::{MergeGiven, merge_into};
+use cli_printing::{Manner, add_group, export, group_listed, info};
 use cli_showing::{ShowGiven, search_entries, show_entry};
-use cli_changes::{make_group_of, move_node, remove_entry_of, remove_group_of};
 use cli_words::Command;
 use kdbx_frame::Settings;
 use outside_core::{Bytes, Dice, NoMemory, Text};

@@ -7,9 +7,9 @@ ghost use Rattle.cli_merging.specs.Reports.{merge_report};
 ghost use Rattle.cli_merging.specs.Merging as spec;
 ghost use Rattle.cli_merging.specs.Merging.{IsUnmerged, MergeChanges, after_merge};
 
+use crate::{MergeFiles, MergeOutcome, report};
 use cli_answers::{Reason, Stop, refused};
 use document_merge::merging::{MergeFail, Merged, merge_lent};
-use crate::{MergeFiles, MergeOutcome, report};
 use outside_core::{NoMemory, Text};
 use secret_core::Secret;
 use std::alloc::Global;

@@ -8,12 +8,12 @@ ghost use Rattle.cli_merging.specs.Names as table;
 ghost use Rattle.cli_merging.specs.Reports as spec;
 ghost use Rattle.cli_merging.specs.Reports.{change_line, change_lines, merge_report, name_in, node_line, source_line, source_lines, told_report};
 
+use crate::append;
 use crate::names::{Names, name_at, names_of};
 use merge_changes::changes::{Change, Kind};
 use outside_core::{NoMemory, Text};
 use reference_tables::tables::Table;
 use secret_core::Secret;
-use crate::append;
 use std::alloc::Global;
 use uuid_core::Uuid;
 use vault_model::Doc;

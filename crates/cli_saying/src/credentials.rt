@@ -3,8 +3,8 @@ ghost use Rattle.std.specs.Prelude.{◌≡◌};
 ghost use Rattle.cli_saying.specs.Credentials as spec;
 ghost use Rattle.cli_saying.specs.SaidWords.{said_seen};
 
-use crate::said::{SaidWords, is_given};
 use crate::CommandOption;
+use crate::said::{SaidWords, is_given};
 
 // Reports whether what opens a database fits it.
 fn is_fit(plain: bool, no_password: bool, has_key: bool) -> bool

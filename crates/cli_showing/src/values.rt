@@ -10,8 +10,7 @@ ghost use Rattle.cli_showing.specs.Showing as spec;
 ghost use Rattle.cli_showing.specs.Showing.{is_missing, with_fields, with_key, with_keys, with_names, with_value, with_value_of};
 
 use crate::texts::append;
-use find_references::{is_named_key, resolve};
-use find_references::FindFail;
+use find_references::{FindFail, is_named_key, resolve};
 use outside_core::{NoMemory, Text};
 use secret_core::Secret;
 use std::alloc::Global;

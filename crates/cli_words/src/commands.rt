@@ -8,10 +8,9 @@ ghost use Rattle.cli_words.specs.Words.{command_of};
 
 use crate::command::{Access, Asked, Command, ExportFormat, ImportFormat};
 use cli_answers::{Reason, Stop, refused};
-use cli_saying::{CommandName, CommandOption, command_named};
 use cli_saying::{
-    SaidWords, WordsFail, add_words, copies_of, copy_of, empty_state, is_fit_new, is_given,
-    is_whole, no_texts, text_of,
+    CommandName, CommandOption, SaidWords, WordsFail, add_words, command_named, copies_of, copy_of,
+    empty_state, is_fit_new, is_given, is_whole, no_texts, text_of,
 };
 use outside_core::{NoMemory, Text};
 use std::alloc::Global;

@@ -7,9 +7,9 @@ ghost use Rattle.stream_core.specs.InnerStream.{IsAt, keystream};
 
 use crate::coding::{coded_len, hide, put_base64};
 use crate::sink::TextSink;
-use text_core::{escape_bytes, escaped_bytes_len};
 use secret_core::Secret;
 use stream_core::InnerStream;
+use text_core::{escape_bytes, escaped_bytes_len};
 
 /// How many bytes a stream hides at most.
 const STREAM: u64 = 274_877_906_944;

@@ -8,8 +8,7 @@ ghost use Rattle.doc_spelling.specs.Pieces.{pieces_of};
 ghost use Rattle.doc_spelling.specs.Ranges.{fits_attachment};
 ghost use Rattle.vault_model.specs.Seen.{bare_attachment, bare_field};
 
-use doc_sinks::Pool;
-use doc_sinks::{Mark, TextSink, close, open, put_leaf, put_text, put_value};
+use doc_sinks::{Mark, Pool, TextSink, close, open, put_leaf, put_text, put_value};
 use vault_model::{Attachment, DocForm, Field};
 
 /// Puts a field.

@@ -14,8 +14,7 @@ ghost use Rattle.vault_model.specs.SeenNodes.{tree_seen};
 
 use crate::groups::put_group;
 use crate::metas::put_meta;
-use doc_sinks::Pool;
-use doc_sinks::{Mark, TextSink, close, open, put_id, put_time};
+use doc_sinks::{Mark, Pool, TextSink, close, open, put_id, put_time};
 use vault_model::{Doc, DocForm, Tombstone};
 
 /// Puts a tombstone.

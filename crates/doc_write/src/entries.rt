@@ -9,8 +9,7 @@ ghost use Rattle.doc_spelling.specs.Ranges.{fits_entry, fits_version};
 ghost use Rattle.vault_model.specs.SeenNodes.{bare_version, entry_record, entry_row};
 
 use crate::versions::put_version;
-use doc_sinks::Pool;
-use doc_sinks::{Mark, TextSink, close, open};
+use doc_sinks::{Mark, Pool, TextSink, close, open};
 use vault_model::{DocForm, Entry, Version};
 
 /// Puts an earlier version of an entry.

@@ -11,8 +11,7 @@ use crate::entries::put_entries;
 use crate::icons::{put_any_text, put_icon_names, put_previous};
 use crate::items::{put_any_items, put_times};
 use doc_forms::Times;
-use doc_sinks::Pool;
-use doc_sinks::{Mark, TextSink, close, open, put_bool, put_id, put_text, put_tri};
+use doc_sinks::{Mark, Pool, TextSink, close, open, put_bool, put_id, put_text, put_tri};
 use vault_model::{DocForm, Group, GroupContent};
 
 /// Puts a group's name, notes, tags and icon.

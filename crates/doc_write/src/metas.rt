@@ -12,10 +12,9 @@ ghost use Rattle.doc_spelling.specs.Ranges.{fits_changes, fits_i32, fits_i64, fi
 
 use crate::icons::put_icons;
 use crate::items::put_items;
-use doc_sinks::Pool;
 use doc_sinks::{
-    Mark, TextSink, close, open, put_bool, put_coded, put_id, put_leaf, put_number, put_secret,
-    put_signed, put_small_signed, put_text, put_time, whole,
+    Mark, Pool, TextSink, close, open, put_bool, put_coded, put_id, put_leaf, put_number,
+    put_secret, put_signed, put_small_signed, put_text, put_time, whole,
 };
 use vault_model::{DocForm, Meta, PoolItem, Protection};
 

@@ -14,8 +14,7 @@ use crate::attachments::{put_attachments, put_fields};
 use crate::icons::{put_icon_names, put_previous};
 use crate::items::{put_any_items, put_times};
 use doc_forms::Times;
-use doc_sinks::Pool;
-use doc_sinks::{Mark, TextSink, close, open, put_bool, put_id, put_number, put_text};
+use doc_sinks::{Mark, Pool, TextSink, close, open, put_bool, put_id, put_number, put_text};
 use vault_model::{Association, AutoType, Content, DocForm, Entry, Version};
 
 /// Puts a window with its key strokes.

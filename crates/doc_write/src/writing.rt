@@ -11,8 +11,7 @@ ghost use Rattle.vault_model.specs.SeenDoc.{doc_seen};
 
 use crate::documents::put_document;
 use crate::lengths::{apart_len, count_nodes};
-use doc_sinks::Pool;
-use doc_sinks::{TextCounter, TextFiller};
+use doc_sinks::{Pool, TextCounter, TextFiller};
 use outside_core::NoMemory;
 use secret_core::Secret;
 use std::alloc::Global;

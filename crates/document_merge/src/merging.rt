@@ -16,10 +16,10 @@ ghost use Rattle.reference_shapes.specs.Shapes.{shape};
 ghost use Rattle.merge_join.specs.Marks.{AreKept, AreKnown};
 ghost use Rattle.document_merge.specs.Merging.{HandsBack, IsFailOf, IsMergeCall, IsMergeResult, level_stage, kind_stage, merge_result, path_stage};
 
-use merge_changes::equality::{same_doc, same_meta, same_tombs};
 use merge_building::laid::laid_doc;
 use merge_building::metas::made_meta;
 use merge_changes::changes::{Change, changes};
+use merge_changes::equality::{same_doc, same_meta, same_tombs};
 use merge_checks::copies::members_of;
 use merge_checks::cycles::cycle_above;
 use merge_checks::kinds::kind_clash;

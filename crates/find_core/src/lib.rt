@@ -5,6 +5,5 @@ mod folding;
 mod matching;
 mod searching;
 
-pub use find_references::resolve;
-pub use find_references::{FindFail, SearchField, Term, Terms, parse_terms};
+pub use find_references::{FindFail, SearchField, Term, Terms, parse_terms, resolve};
 pub use searching::{Ids, search};

@@ -9,8 +9,7 @@ ghost use Rattle.vault_model.specs.Seen.{bare_field};
 ghost use Rattle.vault_model.specs.SeenNodes.{entry_record};
 
 use crate::folding::{fits, fold};
-use find_references::{field_value, is_named_key};
-use find_references::{SearchField, Term};
+use find_references::{SearchField, Term, field_value, is_named_key};
 use outside_core::NoMemory;
 use secret_core::Secret;
 use std::alloc::Global;

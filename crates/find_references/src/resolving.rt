@@ -9,10 +9,10 @@ ghost use Rattle.vault_model.specs.SeenDoc.{doc_seen};
 ghost use Rattle.vault_model.specs.SeenNodes.{tree_seen};
 ghost use Rattle.vault_model.specs.Tree.{entry_rows};
 
+use crate::FindFail;
 use crate::fields::part_value;
 use crate::reading::reference_at;
 use crate::seeking::entry_in;
-use crate::FindFail;
 use outside_core::NoMemory;
 use secret_core::Secret;
 use std::alloc::Global;

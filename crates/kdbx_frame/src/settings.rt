@@ -12,8 +12,7 @@ ghost use Rattle.kdbx_parts.specs.Dictionary as dictionary;
 ghost use Rattle.kdbx_parts.specs.SeenDictionary.{description_seen};
 
 use crate::fields::HeaderFields;
-use kdbx_parts::KdfDescription;
-use kdbx_parts::{FrameFail, copy_of, required, same};
+use kdbx_parts::{FrameFail, KdfDescription, copy_of, required, same};
 use key_core::{Kdf, check_kdf};
 use outside_core::Bytes;
 use std::alloc::Global;

@@ -7,8 +7,8 @@ ghost use Rattle.kdbx_parts.specs.Dictionary.{bytes_in, description_of, counted_
 ghost use Rattle.kdbx_parts.specs.declared.fail.FrameFail.TheVariants.{Dictionary};
 ghost use Rattle.kdbx_parts.specs.SeenDictionary.{item_seen, items_seen, keys_seen, description_seen};
 
-use argon_core::ArgonKind;
 use crate::{FrameFail, array_of, same, split_bytes, u32_of, u64_of};
+use argon_core::ArgonKind;
 
 /// The id of AES as a key derivation.
 const AES_KDF: [u8; 16] = [

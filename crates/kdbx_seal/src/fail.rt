@@ -3,8 +3,8 @@
 ghost use Rattle.std.specs.Prelude.{◌≡◌};
 ghost use Rattle.kdbx_seal.specs.Answers.{of_payload, of_writing};
 
-use doc_write::WriteFail;
 use crate::SealPayloadFail;
+use doc_write::WriteFail;
 
 /// Why a document is not sealed.
 #[derive(Clone, Copy, Debug, PartialEq, Eq)]

@@ -16,10 +16,9 @@ ghost use Rattle.kdbx_seal.specs.PayloadMade.{chacha_keystream};
 ghost use Rattle.kdbx_seal.specs.Answers.{LeavesNoDraft, Refuses, WritesContent, WritesContent4, size_refusal};
 ghost use Rattle.kdbx_seal.specs.Made.{made_file, made_file_payload};
 
-use crate::SealFail;
+use crate::{Draws, SealFail, hashed_len, put_hashed, seal_payload};
 use doc_write::{Pool, WriteFail, append_doc, doc_len, write_doc};
 use kdbx_frame::{FileVersion, Settings};
-use crate::{Draws, hashed_len, put_hashed, seal_payload};
 use kdbx_writing::{inner_len, write_header, write_inner};
 use outside_core::FileStore;
 use secret_core::{Key, Secret};

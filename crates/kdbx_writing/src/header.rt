@@ -11,8 +11,8 @@ ghost use Rattle.kdbx_writing.specs.Fields.{HasRoom, spelled_field, spelled_fiel
 ghost use Rattle.kdbx_writing.specs.Header.{cipher_id, header_fields, header_fields_31, header_fields_4, public_fields, rounds_of, spelled_header, version_number};
 
 use crate::kdf::kdf_bytes;
-use kdbx_frame::{Cipher, FileVersion, LengthWidth, Settings, length_width};
 use crate::{Draws, iv_len};
+use kdbx_frame::{Cipher, FileVersion, LengthWidth, Settings, length_width};
 use key_core::Kdf;
 use outside_core::{Bytes, NoMemory};
 use std::alloc::Global;

@@ -16,9 +16,8 @@ ghost use Rattle.keepass_call.specs.Telling.{IsPrinted, IsTold, IsUnwritten, Tel
 
 use call_carrying::carry_out;
 use call_reading::read_task;
-use cli_answers::{Reason, Stop, line, status, text_of_reason};
+use cli_answers::{Reason, Stop, line, page_of, status, text_of_reason};
 use cli_commands::{Output, lend_text};
-use cli_answers::page_of;
 use outside_core::{Dice, FileStore, NoMemory, Sink, SinkFail, Source, write_all};
 use std::alloc::Global;
 

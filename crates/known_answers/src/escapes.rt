@@ -5,10 +5,10 @@ ghost use Rattle.std.specs.Prelude.{◌≡◌, IfOk};
 use crate::question::{Fault, NO_MEMORY, NOT_SPELLED};
 use crate::spelling::{put_quoted, spelled};
 use markup_core::Attrs;
-use text_core::{escape, escaped_len, unescape, unescaped_len};
 use secret_core::Secret;
 use std::alloc::Global;
 use std::str;
+use text_core::{escape, escaped_len, unescape, unescaped_len};
 
 /// The text that raw markup stands for.
 pub fn unescaped(alloc: Global, text: &str) -> Result<String, Fault> {

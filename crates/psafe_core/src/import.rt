@@ -22,8 +22,9 @@ use crate::readings::id_of;
 use import_tree::{ImportDraft, TreeFail, add_imported, finish_import, start_import};
 use mac_core::Hmac256;
 use outside_core::{List, NoMemory};
-use psafe_file::{FieldsFail, SafeField, read_fields, records_of};
-use psafe_file::{OpenedSafe, check_mac, open_safe};
+use psafe_file::{
+    FieldsFail, OpenedSafe, SafeField, check_mac, open_safe, read_fields, records_of,
+};
 use std::alloc::Global;
 use vault_model::{Doc, Stamp};
 

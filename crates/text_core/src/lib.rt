@@ -10,5 +10,7 @@ mod spaces;
 
 pub use decoding::{decode_base64, decode_base64_array};
 pub use escapes::{append_unescaped, spells_word, unescaped};
-pub use raw_markup::{escape, escape_bytes, escaped_bytes_len, escaped_len, unescape, unescaped_len};
+pub use raw_markup::{
+    escape, escape_bytes, escaped_bytes_len, escaped_len, unescape, unescaped_len,
+};
 pub use spaces::{is_space, is_word, trim};

@@ -6,9 +6,9 @@ ghost use Rattle.vault_model.specs.SeenNodes.{entry_row, tree_seen};
 ghost use Rattle.tree_core.specs.Changes.{tree_buried};
 ghost use Rattle.tree_removals.specs.Tombs.{AreSorted, entry_tomb, entry_tombs, group_tombs, ids_rise, tombs_of};
 
+use crate::later;
 use outside_core::{List, NoMemory};
 use std::alloc::Global;
-use crate::later;
 use vault_model::{Entry, Group, Stamp, Tombstone, entry_stamp};
 
 // A list of some tombstones.

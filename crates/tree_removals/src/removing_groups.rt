@@ -6,12 +6,11 @@ ghost use Rattle.tree_core.specs.After.{after_remove_group, needs_bin};
 ghost use Rattle.tree_removals.specs.Removes.{Removes};
 
 use crate::deleting_groups::delete_group;
+use crate::is_recycled;
 use crate::recycling_groups::{recycle_group, recycle_with_new_bin};
 use std::alloc::Global;
-use tree_core::{Removed, TreeFail};
-use tree_core::find_group;
+use tree_core::{Removed, TreeFail, find_group};
 use tree_moves::parent_of;
-use crate::is_recycled;
 use uuid_core::Uuid;
 use vault_model::{Doc, Stamp};
 
