@@ -185,7 +185,7 @@ fn put_with_composite<F: FileStore>(
 ///
 /// The first of [`SealPayloadFail`] but for NoMemory: TooLarge before a key is derived, after which
 /// the store is as it was; FileFault only where the store's count of faults rose.
-#[tactic(auto, unfolding(crate::specs::Made::made_with))]
+#[tactic(auto, unfolding(crate::specs::PayloadMade::made_with))]
 pub fn seal_payload<F: FileStore>(
     alloc: Global,
     settings: &Settings,
