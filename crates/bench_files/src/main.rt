@@ -51,11 +51,6 @@ use std::process::ExitCode;
 use std::random::RandomSource;
 use std::{env, io};
 
-// How a refusal is printed.
-fn refusal(alloc: Global, fault: Fault) -> Result<String, AllocError> {
-    format!(in alloc; "{fault:?}")
-}
-
 // What comes of the words of a line.
 fn outcome(
     rt: &(impl Files<File = File> + RandomSource + AllocGlobal),
@@ -64,7 +59,7 @@ fn outcome(
     let row = Row::of_line(rt.alloc(), words)?;
     match answer(rt, &row) {
         Ok(text) => Ok(text),
-        Err(fault) => refusal(rt.alloc(), fault),
+        Err(fault) => fault.words(rt.alloc()),
     }
 }
 
@@ -113,7 +108,7 @@ fn report(rt: &impl Print, text: &str) -> io::Result<ExitCode> {
 
 // Prints a refusal as an error, and gives the status of the process.
 fn refuse(rt: &(impl Eprint + AllocGlobal), fault: Fault) -> io::Result<ExitCode> {
-    let text = refusal(rt.alloc(), fault)?;
+    let text = fault.words(rt.alloc())?;
     eprintln!(rt; "{text}")?;
     Ok(ExitCode::from(1))
 }
