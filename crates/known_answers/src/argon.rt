@@ -4,7 +4,7 @@ ghost use Rattle.std.specs.Prelude.{◌≡◌, ◌≤◌, length};
 
 use crate::keys::spent;
 use crate::question::{Fault, Question};
-use crate::spelling::debugged;
+use crate::refusals::argon_refusal;
 use argon_core::{ArgonKind, ArgonParams, argon2, blake2b};
 use std::alloc::Global;
 
@@ -66,6 +66,6 @@ fn tag(alloc: Global, kind: ArgonKind, question: &Question<'_>) -> Result<String
     let extra = question.bytes(alloc, 7)?;
     match argon2(alloc, kind, &params, &password, &salt, &secret, &extra) {
         Ok(key) => spent(alloc, key),
-        Err(fail) => debugged(alloc, &fail),
+        Err(fail) => argon_refusal(alloc, fail),
     }
 }

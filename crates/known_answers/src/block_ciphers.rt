@@ -3,8 +3,11 @@
 ghost use Rattle.std.specs.Prelude.{◌≡◌, ◌%◌, length};
 
 use crate::question::{Fault, NOT_UNDONE, Question};
-use crate::spelling::{debugged, decimal};
-use block_core::{Aes256, Block16, Twofish256, cbc_decrypt, cbc_encrypt, pad_len, unpad};
+use crate::refusals::named;
+use crate::spelling::decimal;
+use block_core::{
+    Aes256, BadPadding, Block16, Twofish256, cbc_decrypt, cbc_encrypt, pad_len, unpad,
+};
 use secret_core::Key;
 use std::alloc::Global;
 
@@ -98,6 +101,6 @@ pub fn padding_length(alloc: Global, question: &Question<'_>) -> Result<String, 
 pub fn unpadded_length(alloc: Global, question: &Question<'_>) -> Result<String, Fault> {
     match unpad(&question.bytes(alloc, 1)?) {
         Ok(len) => decimal(alloc, len as u64),
-        Err(fail) => debugged(alloc, &fail),
+        Err(BadPadding) => named(alloc, "BadPadding"),
     }
 }

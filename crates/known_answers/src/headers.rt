@@ -2,7 +2,8 @@
 
 use crate::bytes::bytes_of;
 use crate::question::{Fault, Question};
-use crate::spelling::{debugged, put_digits, put_number};
+use crate::refusals::frame_refusal;
+use crate::spelling::{put_digits, put_number};
 use kdbx_frame::{Cipher, FileVersion, FrameFail, Header, read_header};
 use key_core::{ArgonKind, Kdf};
 use std::alloc::{AllocError, Global};
@@ -12,7 +13,7 @@ pub fn header(alloc: Global, question: &Question<'_>) -> Result<String, Fault> {
     let bytes = bytes_of(alloc, question)?;
     match read(alloc, &bytes) {
         Ok(header) => summary(alloc, &header),
-        Err(fail) => refusal(alloc, fail),
+        Err(fail) => frame_refusal(alloc, fail),
     }
 }
 
@@ -22,7 +23,7 @@ pub fn header_parts(alloc: Global, question: &Question<'_>) -> Result<String, Fa
     let bytes = bytes_of(alloc, question)?;
     match read(alloc, &bytes) {
         Ok(header) => parts(alloc, &header),
-        Err(fail) => refusal(alloc, fail),
+        Err(fail) => frame_refusal(alloc, fail),
     }
 }
 
@@ -56,22 +57,6 @@ fn summary(alloc: Global, header: &Header) -> Result<String, Fault> {
     let size = header.size;
     let cipher = cipher_name(header.settings.cipher);
     Ok(format!(in alloc; "Ok({version}, {size}, {cipher})")?)
-}
-
-// A refusal; that of a wrong hash with both hashes.
-fn refusal(alloc: Global, fail: FrameFail) -> Result<String, Fault> {
-    match fail {
-        FrameFail::HeaderHash { kept, found } => wrong_hash(alloc, &kept, &found),
-        _ => debugged(alloc, &fail),
-    }
-}
-
-// The hash that a header has and the one that it should have.
-fn wrong_hash(alloc: Global, kept: &[u8; 32], found: &[u8; 32]) -> Result<String, Fault> {
-    let mut out = String::from_str(alloc, "HeaderHash")?;
-    put_digits(alloc, &mut out, kept)?;
-    put_digits(alloc, &mut out, found)?;
-    Ok(out)
 }
 
 // The key derivation, the seed, the IV and the public data of a header.

@@ -2,7 +2,8 @@
 
 use crate::bytes::bytes_of;
 use crate::question::{Fault, Question};
-use crate::spelling::{debugged, put_digits};
+use crate::refusals::frame_refusal;
+use crate::spelling::put_digits;
 use kdbx_inner::{FrameFail, Inner, read_inner};
 use std::alloc::{AllocError, Global};
 use vault_model::PoolItem;
@@ -12,7 +13,7 @@ pub fn inner_fields(alloc: Global, question: &Question<'_>) -> Result<String, Fa
     let bytes = bytes_of(alloc, question)?;
     match read(alloc, &bytes) {
         Ok(inner) => summary(alloc, &inner),
-        Err(fail) => debugged(alloc, &fail),
+        Err(fail) => frame_refusal(alloc, fail),
     }
 }
 
@@ -21,7 +22,7 @@ pub fn inner_parts(alloc: Global, question: &Question<'_>) -> Result<String, Fau
     let bytes = bytes_of(alloc, question)?;
     match read(alloc, &bytes) {
         Ok(inner) => parts(alloc, &inner),
-        Err(fail) => debugged(alloc, &fail),
+        Err(fail) => frame_refusal(alloc, fail),
     }
 }
 

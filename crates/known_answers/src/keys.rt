@@ -3,7 +3,8 @@
 ghost use Rattle.std.specs.Prelude.{◌≡◌};
 
 use crate::question::{Fault, NO_MEMORY, NO_QUESTION, Question};
-use crate::spelling::{debugged, put_digits};
+use crate::refusals::kdf_refusal;
+use crate::spelling::put_digits;
 use key_core::{
     ArgonKind, FileKeys, Kdf, KeyFileFail, check_kdf, composite, file_keys, read_key_file,
     transform,
@@ -129,7 +130,7 @@ fn argon_kdf(
 fn limits(alloc: Global, kdf: &Kdf) -> Result<String, Fault> {
     match check_kdf(kdf) {
         Ok(()) => Ok(String::from_str(alloc, "allowed")?),
-        Err(fail) => debugged(alloc, &fail),
+        Err(fail) => kdf_refusal(alloc, fail),
     }
 }
 

@@ -14,6 +14,7 @@ mod keys;
 mod macs;
 mod markup;
 mod question;
+mod refusals;
 mod safes;
 mod spelling;
 mod stream_ciphers;

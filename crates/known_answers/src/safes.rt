@@ -1,7 +1,7 @@
 //! Files of Password Safe V3.
 
 use crate::question::{Fault, Question};
-use crate::spelling::debugged;
+use crate::refusals::safe_refusal;
 use psafe_file::{OpenedSafe, check_mac, open_safe};
 use std::alloc::Global;
 
@@ -20,9 +20,9 @@ pub fn opened(alloc: Global, question: &Question<'_>) -> Result<String, Fault> {
             computed.update(&contents);
             match check_mac(&mac, computed) {
                 Ok(()) => Ok(hex::encode(alloc, bytes.lend(0, bytes.len()))?),
-                Err(fail) => debugged(alloc, &fail),
+                Err(fail) => safe_refusal(alloc, fail),
             }
         }
-        Err(fail) => debugged(alloc, &fail),
+        Err(fail) => safe_refusal(alloc, fail),
     }
 }

@@ -2,7 +2,6 @@
 
 use crate::question::{Fault, NOT_SPELLED};
 use std::alloc::{AllocError, Global};
-use std::fmt::Debug;
 
 /// The bytes that a text spells: `-` alone is none, `\n`, `\r` and `\t` are a line feed, a carriage
 /// return and a tab, `\x` and two hexadecimal digits are a byte, and all else is itself.
@@ -51,11 +50,6 @@ fn byte_of(high: char, low: char) -> Option<u8> {
     let high = high.to_digit(16)?;
     let low = low.to_digit(16)?;
     u8::try_from(16 * high + low).ok()
-}
-
-/// A value as it is printed for a programmer.
-pub fn debugged<T: Debug>(alloc: Global, value: &T) -> Result<String, Fault> {
-    Ok(format!(in alloc; "{value:?}")?)
 }
 
 /// A number in decimal digits.

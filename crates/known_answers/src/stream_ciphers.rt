@@ -4,9 +4,9 @@ ghost use Rattle.std.specs.Prelude.{◌≡◌, ◌+◌, ◌≤◌, ◌^◌, leng
 ghost use Rattle.stream_core.specs.InnerStream.{IsAt};
 
 use crate::question::{Fault, Question};
-use crate::spelling::debugged;
+use crate::refusals::numbered;
 use std::alloc::Global;
-use stream_core::{ChaCha20, InnerStream, Salsa20};
+use stream_core::{ChaCha20, InnerStream, Salsa20, StreamUnknown};
 
 /// The lengths of the pieces in which a text is enciphered; the last piece is what is left.
 const PIECES: [usize; 8] = [1, 7, 63, 64, 65, 0, 33, 128];
@@ -90,6 +90,8 @@ pub fn inner_stream(alloc: Global, question: &Question<'_>) -> Result<String, Fa
     let key = question.bytes(alloc, 2)?;
     match (InnerStream::new(id, &key), InnerStream::new(id, &key)) {
         (Ok(whole), Ok(cut)) => enciphered(alloc, question, 3, whole, cut),
-        (Err(unknown), _) | (_, Err(unknown)) => debugged(alloc, &unknown),
+        (Err(StreamUnknown(number)), _) | (_, Err(StreamUnknown(number))) => {
+            numbered(alloc, "StreamUnknown", u64::from(number))
+        }
     }
 }
