@@ -18,7 +18,7 @@ pub const MIN_SALT: usize = 8;
 pub const MAX_SALT: usize = 1024;
 
 /// A type of Argon2: how the blocks to mix in are chosen.
-#[derive(Clone, Copy, Debug)]
+#[derive(Clone, Copy)]
 pub enum ArgonKind {
     /// Argon2d: by the blocks before.
     D,
@@ -38,7 +38,7 @@ pub struct ArgonParams {
 }
 
 /// Why a computation is not made, in the order in which the limits are looked at.
-#[derive(Clone, Copy, Debug)]
+#[derive(Clone, Copy)]
 pub enum ArgonFail {
     /// The number of passes, which is 0.
     Passes(u32),

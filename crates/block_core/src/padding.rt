@@ -4,7 +4,7 @@ ghost use Rattle.block_core.specs.Padding.{IsPadded, text_before, unpadded};
 
 /// A text whose padding is not right: its length is 0 or no multiple of 16, its last byte is not
 /// from 1 to 16, or one of as many last bytes as it says is another byte.
-#[derive(Clone, Copy, Debug)]
+#[derive(Clone, Copy)]
 pub struct BadPadding;
 
 /// The number of bytes of padding after n bytes of text, from 1 to 16; each of them has this value.

@@ -3,7 +3,7 @@
 use uuid_core::Uuid;
 
 /// An element that a document must have.
-#[derive(Clone, Copy, Debug, PartialEq, Eq)]
+#[derive(Clone, Copy)]
 pub enum RequiredElement {
     /// The outermost element.
     KeePassFile,
@@ -17,7 +17,7 @@ pub enum RequiredElement {
 
 /// Why a text is no document. An offset is that of an element's `<`, in bytes from the start of the
 /// text.
-#[derive(Clone, Copy, Debug, PartialEq, Eq)]
+#[derive(Clone, Copy)]
 pub enum DocFail {
     /// The text leaves the grammar of markup: the length of its longest prefix that begins a text
     /// of the grammar.

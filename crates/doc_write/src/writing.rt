@@ -26,7 +26,7 @@ const NODES: u64 = 262_144;
 const BYTES: usize = 134_086_656;
 
 /// Why a document was not written.
-#[derive(Clone, Copy, Debug)]
+#[derive(Clone, Copy)]
 pub enum WriteFail {
     /// It has more than 262,144 groups, entries and history items: so many.
     TooMany(u64),

@@ -20,7 +20,7 @@ use uuid_core::Uuid;
 use vault_model::FileVersion;
 
 /// The cipher of a file's content.
-#[derive(Clone, Copy, Debug, PartialEq, Eq)]
+#[derive(Clone, Copy)]
 pub enum Cipher {
     /// AES-256 in CBC.
     Aes,

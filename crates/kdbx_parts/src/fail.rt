@@ -10,7 +10,7 @@ use uuid_core::Uuid;
 
 /// Why a header or the inner fields are refused: the first fault in the order of these variants,
 /// but for Truncated to Dictionary, of which the one that is first in the bytes comes.
-#[derive(Clone, Copy, Debug)]
+#[derive(Clone, Copy)]
 pub enum FrameFail {
     /// The file does not begin with the eight bytes of a KDBX file.
     NotKdbx,

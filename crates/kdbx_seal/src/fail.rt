@@ -7,7 +7,7 @@ use crate::SealPayloadFail;
 use doc_write::WriteFail;
 
 /// Why a document is not sealed.
-#[derive(Clone, Copy, Debug, PartialEq, Eq)]
+#[derive(Clone, Copy)]
 pub enum SealFail {
     /// It has more than 262,144 groups, entries and history items: so many.
     TooMany(u64),

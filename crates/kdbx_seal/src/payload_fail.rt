@@ -6,7 +6,7 @@ ghost use Rattle.kdbx_seal.specs.PayloadAnswers.{of_store};
 use outside_core::FileFail;
 
 /// Why a payload is not sealed.
-#[derive(Clone, Copy, Debug, PartialEq, Eq)]
+#[derive(Clone, Copy)]
 pub enum SealPayloadFail {
     /// The header, in version 4 with the 64 bytes after it, would end at this offset, past 65,536.
     TooLarge(u64),

@@ -20,7 +20,7 @@ const MIN_LANE_BYTES: u64 = 1024 * MIN_LANE_KIB as u64;
 const MAX_BYTES: u64 = 1024 * MAX_KIB as u64;
 
 /// A key derivation function with its costs, as a vault file names it.
-#[derive(Debug, Drop)]
+#[derive(Drop)]
 pub enum Kdf {
     /// AES-256 of both halves of the composite key, again and again.
     Aes {
@@ -45,7 +45,7 @@ pub enum Kdf {
 }
 
 /// A number of a key derivation function that has limits.
-#[derive(Clone, Copy, Debug, PartialEq, Eq)]
+#[derive(Clone, Copy)]
 pub enum KdfField {
     /// The rounds of AES, at most 4,294,967,296.
     Rounds,
@@ -60,7 +60,7 @@ pub enum KdfField {
 }
 
 /// Why a key is not derived.
-#[derive(Clone, Copy, Debug, PartialEq, Eq)]
+#[derive(Clone, Copy)]
 pub enum KdfFail {
     /// The number that the file gives for this field, which is out of its limits.
     KdfLimit(KdfField, u64),

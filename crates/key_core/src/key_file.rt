@@ -15,7 +15,7 @@ use std::alloc::Global;
 use text_core::trim;
 
 /// Why a key file gives no key.
-#[derive(Clone, Copy, Debug, PartialEq, Eq)]
+#[derive(Clone, Copy)]
 pub enum KeyFileFail {
     /// A key document lacks its version or its key (place 0), is of another version (the place of
     /// that element), or has a key or a hash that is not in its form (the place of the key's

@@ -1,7 +1,7 @@
 //! How the reading of blocks fails.
 
 /// Why a stream of blocks is refused.
-#[derive(Clone, Copy, Debug, PartialEq, Eq)]
+#[derive(Clone, Copy, PartialEq, Eq)]
 pub enum BlockFail {
     /// The file, or the text of hashed blocks, ends before its end block was read. The number is the
     /// offset after its last byte.

@@ -8,7 +8,7 @@ use uuid_core::Uuid;
 
 /// Why a file of Password Safe V3 is not imported: the first that holds, in the order of these
 /// variants. A place is one in the deciphered bytes.
-#[derive(Clone, Copy, Debug)]
+#[derive(Clone, Copy)]
 pub enum PsafeFail {
     /// The file does not begin with `PWS3`.
     NotPsafe,

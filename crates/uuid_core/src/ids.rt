@@ -84,9 +84,3 @@ impl fmt::Display for Uuid {
         fmt::Display::fmt(&uuid::Uuid::from_bytes(self.0), f)
     }
 }
-
-impl fmt::Debug for Uuid {
-    fn fmt<W: fmt::Write>(&self, f: &mut fmt::Formatter<W>) -> fmt::Result {
-        fmt::Display::fmt(self, f)
-    }
-}
