@@ -177,23 +177,36 @@ fn ids_under<'t>(children: &'t Table<IdList>, group: &Uuid) -> &'t [Uuid]
     }
 }
 
+/// The entries and the groups that are in each group, by rising id.
+#[derive(Clone, Copy)]
+struct Members<'t> {
+    entries: &'t Table<IdList>,
+    groups: &'t Table<IdList>,
+}
+
 /// A group's children, of those that are in each group: those that it had in the older document and
 /// still has, and then the newcomers by rising id.
 fn laid_children(
     alloc: Global,
     _laid: &Database,
     older: &Shape,
-    entries: &Table<IdList>,
-    groups: &Table<IdList>,
+    members: Members<'_>,
     group: &Uuid,
 ) -> Result<Children, NoMemory>
-    requires entries { AreUnder (database _laid.now) (table.keys _laid.now.entries) entries.now }
-    requires groups { AreUnder (database _laid.now) (table.keys _laid.now.groups) groups.now }
+    requires entries { AreUnder (database _laid.now) (table.keys _laid.now.entries)
+        members.entries.now }
+    requires groups { AreUnder (database _laid.now) (table.keys _laid.now.groups)
+        members.groups.now }
     ensures { IfOk result (λ s. s ≡ laid_children (database _laid.now) (shape older.now)
         group.now) }
 {
-    let ordered_entries = in_order(alloc, old_entries(older, group), ids_under(entries, group))?;
-    match in_order(alloc, old_groups(older, group), ids_under(groups, group)) {
+    let entries = old_entries(older, group);
+    let ordered_entries = in_order(alloc, entries, ids_under(members.entries, group))?;
+    match in_order(
+        alloc,
+        old_groups(older, group),
+        ids_under(members.groups, group),
+    ) {
         Ok(ordered_groups) => Ok(Children::new(ordered_entries, ordered_groups)),
         Err(fail) => {
             drop(ordered_entries);
@@ -415,19 +428,20 @@ fn fill_children(
     children: &mut Table<Children>,
     laid: &Database,
     older: &Shape,
-    entries: &Table<IdList>,
-    groups: &Table<IdList>,
+    members: Members<'_>,
     ids: &[Uuid],
 ) -> Result<(), NoMemory>
     requires none { children.old ≡ table.empty }
-    requires entries { AreUnder (database laid.now) (table.keys laid.now.entries) entries.now }
-    requires groups { AreUnder (database laid.now) (table.keys laid.now.groups) groups.now }
+    requires entries { AreUnder (database laid.now) (table.keys laid.now.entries)
+        members.entries.now }
+    requires groups { AreUnder (database laid.now) (table.keys laid.now.groups)
+        members.groups.now }
     requires ids { ids.now ≡ table.keys laid.now.groups }
     ensures { OnOk result (children.new ≡ tabulate (table.keys laid.now.groups)
         (λ g. Some (laid_children (database laid.now) (shape older.now) g))) }
 {
     for id in ids {
-        let siblings = laid_children(alloc, laid, older, entries, groups, id)?;
+        let siblings = laid_children(alloc, laid, older, members, id)?;
         put_some(children, *id, Some(siblings))?;
     }
     Ok(())
@@ -450,7 +464,11 @@ fn put_children_of(
         (λ g. Some (laid_children (database laid.now) (shape older.now) g))) }
 {
     let groups = by_parent(alloc, ids, &laid.places)?;
-    fill_children(alloc, children, laid, older, entries, &groups, ids)
+    let members = Members {
+        entries,
+        groups: &groups,
+    };
+    fill_children(alloc, children, laid, older, members, ids)
 }
 
 /// Puts the children of the groups of these ids as they are laid. A refusal means that memory ran
