@@ -1,4 +1,5 @@
 mod HeaderVectors
 mod HeaderVectors31
 pub mod Prefixes
+pub mod Required
 pub mod Versions

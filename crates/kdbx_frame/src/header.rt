@@ -1,14 +1,14 @@
 //! The header of a file.
 
-ghost use Rattle.std.specs.Prelude.{ℕ, List, ◌≡◌, ◌+◌, ◌≤◌, ◌<◌, ◌^◌, IfOk, Ok, length, take};
+ghost use Rattle.std.specs.Prelude.{ℕ, List, ◌≡◌, ◌+◌, ◌-◌, ◌≤◌, ◌<◌, ◌^◌, IfOk, Ok, length, take};
 ghost use Rattle.outside_core.specs.Results.{Returns};
 ghost use Rattle.kdbx_parts.specs.Results.{meaning_of};
 ghost use Rattle.kdbx_frame.specs.Fields.{header_limit};
 ghost use Rattle.kdbx_frame.specs.Header.{check_hash, check_sums, header_at, header_of, sums_len, version_and_rest, version_of, with_size};
-ghost use Rattle.kdbx_frame.specs.Seen.{checked_header_seen};
-ghost use Rattle.kdbx_frame.specs.Settings.{IsInOrder};
+ghost use Rattle.kdbx_frame.specs.Seen.{HasSmall, checked_header_seen, header_fields_seen};
+ghost use Rattle.kdbx_frame.specs.Settings.{IsInOrder, checked_header};
 
-use crate::fields::fields_from;
+use crate::fields::{HeaderFields, fields_from};
 use crate::settings::{CheckedHeader, Settings, checked_header};
 use kdbx_parts::{FrameFail, array_of, out_of_bounds, same, split_bytes, u32_of};
 use outside_core::Bytes;
@@ -149,6 +149,51 @@ fn with_size(checked: CheckedHeader, size: usize) -> Header
     }
 }
 
+// The length of a header, by what is left after its fields. What must follow the header is checked.
+fn checked_len(
+    version: FileVersion,
+    size: u64,
+    text: &[u8],
+    rest: &[u8],
+) -> Result<usize, FrameFail>
+    requires limit { length text.now ≤ header_limit }
+    requires shorter { length rest.now ≤ length text.now }
+    ensures gives { Returns meaning_of (λ _. tt) result
+        (check_sums version size (take (length text.now - length rest.now) text.now) rest.now) }
+    ensures len { IfOk result (λ len. len ≡ length text.now - length rest.now) }
+    ensures within { IfOk result (λ len. len + sums_len version ≤ length text.now) }
+{
+    let len = text.len() - rest.len();
+    check_sums(version, size, &text[..len], rest)?;
+    Ok(len)
+}
+
+// The header of a version that its fields give, with its size.
+fn sized_header(
+    alloc: Global,
+    version: FileVersion,
+    found: HeaderFields,
+    size: usize,
+) -> Result<Header, FrameFail>
+    requires { HasSmall found.public }
+    ensures gives { Returns meaning_of (λ h. record {
+      settings = h.settings;
+      seed = h.seed;
+      iv = h.iv;
+      stream_id = h.stream_id;
+      stream_key = h.stream_key;
+      start = h.start;
+    }) result (checked_header version (header_fields_seen found.entry)) }
+    ensures in_order { IfOk result (λ h. IsInOrder h.settings) }
+    ensures version { IfOk result (λ h. h.settings.version ≡ version) }
+    ensures size { IfOk result (λ h. h.size ≡ size) }
+{
+    match checked_header(alloc, version, found) {
+        Ok(checked) => Ok(with_size(checked, size)),
+        Err(fail) => Err(fail),
+    }
+}
+
 // The header at the start of these bytes, with which a file of this size begins.
 #[tactic(auto, unfolding(crate::specs::Header::header_at))]
 fn header_at(alloc: Global, size: u64, text: &[u8]) -> Result<Header, FrameFail>
@@ -158,11 +203,13 @@ fn header_at(alloc: Global, size: u64, text: &[u8]) -> Result<Header, FrameFail>
     ensures within { IfOk result (λ h. h.size + sums_len h.settings.version ≤ length text.now) }
 {
     let (version, rest) = version_and_rest(size, text)?;
-    let read = fields_from(version, size, text.len(), rest)?;
-    let len = text.len() - read.rest.len();
-    check_sums(version, size, &text[..len], read.rest)?;
-    let checked = checked_header(alloc, version, read.found)?;
-    Ok(with_size(checked, len))
+    match fields_from(version, size, text.len(), rest) {
+        Ok(read) => {
+            let len = checked_len(version, size, text, read.rest)?;
+            sized_header(alloc, version, read.found, len)
+        }
+        Err(fail) => Err(fail),
+    }
 }
 
 // The bytes of a file that its header may reach into.

@@ -261,12 +261,12 @@ fn settings_and_iv_31(
 fn checked_header_4(
     alloc: Global,
     version: FileVersion,
-    found: HeaderFields,
+    found: &HeaderFields,
 ) -> Result<CheckedHeader, FrameFail>
     requires version { IsVersion4 version }
-    requires public { HasSmall found.public }
+    requires public { HasSmall found.now.public }
     ensures gives { Returns meaning_of checked_header_seen result
-        (checked_header_4 version (header_fields_seen found.entry)) }
+        (checked_header_4 version (header_fields_seen found.now)) }
     ensures in_order { IfOk result (λ h. IsInOrder h.settings) }
     ensures version { IfOk result (λ h. h.settings.version ≡ version) }
 {
@@ -275,35 +275,43 @@ fn checked_header_4(
     let seed = required(4, found.seed)?;
     let iv = required(7, found.iv)?;
     let described = required(11, found.kdf)?;
-    let (settings, iv) = settings_and_iv(alloc, version, id, flag, iv, described, found.public)?;
-    Ok(CheckedHeader {
-        settings,
-        seed,
-        iv,
-        stream_id: 0,
-        stream_key: Bytes::new(alloc),
-        start: [0; 32],
-    })
+    match settings_and_iv(alloc, version, id, flag, iv, described, found.public) {
+        Ok(given) => {
+            let (settings, iv) = given;
+            Ok(CheckedHeader {
+                settings,
+                seed,
+                iv,
+                stream_id: 0,
+                stream_key: Bytes::new(alloc),
+                start: [0; 32],
+            })
+        }
+        Err(fail) => Err(fail),
+    }
 }
 
-// What the fields of a header of version 3.1 give.
-#[tactic(auto, unfolding(crate::specs::Settings::checked_header_31))]
-fn checked_header_31(alloc: Global, found: HeaderFields) -> Result<CheckedHeader, FrameFail>
-    ensures gives { Returns meaning_of checked_header_seen result
-        (checked_header_31 (header_fields_seen found.entry)) }
-    ensures in_order { IfOk result (λ h. IsInOrder h.settings) }
-    ensures version { IfOk result (λ h. h.settings.version ≡ V31) }
+// A header of version 3.1 of these settings and this IV, with the key of its inner stream in memory
+// of its own.
+fn header_31(
+    alloc: Global,
+    given: (Settings, [u8; 16]),
+    seed: [u8; 32],
+    stream_key: &[u8],
+    start: [u8; 32],
+    stream_id: u32,
+) -> Result<CheckedHeader, FrameFail>
+    ensures gives { Returns meaning_of checked_header_seen result (Ok (record {
+      settings = given.0;
+      seed = seed;
+      iv = given.1;
+      stream_id = stream_id;
+      stream_key = stream_key.now;
+      start = start;
+    })) }
+    ensures settings { IfOk result (λ h. h.settings ≡ given.0) }
 {
-    let id = required(2, found.cipher)?;
-    let flag = required(3, found.compression)?;
-    let seed = required(4, found.seed)?;
-    let kdf_seed = required(5, found.kdf_seed)?;
-    let rounds = required(6, found.rounds)?;
-    let iv = required(7, found.iv)?;
-    let stream_key = required(8, found.stream_key)?;
-    let start = required(9, found.start)?;
-    let stream_id = required(10, found.stream_id)?;
-    let (settings, iv) = settings_and_iv_31(id, flag, iv, rounds, kdf_seed)?;
+    let (settings, iv) = given;
     match copy_of(alloc, stream_key) {
         Ok(stream_key) => Ok(CheckedHeader {
             settings,
@@ -317,6 +325,29 @@ fn checked_header_31(alloc: Global, found: HeaderFields) -> Result<CheckedHeader
             drop(settings);
             Err(fail)
         }
+    }
+}
+
+// What the fields of a header of version 3.1 give.
+#[tactic(auto, unfolding(crate::specs::Settings::checked_header_31))]
+fn checked_header_31(alloc: Global, found: &HeaderFields) -> Result<CheckedHeader, FrameFail>
+    ensures gives { Returns meaning_of checked_header_seen result
+        (checked_header_31 (header_fields_seen found.now)) }
+    ensures in_order { IfOk result (λ h. IsInOrder h.settings) }
+    ensures version { IfOk result (λ h. h.settings.version ≡ V31) }
+{
+    let id = required(2, found.cipher)?;
+    let flag = required(3, found.compression)?;
+    let seed = required(4, found.seed)?;
+    let kdf_seed = required(5, found.kdf_seed)?;
+    let rounds = required(6, found.rounds)?;
+    let iv = required(7, found.iv)?;
+    let stream_key = required(8, found.stream_key)?;
+    let start = required(9, found.start)?;
+    let stream_id = required(10, found.stream_id)?;
+    match settings_and_iv_31(id, flag, iv, rounds, kdf_seed) {
+        Ok(given) => header_31(alloc, given, seed, stream_key, start, stream_id),
+        Err(fail) => Err(fail),
     }
 }
 
@@ -334,7 +365,7 @@ pub fn checked_header(
     ensures version { IfOk result (λ h. h.settings.version ≡ version) }
 {
     match version {
-        FileVersion::V31 => checked_header_31(alloc, found),
-        FileVersion::V40 | FileVersion::V41 => checked_header_4(alloc, version, found),
+        FileVersion::V31 => checked_header_31(alloc, &found),
+        FileVersion::V40 | FileVersion::V41 => checked_header_4(alloc, version, &found),
     }
 }
