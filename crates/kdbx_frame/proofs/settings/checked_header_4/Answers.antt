@@ -1,7 +1,7 @@
 -- The first field that is missing is the refusal of the whole.
 use Rattle.std.proofs.lemmas.Result.{err_from_is_err_and}
 use Rattle.outside_core.proofs.Results.{fails_after, fails_at_first}
-use Rattle.kdbx_dictionary.specs.Seen.{description_seen}
+use Rattle.kdbx_parts.specs.SeenDictionary.{description_seen}
 use Rattle.kdbx_frame.specs.Settings.{checked_header_4}
 use Rattle.kdbx_frame.proofs.Required.{required_seen, required_unseen}
 use Rattle.kdbx_frame.proofs.settings.checked_header_4.Goals as goal
