@@ -14,7 +14,7 @@ _keepass() {
     'export -f' | 'export --format') COMPREPLY=($(compgen -W 'xml csv' -- "$word")); return ;;
   esac
   case $before in
-    --key-file | --key-file-from | --set-key-file | -k) compopt -o filenames; COMPREPLY=($(compgen -f -- "$word")); return ;;
+    --key-file | --key-file-from | --set-key-file | -k) compopt -o filenames; mapfile -t COMPREPLY < <(compgen -f -- "$word"); return ;;
     --attributes | --notes | --title | --url | --username | -a | -t | -u) return ;;
   esac
   case $command in
