@@ -8,7 +8,8 @@ import_refusals() {
   cp "$1"/key-1.key .
   rm -f OUT
   calls "$importing/rows" "$1"
-  ! ls OUT OUT.part >report.txt 2>&1
+  ls OUT OUT.part >report.txt 2>/dev/null
+  [ ! -s report.txt ]
   judged 'a refused import leaves no file' $?
   for name in table.csv bad.csv bad.keyx; do rm -f "$name"; done
 }

@@ -31,10 +31,12 @@ sealed() {
   done
 }
 
-# sealed_old CIPHER: the document is sealed as KDBX 3.1, and every program finds it in the file. pykeepass and File::KDBX do not read hidden
+# sealed_old CIPHER: the document is sealed as KDBX 3.1 and listed, and every program finds it in the file. pykeepass and File::KDBX do not read hidden
 # attachments of such a file, so they are given the document with open ones, and File::KDBX one in which every time is set too.
 sealed_old() {
   local all=("${others[@]}") other
+  others=()
+  sealed 3.1 "$1" aes/1000 "$sealing/document.xml"
   sed 's/ ProtectInMemory="True">\([^<]*<\/Binary>\)/>\1/' "$sealing/document.xml" >open.xml
   "$sealing/timed" open.xml >timed.xml
   for other in "${all[@]}"; do

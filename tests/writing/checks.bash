@@ -66,7 +66,7 @@ at_the_limits() {
   local number task wanted name got
   rm -rf limits
   mkdir limits
-  "$top/tests/writing/make" limits
+  "$top/tests/writing/make" limits || failed=$((failed + 1))
   while IFS=$'\t' read -r number task wanted name; do
     "$writer" write "$task" "limits/$number.xml" >out.txt 2>err.txt </dev/null
     got=$?
