@@ -2,7 +2,6 @@
 //! hashed blocks of a KDBX 3.1 file.
 #![tactic(auto)]
 
-pub use contents::read_contents;
 pub use fail::BlockFail;
 pub use hashed::{hashed_head, join_hashed};
 pub use hmac::Hmac256;
@@ -10,7 +9,6 @@ pub use reader::BlockReader;
 pub use running_mac::block_key;
 pub use writer::BlockWriter;
 
-mod contents;
 mod fail;
 mod hashed;
 mod head;

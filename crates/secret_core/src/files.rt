@@ -46,9 +46,20 @@ impl From<NoMemory> for ReadFail {
     }
 }
 
-// Reads a file from its start into `out`, until `out` is full or the file ends. Gives the number of
-// bytes read.
-fn fill<F: FileStore>(files: &mut F, name: &str, out: &mut [u8]) -> Result<usize, FileFail>
+/// Reads a prefix of a file into `out`: as many of its first bytes as `out` is long, or all of them
+/// where the file ends before. Returns how many they are.
+///
+/// At most 65,536 bytes are asked for at a time. The store's files and its draft stay as they were,
+/// whatever the answer.
+///
+/// # Errors
+///
+/// Those of [`FileStore::read_at`].
+pub fn read_prefix<F: FileStore>(
+    files: &mut F,
+    name: &str,
+    out: &mut [u8],
+) -> Result<usize, FileFail>
     ensures bound { IfOk result (λ n. n ≤ length out.new) }
     ensures told { (m : FileMap) (bytes : List ℕ) → F.files files.old ≡ Some m
         → map.get m name.now ≡ Some bytes
@@ -90,7 +101,7 @@ fn fill_secret<F: FileStore>(files: &mut F, name: &str, secret: &mut Secret) -> 
     ensures absences { HasCause FileFail.NoSuchFile (F.absences files.old) (F.absences files.new)
         result }
 {
-    let read = fill(files, name, &mut secret.kept.buffer)?;
+    let read = read_prefix(files, name, &mut secret.kept.buffer)?;
     secret.kept.cut(read);
     Ok(())
 }

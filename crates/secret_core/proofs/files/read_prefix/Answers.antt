@@ -1,6 +1,6 @@
 use Rattle.std.proofs.Common.{◌≡◌, length, take, ◌+◌, ◌-◌, ◌∙◌, ap, arith, min}
 use Rattle.secret_core.proofs.Windows.{lent_part, window_told, window_read, window_empty}
-use Rattle.secret_core.proofs.files.fill.Goals as goal
+use Rattle.secret_core.proofs.files.read_prefix.Goals as goal
 
 pub loop-at-preserved : goal.loop-at-preserved
 loop-at-preserved g c =

@@ -1,7 +1,7 @@
 use Rattle.std.proofs.Common.{length, ◌-◌, ◌≡◌, ◌≤◌, List, Some, take, ℕ}
 use Rattle.std.specs.FinMap as map
 use Rattle.outside_core.specs.Files.{FileMap}
-use Rattle.secret_core.proofs.files.fill.Given as goal
+use Rattle.secret_core.proofs.files.read_prefix.Given as goal
 
 -- What was read so far is the front of the file, and the store is as it was but for its counts.
 abbrev pub invariant-loop-at : goal.invariant-loop-at
