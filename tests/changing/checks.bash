@@ -319,6 +319,7 @@ changed_files() {
     on_a_full_disk 'sealed: a full disk' large.kdbx 5m edit -u me disk/FILE Title
     many_times 'sealed: killed' "$changing/killed" "$program" large.kdbx "$secret" 100
     many_times 'versions of files of KDBX 3.1' "$with_pykeepass" "$changing/versions" "$program" $(command -v keepassxc-cli >/dev/null && echo keepassxc)
+    many_times 'orders to change the key' "$with_pykeepass" "$changing/ordered" "$program" "$1"
   fi
   cp "$1/keepassxc-saved-by-pykeepass.kdbx" FILE
   many_times 'sealed: two at once' "$changing/together" "$program" FILE "$secret" 20

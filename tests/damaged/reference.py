@@ -365,8 +365,8 @@ META |= {name: last(time) for name in ("SettingsChanged", "DatabaseNameChanged",
                                        "EntryTemplatesGroupChanged")}
 META |= {name: last(uuid) for name in ("RecycleBinUUID", "EntryTemplatesGroup", "LastSelectedGroup", "LastTopVisibleGroup")}
 META |= {"HeaderHash": last(sized(32)), "MaintenanceHistoryDays": last(u32), "MasterKeyChangeRec": last(i64),
-         "MasterKeyChangeForce": last(i64), "MemoryProtection": last(PROTECTION), "RecycleBinEnabled": last(boolean),
-         "CustomIcons": last({"Icon": many(ICON)}),
+         "MasterKeyChangeForce": last(i64), "MasterKeyChangeForceOnce": last(boolean), "MemoryProtection": last(PROTECTION),
+         "RecycleBinEnabled": last(boolean), "CustomIcons": last({"Icon": many(ICON)}),
          "HistoryMaxItems": last(i32), "HistoryMaxSize": last(i64), "Binaries": last({"Binary": many("pooled")}),
          "CustomData": last(CUSTOM_DATA)}
 TOMBS = {"DeletedObject": many({"UUID": last(uuid), "DeletionTime": last(time)})}

@@ -20,7 +20,7 @@ TIMED = {"DatabaseNameChanged": ("DatabaseName",), "DatabaseDescriptionChanged":
          "DefaultUserNameChanged": ("DefaultUserName",), "RecycleBinChanged": ("RecycleBinEnabled", "RecycleBinUUID"),
          "EntryTemplatesGroupChanged": ("EntryTemplatesGroup",),
          "SettingsChanged": ("Color", "MaintenanceHistoryDays", "MasterKeyChangeRec", "MasterKeyChangeForce", "MemoryProtection",
-                             "HistoryMaxItems", "HistoryMaxSize")}
+                             "HistoryMaxItems", "HistoryMaxSize", "MasterKeyChangeForceOnce")}
 PROTECTED = ("ProtectTitle", "ProtectUserName", "ProtectPassword", "ProtectURL", "ProtectNotes")
 
 

@@ -316,7 +316,8 @@ class Writer:
         self.value("Generator", "vaultmerge")
         if self.header_hash is not None:
             self.value("HeaderHash", self.header_hash)
-        self.value("SettingsChanged", Time(meta["SettingsChanged"]))
+        if self.header_hash is None or meta["SettingsChanged"]:
+            self.value("SettingsChanged", Time(meta["SettingsChanged"]))
         for name in ("DatabaseName", "DatabaseDescription", "DefaultUserName"):
             self.text_value(name, meta[name])
             self.value(name + "Changed", Time(meta[name + "Changed"]))
@@ -325,6 +326,8 @@ class Writer:
         self.value("MasterKeyChanged", Time(meta["MasterKeyChanged"]))
         self.value("MasterKeyChangeRec", meta["MasterKeyChangeRec"])
         self.value("MasterKeyChangeForce", meta["MasterKeyChangeForce"])
+        if meta["MasterKeyChangeForceOnce"]:
+            self.value("MasterKeyChangeForceOnce", True)
         self.values("MemoryProtection", **{name: meta["MemoryProtection"][name] for name in rules.PROTECTION})
         self.icons(meta["CustomIcons"]["Icon"])
         for name, is_time in (("RecycleBinEnabled", 0), ("RecycleBinUUID", 0), ("RecycleBinChanged", 1), ("EntryTemplatesGroup", 0),

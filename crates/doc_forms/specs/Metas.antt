@@ -181,6 +181,11 @@ meta_rows s =
           p),
     )
     ∷ (
+      codes "MasterKeyChangeForceOnce",
+      value s (value_or false boolean)
+          (λ p v. with_settings (λ m. record m { key_force_once = v }) p),
+    )
+    ∷ (
       codes "MemoryProtection",
       container s (protection_rows s) new_protection
           (λ p v. with_settings (λ m. record m { protect = v }) p),

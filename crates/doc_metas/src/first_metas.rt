@@ -38,6 +38,7 @@ fn first_settings(alloc: Global) -> MetaSettings
         protect: password_alone(),
         history_items: 10,
         history_size: 6_291_456,
+        key_force_once: false,
     }
 }
 

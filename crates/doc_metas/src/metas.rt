@@ -14,7 +14,8 @@ use crate::icons::icons;
 use crate::protections::protection;
 use doc_forms::{DocFail, MetaBuilder};
 use doc_values::{
-    HashOrNone, IdValue, Number32, Signed32, Signed64, TextValue, TimeValue, TrueUnlessFalse,
+    FalseUnlessTrue, HashOrNone, IdValue, Number32, Signed32, Signed64, TextValue, TimeValue,
+    TrueUnlessFalse,
 };
 use doc_walk::{Parts, Tag, Walk, custom_data, read_whole};
 use std::mem;
@@ -57,7 +58,7 @@ fn last_child(known: &mut MetaBuilder, walk: &mut Walk<'_>, tag: &Tag<'_>) -> Re
 /// custom items.
 fn limit_child(known: &mut MetaBuilder, walk: &mut Walk<'_>, tag: &Tag<'_>) -> Result<(), DocFail>
     ensures { Steps (λ _. meta_parts known.new) walk.old walk.new result
-        (child_step (λ s. by_name s (drop 23 (spec.meta_rows s))) (meta_parts known.old) tag.now) }
+        (child_step (λ s. by_name s (drop 24 (spec.meta_rows s))) (meta_parts known.old) tag.now) }
 {
     match tag.name {
         "HistoryMaxItems" => walk.keep::<Signed32<10>>(
@@ -77,7 +78,7 @@ fn limit_child(known: &mut MetaBuilder, walk: &mut Walk<'_>, tag: &Tag<'_>) -> R
 /// templates, and the view.
 fn bin_child(known: &mut MetaBuilder, walk: &mut Walk<'_>, tag: &Tag<'_>) -> Result<(), DocFail>
     ensures { Steps (λ _. meta_parts known.new) walk.old walk.new result
-        (child_step (λ s. by_name s (drop 16 (spec.meta_rows s))) (meta_parts known.old) tag.now) }
+        (child_step (λ s. by_name s (drop 17 (spec.meta_rows s))) (meta_parts known.old) tag.now) }
 {
     match tag.name {
         "RecycleBinEnabled" => walk.keep::<TrueUnlessFalse>(tag, &mut known.meta.bin.value.enabled),
@@ -113,6 +114,10 @@ fn setting_child(known: &mut MetaBuilder, walk: &mut Walk<'_>, tag: &Tag<'_>) ->
         "MasterKeyChangeForce" => walk.keep::<Signed64<NO_LIMIT>>(
             tag,
             &mut known.meta.settings.value.key_force,
+        ),
+        "MasterKeyChangeForceOnce" => walk.keep::<FalseUnlessTrue>(
+            tag,
+            &mut known.meta.settings.value.key_force_once,
         ),
         "MemoryProtection" => protection(walk, tag, &mut known.meta.settings.value.protect),
         "CustomIcons" => icons(walk, tag, &mut known.meta.icons),

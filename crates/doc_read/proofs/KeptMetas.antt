@@ -89,6 +89,7 @@ all_rows_kept s =
     & any_row KeptMeta s _ _ (λ p v g. g)
     & any_row KeptMeta s _ _ (λ p v g. g)
     & any_row KeptMeta s _ _ (λ p v g. g)
+    & any_row KeptMeta s _ _ (λ p v g. g)
     & any_container KeptMeta s (protection_rows s) new_protection _ (λ p v g. g)
     & container_keeps KeptMeta KeptIcons s (icons_rows s) [] _ (icons_kept s) (refl, refl) (λ p v g u. assumption (u, g))
     & any_row KeptMeta s _ _ (λ p v g. g)

@@ -187,7 +187,7 @@ binaries_rows_sound V4 s = tt
 meta_rows_sound : (s : Setting) → AreSound (meta_rows s)
 meta_rows_sound s =
     value_sound s _ _ & value_sound s _ _ & value_sound s _ _ & value_sound s _ _ & value_sound s _ _ & value_sound s _ _ & value_sound s _ _
-    & value_sound s _ _ & value_sound s _ _ & value_sound s _ _ & value_sound s _ _ & value_sound s _ _ & value_sound s _ _ & value_sound s _ _
+    & value_sound s _ _ & value_sound s _ _ & value_sound s _ _ & value_sound s _ _ & value_sound s _ _ & value_sound s _ _ & value_sound s _ _ & value_sound s _ _
     & container_sound s (protection_rows s) new_protection _ (protection_rows_sound s)
     & container_sound s (icons_rows s) [] _ (icons_rows_sound s)
     & value_sound s _ _ & value_sound s _ _ & value_sound s _ _ & value_sound s _ _ & value_sound s _ _ & value_sound s _ _ & value_sound s _ _ & value_sound s _ _ & value_sound s _ _

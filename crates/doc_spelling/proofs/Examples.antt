@@ -137,8 +137,8 @@ rich_doc = record {
   meta = rich_meta;
 }
 
--- 5,725 bytes, with the SHA-256 bafc99f2469f6c972ba0c68d28ac68f06988869fb3b8256b9692d9bbcca178d5
-text_in_3 : spelled_document V3 NoKeystream (Some (replicate 32 0)) rich_doc ≡ codes "<?xml version=\"1.0\" encoding=\"utf-8\"?>\n<KeePassFile><Meta><Generator>vaultmerge</Generator><HeaderHash>AAAAAAAAAAAAAAAAAAAAAAAAAAAAAAAAAAAAAAAAAAA=</HeaderHash><SettingsChanged>0001-01-01T00:00:00Z</SettingsChanged><DatabaseName>Rich</DatabaseName><DatabaseNameChanged>2020-01-02T03:04:05Z</DatabaseNameChanged><DatabaseDescription></DatabaseDescription><DatabaseDescriptionChanged>0001-01-01T00:00:00Z</DatabaseDescriptionChanged><DefaultUserName></DefaultUserName><DefaultUserNameChanged>0001-01-01T00:00:00Z</DefaultUserNameChanged><MaintenanceHistoryDays>365</MaintenanceHistoryDays><Color></Color><MasterKeyChanged>0001-01-01T00:00:00Z</MasterKeyChanged><MasterKeyChangeRec>-1</MasterKeyChangeRec><MasterKeyChangeForce>-1</MasterKeyChangeForce><MemoryProtection><ProtectTitle>False</ProtectTitle><ProtectUserName>False</ProtectUserName><ProtectPassword>True</ProtectPassword><ProtectURL>False</ProtectURL><ProtectNotes>False</ProtectNotes></MemoryProtection><CustomIcons><Icon><UUID>CQkJCQkJCQkJCQkJCQkJCQ==</UUID><Data>iVBORw==</Data><Name>Star &amp; Co</Name><LastModificationTime>2021-02-03T04:05:06Z</LastModificationTime></Icon></CustomIcons><RecycleBinEnabled>False</RecycleBinEnabled><RecycleBinUUID>AAAAAAAAAAAAAAAAAAAAAA==</RecycleBinUUID><RecycleBinChanged>0001-01-01T00:00:00Z</RecycleBinChanged><EntryTemplatesGroup>AAAAAAAAAAAAAAAAAAAAAA==</EntryTemplatesGroup><EntryTemplatesGroupChanged>0001-01-01T00:00:00Z</EntryTemplatesGroupChanged><LastSelectedGroup>AAAAAAAAAAAAAAAAAAAAAA==</LastSelectedGroup><LastTopVisibleGroup>AAAAAAAAAAAAAAAAAAAAAA==</LastTopVisibleGroup><HistoryMaxItems>10</HistoryMaxItems><HistoryMaxSize>6291456</HistoryMaxSize><Binaries><Binary ID=\"0\">YWJj</Binary><Binary ID=\"1\" Protected=\"True\">c2VjcmV0</Binary></Binaries><CustomData><Item><Key>k</Key><Value>v</Value><LastModificationTime>2022-03-04T05:06:07Z</LastModificationTime></Item></CustomData></Meta><Root><Group><UUID>AQEBAQEBAQEBAQEBAQEBAQ==</UUID><Name>Root</Name><Notes></Notes><Tags>one;two</Tags><IconID>48</IconID><CustomIconUUID>CQkJCQkJCQkJCQkJCQkJCQ==</CustomIconUUID><Times><LastModificationTime>0001-01-01T00:00:00Z</LastModificationTime><CreationTime>0001-01-01T00:00:00Z</CreationTime><LastAccessTime>0001-01-01T00:00:00Z</LastAccessTime><ExpiryTime>0001-01-01T00:00:00Z</ExpiryTime><Expires>False</Expires><UsageCount>0</UsageCount><LocationChanged>0001-01-01T00:00:00Z</LocationChanged></Times><IsExpanded>True</IsExpanded><DefaultAutoTypeSequence></DefaultAutoTypeSequence><EnableAutoType>null</EnableAutoType><EnableSearching>null</EnableSearching><LastTopVisibleEntry>AAAAAAAAAAAAAAAAAAAAAA==</LastTopVisibleEntry><Entry><UUID>AgICAgICAgICAgICAgICAg==</UUID><IconID>0</IconID><CustomIconUUID>CQkJCQkJCQkJCQkJCQkJCQ==</CustomIconUUID><ForegroundColor></ForegroundColor><BackgroundColor></BackgroundColor><OverrideURL></OverrideURL><Tags>a;b</Tags><QualityCheck>False</QualityCheck><PreviousParentGroup>BAQEBAQEBAQEBAQEBAQEBA==</PreviousParentGroup><Times><LastModificationTime>2023-04-05T06:07:08Z</LastModificationTime><CreationTime>0001-01-01T00:00:00Z</CreationTime><LastAccessTime>0001-01-01T00:00:00Z</LastAccessTime><ExpiryTime>0001-01-01T00:00:00Z</ExpiryTime><Expires>False</Expires><UsageCount>0</UsageCount><LocationChanged>2023-04-05T06:07:09Z</LocationChanged></Times><String><Key>Password</Key><Value Protected=\"True\">c8OpY3JldA==</Value></String><String><Key>Title</Key><Value>Bank &lt;1&gt;</Value></String><Binary><Key>a.txt</Key><Value Ref=\"0\"></Value></Binary><Binary><Key>b.txt</Key><Value Ref=\"1\"></Value></Binary><AutoType><Enabled>False</Enabled><DataTransferObfuscation>0</DataTransferObfuscation><DefaultSequence></DefaultSequence><Association><Window>w*</Window><KeystrokeSequence>{TAB}</KeystrokeSequence></Association></AutoType><CustomData><Item><Key>x</Key><Value>y</Value><LastModificationTime>2024-05-06T07:08:09Z</LastModificationTime></Item></CustomData><History><Entry><UUID>AgICAgICAgICAgICAgICAg==</UUID><IconID>0</IconID><ForegroundColor></ForegroundColor><BackgroundColor></BackgroundColor><OverrideURL></OverrideURL><Tags></Tags><PreviousParentGroup>BAQEBAQEBAQEBAQEBAQEBA==</PreviousParentGroup><Times><LastModificationTime>2022-04-05T06:07:08Z</LastModificationTime><CreationTime>0001-01-01T00:00:00Z</CreationTime><LastAccessTime>0001-01-01T00:00:00Z</LastAccessTime><ExpiryTime>0001-01-01T00:00:00Z</ExpiryTime><Expires>False</Expires><UsageCount>0</UsageCount><LocationChanged>2023-04-05T06:07:09Z</LocationChanged></Times><String><Key>Password</Key><Value Protected=\"True\">b2xk</Value></String><String><Key>Title</Key><Value>Old</Value></String><Binary><Key>a.txt</Key><Value Ref=\"1\"></Value></Binary><AutoType><Enabled>True</Enabled><DataTransferObfuscation>0</DataTransferObfuscation><DefaultSequence></DefaultSequence></AutoType></Entry></History></Entry><Group><UUID>BAQEBAQEBAQEBAQEBAQEBA==</UUID><Name>Work</Name><Notes></Notes><IconID>48</IconID><Times><LastModificationTime>0001-01-01T00:00:00Z</LastModificationTime><CreationTime>0001-01-01T00:00:00Z</CreationTime><LastAccessTime>0001-01-01T00:00:00Z</LastAccessTime><ExpiryTime>0001-01-01T00:00:00Z</ExpiryTime><Expires>False</Expires><UsageCount>0</UsageCount><LocationChanged>0001-01-01T00:00:00Z</LocationChanged></Times><IsExpanded>True</IsExpanded><DefaultAutoTypeSequence></DefaultAutoTypeSequence><EnableAutoType>null</EnableAutoType><EnableSearching>False</EnableSearching><LastTopVisibleEntry>AAAAAAAAAAAAAAAAAAAAAA==</LastTopVisibleEntry><PreviousParentGroup>AQEBAQEBAQEBAQEBAQEBAQ==</PreviousParentGroup></Group></Group><DeletedObjects><DeletedObject><UUID>CAgICAgICAgICAgICAgICA==</UUID><DeletionTime>2019-01-01T00:00:00Z</DeletionTime></DeletedObject></DeletedObjects></Root></KeePassFile>"
+-- 5,670 bytes, with the SHA-256 55cbe1e38c25665198721dae474934eac110a4664a6ad14b8bf4a57faefd0199
+text_in_3 : spelled_document V3 NoKeystream (Some (replicate 32 0)) rich_doc ≡ codes "<?xml version=\"1.0\" encoding=\"utf-8\"?>\n<KeePassFile><Meta><Generator>vaultmerge</Generator><HeaderHash>AAAAAAAAAAAAAAAAAAAAAAAAAAAAAAAAAAAAAAAAAAA=</HeaderHash><DatabaseName>Rich</DatabaseName><DatabaseNameChanged>2020-01-02T03:04:05Z</DatabaseNameChanged><DatabaseDescription></DatabaseDescription><DatabaseDescriptionChanged>0001-01-01T00:00:00Z</DatabaseDescriptionChanged><DefaultUserName></DefaultUserName><DefaultUserNameChanged>0001-01-01T00:00:00Z</DefaultUserNameChanged><MaintenanceHistoryDays>365</MaintenanceHistoryDays><Color></Color><MasterKeyChanged>0001-01-01T00:00:00Z</MasterKeyChanged><MasterKeyChangeRec>-1</MasterKeyChangeRec><MasterKeyChangeForce>-1</MasterKeyChangeForce><MemoryProtection><ProtectTitle>False</ProtectTitle><ProtectUserName>False</ProtectUserName><ProtectPassword>True</ProtectPassword><ProtectURL>False</ProtectURL><ProtectNotes>False</ProtectNotes></MemoryProtection><CustomIcons><Icon><UUID>CQkJCQkJCQkJCQkJCQkJCQ==</UUID><Data>iVBORw==</Data><Name>Star &amp; Co</Name><LastModificationTime>2021-02-03T04:05:06Z</LastModificationTime></Icon></CustomIcons><RecycleBinEnabled>False</RecycleBinEnabled><RecycleBinUUID>AAAAAAAAAAAAAAAAAAAAAA==</RecycleBinUUID><RecycleBinChanged>0001-01-01T00:00:00Z</RecycleBinChanged><EntryTemplatesGroup>AAAAAAAAAAAAAAAAAAAAAA==</EntryTemplatesGroup><EntryTemplatesGroupChanged>0001-01-01T00:00:00Z</EntryTemplatesGroupChanged><LastSelectedGroup>AAAAAAAAAAAAAAAAAAAAAA==</LastSelectedGroup><LastTopVisibleGroup>AAAAAAAAAAAAAAAAAAAAAA==</LastTopVisibleGroup><HistoryMaxItems>10</HistoryMaxItems><HistoryMaxSize>6291456</HistoryMaxSize><Binaries><Binary ID=\"0\">YWJj</Binary><Binary ID=\"1\" Protected=\"True\">c2VjcmV0</Binary></Binaries><CustomData><Item><Key>k</Key><Value>v</Value><LastModificationTime>2022-03-04T05:06:07Z</LastModificationTime></Item></CustomData></Meta><Root><Group><UUID>AQEBAQEBAQEBAQEBAQEBAQ==</UUID><Name>Root</Name><Notes></Notes><Tags>one;two</Tags><IconID>48</IconID><CustomIconUUID>CQkJCQkJCQkJCQkJCQkJCQ==</CustomIconUUID><Times><LastModificationTime>0001-01-01T00:00:00Z</LastModificationTime><CreationTime>0001-01-01T00:00:00Z</CreationTime><LastAccessTime>0001-01-01T00:00:00Z</LastAccessTime><ExpiryTime>0001-01-01T00:00:00Z</ExpiryTime><Expires>False</Expires><UsageCount>0</UsageCount><LocationChanged>0001-01-01T00:00:00Z</LocationChanged></Times><IsExpanded>True</IsExpanded><DefaultAutoTypeSequence></DefaultAutoTypeSequence><EnableAutoType>null</EnableAutoType><EnableSearching>null</EnableSearching><LastTopVisibleEntry>AAAAAAAAAAAAAAAAAAAAAA==</LastTopVisibleEntry><Entry><UUID>AgICAgICAgICAgICAgICAg==</UUID><IconID>0</IconID><CustomIconUUID>CQkJCQkJCQkJCQkJCQkJCQ==</CustomIconUUID><ForegroundColor></ForegroundColor><BackgroundColor></BackgroundColor><OverrideURL></OverrideURL><Tags>a;b</Tags><QualityCheck>False</QualityCheck><PreviousParentGroup>BAQEBAQEBAQEBAQEBAQEBA==</PreviousParentGroup><Times><LastModificationTime>2023-04-05T06:07:08Z</LastModificationTime><CreationTime>0001-01-01T00:00:00Z</CreationTime><LastAccessTime>0001-01-01T00:00:00Z</LastAccessTime><ExpiryTime>0001-01-01T00:00:00Z</ExpiryTime><Expires>False</Expires><UsageCount>0</UsageCount><LocationChanged>2023-04-05T06:07:09Z</LocationChanged></Times><String><Key>Password</Key><Value Protected=\"True\">c8OpY3JldA==</Value></String><String><Key>Title</Key><Value>Bank &lt;1&gt;</Value></String><Binary><Key>a.txt</Key><Value Ref=\"0\"></Value></Binary><Binary><Key>b.txt</Key><Value Ref=\"1\"></Value></Binary><AutoType><Enabled>False</Enabled><DataTransferObfuscation>0</DataTransferObfuscation><DefaultSequence></DefaultSequence><Association><Window>w*</Window><KeystrokeSequence>{TAB}</KeystrokeSequence></Association></AutoType><CustomData><Item><Key>x</Key><Value>y</Value><LastModificationTime>2024-05-06T07:08:09Z</LastModificationTime></Item></CustomData><History><Entry><UUID>AgICAgICAgICAgICAgICAg==</UUID><IconID>0</IconID><ForegroundColor></ForegroundColor><BackgroundColor></BackgroundColor><OverrideURL></OverrideURL><Tags></Tags><PreviousParentGroup>BAQEBAQEBAQEBAQEBAQEBA==</PreviousParentGroup><Times><LastModificationTime>2022-04-05T06:07:08Z</LastModificationTime><CreationTime>0001-01-01T00:00:00Z</CreationTime><LastAccessTime>0001-01-01T00:00:00Z</LastAccessTime><ExpiryTime>0001-01-01T00:00:00Z</ExpiryTime><Expires>False</Expires><UsageCount>0</UsageCount><LocationChanged>2023-04-05T06:07:09Z</LocationChanged></Times><String><Key>Password</Key><Value Protected=\"True\">b2xk</Value></String><String><Key>Title</Key><Value>Old</Value></String><Binary><Key>a.txt</Key><Value Ref=\"1\"></Value></Binary><AutoType><Enabled>True</Enabled><DataTransferObfuscation>0</DataTransferObfuscation><DefaultSequence></DefaultSequence></AutoType></Entry></History></Entry><Group><UUID>BAQEBAQEBAQEBAQEBAQEBA==</UUID><Name>Work</Name><Notes></Notes><IconID>48</IconID><Times><LastModificationTime>0001-01-01T00:00:00Z</LastModificationTime><CreationTime>0001-01-01T00:00:00Z</CreationTime><LastAccessTime>0001-01-01T00:00:00Z</LastAccessTime><ExpiryTime>0001-01-01T00:00:00Z</ExpiryTime><Expires>False</Expires><UsageCount>0</UsageCount><LocationChanged>0001-01-01T00:00:00Z</LocationChanged></Times><IsExpanded>True</IsExpanded><DefaultAutoTypeSequence></DefaultAutoTypeSequence><EnableAutoType>null</EnableAutoType><EnableSearching>False</EnableSearching><LastTopVisibleEntry>AAAAAAAAAAAAAAAAAAAAAA==</LastTopVisibleEntry><PreviousParentGroup>AQEBAQEBAQEBAQEBAQEBAQ==</PreviousParentGroup></Group></Group><DeletedObjects><DeletedObject><UUID>CAgICAgICAgICAgICAgICA==</UUID><DeletionTime>2019-01-01T00:00:00Z</DeletionTime></DeletedObject></DeletedObjects></Root></KeePassFile>"
 unfolding escaped_byte digits encode_symbols year_from month_from moment_at
 text_in_3 = refl
 

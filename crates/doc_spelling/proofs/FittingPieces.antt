@@ -13,12 +13,12 @@ use Rattle.vault_model.specs.declared.metas.Meta.{Meta}
 use Rattle.vault_model.specs.Bare.{BareContent}
 use Rattle.vault_model.specs.declared.metas.Icon.{Icon}
 use Rattle.doc_forms.specs.Attachments.{binaries_from}
-use Rattle.doc_spelling.specs.Pieces.{Piece, Pieces, none, beside, ◌▹◌, ◌▹▹◌, pieces_of, piece_if, unless_empty, unless_zero, unless_nil, unless_true, text_piece, base64_piece}
+use Rattle.doc_spelling.specs.Pieces.{Piece, Pieces, none, beside, ◌▹◌, ◌▹▹◌, pieces_of, piece_if, unless_empty, unless_zero, unless_nil, unless_true, unless_false, text_piece, base64_piece}
 use Rattle.doc_spelling.specs.Pool.{PoolPair}
 use Rattle.doc_spelling.specs.Values.{bool_piece, id_piece, time_piece, value_piece, change_pieces, item_piece, items_piece, items_pieces}
 use Rattle.doc_spelling.specs.Entries.{field_piece, attachment_piece, association_piece, auto_type_piece, icon_pieces, previous_pieces, text_pieces, held_pieces, version_pieces, history_item_piece, history_piece, entry_piece}
 use Rattle.doc_spelling.specs.Groups.{name_pieces, record_pieces, group_piece, group_pieces}
-use Rattle.doc_spelling.specs.Metas.{icon_piece, numbered_piece, binary_piece, pool_pieces, hash_pieces, meta_piece}
+use Rattle.doc_spelling.specs.Metas.{icon_piece, numbered_piece, binary_piece, pool_pieces, hash_pieces, settings_change_pieces, title_pieces, setting_pieces, meta_piece}
 use Rattle.doc_spelling.specs.Documents.{tomb_piece, root_piece, file_piece}
 use Rattle.vault_model.proofs.Tests.{and_true}
 use Rattle.doc_spelling.proofs.SoundPieces.{fits_height, fit_height}
@@ -131,12 +131,27 @@ hash_fits k Plain hash = refl
 hash_fits k V3 hash = some_fits (suc k) (base64_piece (codes "HeaderHash") []) hash (λ h. refl)
 hash_fits k V4 hash = refl
 
+settings_change_fits : (k : ℕ) (form : DocForm) (n : ℕ) → fit_height (suc k) (settings_change_pieces form n) ≡ true
+settings_change_fits k Plain n = refl
+settings_change_fits k V3 n = some_fits (suc k) (time_piece V3 (codes "SettingsChanged")) (unless_zero n) (λ n. refl)
+settings_change_fits k V4 n = refl
+
+title_fits : (k : ℕ) (form : DocForm) (m : Meta) → fit_height (suc k) (title_pieces form m) ≡ true
+title_fits k form m = joined_fit (suc k) (settings_change_pieces form m.settings.changed) _ (settings_change_fits k form m.settings.changed) refl
+
+setting_fits : (k : ℕ) (form : DocForm) (m : Meta) → fit_height (suc (suc (suc k))) (setting_pieces form m) ≡ true
+setting_fits k form m =
+    joined_fit (suc (suc (suc k))) (piece_if (bool_piece (codes "MasterKeyChangeForceOnce")) (unless_false m.settings.value.key_force_once)) _
+    (some_fits (suc (suc (suc k))) (bool_piece (codes "MasterKeyChangeForceOnce")) (unless_false m.settings.value.key_force_once) (λ b. refl))
+    (yes (fit_height (suc (suc k)) (pieces_of (icon_piece form) m.icons)) true (all_fit (suc (suc k)) (icon_piece form) m.icons (icon_fits k form)) refl)
+
 meta_fits : (k : ℕ) (form : DocForm) (hash : Option (List ℕ)) (items : List PoolPair) (m : Meta) → fits_height (suc (suc (suc (suc k)))) (meta_piece form hash items m) ≡ true
 meta_fits k form hash items m =
     joined_fit (suc (suc (suc k))) (hash_pieces form hash) _ (hash_fits (suc (suc k)) form hash)
-    (yes (fit_height (suc (suc k)) (pieces_of (icon_piece form) m.icons)) _ (all_fit (suc (suc k)) (icon_piece form) m.icons (icon_fits k form))
+    (joined_fit (suc (suc (suc k))) (title_pieces form m) _ (title_fits (suc (suc k)) form m)
+    (joined_fit (suc (suc (suc k))) (setting_pieces form m) _ (setting_fits k form m)
     (joined_fit (suc (suc (suc k))) (pool_pieces form items) (items_piece form m.items ▹ none) (pool_fits k form items)
-    (yes (fits_height (suc (suc (suc k))) (items_piece form m.items)) true (items_fit k form m.items) refl)))
+    (yes (fits_height (suc (suc (suc k))) (items_piece form m.items)) true (items_fit k form m.items) refl))))
 
 pub document_fits : (form : DocForm) (hash : Option (List ℕ)) (items : List PoolPair) (d : BareDoc) → height d.tree ≤ 128 → fits_height 136 (file_piece form hash items d) ≡ true
 document_fits form hash items d low =

@@ -32,15 +32,15 @@ use Rattle.doc_forms.specs.Refusals.{checked_value}
 use Rattle.doc_forms.specs.Tables.{put}
 use Rattle.doc_forms.specs.ElementTexts.{ElementText, plain_text, hidden_bytes}
 use Rattle.doc_forms.specs.Values.{number64, bytes_in}
-use Rattle.doc_spelling.specs.Pieces.{secret, box, none, ◌▹◌, text_piece, pieces_of, unless_empty, unless_zero, protected_attribute, in_memory_attribute, attributes_text, hidden_text}
+use Rattle.doc_spelling.specs.Pieces.{secret, box, none, ◌▹◌, text_piece, pieces_of, unless_empty, unless_zero, protected_attribute, in_memory_attribute, attributes_text, hidden_text, piece_if, unless_false}
 use Rattle.doc_spelling.specs.Pool.{PoolPair}
 use Rattle.doc_forms.specs.Attachments.{binaries_from}
 use Rattle.doc_spelling.specs.Entries.{number_attribute}
-use Rattle.doc_spelling.specs.Values.{items_piece, time_piece}
-use Rattle.doc_spelling.specs.Metas.{generator, protection_piece, icon_piece, numbered_piece, binary_piece, pool_pieces, hash_pieces, title_pieces, setting_pieces, place_pieces, limit_pieces, meta_piece}
+use Rattle.doc_spelling.specs.Values.{bool_piece, items_piece, time_piece}
+use Rattle.doc_spelling.specs.Metas.{generator, protection_piece, icon_piece, numbered_piece, binary_piece, pool_pieces, hash_pieces, settings_change_pieces, title_pieces, setting_pieces, place_pieces, limit_pieces, meta_piece}
 use Rattle.doc_spelling.proofs.Attrs.{AreNamed, attribute_is, is_name}
 use Rattle.doc_spelling.proofs.Frame.{identity, cursor_after, Reads, ReadsAll, reads_none, ◌▸◌, ◌▸▸◌, by_row, row_of, piece_name, container_reads, text_value, text_rest, secret_rest}
-use Rattle.doc_spelling.proofs.ReadOptions.{or_else, maybe_part, unless_empty_back, unless_zero_back, if_not_empty, if_not_zero}
+use Rattle.doc_spelling.proofs.ReadOptions.{or_else, or_old, maybe_part, unless_empty_back, unless_false_back, unless_zero_back, if_not_empty, if_not_false, if_not_zero}
 use Rattle.doc_spelling.proofs.TimeTexts.{stamp_says}
 use Rattle.doc_spelling.proofs.Goods.{Each, If, IsId, IsHash, IsSigned}
 use Rattle.doc_spelling.proofs.ReadFields.{text_says, GoodItem, items_read}
@@ -231,8 +231,21 @@ pub record GoodMeta (m : Meta) : Type 0 where
   pub items : Each GoodItem m.items
   pub items_rise : rises (λ (i : Item). i.key) m.items ≡ true
 
-abbrev said_names : Meta → MetaParts → MetaParts
-said_names m p = with_meta (λ k. record k { settings = record k.settings { changed = m.settings.changed }; name = m.name; description = m.description; user = m.user }) p
+-- when the settings were changed, as a document of this form says, or as was known before
+abbrev said_change : DocForm → ℕ → ℕ → ℕ
+said_change V3 changed old = or_old (unless_zero changed) old
+said_change form changed old = changed
+
+said_change_back : (form : DocForm) (changed : ℕ) → said_change form changed 0 ≡ changed
+said_change_back Plain changed = refl
+said_change_back V3 changed = unless_zero_back changed
+said_change_back V4 changed = refl
+
+abbrev with_change : ℕ → MetaParts → MetaParts
+with_change changed p = with_meta (λ k. record k { settings = record k.settings { changed = changed } }) p
+
+abbrev said_names : DocForm → Meta → MetaParts → MetaParts
+said_names form m p = with_meta (λ k. record k { settings = record k.settings { changed = said_change form m.settings.changed k.settings.changed }; name = m.name; description = m.description; user = m.user }) p
 
 abbrev said_settings : Meta → MetaParts → MetaParts
 said_settings m p = with_meta (λ k. record k {
@@ -242,6 +255,7 @@ said_settings m p = with_meta (λ k. record k {
       color = m.settings.value.color;
       key_rec = m.settings.value.key_rec;
       key_force = m.settings.value.key_force;
+      key_force_once = or_old (unless_false m.settings.value.key_force_once) k.settings.value.key_force_once;
       protect = m.settings.value.protect;
     };
   };
@@ -255,11 +269,23 @@ said_places m p = with_meta (λ k. record k { bin = m.bin; templates = m.templat
 abbrev said_limits : Meta → MetaParts → MetaParts
 said_limits m p = with_settings (λ k. record k { history_items = m.settings.value.history_items; history_size = m.settings.value.history_size }) p
 
+change_read : {s : Setting} (form : DocForm) (changed : ℕ) → changed ≤ last_stamp
+    → Reads s identity (by_name s (meta_rows s)) (time_piece form (codes "SettingsChanged") changed) (λ p. with_change changed p) 0
+change_read {s} form changed low = by_row (meta_rows s) (text_value s identity _ _ _ _ changed (λ p. with_change changed p) (stamp_says form changed low) (λ p. refl))
+
+changes_read : {s : Setting} (form : DocForm) (changed : ℕ) → changed ≤ last_stamp
+    → ReadsAll s identity (by_name s (meta_rows s)) (settings_change_pieces form changed) (λ p. with_change (said_change form changed p.meta.settings.changed) p) 0
+changes_read Plain changed low = change_read Plain changed low ▸ reads_none
+changes_read V3 changed low =
+    maybe_part (time_piece V3 (codes "SettingsChanged")) (λ (p : MetaParts). p.meta.settings.changed) (λ p n. with_change n p) (λ n. n ≤ last_stamp) (λ p. refl)
+    (change_read V3) (unless_zero changed) (if_not_zero (λ n. n ≤ last_stamp) changed low)
+changes_read V4 changed low = change_read V4 changed low ▸ reads_none
+
 module _ {s : Setting} (form : DocForm) (m : Meta) (h : GoodMeta m) where
-  names_read : ReadsAll s identity (by_name s (meta_rows s)) (title_pieces form m) (said_names m) 0
+  names_read : ReadsAll s identity (by_name s (meta_rows s)) (title_pieces form m) (said_names form m) 0
   names_read =
-      by_row (meta_rows s) (text_value s identity _ _ _ _ (m.settings.changed) (λ p. with_meta (λ k. record k { settings = record k.settings { changed = m.settings.changed } }) p) (stamp_says form m.settings.changed h.settings_changed) (λ p. refl))
-      ▸ by_row (meta_rows s) (text_value s identity _ _ _ _ (m.name.value) (λ p. with_meta (λ k. record k { name = record k.name { value = m.name.value } }) p) (text_says m.name.value h.name) (λ p. refl))
+      changes_read form m.settings.changed h.settings_changed
+      ▸▸ by_row (meta_rows s) (text_value s identity _ _ _ _ (m.name.value) (λ p. with_meta (λ k. record k { name = record k.name { value = m.name.value } }) p) (text_says m.name.value h.name) (λ p. refl))
       ▸ by_row (meta_rows s) (text_value s identity _ _ _ _ (m.name.changed) (λ p. with_meta (λ k. record k { name = record k.name { changed = m.name.changed } }) p) (stamp_says form m.name.changed h.name_changed) (λ p. refl))
       ▸ by_row (meta_rows s) (text_value s identity _ _ _ _ (m.description.value) (λ p. with_meta (λ k. record k { description = record k.description { value = m.description.value } }) p) (text_says m.description.value h.description) (λ p. refl))
       ▸ by_row (meta_rows s) (text_value s identity _ _ _ _ (m.description.changed) (λ p. with_meta (λ k. record k { description = record k.description { changed = m.description.changed } }) p) (stamp_says form m.description.changed h.description_changed) (λ p. refl))
@@ -274,9 +300,12 @@ module _ {s : Setting} (form : DocForm) (m : Meta) (h : GoodMeta m) where
       ▸ by_row (meta_rows s) (text_value s identity _ _ _ _ (m.view.key_changed) (λ p. with_view (λ k. record k { key_changed = m.view.key_changed }) p) (stamp_says form m.view.key_changed h.key_changed) (λ p. refl))
       ▸ by_row (meta_rows s) (text_value s identity _ _ _ _ (m.settings.value.key_rec) (λ p. with_settings (λ k. record k { key_rec = m.settings.value.key_rec }) p) (signed_says (negsuc 9223372036854775807) (pos 9223372036854775807) (negsuc 0) m.settings.value.key_rec (omega arith) (omega arith) h.key_rec) (λ p. refl))
       ▸ by_row (meta_rows s) (text_value s identity _ _ _ _ (m.settings.value.key_force) (λ p. with_settings (λ k. record k { key_force = m.settings.value.key_force }) p) (signed_says (negsuc 9223372036854775807) (pos 9223372036854775807) (negsuc 0) m.settings.value.key_force (omega arith) (omega arith) h.key_force) (λ p. refl))
-      ▸ by_row (meta_rows s) (protection_read m.settings.value.protect (λ p v. with_settings (λ k. record k { protect = v }) p) (λ p. with_settings (λ k. record k { protect = m.settings.value.protect }) p) (λ p. refl))
+      ▸ (maybe_part (bool_piece (codes "MasterKeyChangeForceOnce")) (λ (p : MetaParts). p.meta.settings.value.key_force_once) (λ p b. with_settings (λ k. record k { key_force_once = b }) p) (λ b. Unit {0}) (λ p. refl)
+      (λ b good. by_row (meta_rows s) (text_value s identity _ _ _ _ b (λ p. with_settings (λ k. record k { key_force_once = b }) p) (bool_says false b) (λ p. refl)))
+      (unless_false m.settings.value.key_force_once) (if_not_false (λ b. Unit {0}) m.settings.value.key_force_once tt)
+      ▸▸ by_row (meta_rows s) (protection_read m.settings.value.protect (λ p v. with_settings (λ k. record k { protect = v }) p) (λ p. with_settings (λ k. record k { protect = m.settings.value.protect }) p) (λ p. refl))
       ▸ by_row (meta_rows s) (icons_read form m.icons h.icons h.icons_rise (λ p v. with_meta (λ k. record k { icons = v }) p) (λ p. with_meta (λ k. record k { icons = m.icons }) p) (λ p. refl))
-      ▸ reads_none
+      ▸ reads_none)
 
   places_read : ReadsAll s identity (by_name s (meta_rows s)) (place_pieces form m) (said_places m) 0
   places_read =
@@ -330,8 +359,13 @@ pub meta_read : {P V : Type 0} {s : Setting} {view : P → V} (form : DocForm) �
     → Reads s view (metas s keep) (meta_piece form hash pool m) g 0
 meta_read {s = s} {view} form same hash good_hash pool good_pool m h keep g kept =
     container_reads (meta_rows s) no_meta keep (codes "Meta") g
-    (λ p q e. ap (λ q. view (keep p q)) e ∙ kept p)
+    (λ p q e. ap (λ q. view (keep p q)) (e ∙ ap₂ (λ changed once. known changed once) (said_change_back form m.settings.changed) (unless_false_back m.settings.value.key_force_once)) ∙ kept p)
     (by_row (meta_rows s) (text_value s identity _ _ _ _ generator (λ p. p) (text_says generator generator_utf8) (λ p. refl))
     ▸ (hash_row hash good_hash form
     ▸▸ (names_read form m h ▸▸ (settings_read form m h ▸▸ (places_read form m h ▸▸ (limits_read form m h
     ▸▸ (pool_row pool good_pool form same ▸▸ items_row form m h)))))))
+  where
+    known : ℕ → Bool → MetaParts
+    known changed once = record (meta_known form hash pool m) {
+      meta = record m { settings = record { changed = changed; value = record m.settings.value { key_force_once = once } } };
+    }

@@ -4,7 +4,7 @@ use Rattle.std.proofs.lemmas.Slice.Eq.{bytes_eq-Decides}
 use Rattle.vault_model.specs.Db.{NodeId, nil_id}
 use Rattle.doc_forms.specs.ElementTexts.{Setting}
 use Rattle.doc_forms.specs.Children.{Child}
-use Rattle.doc_spelling.specs.Pieces.{Piece, piece_if, unless_empty, unless_zero, unless_nil, unless_true}
+use Rattle.doc_spelling.specs.Pieces.{Piece, piece_if, unless_empty, unless_zero, unless_nil, unless_true, unless_false}
 use Rattle.doc_spelling.proofs.Frame.{Reads, ReadsAll, reads_none, ◌▸◌, all_alike}
 use Rattle.doc_spelling.proofs.Goods.{If}
 
@@ -34,6 +34,10 @@ pub unless_true_back : (b : Bool) → or_old (unless_true b) true ≡ b
 unless_true_back true = refl
 unless_true_back false = refl
 
+pub unless_false_back : (b : Bool) → or_old (unless_false b) false ≡ b
+unless_false_back true = refl
+unless_false_back false = refl
+
 pub unless_nil_back : (u : NodeId) → or_old (unless_nil u) nil_id ≡ u
 unless_nil_back u = by_test (bytes_eq u nil_id) refl
   where
@@ -54,6 +58,10 @@ if_not_empty P (x ∷ xs) h = h
 pub if_not_true : (P : Bool → Type 0) (b : Bool) → P b → If P (unless_true b)
 if_not_true P true h = tt
 if_not_true P false h = h
+
+pub if_not_false : (P : Bool → Type 0) (b : Bool) → P b → If P (unless_false b)
+if_not_false P true h = h
+if_not_false P false h = tt
 
 pub if_not_nil : (P : NodeId → Type 0) (u : NodeId) → P u → If P (unless_nil u)
 if_not_nil P u h = by_test (bytes_eq u nil_id)

@@ -8,7 +8,7 @@ use Rattle.vault_model.specs.declared.metas.Protection.{Protection}
 use Rattle.doc_forms.specs.Attachments.{binaries_from}
 use Rattle.doc_forms.specs.Metas.{ReadBinary}
 use Rattle.doc_spelling.specs.Entries.{number_attribute}
-use Rattle.doc_spelling.specs.Pieces.{Piece, Pieces, secret, box, none, ◌▹◌, ◌▹▹◌, pieces_of, piece_if, unless_empty, text_piece, base64_piece, in_memory_attribute}
+use Rattle.doc_spelling.specs.Pieces.{Piece, Pieces, secret, box, none, ◌▹◌, ◌▹▹◌, pieces_of, piece_if, unless_empty, unless_false, unless_zero, text_piece, base64_piece, in_memory_attribute}
 use Rattle.doc_spelling.specs.Pool.{PoolPair}
 use Rattle.doc_spelling.specs.Values.{bool_piece, number_piece, signed_piece, id_piece, time_piece, change_pieces, items_piece}
 
@@ -58,11 +58,17 @@ abbrev pub hash_pieces : DocForm → Option (List ℕ) → Pieces
 hash_pieces V3 hash = piece_if (base64_piece (codes "HeaderHash") []) hash
 hash_pieces _ hash = none
 
+-- when the settings were changed, which a file of KDBX 3.1 says only where the time is not 0
+abbrev pub settings_change_pieces : DocForm → ℕ → Pieces
+settings_change_pieces V3 changed =
+    piece_if (time_piece V3 (codes "SettingsChanged")) (unless_zero changed)
+settings_change_pieces form changed = time_piece form (codes "SettingsChanged") changed ▹ none
+
 -- the names of a database, and when they and its settings were changed
 abbrev pub title_pieces : DocForm → Meta → Pieces
 title_pieces form m =
-    time_piece form (codes "SettingsChanged") m.settings.changed
-    ▹ text_piece (codes "DatabaseName") m.name.value
+    settings_change_pieces form m.settings.changed
+    ▹▹ text_piece (codes "DatabaseName") m.name.value
     ▹ time_piece form (codes "DatabaseNameChanged") m.name.changed
     ▹ text_piece (codes "DatabaseDescription") m.description.value
     ▹ time_piece form (codes "DatabaseDescriptionChanged") m.description.changed
@@ -78,7 +84,9 @@ setting_pieces form m =
     ▹ time_piece form (codes "MasterKeyChanged") m.view.key_changed
     ▹ signed_piece (codes "MasterKeyChangeRec") m.settings.value.key_rec
     ▹ signed_piece (codes "MasterKeyChangeForce") m.settings.value.key_force
-    ▹ protection_piece m.settings.value.protect
+    ▹ piece_if (bool_piece (codes "MasterKeyChangeForceOnce"))
+    (unless_false m.settings.value.key_force_once)
+    ▹▹ protection_piece m.settings.value.protect
     ▹ box (codes "CustomIcons") (pieces_of (icon_piece form) m.icons)
     ▹ none
 

@@ -65,6 +65,11 @@ abbrev pub unless_true : Bool → Option Bool
 unless_true true = None
 unless_true false = Some false
 
+-- a choice that is true
+abbrev pub unless_false : Bool → Option Bool
+unless_false true = Some true
+unless_false false = None
+
 -- ---- elements without elements in them
 
 -- an element with a text

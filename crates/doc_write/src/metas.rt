@@ -7,7 +7,9 @@ ghost use Rattle.doc_forms.specs.Attachments.{binaries_from};
 ghost use Rattle.doc_forms.specs.SeenDocuments.{pool_item};
 ghost use Rattle.doc_sinks.specs.States.{after_piece, after_pieces};
 ghost use Rattle.doc_spelling.specs.Metas as row;
-ghost use Rattle.doc_spelling.specs.Pieces.{box, base64_piece, piece_if, pieces_of};
+ghost use Rattle.doc_spelling.specs.Pieces.{box, base64_piece, piece_if, pieces_of, unless_false, unless_zero};
+ghost use Rattle.doc_spelling.specs.Values.{bool_piece, time_piece};
+ghost use Rattle.vault_model.specs.declared.forms.DocForm.TheVariants.{V3};
 ghost use Rattle.doc_spelling.specs.Ranges.{fits_changes, fits_i32, fits_i64, fits_icon, fits_meta, fits_places, fits_u32, is_stamp, is_uuid};
 
 use crate::icons::put_icons;
@@ -16,7 +18,7 @@ use doc_sinks::{
     Mark, Pool, TextSink, close, open, put_bool, put_coded, put_id, put_leaf, put_number,
     put_secret, put_signed, put_small_signed, put_text, put_time, whole,
 };
-use vault_model::{DocForm, Meta, PoolItem, Protection};
+use vault_model::{DocForm, Meta, PoolItem, Protection, Stamp};
 
 /// Puts `MemoryProtection`.
 fn put_protection<O: TextSink>(out: &mut O, protect: &Protection)
@@ -111,6 +113,29 @@ fn put_hash<O: TextSink>(out: &mut O, form: DocForm, hash: Option<&[u8; 32]>)
     }
 }
 
+/// Puts when the settings of a file of KDBX 3.1 were changed, where the time is not 0.
+fn put_later_change<O: TextSink>(out: &mut O, changed: Stamp)
+    ensures puts { O.state out.new ≡ after_pieces O.step (O.state out.old)
+        (piece_if (time_piece V3 (codes "SettingsChanged")) (unless_zero changed)) }
+    ensures fits { is_stamp changed ≡ true }
+{
+    if changed.seconds() != 0 {
+        put_time(out, DocForm::V3, "SettingsChanged", changed);
+    }
+}
+
+/// Puts when the settings of a database were changed.
+fn put_settings_change<O: TextSink>(out: &mut O, form: DocForm, changed: Stamp)
+    ensures puts { O.state out.new
+        ≡ after_pieces O.step (O.state out.old) (row.settings_change_pieces form changed) }
+    ensures fits { is_stamp changed ≡ true }
+{
+    match form {
+        DocForm::V3 => put_later_change(out, changed),
+        DocForm::Plain | DocForm::V4 => put_time(out, form, "SettingsChanged", changed),
+    }
+}
+
 /// Puts the names of a database, and when they and its settings were changed.
 fn put_titles<O: TextSink>(out: &mut O, form: DocForm, meta: &Meta)
     ensures puts { O.state out.new
@@ -118,7 +143,7 @@ fn put_titles<O: TextSink>(out: &mut O, form: DocForm, meta: &Meta)
     ensures fits { (is_stamp meta.now.settings.changed && is_stamp meta.now.name.changed
         && is_stamp meta.now.description.changed && is_stamp meta.now.user.changed) ≡ true }
 {
-    put_time(out, form, "SettingsChanged", meta.settings.changed);
+    put_settings_change(out, form, meta.settings.changed);
     put_text(out, "DatabaseName", &meta.name.value);
     put_time(out, form, "DatabaseNameChanged", meta.name.changed);
     put_text(out, "DatabaseDescription", &meta.description.value);
@@ -130,6 +155,16 @@ fn put_titles<O: TextSink>(out: &mut O, form: DocForm, meta: &Meta)
     );
     put_text(out, "DefaultUserName", &meta.user.value);
     put_time(out, form, "DefaultUserNameChanged", meta.user.changed);
+}
+
+/// Puts the order to change the key, where it is given.
+fn put_force_once<O: TextSink>(out: &mut O, once: bool)
+    ensures { O.state out.new ≡ after_pieces O.step (O.state out.old)
+        (piece_if (bool_piece (codes "MasterKeyChangeForceOnce")) (unless_false once)) }
+{
+    if once {
+        put_bool(out, "MasterKeyChangeForceOnce", true);
+    }
 }
 
 /// Puts the settings of a database, and the icons that it holds.
@@ -151,6 +186,7 @@ fn put_settings<O: TextSink>(out: &mut O, form: DocForm, meta: &Meta)
     put_time(out, form, "MasterKeyChanged", meta.view.key_changed);
     put_signed(out, "MasterKeyChangeRec", &meta.settings.value.key_rec);
     put_signed(out, "MasterKeyChangeForce", &meta.settings.value.key_force);
+    put_force_once(out, meta.settings.value.key_force_once);
     put_protection(out, &meta.settings.value.protect);
     put_icons(out, form, meta.icons.as_slice());
 }

@@ -77,6 +77,7 @@ fn bare_settings(alloc: Global, settings: &Timed<MetaSettings>) -> Timed<MetaSet
             protect: from.protect,
             history_items: from.history_items,
             history_size: from.history_size,
+            key_force_once: from.key_force_once,
         },
     }
 }

@@ -111,6 +111,7 @@ meta = record {
       protect = record { title = false; user = false; password = true; url = false; notes = false };
       history_items = pos 10;
       history_size = pos 6291456;
+      key_force_once = false;
     };
   };
   icons = [];

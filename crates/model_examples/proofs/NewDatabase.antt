@@ -47,7 +47,7 @@ bin = refl
 unnamed : new.meta.name ≡ record { changed = 0; value = [] }
 unnamed = refl
 
--- 365 days, no limit on the age of the key (-1), passwords hidden, and ten older versions of 6 MiB together.
+-- 365 days, no limit on the age of the key (-1), passwords hidden, ten older versions of 6 MiB together, and no order to change the key.
 settings : new.meta.settings ≡ record {
   changed = 0;
   value = record {
@@ -58,6 +58,7 @@ settings : new.meta.settings ≡ record {
     protect = record { title = false; user = false; password = true; url = false; notes = false };
     history_items = pos 10;
     history_size = pos 6_291_456;
+    key_force_once = false;
   };
 }
 settings = refl

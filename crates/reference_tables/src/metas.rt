@@ -58,17 +58,19 @@ fn compare_protections(first: &Protection, second: &Protection) -> Ordering
 pub fn compare_settings(first: &MetaSettings, second: &MetaSettings) -> Ordering
     ensures { result ≡ settings_cmp first.now second.now }
 {
-    let limits = first
-        .history_items
-        .cmp(&second.history_items)
-        .then(first.history_size.cmp(&second.history_size));
+    let last = first.history_items.cmp(&second.history_items).then(
+        first
+            .history_size
+            .cmp(&second.history_size)
+            .then(first.key_force_once.cmp(&second.key_force_once)),
+    );
     first.color.cmp(&second.color).then(
         first.days.cmp(&second.days).then(
             first.key_rec.cmp(&second.key_rec).then(
                 first.key_force.cmp(&second.key_force).then(compare_protections(
                     &first.protect,
                     &second.protect,
-                ).then(limits)),
+                ).then(last)),
             ),
         ),
     )

@@ -47,6 +47,7 @@ fn first_settings(alloc: Global) -> MetaSettings
         },
         history_items: 10,
         history_size: 6_291_456,
+        key_force_once: false,
     }
 }
 

@@ -176,10 +176,11 @@ settings_order =
       key_force = p.1.1.1.0;
       protect = p.1.1.1.1.0;
       history_items = p.1.1.1.1.1.0;
-      history_size = p.1.1.1.1.1.1;
+      history_size = p.1.1.1.1.1.1.0;
+      key_force_once = p.1.1.1.1.1.1.1;
     }) (λ _. refl)
     (pairs_order bytes_order (pairs_order nat_order (pairs_order int_order (pairs_order int_order
-    (pairs_order protection_order (pairs_order int_order int_order))))))
+    (pairs_order protection_order (pairs_order int_order (pairs_order int_order bool_order)))))))
 
 pub icon_order : IsOrder icon_cmp
 unfolding icon_cmp

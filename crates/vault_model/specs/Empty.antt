@@ -19,8 +19,8 @@ unchanged x = record { changed = 0; value = x }
 abbrev pub new_protection : Protection
 new_protection = record { title = false; user = false; password = true; url = false; notes = false }
 
--- maintenance after 365 days, no limit (-1) on the age of the key, and histories of 10 versions and
--- of 6 MiB
+-- maintenance after 365 days, no limit (-1) on the age of the key, histories of 10 versions and of
+-- 6 MiB, and no order to change the key
 abbrev pub new_settings : MetaSettings
 new_settings = record {
   color = [];
@@ -30,6 +30,7 @@ new_settings = record {
   protect = new_protection;
   history_items = pos 10;
   history_size = pos 6_291_456;
+  key_force_once = false;
 }
 
 -- nothing was looked at

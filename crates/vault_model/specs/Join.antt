@@ -128,6 +128,7 @@ no_meta = record {
       };
       history_items = pos 0;
       history_size = pos 0;
+      key_force_once = false;
     };
   };
   icons = empty;

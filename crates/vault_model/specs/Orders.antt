@@ -146,13 +146,13 @@ settings_cmp =
           s.key_rec,
           (
             s.key_force,
-            (s.protect, (s.history_items, s.history_size)),
+            (s.protect, (s.history_items, (s.history_size, s.key_force_once))),
           ),
         ),
       ),
     ))
     (pair_cmp bytes_cmp (pair_cmp nat_cmp (pair_cmp int_cmp
-    (pair_cmp int_cmp (pair_cmp protection_cmp (pair_cmp int_cmp int_cmp))))))
+    (pair_cmp int_cmp (pair_cmp protection_cmp (pair_cmp int_cmp (pair_cmp int_cmp bool_cmp)))))))
 
 -- icons of one id: the later one, then by the rest
 unfoldable pub icon_cmp : Icon → Icon → Ordering

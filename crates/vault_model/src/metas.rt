@@ -39,6 +39,8 @@ pub struct MetaSettings {
     pub protect: Protection,
     pub history_items: i32,
     pub history_size: i64,
+    /// Whether the key is to be changed when the database is opened next.
+    pub key_force_once: bool,
 }
 
 /// A picture that entries and groups may show; its bytes are never interpreted.

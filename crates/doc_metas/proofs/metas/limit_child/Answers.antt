@@ -16,6 +16,6 @@ returns-in-CustomData c = rw c.in-CustomData.is (kept_in (λ (v : List Item). wi
 
 pub returns-in_default : goal.returns-in_default
 returns-in_default c =
-    by_later_rows (λ _. meta_parts c.last_child.new.known) c.args.walk.now c.last_child.new.walk c.last_child.result 3 (λ s. drop 23 (meta_rows s)) (meta_parts c.args.known.now) c.args.tag.now (λ _. refl)
+    by_later_rows (λ _. meta_parts c.last_child.new.known) c.args.walk.now c.last_child.new.walk c.last_child.result 3 (λ s. drop 24 (meta_rows s)) (meta_parts c.args.known.now) c.args.tag.now (λ _. refl)
     (λ _. (c.in_default.not-HistoryMaxItems, (c.in_default.not-HistoryMaxSize, (c.in_default.not-CustomData, tt))))
     c.last_child.ensures

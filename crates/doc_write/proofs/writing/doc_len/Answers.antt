@@ -1,20 +1,21 @@
 use Rattle.std.proofs.Common.{◌≡◌, ◌+◌, ap, arith, length, min}
+use Rattle.std.specs.Option.{option_copied}
 use Rattle.doc_spelling.specs.Ranges.{tree_nodes}
 use Rattle.vault_model.specs.SeenDoc.{doc_seen}
 use Rattle.doc_write.proofs.WrittenTexts.{measured, too_large, too_many}
 use Rattle.doc_write.proofs.writing.doc_len.Goals as goal
 
 pub returns-then-nodes-gt-NODES-clause-text : goal.returns-then-nodes-gt-NODES-clause-text
-returns-then-nodes-gt-NODES-clause-text c k = too_many _ k _ _ _ c.count_nodes-nodes.ensures c.if-nodes-gt-NODES.true
+returns-then-nodes-gt-NODES-clause-text c k = too_many c.args.form k (option_copied c.args.header_hash) (doc_seen c.args.doc.now) _ c.count_nodes-nodes.ensures c.if-nodes-gt-NODES.true
 
 pub returns-then-len-gt-BYTES-clause-text : goal.returns-then-len-gt-BYTES-clause-text
 returns-then-len-gt-BYTES-clause-text c k =
-    too_large _ k _ _ _ c.requires _ _ _ _ c.count_nodes-nodes.ensures c.if-nodes-gt-NODES.false c.put_document.ensures.puts c.apart_len.ensures.len
+    too_large c.args.form k (option_copied c.args.header_hash) (doc_seen c.args.doc.now) _ c.requires _ _ _ _ c.count_nodes-nodes.ensures c.if-nodes-gt-NODES.false c.put_document.ensures.puts c.apart_len.ensures.len
     c.saturating_add-len.ensures c.if-len-gt-BYTES.true
 
 pub returns-clause-text : goal.returns-clause-text
 returns-clause-text c k =
-    measured _ k _ _ _ c.requires _ _ _ _ c.count_nodes-nodes.ensures c.if-nodes-gt-NODES.false c.put_document.ensures.puts c.apart_len.ensures.len
+    measured c.args.form k (option_copied c.args.header_hash) (doc_seen c.args.doc.now) _ c.requires _ _ _ _ c.count_nodes-nodes.ensures c.if-nodes-gt-NODES.false c.put_document.ensures.puts c.apart_len.ensures.len
     c.saturating_add-len.ensures c.if-len-gt-BYTES.false
 
 pub returns-clause-writable : goal.returns-clause-writable
