@@ -340,9 +340,16 @@ def names_of(document):
     return {one.node["UUID"]: documents.title(one.node) if is_entry else one.node["Name"] for is_entry, one in documents.walk(document["Root"])}
 
 
+def current_versions(document):
+    """The marks of the versions of entries that are current."""
+    return {one.node["UUID"]: (one.node["Times"]["LastModificationTime"], content(one.node))
+            for is_entry, one in documents.walk(document["Root"]) if is_entry}
+
+
 def changes(target, old, new, join):
     """A line for each change from the target to the new document; the databases are those of both."""
     before, after = names_of(target), names_of(new)
+    was_current, is_current = current_versions(target), current_versions(new)
     lines = []
     for identity in sorted(before.keys() | after.keys()):
         done = []
@@ -351,7 +358,8 @@ def changes(target, old, new, join):
         elif identity not in after:
             done = ["deleted"]
         else:
-            if (old.entries.get(identity), old.groups.get(identity)) != (join.entries.get(identity), join.groups.get(identity)):
+            is_same = (old.entries.get(identity), old.groups.get(identity)) == (join.entries.get(identity), join.groups.get(identity))
+            if not is_same or was_current.get(identity) != is_current.get(identity):
                 done = ["updated"]
             if old.places.get(identity) != join.places.get(identity):
                 done.append("moved")

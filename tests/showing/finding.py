@@ -133,14 +133,14 @@ class Resolving:
         self.pieces.append(text)
 
     def replace(self, match, level):
-        """A reference to no entry stands; any other is replaced, and its value is one level deeper."""
+        """A reference to no entry stands; any other is replaced, and its value is one level deeper. Both count."""
         wanted, place, text = match[1].upper(), match[2].upper(), match[3]
-        entry = self.find(place, text)
-        if entry is None:
-            return self.put(match[0])
         self.references += 1
         if self.references > MOST_REFERENCES:
             raise Refused(8, None, "limit passed")
+        entry = self.find(place, text)
+        if entry is None:
+            return self.put(match[0])
         self.resolve(entry.id.hex.upper() if wanted == "I" else entry.value(NAMED[wanted]), level + 1)
 
     def resolve(self, text, level=1):

@@ -79,13 +79,16 @@ class Resolving:
                 at += 1
                 continue
             wanted, place, of, end = found
-            entry = self.named(place, of)
-            if entry is not None and level <= LEVELS:
+            if level <= LEVELS:
                 self.put(text[start:at])
                 self.references += 1
                 if self.references > MOST_REFERENCES:
                     raise Refused(8, "limit passed")
-                self.resolve(entry["UUID"].hex().upper() if wanted == "I" else value(entry, LETTERS[wanted]), level + 1)
+                entry = self.named(place, of)
+                if entry is None:
+                    self.put(text[at:end])
+                else:
+                    self.resolve(entry["UUID"].hex().upper() if wanted == "I" else value(entry, LETTERS[wanted]), level + 1)
                 start = end
             at = end
 

@@ -2,7 +2,7 @@
 use Rattle.std.specs.Prelude.{◌≡◌, ◌&&◌, not, ℕ, Bool, if◌then◌else◌, List, Option, None, Some, Result, Ok, Err}
 use Rattle.outside_core.specs.Results.{◌>>=◌}
 use Rattle.vault_model.specs.Join.{join}
-use Rattle.vault_model.specs.Tree.{BareDoc, db_in}
+use Rattle.vault_model.specs.Tree.{BareDoc, db_in, shape_of}
 use Rattle.merge_changes.specs.Equality.{same_all, same_doc, same_meta, same_tomb}
 use Rattle.merge_core.specs.Refusals.{members}
 use Rattle.merge_changes.specs.Changes.{all_changes}
@@ -39,7 +39,7 @@ merged_or_refusal file (Err why) = Err (refusal_of (merge_answer why) file)
 
 -- The changes that a merge with sources made of a document.
 abbrev pub changes_between : BareDoc → List BareDoc → BareDoc → List Change
-changes_between t ss new = all_changes (db_in t) (join (members t ss))
+changes_between t ss new = all_changes (shape_of t).entries (db_in t) (join (members t ss))
     (same_meta t.meta new.meta) (same_all same_tomb t.tombs new.tombs) (same_doc t new)
 
 -- What `merge` makes of the document of a file that was merged into another, with these changes, if

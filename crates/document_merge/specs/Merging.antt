@@ -5,7 +5,7 @@ use Rattle.vault_model.specs.declared.documents.Doc.{Doc}
 use Rattle.vault_model.specs.Db.{NodeId, Db}
 use Rattle.vault_model.specs.Join.{join}
 use Rattle.vault_model.specs.SeenDoc.{doc_seen}
-use Rattle.vault_model.specs.Tree.{BareDoc, LEVELS, db_in, lay_doc}
+use Rattle.vault_model.specs.Tree.{BareDoc, LEVELS, db_in, lay_doc, shape_of}
 use Rattle.merge_changes.specs.Equality.{same_all, same_doc, same_meta, same_tomb}
 use Rattle.merge_core.specs.Marking.{strays}
 use Rattle.merge_core.specs.Refusals.{kind_clashes, least, members, root_clashes, too_deep}
@@ -51,7 +51,7 @@ merge_result t ss = unless_found (least (root_clashes (t ∷ ss))) RootClash (ki
 pub record IsReport (t : BareDoc) (ss : List BareDoc) (m : Merged) : Type 0 where
   pub kept : m.changed ≡ false → doc_seen m.doc ≡ t
   pub same : doc_seen m.doc ≡ t → m.changed ≡ false
-  pub changes : m.changes ≡ all_changes (db_in t) (join (members t ss))
+  pub changes : m.changes ≡ all_changes (shape_of t).entries (db_in t) (join (members t ss))
       (same_meta t.meta (doc_seen m.doc).meta) (same_all same_tomb t.tombs (doc_seen m.doc).tombs)
       (same_doc t (doc_seen m.doc))
 

@@ -6,9 +6,9 @@ ghost use Rattle.vault_model.specs.Join.{join};
 ghost use Rattle.vault_model.specs.Proper.{rises};
 ghost use Rattle.vault_model.specs.SeenDoc.{doc_seen};
 ghost use Rattle.vault_model.specs.Shape.{lay};
-ghost use Rattle.vault_model.specs.Tree.{IsDoc, LEVELS, db_in, doc_of, lay_doc};
+ghost use Rattle.vault_model.specs.Tree.{IsDoc, LEVELS, db_in, doc_of, lay_doc, shape_of};
+ghost use Rattle.merge_changes.specs.Equality as spec;
 ghost use Rattle.merge_changes.specs.Equality.{same_all, same_meta, same_tomb};
-ghost use Rattle.merge_changes.specs.Changes.{all_changes};
 ghost use Rattle.merge_core.specs.Marking.{strays};
 ghost use Rattle.merge_core.specs.Refusals.{CanMerge, kind_clashes, least, members, root_clashes};
 ghost use Rattle.reference_tables.specs.Databases.{database, databases};
@@ -18,7 +18,7 @@ ghost use Rattle.document_merge.specs.Merging.{HandsBack, IsFailOf, IsMergeCall,
 
 use merge_building::laid::laid_doc;
 use merge_building::metas::made_meta;
-use merge_changes::changes::{Change, changes};
+use merge_changes::changes::{Change, Sameness, changes};
 use merge_changes::equality::{same_doc, same_meta, same_tombs};
 use merge_checks::copies::members_of;
 use merge_checks::cycles::cycle_above;
@@ -78,50 +78,19 @@ pub struct Refused {
     pub target: Option<Doc>,
 }
 
-/// What changed between the target and the document that is laid over it.
-fn changes_of(
-    alloc: Global,
-    target: &Doc,
-    before: &Database,
-    joined: &Database,
-    doc: &Doc,
-    is_same: bool,
-) -> Result<List<Change>, NoMemory>
-    ensures { IfOk result (λ cs. cs ≡ all_changes (database before.now) (database joined.now)
-        (same_meta (doc_seen target.now).meta (doc_seen doc.now).meta)
-        (same_all same_tomb (doc_seen target.now).tombs (doc_seen doc.now).tombs) is_same) }
+/// What is the same in the target and the document that is laid over it.
+fn sameness(target: &Doc, doc: &Doc) -> Sameness
+    ensures meta { result.meta ≡ same_meta (doc_seen target.now).meta (doc_seen doc.now).meta }
+    ensures tombs { result.tombs
+        ≡ same_all same_tomb (doc_seen target.now).tombs (doc_seen doc.now).tombs }
+    ensures all { result.all ≡ spec.same_doc (doc_seen target.now) (doc_seen doc.now) }
+    ensures same { result.all ≡ true → doc_seen target.now ≡ doc_seen doc.now }
+    ensures equal { doc_seen target.now ≡ doc_seen doc.now → result.all ≡ true }
 {
-    let is_meta_same = same_meta(&target.meta, &doc.meta);
-    let are_tombs_same = same_tombs(target.tombs.as_slice(), doc.tombs.as_slice());
-    changes(alloc, before, joined, is_meta_same, are_tombs_same, is_same)
-}
-
-/// A merged document with what changed.
-fn report<'a>(
-    alloc: Global,
-    target: &'a Doc,
-    _sources: &[Doc],
-    before: &Database<'a>,
-    joined: &Database<'a>,
-    doc: Doc,
-) -> Result<Merged, MergeFail>
-    requires before { database before.now ≡ db_in (doc_seen target.now) }
-    requires joined { database joined.now
-        ≡ join (members (doc_seen target.now) (map doc_seen _sources.now)) }
-    ensures { IsMergeResult (Ok (doc_seen doc)) (doc_seen target.now) (map doc_seen _sources.now)
-        result }
-{
-    let is_same = same_doc(target, &doc);
-    match changes_of(alloc, target, before, joined, &doc, is_same) {
-        Ok(changes) => Ok(Merged {
-            doc,
-            changed: !is_same,
-            changes,
-        }),
-        Err(_failed) => {
-            drop(doc);
-            Err(MergeFail::NoMemory)
-        }
+    Sameness {
+        meta: same_meta(&target.meta, &doc.meta),
+        tombs: same_tombs(target.tombs.as_slice(), doc.tombs.as_slice()),
+        all: same_doc(target, doc),
     }
 }
 
@@ -154,17 +123,50 @@ fn laid<'a>(
     target: &'a Doc,
     _sources: &[Doc],
     joined: &Database<'a>,
+    older: &Shape<'a>,
 ) -> Result<Doc, NoMemory>
     requires joined { database joined.now
         ≡ join (members (doc_seen target.now) (map doc_seen _sources.now)) }
+    requires older { shape older.now ≡ shape_of (doc_seen target.now) }
     requires can_merge { CanMerge (doc_seen target.now) (map doc_seen _sources.now) }
     ensures { IfOk result (λ d. doc_seen d ≡ lay_doc LEVELS
         (join (members (doc_seen target.now) (map doc_seen _sources.now))) (doc_seen target.now)) }
 {
-    let older = shape_of(alloc, target)?;
-    let doc = laid_over(alloc, joined, &older);
-    drop(older);
-    doc
+    laid_over(alloc, joined, older)
+}
+
+/// The join of the members laid over the target, which is this shape, with what changed.
+fn merge_over<'a>(
+    alloc: Global,
+    target: &'a Doc,
+    sources: &[Doc],
+    before: &Database<'a>,
+    joined: &Database<'a>,
+    older: &Shape<'a>,
+) -> Result<Merged, MergeFail>
+    requires before { database before.now ≡ db_in (doc_seen target.now) }
+    requires joined { database joined.now
+        ≡ join (members (doc_seen target.now) (map doc_seen sources.now)) }
+    requires older { shape older.now ≡ shape_of (doc_seen target.now) }
+    requires entries { older.now.entries ≡ (shape_of (doc_seen target.now)).entries }
+    requires can_merge { CanMerge (doc_seen target.now) (map doc_seen sources.now) }
+    ensures { IsMergeResult (Ok (lay_doc LEVELS
+        (join (members (doc_seen target.now) (map doc_seen sources.now))) (doc_seen target.now)))
+        (doc_seen target.now) (map doc_seen sources.now) result }
+{
+    let doc = laid(alloc, target, sources, joined, older)?;
+    let same = sameness(target, &doc);
+    match changes(alloc, &older.entries, before, joined, same) {
+        Ok(changes) => Ok(Merged {
+            doc,
+            changed: !same.all,
+            changes,
+        }),
+        Err(_failed) => {
+            drop(doc);
+            Err(MergeFail::NoMemory)
+        }
+    }
 }
 
 /// The join of the members laid over the target, where no kept node is too deep.
@@ -183,8 +185,10 @@ fn merge_joined<'a>(
         (join (members (doc_seen target.now) (map doc_seen sources.now))) (doc_seen target.now)))
         (doc_seen target.now) (map doc_seen sources.now) result }
 {
-    let doc = laid(alloc, target, sources, joined)?;
-    report(alloc, target, sources, &copies[0], joined, doc)
+    let older = shape_of(alloc, target)?;
+    let merged = merge_over(alloc, target, sources, &copies[0], joined, &older);
+    drop(older);
+    merged
 }
 
 /// Documents merged that no refusal is about; the kept nodes are marked.

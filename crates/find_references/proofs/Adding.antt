@@ -1,5 +1,5 @@
 -- How a text is added piece by piece: what each way out of a step says of the whole.
-use Rattle.std.proofs.Common.{◌≡◌, ◌≤◌, ◌<◌, ◌-◌, ℕ, List, length, take, drop, Some, None, Result, Ok, sym, ap, ◌∙◌, subst, arith, length-drop, take_all}
+use Rattle.std.proofs.Common.{◌≡◌, ◌≤◌, ◌<◌, ◌-◌, ℕ, List, [], ◌∷◌, length, take, drop, Option, Some, None, Result, Ok, sym, ap, ◌∙◌, subst, arith, length-drop, take_all}
 use Rattle.std.specs.List.{find}
 use Rattle.outside_core.specs.Results.{◌>>=◌, Fails}
 use Rattle.outside_core.proofs.Results.{fails_at_first, fails_same}
@@ -7,9 +7,9 @@ use Rattle.find_references.specs.declared.fail.FindFail.{FindFail}
 use Rattle.find_references.specs.Results.{meaning_of}
 use Rattle.find_references.specs.Fields.{has_at, part_value}
 use Rattle.find_references.specs.References.{Reference, reference_at}
-use Rattle.find_references.specs.Resolved.{Made, after_step, after_steps, copied, replaced, steps}
+use Rattle.find_references.specs.Resolved.{Made, after_step, after_steps, copied, reference_steps, sought, steps}
 use Rattle.find_references.proofs.Pieces.{stands_first}
-use Rattle.find_references.proofs.Steps.{Row, after_pieces, after_replaced, after_standing, with_levels}
+use Rattle.find_references.proofs.Steps.{Row, after_pieces, after_reference, with_levels}
 
 refused_whole : {A B : Type 0} (e : FindFail) (first : Result A FindFail) (next : A → Result B FindFail) (left whole : Result B FindFail)
     → left ≡ (first >>= next) → left ≡ whole → Fails (meaning_of e) first → Fails (meaning_of e) whole
@@ -32,50 +32,49 @@ rest_of n text = let long : length (drop n text) ≤ length text - n = omega (ar
 
 module _ (k : ℕ) (rows : List Row) (text : List ℕ) (r : Reference) (made : Made) (whole : Result Made FindFail)
     (found : reference_at text ≡ Some r) (so_far : after_pieces k rows text made ≡ whole) where
-  -- a reference that stays
-  pub standing_refused : (e : FindFail) → find (has_at r.place r.text) rows ≡ None
-      → Fails (meaning_of e) (after_step made (copied r.written)) → Fails (meaning_of e) whole
-  standing_refused e missing h =
-      let s = stands_first text r found in
-      refused_whole e (after_step made (copied r.written)) (after_pieces k rows (drop (length r.written) text)) (after_pieces k rows text made) whole
-      (after_standing k rows text (drop (length r.written) text) r made found s.joined s.some missing) so_far h
+  -- what follows the reference, after what takes its place
+  abbrev following : Option Row → Made → Result Made FindFail
+  following o now = after_steps (reference_steps (steps k rows) r o) now >>= after_pieces k rows (drop (length r.written) text)
 
-  pub standing_left : (now : Made) → find (has_at r.place r.text) rows ≡ None → after_step made (copied r.written) ≡ Ok now
-      → after_pieces k rows (drop (length r.written) text) now ≡ whole
-  standing_left now missing is =
-      let s = stands_first text r found in
-      rest_left (after_step made (copied r.written)) (after_pieces k rows (drop (length r.written) text)) (after_pieces k rows text made) whole now
-      (after_standing k rows text (drop (length r.written) text) r made found s.joined s.some missing) so_far is
+  parts : after_pieces k rows text made ≡ (after_step made sought >>= following (find (has_at r.place r.text) rows))
+  parts = let s = stands_first text r found in after_reference k rows text (drop (length r.written) text) r made found s.joined s.some
+
+  -- one reference too many
+  pub count_refused : (e : FindFail) → Fails (meaning_of e) (after_step made sought) → Fails (meaning_of e) whole
+  count_refused e h =
+      refused_whole e (after_step made sought) (following (find (has_at r.place r.text) rows)) (after_pieces k rows text made) whole parts so_far h
+
+  counted : (count : Made) (o : Option Row) → find (has_at r.place r.text) rows ≡ o → after_step made sought ≡ Ok count → following o count ≡ whole
+  counted count o there is =
+      ap (λ o. following o count) (sym there)
+      ∙ rest_left (after_step made sought) (following (find (has_at r.place r.text) rows)) (after_pieces k rows text made) whole count parts so_far is
+
+  -- a reference that stays
+  pub standing_refused : (e : FindFail) (count : Made) → find (has_at r.place r.text) rows ≡ None → after_step made sought ≡ Ok count
+      → Fails (meaning_of e) (after_step count (copied r.written)) → Fails (meaning_of e) whole
+  standing_refused e count missing is h =
+      fails_same (meaning_of e) (following None count) whole (counted count None missing is)
+      (fails_at_first (meaning_of e) (after_steps (copied r.written ∷ []) count) (after_pieces k rows (drop (length r.written) text))
+      (fails_at_first (meaning_of e) (after_step count (copied r.written)) (λ now. Ok now) h))
+
+  pub standing_left : (count now : Made) → find (has_at r.place r.text) rows ≡ None → after_step made sought ≡ Ok count
+      → after_step count (copied r.written) ≡ Ok now → after_pieces k rows (drop (length r.written) text) now ≡ whole
+  standing_left count now missing is done =
+      sym (ap (λ x. (x >>= λ m. Ok m) >>= after_pieces k rows (drop (length r.written) text)) done)
+      ∙ counted count None missing is
 
   -- a reference that is replaced
-  pub count_refused : (e : FindFail) (row : Row) → find (has_at r.place r.text) rows ≡ Some row
-      → Fails (meaning_of e) (after_step made replaced) → Fails (meaning_of e) whole
-  count_refused e row there h =
-      let s = stands_first text r found in
-      refused_whole e (after_step made replaced) (λ now. after_steps (steps k rows (part_value r.wanted row)) now >>= after_pieces k rows (drop (length r.written) text))
-      (after_pieces k rows text made) whole
-      (after_replaced k rows text (drop (length r.written) text) r row made found s.joined s.some there) so_far h
-
-  counted : (row : Row) (count : Made) → find (has_at r.place r.text) rows ≡ Some row → after_step made replaced ≡ Ok count
-      → (after_steps (steps k rows (part_value r.wanted row)) count >>= after_pieces k rows (drop (length r.written) text)) ≡ whole
-  counted row count there is =
-      let s = stands_first text r found in
-      rest_left (after_step made replaced) (λ now. after_steps (steps k rows (part_value r.wanted row)) now >>= after_pieces k rows (drop (length r.written) text))
-      (after_pieces k rows text made) whole count
-      (after_replaced k rows text (drop (length r.written) text) r row made found s.joined s.some there) so_far is
-
   pub value_refused : (e : FindFail) (row : Row) (count : Made) (value : List ℕ) → find (has_at r.place r.text) rows ≡ Some row
-      → after_step made replaced ≡ Ok count → value ≡ part_value r.wanted row
+      → after_step made sought ≡ Ok count → value ≡ part_value r.wanted row
       → Fails (meaning_of e) (after_steps (steps k rows value) count) → Fails (meaning_of e) whole
   value_refused e row count value there is same h =
-      fails_same (meaning_of e) (after_steps (steps k rows (part_value r.wanted row)) count >>= after_pieces k rows (drop (length r.written) text)) whole
-      (counted row count there is)
+      fails_same (meaning_of e) (following (Some row) count) whole (counted count (Some row) there is)
       (fails_at_first (meaning_of e) (after_steps (steps k rows (part_value r.wanted row)) count) (after_pieces k rows (drop (length r.written) text))
       (subst (λ v. Fails (meaning_of e) (after_steps (steps k rows v) count)) same h))
 
   pub replaced_left : (row : Row) (count now : Made) (value : List ℕ) → find (has_at r.place r.text) rows ≡ Some row
-      → after_step made replaced ≡ Ok count → value ≡ part_value r.wanted row → after_steps (steps k rows value) count ≡ Ok now
+      → after_step made sought ≡ Ok count → value ≡ part_value r.wanted row → after_steps (steps k rows value) count ≡ Ok now
       → after_pieces k rows (drop (length r.written) text) now ≡ whole
   replaced_left row count now value there is same done =
       sym (ap (λ x. x >>= after_pieces k rows (drop (length r.written) text)) (ap (λ v. after_steps (steps k rows v) count) (sym same) ∙ done))
-      ∙ counted row count there is
+      ∙ counted count (Some row) there is

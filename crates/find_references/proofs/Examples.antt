@@ -9,7 +9,7 @@ use Rattle.vault_model.specs.Shape.{EntryRecord}
 use Rattle.vault_model.specs.Tree.{BareDoc, node, none}
 use Rattle.find_references.specs.declared.fail.FindFail.TheVariants.{TooMuch}
 use Rattle.find_references.specs.References.{reference_at}
-use Rattle.find_references.specs.Resolved.{after_step, replaced, resolved}
+use Rattle.find_references.specs.Resolved.{after_step, resolved, sought}
 
 abbrev id : ℕ → NodeId
 id n = replicate 16 n
@@ -88,9 +88,9 @@ left : resolved doc (codes "{REF:P@T:mail}{REF:O@T:Mail}{REF:P@T:}{REF:P@T:Mail"
 unfolding resolved reference_at by_index
 left = refl
 
--- The last reference that is replaced, and the first that is too many.
-last_reference : after_step (record { references = 65535; text = [] }) replaced ≡ Ok (record { references = 65536; text = [] })
+-- The last reference that is looked for, and the first that is too many.
+last_reference : after_step (record { references = 65535; text = [] }) sought ≡ Ok (record { references = 65536; text = [] })
 last_reference = refl
 
-one_reference_more : after_step (record { references = 65536; text = [] }) replaced ≡ Err (TooMuch 65537)
+one_reference_more : after_step (record { references = 65536; text = [] }) sought ≡ Err (TooMuch 65537)
 one_reference_more = refl

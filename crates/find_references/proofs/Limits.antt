@@ -5,8 +5,8 @@ use Rattle.std.proofs.lemmas.Bool.Decides.{nat_tests}
 use Rattle.outside_core.specs.Results.{◌>>=◌}
 use Rattle.find_references.specs.declared.fail.FindFail.{FindFail}
 use Rattle.find_references.specs.declared.fail.FindFail.TheVariants.{TooMuch}
-use Rattle.find_references.specs.Laws.{IsWithinLimits, copied_in, replaced_in, steps_over}
-use Rattle.find_references.specs.Resolved.{MOST_BYTES, MOST_REFERENCES, Made, Step, after_steps, copied, replaced, resolved}
+use Rattle.find_references.specs.Laws.{IsWithinLimits, copied_in, sought_in, steps_over}
+use Rattle.find_references.specs.Resolved.{MOST_BYTES, MOST_REFERENCES, Made, Step, after_steps, copied, resolved, sought}
 use Rattle.vault_model.specs.Tree.{BareDoc}
 
 -- what is made is within the limits
@@ -16,7 +16,7 @@ pub record Fits (made : Made) : Type 0 where
 
 -- what is made after some steps, were there no limits
 abbrev pub unlimited : Made → List Step → Made
-unlimited made ss = record { references = made.references + replaced_in ss; text = made.text ++ copied_in ss }
+unlimited made ss = record { references = made.references + sought_in ss; text = made.text ++ copied_in ss }
 
 -- a result is this one where it is within the limits, and only there is there one
 abbrev pub IsExact : Made → Result Made FindFail → Type 0
@@ -53,23 +53,23 @@ exact_steps (copied bytes ∷ ss) made fits =
     let n = length made.text + length bytes in
     let now : Made = record { references = made.references; text = made.text ++ bytes } in
     taken (nat_le n MOST_BYTES) now (unlimited made (copied bytes ∷ ss)) (TooMuch (MOST_BYTES + 1)) ss
-    (ap (λ (t : List ℕ). record { references = made.references + replaced_in ss; text = t }) (append_assoc made.text bytes (copied_in ss)))
+    (ap (λ (t : List ℕ). record { references = made.references + sought_in ss; text = t }) (append_assoc made.text bytes (copied_in ss)))
     (λ yes. exact_steps ss now (record {
       references = fits.references;
       bytes = subst (λ k. k ≤ MOST_BYTES) (sym (length-append made.text bytes)) (le_from n MOST_BYTES yes);
     }))
     (λ no more. too_many (length made.text) (length bytes) (length (copied_in ss)) MOST_BYTES (above_from n MOST_BYTES no)
     (subst (λ k. k ≤ MOST_BYTES) (length-append made.text (bytes ++ copied_in ss) ∙ ap (λ k. length made.text + k) (length-append bytes (copied_in ss))) more.bytes))
-exact_steps (replaced ∷ ss) made fits =
+exact_steps (sought ∷ ss) made fits =
     let now : Made = record { references = made.references + 1; text = made.text } in
-    let n : made.references + 1 + replaced_in ss ≡ made.references + (1 + replaced_in ss) = omega arith in
-    taken (nat_lt made.references MOST_REFERENCES) now (unlimited made (replaced ∷ ss)) (TooMuch (MOST_REFERENCES + 1)) ss
+    let n : made.references + 1 + sought_in ss ≡ made.references + (1 + sought_in ss) = omega arith in
+    taken (nat_lt made.references MOST_REFERENCES) now (unlimited made (sought ∷ ss)) (TooMuch (MOST_REFERENCES + 1)) ss
     (ap (λ (k : ℕ). record { references = k; text = made.text ++ copied_in ss }) n)
     (λ yes. exact_steps ss now (record {
       references = let h = lt_from made.references MOST_REFERENCES yes in one_more made.references MOST_REFERENCES h;
       bytes = fits.bytes;
     }))
-    (λ no more. too_many made.references 1 (replaced_in ss) MOST_REFERENCES
+    (λ no more. too_many made.references 1 (sought_in ss) MOST_REFERENCES
     (no_more made.references MOST_REFERENCES (not_below_from made.references MOST_REFERENCES no)) more.references)
   where
     one_more : (m n : ℕ) → m < n → m + 1 ≤ n
@@ -97,7 +97,7 @@ within_limits doc text =
     let start : Made = record { references = 0; text = [] } in
     let made = after_steps ss start in
     let exact = exact_steps ss start (record { references = omega arith; bytes = omega arith }) in
-    let zero : 0 + replaced_in ss ≡ replaced_in ss = omega arith in record {
+    let zero : 0 + sought_in ss ≡ sought_in ss = omega arith in record {
       is_ok = (
         λ ok. let fits = exact.1 (ok_first made ok) in (subst (λ k. k ≤ MOST_REFERENCES) zero fits.references, fits.bytes),
         λ limits. ap (λ (x : Result Made FindFail). is_ok (x >>= λ m. Ok m.text))

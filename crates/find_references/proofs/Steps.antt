@@ -3,9 +3,9 @@ use Rattle.std.proofs.Common.{◌≡◌, ◌<◌, ◌-◌, ℕ, zero, suc, List,
 use Rattle.std.specs.List.{find}
 use Rattle.outside_core.specs.Results.{◌>>=◌}
 use Rattle.find_references.specs.declared.fail.FindFail.{FindFail}
-use Rattle.find_references.specs.Fields.{has_at, part_value}
+use Rattle.find_references.specs.Fields.{has_at}
 use Rattle.find_references.specs.References.{Reference, pieces, reference_at}
-use Rattle.find_references.specs.Resolved.{Made, Step, after_step, after_steps, copied, piece_steps, reference_steps, replaced, steps}
+use Rattle.find_references.specs.Resolved.{Made, Step, after_step, after_steps, copied, piece_steps, reference_steps, sought, steps}
 use Rattle.find_references.proofs.Pieces.{byte_first, reference_first}
 use Rattle.vault_model.specs.Db.{NodeId}
 use Rattle.vault_model.specs.Shape.{EntryRecord}
@@ -53,26 +53,20 @@ pub after_byte : (levels : ℕ) (rows : List Row) (b : ℕ) (bs : List ℕ) (mad
 after_byte levels rows b bs made none =
     ap (λ ps. after_steps (flat_map (piece_steps rows (steps levels rows)) ps) made) (byte_first b bs none)
 
--- a reference that stays
-pub after_standing : (levels : ℕ) (rows : List Row) (text following : List ℕ) (r : Reference) (made : Made)
-    → reference_at text ≡ Some r → text ≡ r.written ++ following → 0 < length r.written → find (has_at r.place r.text) rows ≡ None
-    → after_pieces levels rows text made ≡ (after_step made (copied r.written) >>= after_pieces levels rows following)
-after_standing levels rows text following r made found joined some missing =
-    ap (λ ps. after_steps (flat_map (piece_steps rows (steps levels rows)) ps) made) (reference_first text following r found joined some)
-    ∙ ap (λ o. after_steps (reference_steps (steps levels rows) r o ++ flat_map (piece_steps rows (steps levels rows)) (pieces 0 following)) made) missing
-
--- a reference that is replaced
-pub after_replaced : (levels : ℕ) (rows : List Row) (text following : List ℕ) (r : Reference) (e : Row) (made : Made)
-    → reference_at text ≡ Some r → text ≡ r.written ++ following → 0 < length r.written → find (has_at r.place r.text) rows ≡ Some e
+-- a reference, whose entry is looked for
+pub after_reference : (levels : ℕ) (rows : List Row) (text following : List ℕ) (r : Reference) (made : Made)
+    → reference_at text ≡ Some r → text ≡ r.written ++ following → 0 < length r.written
     → after_pieces levels rows text made
-    ≡ (after_step made replaced >>= λ now. after_steps (steps levels rows (part_value r.wanted e)) now >>= after_pieces levels rows following)
-after_replaced levels rows text following r e made found joined some there =
+    ≡ (after_step made sought >>= λ now. after_steps (reference_steps (steps levels rows) r (find (has_at r.place r.text) rows)) now >>= after_pieces levels rows following)
+after_reference levels rows text following r made found joined some =
     ap (λ ps. after_steps (flat_map (piece_steps rows (steps levels rows)) ps) made) (reference_first text following r found joined some)
-    ∙ ap (λ o. after_steps (reference_steps (steps levels rows) r o ++ flat_map (piece_steps rows (steps levels rows)) (pieces 0 following)) made) there
-    ∙ first (after_step made replaced)
+    ∙ first (after_step made sought)
   where
+    place : List Step
+    place = reference_steps (steps levels rows) r (find (has_at r.place r.text) rows)
+
     first : (x : Result Made FindFail)
-        → (x >>= after_steps (steps levels rows (part_value r.wanted e) ++ flat_map (piece_steps rows (steps levels rows)) (pieces 0 following)))
-        ≡ (x >>= λ now. after_steps (steps levels rows (part_value r.wanted e)) now >>= after_pieces levels rows following)
-    first (Ok now) = after_both (steps levels rows (part_value r.wanted e)) (flat_map (piece_steps rows (steps levels rows)) (pieces 0 following)) now
+        → (x >>= after_steps (place ++ flat_map (piece_steps rows (steps levels rows)) (pieces 0 following)))
+        ≡ (x >>= λ now. after_steps place now >>= after_pieces levels rows following)
+    first (Ok now) = after_both place (flat_map (piece_steps rows (steps levels rows)) (pieces 0 following)) now
     first (Err fail) = refl

@@ -10,7 +10,7 @@ use Rattle.vault_model.specs.Db.{NodeId}
 use Rattle.vault_model.specs.Shape.{EntryRecord}
 use Rattle.vault_model.specs.Tree.{BareDoc, entry_rows}
 
--- How many references may be replaced.
+-- How many references may be looked for.
 abbrev pub MOST_REFERENCES : ℕ
 MOST_REFERENCES = 65536
 
@@ -22,30 +22,30 @@ MOST_BYTES = 1048576
 abbrev pub MOST_LEVELS : ℕ
 MOST_LEVELS = 10
 
--- A step from left to right: bytes are copied, or a reference is replaced by what follows.
+-- A step from left to right: bytes are copied, or the entry of a reference is looked for.
 pub data Step : Type 0 where
   copied : List ℕ → Step
-  replaced : Step
+  sought : Step
 
--- How a reference is resolved: as the value wanted of the entry that was found is, or as the
--- reference as it is written where there is no such entry.
+-- What takes the place of a reference: the value wanted of the entry that was found, resolved, or
+-- the reference as it is written where there is no such entry.
 abbrev pub reference_steps : (List ℕ → List Step) → Reference → Option (NodeId × EntryRecord)
     → List Step
-reference_steps deeper r (Some e) = replaced ∷ deeper (part_value r.wanted e)
+reference_steps deeper r (Some e) = deeper (part_value r.wanted e)
 reference_steps deeper r None = copied r.written ∷ []
 
 -- How a piece is resolved; the first of the entries that have the text answers.
 abbrev pub piece_steps : List (NodeId × EntryRecord) → (List ℕ → List Step) → Piece → List Step
 piece_steps rows deeper (byte b) = copied (b ∷ []) ∷ []
-piece_steps rows deeper (reference r) = reference_steps deeper r
-    (find (has_at r.place r.text) rows)
+piece_steps rows deeper (reference r) =
+    sought ∷ reference_steps deeper r (find (has_at r.place r.text) rows)
 
 -- How a text is resolved in which so many replacements may still lie within one another.
 abbrev pub steps : ℕ → List (NodeId × EntryRecord) → List ℕ → List Step
 steps zero rows text = copied text ∷ []
 steps (suc levels) rows text = flat_map (piece_steps rows (steps levels rows)) (pieces 0 text)
 
--- How many references were replaced, and the text so far.
+-- How many references were looked for, and the text so far.
 pub record Made : Type 0 where
   pub references : ℕ
   pub text : List ℕ
@@ -56,7 +56,7 @@ after_step made (copied bytes) =
     if nat_le (length made.text + length bytes) MOST_BYTES
     then Ok (record { references = made.references; text = made.text ++ bytes })
     else Err (TooMuch (MOST_BYTES + 1))
-after_step made replaced =
+after_step made sought =
     if nat_lt made.references MOST_REFERENCES
     then Ok (record { references = made.references + 1; text = made.text })
     else Err (TooMuch (MOST_REFERENCES + 1))

@@ -8,8 +8,8 @@ use outside_core::NoMemory;
 /// Why a search, or the resolving of references, is refused.
 #[derive(Clone, Copy)]
 pub enum FindFail {
-    /// More references are replaced than may be, or the resolved text is longer than it may be: the
-    /// first count that passes its limit.
+    /// More references are looked for than may be, or the resolved text is longer than it may be:
+    /// the first count that passes its limit.
     TooMuch(u64),
     /// A term has no text; the number is its offset, or 0 where there is no term.
     EmptyTerm(usize),

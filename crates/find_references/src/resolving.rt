@@ -1,7 +1,7 @@
 //! Replacing references.
 
 ghost use Rattle.std.specs.Prelude.{◌≡◌, ◌≤◌, OnOk};
-ghost use Rattle.find_references.specs.Resolved.{after_step, after_steps, copied, replaced, resolved, steps};
+ghost use Rattle.find_references.specs.Resolved.{after_step, after_steps, copied, resolved, sought, steps};
 ghost use Rattle.find_references.specs.inside.Seen.{made_seen};
 ghost use Rattle.find_references.specs.Results.{meaning_of};
 ghost use Rattle.outside_core.specs.Results.{Returns};
@@ -18,7 +18,7 @@ use secret_core::Secret;
 use std::alloc::Global;
 use vault_model::{Doc, Entry, Group};
 
-/// How many references may be replaced.
+/// How many references may be looked for.
 const MOST_REFERENCES: u64 = 65_536;
 
 /// How many bytes a resolved text may have.
@@ -27,7 +27,7 @@ const MOST_BYTES: usize = 1_048_576;
 /// How many replacements may lie within one another.
 const MOST_LEVELS: u8 = 10;
 
-/// A text that is being made, and how many references were replaced so far.
+/// A text that is being made, and how many references were looked for so far.
 #[derive(Drop)]
 struct Resolving {
     references: u64,
@@ -67,7 +67,7 @@ fn copy(alloc: Global, made: &mut Resolving, bytes: &[u8]) -> Result<(), FindFai
 // Counts a reference, unless there are too many by it.
 fn count(made: &mut Resolving) -> Result<(), FindFail>
     ensures { Returns meaning_of (λ _. made_seen made.new) result
-        (after_step (made_seen made.old) replaced) }
+        (after_step (made_seen made.old) sought) }
 {
     if made.references >= MOST_REFERENCES {
         return Err(FindFail::TooMuch(MOST_REFERENCES + 1));
@@ -99,12 +99,12 @@ fn add_resolved(
             rest = &rest[1..];
             continue;
         };
+        count(made)?;
         match entry_in(root, reference.place, reference.text) {
             Some(entry) => {
                 let mut buffer = [0; 32];
                 let digits = entry.id.encode_simple(&mut buffer);
                 let value = part_value(reference.wanted, entry, digits.as_bytes());
-                count(made)?;
                 add_resolved(alloc, made, root, levels - 1, value)?;
             }
             None => copy(alloc, made, reference.written)?,

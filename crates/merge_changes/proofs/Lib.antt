@@ -1,3 +1,4 @@
+pub mod Lasts
 pub mod Pairs
 pub mod SameValues
 pub mod SeenGroups

@@ -1,11 +1,13 @@
 //! The changes from one database to another.
-ghost use Rattle.std.specs.Prelude.{◌≡◌, ◌++◌, [], ◌∷◌, cond, IfOk, OnOk, Some, true};
+ghost use Rattle.std.specs.Prelude.{◌≡◌, ◌&&◌, ◌++◌, [], ◌∷◌, cond, IfOk, OnOk, Some, true};
+ghost use Rattle.std.specs.Option.{option_copied};
 ghost use Rattle.vault_model.specs.Unite.{tabulate};
 ghost use Rattle.merge_changes.specs.Equality.{same_all, same_state, same_stats};
 ghost use Rattle.reference_tables.specs.Databases.{database};
-ghost use Rattle.merge_changes.specs.Changes.{all_changes, changes_at, entry_changes, group_changes, node_changes, nodes_of, or_order, rising_ids, same_place, same_use, same_versions};
+ghost use Rattle.merge_changes.specs.Changes.{all_changes, changes_at, entry_changes, group_changes, is_last, node_changes, nodes_of, or_order, rising_ids, same_place, same_use, same_versions, stays_current};
 
 use outside_core::{List, NoMemory};
+use reference_shapes::shapes::LentEntry;
 use reference_tables::databases::Database;
 use reference_tables::ids::{push_both, push_ids};
 use reference_tables::placements::Placement;
@@ -29,7 +31,7 @@ pub enum Kind {
 pub enum Change {
     /// The node is there only now.
     Created(Kind, Uuid),
-    /// The node's versions with their use, or its state, differ.
+    /// The node's versions with their use, or which of them is current, or its state, differ.
     Updated(Kind, Uuid),
     /// The node's place differs: its time, its parent or its previous parent.
     Moved(Kind, Uuid),
@@ -39,9 +41,18 @@ pub enum Change {
     Metadata,
     /// The tombstones differ.
     Deletions,
-    /// Nothing else that is listed differs, and the documents do: siblings, or an entry's versions,
-    /// are arranged in another way.
+    /// Nothing else that is listed differs, and the documents do: siblings, or the versions in an
+    /// entry's history, are arranged in another way.
     Order,
+}
+
+/// What is the same in two documents: what they say of themselves, their tombstones, and all of
+/// them.
+#[derive(Clone, Copy)]
+pub struct Sameness {
+    pub meta: bool,
+    pub tombs: bool,
+    pub all: bool,
 }
 
 /// Whether two uses are equal.
@@ -78,6 +89,36 @@ fn are_versions_same(first: &VersionTable, second: &VersionTable) -> bool
     ensures { result ≡ same_versions first.now second.now }
 {
     are_rows_same(first.rows(), second.rows())
+}
+
+/// Whether the last of these versions has this mark.
+fn is_last(mark: &VersionKey, rows: &[(VersionKey, Stats)]) -> bool
+    ensures { result ≡ is_last mark.now rows.now }
+{
+    if rows.len() == 0 {
+        return false;
+    }
+    let last = rows.len() - 1;
+    let newest = &rows[last];
+    mark.cmp(&newest.0).is_eq()
+}
+
+/// Whether the version that was current still is: whether it is the greatest of these.
+fn stays_current(older: Option<&LentEntry>, versions: &VersionTable) -> bool
+    ensures { result ≡ stays_current (option_copied older.entry) versions.now }
+{
+    match older {
+        Some(entry) => is_last(entry.current().mark(), versions.rows()),
+        None => false,
+    }
+}
+
+/// Whether an entry has the same versions, and the same one is current.
+fn is_entry_same(older: Option<&LentEntry>, old: &VersionTable, new: &VersionTable) -> bool
+    ensures { result
+        ≡ (same_versions old.now new.now && stays_current (option_copied older.entry) new.now) }
+{
+    are_versions_same(old, new) && stays_current(older, new)
 }
 
 /// Whether the states of two groups are equal.
@@ -120,19 +161,20 @@ fn push_unless(changes: &mut List<Change>, change: Change, is_same: bool) -> Res
 /// Appends the changes of an entry. A refusal means that memory ran out.
 fn push_entry(
     changes: &mut List<Change>,
+    older: &Table<LentEntry>,
     before: &Database,
     after: &Database,
     id: Uuid,
 ) -> Result<(), NoMemory>
     ensures { OnOk result (changes.new
-        ≡ changes.old ++ entry_changes (database before.now) (database after.now) id) }
+        ≡ changes.old ++ entry_changes older.now (database before.now) (database after.now) id) }
 {
     match (before.entries.get(&id), after.entries.get(&id)) {
         (None, None) => Ok(()),
         (None, Some(_)) => push_unless(changes, Change::Created(Kind::Entry, id), false),
         (Some(_), None) => push_unless(changes, Change::Deleted(Kind::Entry, id), false),
         (Some(old), Some(new)) => {
-            let is_same = are_versions_same(old, new);
+            let is_same = is_entry_same(older.get(&id), old, new);
             let stays = is_place_same(
                 before.places.get(&id).copied(),
                 after.places.get(&id).copied(),
@@ -197,37 +239,39 @@ fn rising_nodes(alloc: Global, before: &Database, after: &Database) -> Result<Ve
 /// The changes of all nodes, by rising id.
 fn changed_nodes(
     alloc: Global,
+    older: &Table<LentEntry>,
     before: &Database,
     after: &Database,
 ) -> Result<List<Change>, NoMemory>
-    ensures { IfOk result (λ cs. cs ≡ node_changes (database before.now) (database after.now)) }
+    ensures { IfOk result (λ cs. cs
+        ≡ node_changes older.now (database before.now) (database after.now)) }
 {
     let ids = rising_nodes(alloc, before, after)?;
     let mut changes = List::new(alloc);
     for id in ids.as_slice() {
-        push_entry(&mut changes, before, after, *id)?;
+        push_entry(&mut changes, older, before, after, *id)?;
         push_group(&mut changes, before, after, *id)?;
     }
     Ok(changes)
 }
 
-/// The changes of a database: of its nodes by rising id, of what it says of itself, of its
-/// tombstones; and, where these are all the same and the documents are not, of its arrangement.
+/// The changes of a database, whose document had these entries: of its nodes by rising id, of what
+/// it says of itself, of its tombstones; and, where these are all the same and the documents are
+/// not, of its arrangement.
 pub fn changes(
     alloc: Global,
+    older: &Table<LentEntry>,
     before: &Database,
     after: &Database,
-    is_meta_same: bool,
-    are_tombs_same: bool,
-    is_same: bool,
+    same: Sameness,
 ) -> Result<List<Change>, NoMemory>
-    ensures { IfOk result (λ cs. cs ≡ all_changes (database before.now) (database after.now)
-        is_meta_same are_tombs_same is_same) }
+    ensures { IfOk result (λ cs. cs ≡ all_changes older.now (database before.now)
+        (database after.now) same.meta same.tombs same.all) }
 {
-    let mut changes = changed_nodes(alloc, before, after)?;
-    push_unless(&mut changes, Change::Metadata, is_meta_same)?;
-    push_unless(&mut changes, Change::Deletions, are_tombs_same)?;
+    let mut changes = changed_nodes(alloc, older, before, after)?;
+    push_unless(&mut changes, Change::Metadata, same.meta)?;
+    push_unless(&mut changes, Change::Deletions, same.tombs)?;
     let is_listed = changes.len() > 0;
-    push_unless(&mut changes, Change::Order, is_listed || is_same)?;
+    push_unless(&mut changes, Change::Order, is_listed || same.all)?;
     Ok(changes)
 }

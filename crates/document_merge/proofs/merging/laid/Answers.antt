@@ -12,19 +12,19 @@ use Rattle.reference_tables.specs.Databases.{database}
 use Rattle.reference_shapes.specs.Shapes.{shape}
 use Rattle.document_merge.proofs.merging.laid.Goals as goal
 
-pub laid_over-doc-requires-clause-joined : goal.laid_over-doc-requires-clause-joined
-laid_over-doc-requires-clause-joined c = subst Sound (sym c.requires.joined) c.requires.can_merge.joined
+pub laid_over-requires-clause-joined : goal.laid_over-requires-clause-joined
+laid_over-requires-clause-joined c = subst Sound (sym c.requires.joined) c.requires.can_merge.joined
 
-pub laid_over-doc-requires-clause-laid : goal.laid_over-doc-requires-clause-laid
-laid_over-doc-requires-clause-laid c =
+pub laid_over-requires-clause-laid : goal.laid_over-requires-clause-laid
+laid_over-requires-clause-laid c =
     let joined = join (members (doc_seen c.args.target.now) (map doc_seen c.args._sources.now)) in
-    let same : doc_of LEVELS (lay (database c.args.joined.now) (shape c.in_ok-older.older)) ≡ lay_doc LEVELS joined (doc_seen c.args.target.now) =
-    λ i. doc_of LEVELS (lay (c.requires.joined i) (c.in_ok-older.ensures i)) in
+    let same : doc_of LEVELS (lay (database c.args.joined.now) (shape c.args.older.now)) ≡ lay_doc LEVELS joined (doc_seen c.args.target.now) =
+    λ i. doc_of LEVELS (lay (c.requires.joined i) (c.requires.older i)) in
     subst IsDoc (sym same) c.requires.can_merge.laid
 
 pub returns : goal.returns
 returns c =
     let joined = join (members (doc_seen c.args.target.now) (map doc_seen c.args._sources.now)) in
-    let same : doc_of LEVELS (lay (database c.args.joined.now) (shape c.in_ok-older.older)) ≡ lay_doc LEVELS joined (doc_seen c.args.target.now) =
-    λ i. doc_of LEVELS (lay (c.requires.joined i) (c.in_ok-older.ensures i)) in
-    subst (λ (x : BareDoc). IfOk c.laid_over-doc.result (λ (d : Doc). doc_seen d ≡ x)) same c.laid_over-doc.ensures
+    let same : doc_of LEVELS (lay (database c.args.joined.now) (shape c.args.older.now)) ≡ lay_doc LEVELS joined (doc_seen c.args.target.now) =
+    λ i. doc_of LEVELS (lay (c.requires.joined i) (c.requires.older i)) in
+    subst (λ (x : BareDoc). IfOk c.laid_over.result (λ (d : Doc). doc_seen d ≡ x)) same c.laid_over.ensures

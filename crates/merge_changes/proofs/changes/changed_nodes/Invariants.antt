@@ -6,5 +6,5 @@ use Rattle.merge_changes.proofs.changes.changed_nodes.Given as goal
 
 abbrev pub invariant-loop-id : goal.invariant-loop-id
 invariant-loop-id l =
-    flat_map (changes_at (database l.before) (database l.after)) l.id-items
-    ≡ l.changes ++ flat_map (changes_at (database l.before) (database l.after)) (drop l.id-index l.id-items)
+    flat_map (changes_at l.older (database l.before) (database l.after)) l.id-items
+    ≡ l.changes ++ flat_map (changes_at l.older (database l.before) (database l.after)) (drop l.id-index l.id-items)
