@@ -1,3 +1,4 @@
+pub mod HeaderSizes
 mod HeaderVectors
 mod HeaderVectors31
 pub mod Prefixes

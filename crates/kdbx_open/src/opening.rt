@@ -1,10 +1,13 @@
 //! Opening a file.
 
-ghost use Rattle.std.specs.Prelude.{◌≡◌, ◌≤◌, IfOk, IfSome, length};
+ghost use Rattle.std.specs.Prelude.{◌≡◌, ℕ, ◌≤◌, IfOk, IfSome, List, length};
 ghost use Rattle.std.specs.FinMap as map;
 ghost use Rattle.vault_model.specs.SeenDoc.{doc_seen};
 ghost use Rattle.kdbx_frame.specs.Settings.{IsInOrder};
-ghost use Rattle.kdbx_frame.specs.Fields.{file_limit};
+ghost use Rattle.stream_core.specs.InnerStream.{IsAt};
+ghost use Rattle.kdbx_payload.specs.Payloads.{payload_of};
+ghost use Rattle.kdbx_payload.specs.Results as payloads;
+ghost use Rattle.kdbx_payload.specs.Seen.{payload_seen};
 ghost use Rattle.kdbx_open.specs.Causes.{HasOpenCause};
 ghost use Rattle.kdbx_open.specs.Files.{ReturnsOfSomeFile, opening_of};
 ghost use Rattle.kdbx_open.specs.Opening.{opening};
@@ -15,9 +18,10 @@ ghost use Rattle.kdbx_open.specs.Seen.{opened_seen, unsealed_seen};
 use crate::OpenFail;
 use crate::documents::{check_hash, document_of};
 use kdbx_frame::{FILE_LIMIT, Settings, form_of};
-use kdbx_payload::{Payload, open_payload};
+use kdbx_payload::{Payload, PayloadFail};
+use kdbx_reading::read_payload;
 use outside_core::FileStore;
-use secret_core::{Key, Secret, read_file};
+use secret_core::Key;
 use std::alloc::Global;
 use vault_model::Doc;
 
@@ -38,12 +42,15 @@ struct Unsealed {
     doc: Doc,
 }
 
-// What these bytes of a file hold under a composite key. All faults of the header come before a key
-// is derived. The file and the document are never in memory together.
-#[tactic(auto, unfolding(crate::specs::Opening::opening))]
-fn open_bytes(alloc: Global, composite: &Key, file: Secret) -> Result<Unsealed, OpenFail>
-    requires { length file.bytes ≤ file_limit }
-    ensures gives { Returns unsealed_seen result (opening file.bytes composite.now) }
+// What a payload holds, if there is one. The payload's text and the document are never in memory
+// together.
+fn open_payload(alloc: Global, answer: Result<Payload, PayloadFail>) -> Result<Unsealed, OpenFail>
+    requires in_order { IfOk answer (λ p. IsInOrder p.settings) }
+    requires start { IfOk answer (λ p. IsAt p.stream 0) }
+    requires within { IfOk answer (λ p. p.document ≤ length p.text.bytes) }
+    ensures gives { (file composite : List ℕ)
+        → payloads.Returns payload_seen answer (payload_of file composite)
+        → Returns unsealed_seen result (opening file composite) }
     ensures in_order { IfOk result (λ u. IsInOrder u.settings) }
 {
     let Payload {
@@ -53,7 +60,7 @@ fn open_bytes(alloc: Global, composite: &Key, file: Secret) -> Result<Unsealed, 
         header_hash,
         text,
         document,
-    } = open_payload(alloc, composite, file)?;
+    } = answer?;
     let form = form_of(settings.version);
     let read = document_of(alloc, form, stream, &pool, text, document);
     drop(pool);
@@ -78,7 +85,6 @@ fn open_bytes(alloc: Global, composite: &Key, file: Secret) -> Result<Unsealed, 
 }
 
 // What the file of this name holds under a composite key.
-#[tactic(auto, unfolding(crate::specs::Files::opening_of))]
 fn open_named<F: FileStore>(
     alloc: Global,
     files: &mut F,
@@ -96,8 +102,8 @@ fn open_named<F: FileStore>(
     ensures draft_name { F.draft_name files.new ≡ F.draft_name files.old }
     ensures draft_bytes { F.draft_bytes files.new ≡ F.draft_bytes files.old }
 {
-    let file = read_file(alloc, files, name, FILE_LIMIT)?;
-    open_bytes(alloc, composite, file)
+    let answer = read_payload(alloc, files, name, composite, FILE_LIMIT)?;
+    open_payload(alloc, answer)
 }
 
 /// Opens the KDBX file of a name under a composite key.

@@ -1,4 +1,6 @@
 mod BlockContents
+mod BlocksTaken
+mod Fed
 mod Macs
 pub mod SealedPayloads
 mod StartBytes

@@ -8,7 +8,9 @@ mod fail;
 mod header_macs;
 pub mod laws;
 mod payload;
+mod text;
 
 pub use fail::PayloadFail;
 pub use header_macs::header_mac;
-pub use payload::{Payload, open_payload};
+pub use payload::{Payload, payload_in};
+pub use text::TextReader;

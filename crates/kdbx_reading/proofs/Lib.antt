@@ -1,0 +1,2 @@
+mod StoredFiles
+mod StoredPayloads

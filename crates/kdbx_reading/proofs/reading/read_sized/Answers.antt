@@ -1,0 +1,18 @@
+use Rattle.std.proofs.Common.{take, sym, subst, arith, Option}
+use Rattle.outside_core.specs.Files.{FileMap}
+use Rattle.kdbx_reading.specs.Stored.{HasSize, IsFront}
+use Rattle.kdbx_reading.proofs.StoredFiles.{front_read, size_read}
+use Rattle.kdbx_reading.proofs.reading.read_sized.Goals as goal
+
+pub read_from_front-requires-clause-sized : goal.read_from_front-requires-clause-sized
+read_from_front-requires-clause-sized g c =
+    let told = c.in_ok-len.ensures in
+    subst (λ (f : Option FileMap). HasSize f c.args.name.now c.in_ok-len.len) (sym told.files)
+    (size_read (g.F.FileStore.files c.args.files.now) c.args.name.now c.read_prefix.new.out c.in_ok-len.len c.args.size told.bound
+    (omega (arith, c.if-len-window.true)) c.requires.sized told.told)
+
+pub read_from_front-requires-clause-front : goal.read_from_front-requires-clause-front
+read_from_front-requires-clause-front g c =
+    let told = c.in_ok-len.ensures in
+    subst (λ (f : Option FileMap). IsFront f c.args.name.now (take c.in_ok-len.len c.read_prefix.new.out)) (sym told.files)
+    (front_read (g.F.FileStore.files c.args.files.now) c.args.name.now c.read_prefix.new.out c.in_ok-len.len told.bound told.told)
