@@ -9,3 +9,5 @@ pub mod Times
 pub mod EarlierPlaces
 pub mod Holding
 pub mod LastBlocks
+pub mod PairLemmas
+pub mod TurnLemmas

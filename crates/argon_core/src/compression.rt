@@ -1,132 +1,115 @@
 //! The compression function G of Argon2 (RFC 9106, 3.5 and 3.6).
 
-ghost use Rattle.std.specs.Prelude.{◌≡◌, ◌≢◌, ℕ, ◌+◌, ◌*◌, ◌/◌, ◌%◌, ◌<◌, slice_index};
-ghost use Rattle.argon_core.specs.Compression.{multiply_add, mix_product, mixed_columns, mixed_diagonals, permutation, row, column, permuted_rows, permuted_columns, xor_blocks, compression};
+ghost use Rattle.std.specs.Prelude.{◌≡◌, ◌≢◌, ℕ, ◌+◌, ◌*◌, ◌/◌, ◌%◌, ◌<◌, [], ◌∷◌, slice_index};
+ghost use Rattle.argon_core.specs.Pairs.{IsTurn, words_of};
+ghost use Rattle.argon_core.specs.Compression.{mix_product, mixed_columns, mixed_diagonals, permutation, row, column, permuted_rows, permuted_columns, xor_blocks, compression};
+
+use crate::pairs::{Turns, high_and_low, multiply_add, turned, turned_by_63, words_of, xor};
+use std::simd::u64x2;
 
 /// A block of 1,024 bytes, as words.
 pub(crate) type Block = [u64; 128];
 
 pub(crate) const LOW_HALF: u64 = 0xffff_ffff;
 
-#[inline(always)]
-fn multiply_add(a: u64, b: u64) -> u64
-    ensures { result ≡ multiply_add a b }
-{
-    let product = (a & LOW_HALF).wrapping_mul(b & LOW_HALF);
-    a.wrapping_add(b).wrapping_add(product.wrapping_mul(2))
-}
+// Four registers, one of each row of a square.
+type Registers = (u64x2, u64x2, u64x2, u64x2);
 
-// The function GB.
+// The function GB on each of two columns of words.
 #[inline(always)]
-#[tactic(auto, unfolding(crate::specs::Compression::mix_product))]
-fn mix_product(a: u64, b: u64, c: u64, d: u64) -> (u64, u64, u64, u64)
-    ensures { result ≡ mix_product a b c d }
+fn mix_products(turns: &Turns, q: Registers) -> Registers
+    requires by_32 { IsTurn 32 turns.now.by_32 }
+    requires by_24 { IsTurn 24 turns.now.by_24 }
+    requires by_16 { IsTurn 16 turns.now.by_16 }
+    ensures { (j : ℕ) → j < 2
+        → (slice_index result.0 j, slice_index result.1 j, slice_index result.2 j, slice_index result.3 j)
+        ≡ mix_product (slice_index q.0 j) (slice_index q.1 j) (slice_index q.2 j)
+        (slice_index q.3 j) }
 {
+    let (a, b, c, d) = q;
     let a1 = multiply_add(a, b);
-    let d1 = (d ^ a1).rotate_right(32);
+    let d1 = turned(xor(d, a1), 32, turns.by_32);
     let c1 = multiply_add(c, d1);
-    let b1 = (b ^ c1).rotate_right(24);
+    let b1 = turned(xor(b, c1), 24, turns.by_24);
     let a2 = multiply_add(a1, b1);
-    let d2 = (d1 ^ a2).rotate_right(16);
+    let d2 = turned(xor(d1, a2), 16, turns.by_16);
     let c2 = multiply_add(c1, d2);
-    let b2 = (b1 ^ c2).rotate_right(63);
+    let b2 = turned_by_63(xor(b1, c2));
     (a2, b2, c2, d2)
 }
 
 #[inline(always)]
-fn mix_columns(v: [u64; 16]) -> [u64; 16]
-    ensures { result ≡ mixed_columns v }
+fn mix_columns(turns: &Turns, v: [u64x2; 8]) -> [u64x2; 8]
+    requires by_32 { IsTurn 32 turns.now.by_32 }
+    requires by_24 { IsTurn 24 turns.now.by_24 }
+    requires by_16 { IsTurn 16 turns.now.by_16 }
+    ensures { words_of result ≡ mixed_columns (words_of v) }
 {
-    let [
-        v0,
-        v1,
-        v2,
-        v3,
-        v4,
-        v5,
-        v6,
-        v7,
-        v8,
-        v9,
-        v10,
-        v11,
-        v12,
-        v13,
-        v14,
-        v15,
-    ] = v;
-    let (v0, v4, v8, v12) = mix_product(v0, v4, v8, v12);
-    let (v1, v5, v9, v13) = mix_product(v1, v5, v9, v13);
-    let (v2, v6, v10, v14) = mix_product(v2, v6, v10, v14);
-    let (v3, v7, v11, v15) = mix_product(v3, v7, v11, v15);
-    [
-        v0, v1, v2, v3, v4, v5, v6, v7, v8, v9, v10, v11, v12, v13, v14, v15,
-    ]
+    let [a, e, b, f, c, g, d, h] = v;
+    let (a, b, c, d) = mix_products(turns, (a, b, c, d));
+    let (e, f, g, h) = mix_products(turns, (e, f, g, h));
+    [a, e, b, f, c, g, d, h]
 }
 
+// The registers of two diagonals are made of halves of neighbours.
 #[inline(always)]
-fn mix_diagonals(v: [u64; 16]) -> [u64; 16]
-    ensures { result ≡ mixed_diagonals v }
+fn mix_diagonals(turns: &Turns, v: [u64x2; 8]) -> [u64x2; 8]
+    requires by_32 { IsTurn 32 turns.now.by_32 }
+    requires by_24 { IsTurn 24 turns.now.by_24 }
+    requires by_16 { IsTurn 16 turns.now.by_16 }
+    ensures { words_of result ≡ mixed_diagonals (words_of v) }
 {
-    let [
-        v0,
-        v1,
-        v2,
-        v3,
-        v4,
-        v5,
-        v6,
-        v7,
-        v8,
-        v9,
-        v10,
-        v11,
-        v12,
-        v13,
-        v14,
-        v15,
-    ] = v;
-    let (v0, v5, v10, v15) = mix_product(v0, v5, v10, v15);
-    let (v1, v6, v11, v12) = mix_product(v1, v6, v11, v12);
-    let (v2, v7, v8, v13) = mix_product(v2, v7, v8, v13);
-    let (v3, v4, v9, v14) = mix_product(v3, v4, v9, v14);
+    let [a, e, b, f, c, g, d, h] = v;
+    let (a, p, g, s) = mix_products(turns, (a, high_and_low(b, f), g, high_and_low(h, d)));
+    let (e, q, c, t) = mix_products(turns, (e, high_and_low(f, b), c, high_and_low(d, h)));
     [
-        v0, v1, v2, v3, v4, v5, v6, v7, v8, v9, v10, v11, v12, v13, v14, v15,
+        a,
+        e,
+        high_and_low(q, p),
+        high_and_low(p, q),
+        c,
+        g,
+        high_and_low(s, t),
+        high_and_low(t, s),
     ]
 }
 
 // The permutation P.
 #[inline(always)]
 #[tactic(auto, unfolding(crate::specs::Compression::permutation))]
-fn permute(v: [u64; 16]) -> [u64; 16]
-    ensures { result ≡ permutation v }
+fn permute(turns: &Turns, v: [u64x2; 8]) -> [u64x2; 8]
+    requires by_32 { IsTurn 32 turns.now.by_32 }
+    requires by_24 { IsTurn 24 turns.now.by_24 }
+    requires by_16 { IsTurn 16 turns.now.by_16 }
+    ensures { words_of result ≡ permutation (words_of v) }
 {
-    mix_diagonals(mix_columns(v))
+    mix_diagonals(turns, mix_columns(turns, v))
+}
+
+// The register of a block whose words begin at `at`.
+#[inline(always)]
+fn register(block: &Block, at: usize) -> u64x2
+    requires { at + 1 < 128 }
+    ensures { result ≡ slice_index block.now at ∷ slice_index block.now (at + 1) ∷ [] }
+{
+    u64x2::from_array([block[at], block[at + 1]])
 }
 
 #[inline(always)]
-fn row(block: &Block, r: usize) -> [u64; 16]
+fn row(block: &Block, r: usize) -> [u64x2; 8]
     requires { r < 8 }
-    ensures { result ≡ row block.now r }
+    ensures { words_of result ≡ row block.now r }
 {
     let at = 16 * r;
     [
-        block[at],
-        block[at + 1],
-        block[at + 2],
-        block[at + 3],
-        block[at + 4],
-        block[at + 5],
-        block[at + 6],
-        block[at + 7],
-        block[at + 8],
-        block[at + 9],
-        block[at + 10],
-        block[at + 11],
-        block[at + 12],
-        block[at + 13],
-        block[at + 14],
-        block[at + 15],
+        register(block, at),
+        register(block, at + 2),
+        register(block, at + 4),
+        register(block, at + 6),
+        register(block, at + 8),
+        register(block, at + 10),
+        register(block, at + 12),
+        register(block, at + 14),
     ]
 }
 
@@ -142,28 +125,20 @@ fn put_row(block: &mut Block, r: usize, words: [u64; 16])
 }
 
 #[inline(always)]
-fn column(block: &Block, j: usize) -> [u64; 16]
+fn column(block: &Block, j: usize) -> [u64x2; 8]
     requires { j < 8 }
-    ensures { result ≡ column block.now j }
+    ensures { words_of result ≡ column block.now j }
 {
     let at = 2 * j;
     [
-        block[at],
-        block[at + 1],
-        block[at + 16],
-        block[at + 17],
-        block[at + 32],
-        block[at + 33],
-        block[at + 48],
-        block[at + 49],
-        block[at + 64],
-        block[at + 65],
-        block[at + 80],
-        block[at + 81],
-        block[at + 96],
-        block[at + 97],
-        block[at + 112],
-        block[at + 113],
+        register(block, at),
+        register(block, at + 16),
+        register(block, at + 32),
+        register(block, at + 48),
+        register(block, at + 64),
+        register(block, at + 80),
+        register(block, at + 96),
+        register(block, at + 112),
     ]
 }
 
@@ -179,20 +154,26 @@ fn put_column(block: &mut Block, j: usize, words: [u64; 16])
     }
 }
 
-fn permute_rows(block: &mut Block)
+fn permute_rows(turns: &Turns, block: &mut Block)
+    requires by_32 { IsTurn 32 turns.now.by_32 }
+    requires by_24 { IsTurn 24 turns.now.by_24 }
+    requires by_16 { IsTurn 16 turns.now.by_16 }
     ensures { block.new ≡ permuted_rows block.old }
 {
     'rows: for r in 0..8usize {
-        let words = permute(row(block, r));
+        let words = words_of(permute(turns, row(block, r)));
         put_row(block, r, words);
     }
 }
 
-fn permute_columns(block: &mut Block)
+fn permute_columns(turns: &Turns, block: &mut Block)
+    requires by_32 { IsTurn 32 turns.now.by_32 }
+    requires by_24 { IsTurn 24 turns.now.by_24 }
+    requires by_16 { IsTurn 16 turns.now.by_16 }
     ensures { block.new ≡ permuted_columns block.old }
 {
     'columns: for j in 0..8usize {
-        let words = permute(column(block, j));
+        let words = words_of(permute(turns, column(block, j)));
         put_column(block, j, words);
     }
 }
@@ -213,8 +194,9 @@ pub(crate) fn compress(x: &Block, y: &Block) -> Block
     let mut mixed = *x;
     xor_into(&mut mixed, y);
     let mut fresh = mixed;
-    permute_rows(&mut fresh);
-    permute_columns(&mut fresh);
+    let turns = Turns::new();
+    permute_rows(&turns, &mut fresh);
+    permute_columns(&turns, &mut fresh);
     xor_into(&mut fresh, &mixed);
     fresh
 }

@@ -7,6 +7,7 @@ mod compression;
 mod fill;
 mod hashes;
 mod memory;
+mod pairs;
 mod params;
 mod words;
 

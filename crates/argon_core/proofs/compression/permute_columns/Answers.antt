@@ -18,7 +18,7 @@ columns-preserved c =
             let here : i % 16 / 2 ≡ j = omega arith in
             let k : ℕ = 2 * (i / 16) + i % 2 in
             let at : 16 * (k / 2) + 2 * j + k % 2 ≡ i = omega arith in
-            let words = c.permute-words.ensures ∙ ap permutation (c.column.ensures ∙ same ∙ ap (λ (n : ℕ). column c.args.block.now n) (sym here)) in
+            let words = c.words_of-words.ensures ∙ c.permute.ensures ∙ ap permutation (c.column.ensures ∙ same ∙ ap (λ (n : ℕ). column c.args.block.now n) (sym here)) in
             rw at at (put.here k (omega arith)) ∙ ap (λ (ws : List ℕ). slice_index ws k) words
       ];
       left = λ i h. put.others i (omega arith) ∙ inv.left i (omega arith);

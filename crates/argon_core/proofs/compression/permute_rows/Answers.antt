@@ -17,7 +17,7 @@ rows-preserved c =
         | inr above ↦
             let here : i / 16 ≡ r = omega arith in
             let at : 16 * r + i % 16 ≡ i = omega arith in
-            let words = c.permute-words.ensures ∙ ap permutation (c.row.ensures ∙ same ∙ ap (λ (k : ℕ). row c.args.block.now k) (sym here)) in
+            let words = c.words_of-words.ensures ∙ c.permute.ensures ∙ ap permutation (c.row.ensures ∙ same ∙ ap (λ (k : ℕ). row c.args.block.now k) (sym here)) in
             rw at at (put.here (i % 16) (omega arith)) ∙ ap (λ (ws : List ℕ). slice_index ws (i % 16)) words
       ];
       left = λ i h. put.others i (omega arith) ∙ inv.left i (omega arith);
