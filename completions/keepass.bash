@@ -1,13 +1,36 @@
 # Made by docs/make-words from docs/commands.toml.
+
+# Files that begin so, databases alone where there are any.
+_keepass_files() {
+  local IFS=$'\n' found
+  compopt -o filenames
+  found=$(compgen -f -X '!*.kdbx' -- "$1"; compgen -d -- "$1")
+  if [ -z "$found" ] || [ "$2" = all ]; then found=$(compgen -f -- "$1"); fi
+  COMPREPLY=($found)
+}
+
+# Paths of a database that begin so, of entries or of groups: only where KEEPASS_COMPLETE_PASSWORD_COMMAND prints its password.
+_keepass_paths() {
+  local path database=${1//\\/}
+  if [ -z "${KEEPASS_COMPLETE_PASSWORD_COMMAND-}" ]; then return; fi
+  compopt -o filenames
+  while IFS= read -r path; do
+    case $3$path in
+      entry*/ | group*[!/]) continue ;;
+    esac
+    if [[ $path = "$2"* ]]; then COMPREPLY+=("$path"); fi
+  done < <(eval "$KEEPASS_COMPLETE_PASSWORD_COMMAND" 2>/dev/null | keepass ls -Rf -- "${database/#\~\//$HOME/}" 2>/dev/null)
+}
+
 _keepass() {
-  local word=${COMP_WORDS[COMP_CWORD]} before=${COMP_WORDS[COMP_CWORD - 1]} command=${COMP_WORDS[1]} options
+  local word=${COMP_WORDS[COMP_CWORD]} before=${COMP_WORDS[COMP_CWORD - 1]} command=${COMP_WORDS[1]} options kinds kind place=0 first='' number value=''
   COMPREPLY=()
   # The shell makes three words of --format=csv.
   if [ "$word" = = ]; then word=; elif [ "$before" = = ]; then before=${COMP_WORDS[COMP_CWORD - 2]}; fi
   if [ "$COMP_CWORD" -eq 1 ]; then
     case $word in
       -*) COMPREPLY=($(compgen -W '--help --version' -- "$word")) ;;
-      *) COMPREPLY=($(compgen -W 'ls show search add edit mv rm mkdir rmdir merge import export db-info' -- "$word")) ;;
+      *) COMPREPLY=($(compgen -W 'ls show search add edit mv rm mkdir rmdir merge import export db-info clip' -- "$word")) ;;
     esac
     return
   fi
@@ -16,30 +39,53 @@ _keepass() {
     'export -f' | 'export --format') COMPREPLY=($(compgen -W 'xml csv' -- "$word")); return ;;
   esac
   case $before in
-    --key-file | --key-file-from | --set-key-file | -k) compopt -o filenames; mapfile -t COMPREPLY < <(compgen -f -- "$word"); return ;;
-    --attributes | --notes | --title | --url | --username | -a | -t | -u) return ;;
+    --key-file | --key-file-from | --set-key-file | -k) _keepass_files "$word" all; return ;;
+    --attributes | --notes | --seconds | --title | --url | --username | -a | -t | -u) return ;;
   esac
   case $command in
-    ls) options='-R --recursive -f --flatten -k --key-file --no-password --plain -q --quiet' ;;
-    show) options='-s --show-protected --all --show-attachments -a --attributes -k --key-file --no-password --plain -q --quiet' ;;
-    search) options='-k --key-file --no-password --plain -q --quiet' ;;
-    add) options='-u --username --url --notes -p --password-prompt -k --key-file --no-password --plain -q --quiet' ;;
-    edit) options='-t --title -u --username --url --notes -p --password-prompt -k --key-file --no-password --plain -q --quiet' ;;
-    mv) options='-k --key-file --no-password --plain -q --quiet' ;;
-    rm) options='-k --key-file --no-password --plain -q --quiet' ;;
-    mkdir) options='-k --key-file --no-password --plain -q --quiet' ;;
-    rmdir) options='-k --key-file --no-password --plain -q --quiet' ;;
-    merge) options='-s --same-credentials -d --dry-run --key-file-from --no-password-from -k --key-file --no-password --plain -q --quiet' ;;
-    import) options='--format -p --set-password --set-key-file --plain -q --quiet' ;;
-    export) options='-f --format -k --key-file --no-password --plain -q --quiet' ;;
-    db-info) options='-k --key-file --no-password --plain -q --quiet' ;;
+    ls) kinds=(file group) options='-R --recursive -f --flatten -k --key-file --no-password --plain -q --quiet --help' ;;
+    show) kinds=(file entry) options='-s --show-protected --all --show-attachments -a --attributes -k --key-file --no-password --plain -q --quiet --help' ;;
+    search) kinds=(file nothing) options='-k --key-file --no-password --plain -q --quiet --help' ;;
+    add) kinds=(file entry) options='-u --username --url --notes -p --password-prompt -k --key-file --no-password --plain -q --quiet --help' ;;
+    edit) kinds=(file entry) options='-t --title -u --username --url --notes -p --password-prompt -k --key-file --no-password --plain -q --quiet --help' ;;
+    mv) kinds=(file node group) options='-k --key-file --no-password --plain -q --quiet --help' ;;
+    rm) kinds=(file entry) options='-k --key-file --no-password --plain -q --quiet --help' ;;
+    mkdir) kinds=(file group) options='-k --key-file --no-password --plain -q --quiet --help' ;;
+    rmdir) kinds=(file group) options='-k --key-file --no-password --plain -q --quiet --help' ;;
+    merge) kinds=(file file...) options='-s --same-credentials -d --dry-run --key-file-from --no-password-from -k --key-file --no-password --plain -q --quiet --help' ;;
+    import) kinds=(file file) options='--format -p --set-password --set-key-file --plain -q --quiet --help' ;;
+    export) kinds=(file) options='-f --format -k --key-file --no-password --plain -q --quiet --help' ;;
+    db-info) kinds=(file) options='-k --key-file --no-password --plain -q --quiet --help' ;;
+    clip) kinds=(file entry field) options='-t --seconds -k --key-file --no-password --plain -q --quiet --help' ;;
     *) return ;;
   esac
   if [ "${word:0:1}" = - ]; then
     COMPREPLY=($(compgen -W "$options" -- "$word"))
-  else
-    compopt -o filenames
-    mapfile -t COMPREPLY < <(compgen -f -- "$word")
+    return
   fi
+  for ((number = 2; number < COMP_CWORD; number++)); do
+    case $value${COMP_WORDS[number]} in
+      *=) value=1 ;;
+      1*) value= ;;
+      --attributes | --format | --key-file | --key-file-from | --notes | --seconds | --set-key-file | --title | --url | --username | -a | -k | -t | -u | -f) if [ "${COMP_WORDS[number]} $command" != '-f ls' ]; then value=1; fi ;;
+      -*) ;;
+      *)
+        place=$((place + 1))
+        if [ "$place" = 1 ]; then first=${COMP_WORDS[number]}; fi
+        ;;
+    esac
+  done
+  if [ "$place" -ge "${#kinds[@]}" ]; then
+    kind=${kinds[${#kinds[@]} - 1]}
+    if [ "$kind" = "${kind%...}" ]; then return; fi
+  else
+    kind=${kinds[place]}
+  fi
+  case $kind in
+    file*) _keepass_files "$word" ;;
+    field) COMPREPLY=($(compgen -W 'Password UserName URL Notes Title' -- "$word")) ;;
+    nothing) ;;
+    *) _keepass_paths "$first" "$word" "$kind" ;;
+  esac
 }
 complete -F _keepass keepass

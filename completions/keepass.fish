@@ -1,15 +1,63 @@
 # Made by docs/make-words from docs/commands.toml.
-complete -c keepass -n __fish_use_subcommand -f
+
+# The words at positions before the cursor, after the command, without options and their values.
+function __keepass_positions
+    set -l value
+    for word in (commandline -opc)[3..-1]
+        if set -q value[1]
+            set -e value[1]
+        else if contains -- $word --attributes --format --key-file --key-file-from --notes --seconds --set-key-file --title --url --username -a -k -t -u
+            set value 1
+        else if not string match -q -- '-*' $word
+            printf '%s\n' $word
+        end
+    end
+end
+
+# Whether the cursor is at the position of this number, from 0, of one of these commands.
+function __keepass_at
+    set -l command (commandline -opc)[2]
+    test (count (__keepass_positions)) -eq $argv[1]; and contains -- $command $argv[2..-1]
+end
+
+# Databases and folders, and all files where there are none.
+function __keepass_files
+    set -l found (__fish_complete_suffix .kdbx | string match -r '.*(?:\\.kdbx|/)(?:\\t.*)?$')
+    if set -q found[1]
+        printf '%s\n' $found
+    else
+        __fish_complete_path (commandline -ct)
+    end
+end
+
+# Paths of the database, of entries or of groups: only where KEEPASS_COMPLETE_PASSWORD_COMMAND prints its password.
+function __keepass_paths
+    test -n "$KEEPASS_COMPLETE_PASSWORD_COMMAND"; or return
+    set -l database (__keepass_positions)[1]
+    set -l paths (eval $KEEPASS_COMPLETE_PASSWORD_COMMAND 2>/dev/null | keepass ls -Rf -- (string replace -r '^~/' "$HOME/" (string unescape -- $database)) 2>/dev/null)
+    switch $argv[1]
+        case entry
+            string match -v -- '*/' $paths
+        case group
+            string match -- '*/' $paths
+        case '*'
+            printf '%s\n' $paths
+    end
+end
+
+complete -c keepass -f
 complete -c keepass -n __fish_use_subcommand -l help -d 'Prints how the program is called.'
 complete -c keepass -n __fish_use_subcommand -l version -d 'Prints the version of the program.'
-complete -c keepass -n __fish_use_subcommand -a ls -d 'Lists the titles of a group\'s entries and the names of its groups; the root group where none is named.'
+complete -c keepass -n __fish_use_subcommand -a ls -d 'list a group'
+complete -c keepass -n '__fish_seen_subcommand_from ls' -l help -d 'How the command is called.'
 complete -c keepass -n '__fish_seen_subcommand_from ls' -l recursive -s R -d 'The groups inside are listed too, each indented by two spaces more.'
 complete -c keepass -n '__fish_seen_subcommand_from ls' -l flatten -s f -d 'With --recursive: each line begins with its path in place of spaces.'
 complete -c keepass -n '__fish_seen_subcommand_from ls' -l key-file -s k -r -F -d 'The database needs this key file besides its password.'
 complete -c keepass -n '__fish_seen_subcommand_from ls' -l no-password -d 'The database has no password: no line is read for it. Needs a key file.'
 complete -c keepass -n '__fish_seen_subcommand_from ls' -l plain -d 'The database is a plain XML export, which has no password and no key file.'
 complete -c keepass -n '__fish_seen_subcommand_from ls' -l quiet -s q -d 'Nothing is reported.'
-complete -c keepass -n __fish_use_subcommand -a show -d 'Shows an entry\'s values. A protected value is shown as PROTECTED. References to other entries are replaced by the values that they name.'
+complete -c keepass -n __fish_use_subcommand -a show -d 'show an entry'
+complete -c keepass -n '__fish_seen_subcommand_from show' -l help -d 'How the command is called.'
 complete -c keepass -n '__fish_seen_subcommand_from show' -l show-protected -s s -d 'Protected values are shown as they are.'
 complete -c keepass -n '__fish_seen_subcommand_from show' -l all -d 'All fields of the entry are shown.'
 complete -c keepass -n '__fish_seen_subcommand_from show' -l show-attachments -d 'The names and the sizes of the entry\'s attachments are shown too.'
@@ -18,12 +66,14 @@ complete -c keepass -n '__fish_seen_subcommand_from show' -l key-file -s k -r -F
 complete -c keepass -n '__fish_seen_subcommand_from show' -l no-password -d 'The database has no password: no line is read for it. Needs a key file.'
 complete -c keepass -n '__fish_seen_subcommand_from show' -l plain -d 'The database is a plain XML export, which has no password and no key file.'
 complete -c keepass -n '__fish_seen_subcommand_from show' -l quiet -s q -d 'Nothing is reported.'
-complete -c keepass -n __fish_use_subcommand -a search -d 'Lists the paths of the entries that match all terms of TERM.'
+complete -c keepass -n __fish_use_subcommand -a search -d 'find entries'
+complete -c keepass -n '__fish_seen_subcommand_from search' -l help -d 'How the command is called.'
 complete -c keepass -n '__fish_seen_subcommand_from search' -l key-file -s k -r -F -d 'The database needs this key file besides its password.'
 complete -c keepass -n '__fish_seen_subcommand_from search' -l no-password -d 'The database has no password: no line is read for it. Needs a key file.'
 complete -c keepass -n '__fish_seen_subcommand_from search' -l plain -d 'The database is a plain XML export, which has no password and no key file.'
 complete -c keepass -n '__fish_seen_subcommand_from search' -l quiet -s q -d 'Nothing is reported.'
-complete -c keepass -n __fish_use_subcommand -a add -d 'Adds an entry.'
+complete -c keepass -n __fish_use_subcommand -a add -d 'add an entry'
+complete -c keepass -n '__fish_seen_subcommand_from add' -l help -d 'How the command is called.'
 complete -c keepass -n '__fish_seen_subcommand_from add' -l username -s u -x -d 'The name of the user.'
 complete -c keepass -n '__fish_seen_subcommand_from add' -l url -x -d 'The address.'
 complete -c keepass -n '__fish_seen_subcommand_from add' -l notes -x -d 'The notes.'
@@ -32,7 +82,8 @@ complete -c keepass -n '__fish_seen_subcommand_from add' -l key-file -s k -r -F 
 complete -c keepass -n '__fish_seen_subcommand_from add' -l no-password -d 'The database has no password: no line is read for it. Needs a key file.'
 complete -c keepass -n '__fish_seen_subcommand_from add' -l plain -d 'The database is a plain XML export, which has no password and no key file.'
 complete -c keepass -n '__fish_seen_subcommand_from add' -l quiet -s q -d 'Nothing is reported.'
-complete -c keepass -n __fish_use_subcommand -a edit -d 'Gives an entry other values, and keeps what it was before in its history.'
+complete -c keepass -n __fish_use_subcommand -a edit -d 'change an entry'
+complete -c keepass -n '__fish_seen_subcommand_from edit' -l help -d 'How the command is called.'
 complete -c keepass -n '__fish_seen_subcommand_from edit' -l title -s t -x -d 'Another title.'
 complete -c keepass -n '__fish_seen_subcommand_from edit' -l username -s u -x -d 'The name of the user.'
 complete -c keepass -n '__fish_seen_subcommand_from edit' -l url -x -d 'The address.'
@@ -42,27 +93,32 @@ complete -c keepass -n '__fish_seen_subcommand_from edit' -l key-file -s k -r -F
 complete -c keepass -n '__fish_seen_subcommand_from edit' -l no-password -d 'The database has no password: no line is read for it. Needs a key file.'
 complete -c keepass -n '__fish_seen_subcommand_from edit' -l plain -d 'The database is a plain XML export, which has no password and no key file.'
 complete -c keepass -n '__fish_seen_subcommand_from edit' -l quiet -s q -d 'Nothing is reported.'
-complete -c keepass -n __fish_use_subcommand -a mv -d 'Moves an entry into a group, or a group where NODE ends with a slash.'
+complete -c keepass -n __fish_use_subcommand -a mv -d 'move an entry or a group'
+complete -c keepass -n '__fish_seen_subcommand_from mv' -l help -d 'How the command is called.'
 complete -c keepass -n '__fish_seen_subcommand_from mv' -l key-file -s k -r -F -d 'The database needs this key file besides its password.'
 complete -c keepass -n '__fish_seen_subcommand_from mv' -l no-password -d 'The database has no password: no line is read for it. Needs a key file.'
 complete -c keepass -n '__fish_seen_subcommand_from mv' -l plain -d 'The database is a plain XML export, which has no password and no key file.'
 complete -c keepass -n '__fish_seen_subcommand_from mv' -l quiet -s q -d 'Nothing is reported.'
-complete -c keepass -n __fish_use_subcommand -a rm -d 'Puts an entry into the bin. One that is in the bin is deleted, and each is where the bin is switched off.'
+complete -c keepass -n __fish_use_subcommand -a rm -d 'remove an entry'
+complete -c keepass -n '__fish_seen_subcommand_from rm' -l help -d 'How the command is called.'
 complete -c keepass -n '__fish_seen_subcommand_from rm' -l key-file -s k -r -F -d 'The database needs this key file besides its password.'
 complete -c keepass -n '__fish_seen_subcommand_from rm' -l no-password -d 'The database has no password: no line is read for it. Needs a key file.'
 complete -c keepass -n '__fish_seen_subcommand_from rm' -l plain -d 'The database is a plain XML export, which has no password and no key file.'
 complete -c keepass -n '__fish_seen_subcommand_from rm' -l quiet -s q -d 'Nothing is reported.'
-complete -c keepass -n __fish_use_subcommand -a mkdir -d 'Makes a group.'
+complete -c keepass -n __fish_use_subcommand -a mkdir -d 'make a group'
+complete -c keepass -n '__fish_seen_subcommand_from mkdir' -l help -d 'How the command is called.'
 complete -c keepass -n '__fish_seen_subcommand_from mkdir' -l key-file -s k -r -F -d 'The database needs this key file besides its password.'
 complete -c keepass -n '__fish_seen_subcommand_from mkdir' -l no-password -d 'The database has no password: no line is read for it. Needs a key file.'
 complete -c keepass -n '__fish_seen_subcommand_from mkdir' -l plain -d 'The database is a plain XML export, which has no password and no key file.'
 complete -c keepass -n '__fish_seen_subcommand_from mkdir' -l quiet -s q -d 'Nothing is reported.'
-complete -c keepass -n __fish_use_subcommand -a rmdir -d 'Puts a group into the bin with all that is in it. One that is in the bin is deleted, and each is where the bin is switched off.'
+complete -c keepass -n __fish_use_subcommand -a rmdir -d 'remove a group'
+complete -c keepass -n '__fish_seen_subcommand_from rmdir' -l help -d 'How the command is called.'
 complete -c keepass -n '__fish_seen_subcommand_from rmdir' -l key-file -s k -r -F -d 'The database needs this key file besides its password.'
 complete -c keepass -n '__fish_seen_subcommand_from rmdir' -l no-password -d 'The database has no password: no line is read for it. Needs a key file.'
 complete -c keepass -n '__fish_seen_subcommand_from rmdir' -l plain -d 'The database is a plain XML export, which has no password and no key file.'
 complete -c keepass -n '__fish_seen_subcommand_from rmdir' -l quiet -s q -d 'Nothing is reported.'
-complete -c keepass -n __fish_use_subcommand -a merge -d 'Merges one to sixteen other copies of a database into TARGET, which is written anew. The sources stay as they are.'
+complete -c keepass -n __fish_use_subcommand -a merge -d 'merge copies of a database'
+complete -c keepass -n '__fish_seen_subcommand_from merge' -l help -d 'How the command is called.'
 complete -c keepass -n '__fish_seen_subcommand_from merge' -l same-credentials -s s -d 'The sources are opened with the password and the key file of the target.'
 complete -c keepass -n '__fish_seen_subcommand_from merge' -l dry-run -s d -d 'What the merge would change is reported, and nothing is written.'
 complete -c keepass -n '__fish_seen_subcommand_from merge' -l key-file-from -r -F -d 'The sources need this key file.'
@@ -71,20 +127,52 @@ complete -c keepass -n '__fish_seen_subcommand_from merge' -l key-file -s k -r -
 complete -c keepass -n '__fish_seen_subcommand_from merge' -l no-password -d 'The database has no password: no line is read for it. Needs a key file.'
 complete -c keepass -n '__fish_seen_subcommand_from merge' -l plain -d 'The database is a plain XML export, which has no password and no key file.'
 complete -c keepass -n '__fish_seen_subcommand_from merge' -l quiet -s q -d 'Nothing is reported.'
-complete -c keepass -n __fish_use_subcommand -a import -d 'Makes DATABASE, which must not be there yet, from SOURCE. It needs a password or a key file, unless --plain is given. A file of Password Safe is opened with a line of standard input.'
+complete -c keepass -n __fish_use_subcommand -a import -d 'make a database of another file'
+complete -c keepass -n '__fish_seen_subcommand_from import' -l help -d 'How the command is called.'
 complete -c keepass -n '__fish_seen_subcommand_from import' -l format -x -a 'xml psafe3 csv' -d 'What SOURCE is: a document as XML (xml, the default), a file of Password Safe 3 (psafe3), or a table (csv).'
 complete -c keepass -n '__fish_seen_subcommand_from import' -l set-password -s p -d 'DATABASE gets a password: the line of standard input after the one of SOURCE, if that has one.'
 complete -c keepass -n '__fish_seen_subcommand_from import' -l set-key-file -r -F -d 'DATABASE is opened with this key file from now on.'
 complete -c keepass -n '__fish_seen_subcommand_from import' -l plain -d 'The database is a plain XML export, which has no password and no key file.'
 complete -c keepass -n '__fish_seen_subcommand_from import' -l quiet -s q -d 'Nothing is reported.'
-complete -c keepass -n __fish_use_subcommand -a export -d 'Prints the whole database without its protection: the passwords in it can be read.'
+complete -c keepass -n __fish_use_subcommand -a export -d 'print a whole database, passwords too'
+complete -c keepass -n '__fish_seen_subcommand_from export' -l help -d 'How the command is called.'
 complete -c keepass -n '__fish_seen_subcommand_from export' -l format -s f -x -a 'xml csv' -d 'What is printed: the document as XML (xml, the default), or a table (csv).'
 complete -c keepass -n '__fish_seen_subcommand_from export' -l key-file -s k -r -F -d 'The database needs this key file besides its password.'
 complete -c keepass -n '__fish_seen_subcommand_from export' -l no-password -d 'The database has no password: no line is read for it. Needs a key file.'
 complete -c keepass -n '__fish_seen_subcommand_from export' -l plain -d 'The database is a plain XML export, which has no password and no key file.'
 complete -c keepass -n '__fish_seen_subcommand_from export' -l quiet -s q -d 'Nothing is reported.'
-complete -c keepass -n __fish_use_subcommand -a db-info -d 'Prints what the database is called, how it is protected, and how much is in it.'
+complete -c keepass -n __fish_use_subcommand -a db-info -d 'tell what a file is'
+complete -c keepass -n '__fish_seen_subcommand_from db-info' -l help -d 'How the command is called.'
 complete -c keepass -n '__fish_seen_subcommand_from db-info' -l key-file -s k -r -F -d 'The database needs this key file besides its password.'
 complete -c keepass -n '__fish_seen_subcommand_from db-info' -l no-password -d 'The database has no password: no line is read for it. Needs a key file.'
 complete -c keepass -n '__fish_seen_subcommand_from db-info' -l plain -d 'The database is a plain XML export, which has no password and no key file.'
 complete -c keepass -n '__fish_seen_subcommand_from db-info' -l quiet -s q -d 'Nothing is reported.'
+complete -c keepass -n __fish_use_subcommand -a clip -d 'copy a value to the clipboard'
+complete -c keepass -n '__fish_seen_subcommand_from clip' -l help -d 'How the command is called.'
+complete -c keepass -n '__fish_seen_subcommand_from clip' -l seconds -s t -x -d 'How long the value stays: 10 seconds where nothing is said, and for good with 0.'
+complete -c keepass -n '__fish_seen_subcommand_from clip' -l key-file -s k -r -F -d 'The database needs this key file besides its password.'
+complete -c keepass -n '__fish_seen_subcommand_from clip' -l no-password -d 'The database has no password: no line is read for it. Needs a key file.'
+complete -c keepass -n '__fish_seen_subcommand_from clip' -l plain -d 'The database is a plain XML export, which has no password and no key file.'
+complete -c keepass -n '__fish_seen_subcommand_from clip' -l quiet -s q -d 'Nothing is reported.'
+complete -c keepass -n '__keepass_at 0 ls show search add edit mv rm mkdir rmdir merge import export db-info clip' -a '(__keepass_files)'
+complete -c keepass -n '__keepass_at 1 show add edit rm clip' -a '(__keepass_paths entry)'
+complete -c keepass -n '__keepass_at 1 merge import' -a '(__keepass_files)'
+complete -c keepass -n '__keepass_at 1 ls mkdir rmdir' -a '(__keepass_paths group)'
+complete -c keepass -n '__keepass_at 1 mv' -a '(__keepass_paths node)'
+complete -c keepass -n '__keepass_at 2 clip' -a 'Password UserName URL Notes Title'
+complete -c keepass -n '__keepass_at 2 merge' -a '(__keepass_files)'
+complete -c keepass -n '__keepass_at 2 mv' -a '(__keepass_paths group)'
+complete -c keepass -n '__keepass_at 3 merge' -a '(__keepass_files)'
+complete -c keepass -n '__keepass_at 4 merge' -a '(__keepass_files)'
+complete -c keepass -n '__keepass_at 5 merge' -a '(__keepass_files)'
+complete -c keepass -n '__keepass_at 6 merge' -a '(__keepass_files)'
+complete -c keepass -n '__keepass_at 7 merge' -a '(__keepass_files)'
+complete -c keepass -n '__keepass_at 8 merge' -a '(__keepass_files)'
+complete -c keepass -n '__keepass_at 9 merge' -a '(__keepass_files)'
+complete -c keepass -n '__keepass_at 10 merge' -a '(__keepass_files)'
+complete -c keepass -n '__keepass_at 11 merge' -a '(__keepass_files)'
+complete -c keepass -n '__keepass_at 12 merge' -a '(__keepass_files)'
+complete -c keepass -n '__keepass_at 13 merge' -a '(__keepass_files)'
+complete -c keepass -n '__keepass_at 14 merge' -a '(__keepass_files)'
+complete -c keepass -n '__keepass_at 15 merge' -a '(__keepass_files)'
+complete -c keepass -n '__keepass_at 16 merge' -a '(__keepass_files)'

@@ -1,0 +1,201 @@
+# What can be done about a refusal. The table is docs/hints.toml, and terminal/tables.bash has it in `hint_rows`.
+
+# A name in the form in which the shell reads it.
+quoted() {
+  if [[ $1 =~ ^[A-Za-z0-9_./+,:@%=-]+$ && $1 != -* ]]; then printf '%s' "$1"; else printf '%q' "$1"; fi
+}
+
+# A hint with its places filled in: {file}, {database} and so on.
+filled() {
+  local text=$1 name value
+  while [[ $text =~ ^([^{]*)\{([a-z]+)\}(.*)$ ]]; do
+    name=${BASH_REMATCH[2]}
+    case $name in
+      file) value=$(quoted "$subject") ;;
+      database) value=$(quoted "${positions[0]-DATABASE}") ;;
+      entry) value=$(quoted "${positions[1]-ENTRY}") ;;
+      opened) value=$(opening_options) ;;
+      python) value=\'${subject//\'/\\\'}\' ;;
+      *) value=${found[$name]-} ;;
+    esac
+    printf '%s%s' "${BASH_REMATCH[1]}" "$value"
+    text=${BASH_REMATCH[3]}
+  done
+  printf '%s' "$text"
+}
+
+# The options with which the call opens its database, as another call would have them.
+opening_options() {
+  if is_given plain; then printf -- '--plain '; fi
+  if is_given no-password; then printf -- '--no-password '; fi
+  if is_given key-file; then printf -- '-k %s ' "$(quoted "${given[key-file]}")"; fi
+}
+
+# The first bytes of the file that a refusal is about, in hexadecimal.
+first_bytes() {
+  head -c "$1" -- "$subject" 2>/dev/null | od -An -v -tx1 | tr -d ' \n'
+}
+
+# A number of the key derivation in the header of a file, by the letter of its name.
+kdf_number() {
+  local pair number='' name
+  printf -v name '%02x' "'$1"
+  if [[ $(first_bytes 4096) =~ 0[45]01000000${name}0([48])000000([0-9a-f]{16}) ]]; then
+    pair=${BASH_REMATCH[2]:0:BASH_REMATCH[1] * 2}
+    while [ -n "$pair" ]; do number=${pair:0:2}$number pair=${pair:2}; done
+    printf '%u' "0x$number"
+  fi
+}
+
+# Whether the header's own hash is wrong, which has nothing to do with the password.
+has_wrong_hash() {
+  local kept=${refusal#*: kept } found_hash=${refusal##* } bytes
+  kept=${kept%% *}
+  bytes=$(first_bytes 65600)
+  if [[ $bytes != *"$kept"* ]]; then return 1; fi
+  bytes=${bytes%%"$kept"*}
+  [ "$(head -c $((${#bytes} / 2)) -- "$subject" | sha256sum | cut -d' ' -f1)" = "$found_hash" ]
+}
+
+# What is wrong with a file that could not be read or written, as far as it can be seen.
+find_fault() {
+  local folder=. found_fault=''
+  case $subject in */*) folder=${subject%/*}/ ;; esac
+  if [ -d "$subject" ]; then
+    found_fault='it is a folder, and a file is needed'
+  elif [ -p "$subject" ]; then
+    found_fault='it is a pipe, and a file is needed: write it into a file first'
+  elif [ -b "$subject" ] || [ -c "$subject" ] || [ -S "$subject" ]; then
+    found_fault='it is a device or a socket, and a file is needed'
+  elif [ -e "$subject" ] && ! [ -r "$subject" ]; then
+    found_fault='you have no permission to read it: see ls -l'
+  elif [ -d "$subject.part" ] || [ -p "$subject.part" ] || { [ -L "$subject.part" ] && ! [ -e "$subject.part" ]; }; then
+    found_fault="$(quoted "$subject.part"), the name of its draft, is taken by something that is no file: remove that"
+  elif [ -e "$subject.part" ]; then
+    found_fault='another call is writing it: try again when that has ended'
+  elif ! [ -d "$folder" ]; then
+    found_fault="there is no folder $(quoted "$folder"): make it first"
+  elif ! [ -w "$folder" ]; then
+    found_fault="you have no permission to write into its folder $(quoted "$folder"), in which its draft is made"
+  elif [ "$(df -Pk -- "$folder" 2>/dev/null | awk 'NR == 2 { print $4 }')" = 0 ]; then
+    found_fault='no space is left on the disk: make room, and try again'
+  fi
+  found[found]=$found_fault
+  [ -n "$found_fault" ]
+}
+
+# Which limit was passed, and by how much.
+find_limit() {
+  local text='' size number
+  size=$(stat -Lc %s -- "$subject" 2>/dev/null || printf 0)
+  if [ "$subject" = input ]; then
+    text='a line has more than 4096 bytes'
+  elif [ "$size" -gt 134217728 ]; then
+    text="the file has $size bytes, and at most 134217728 are read: take attachments out of it"
+  elif number=$(kdf_number M) && [ "${number:-0}" -gt 1073741824 ]; then
+    text="Argon2 asks for $((number / 1048576)) MiB of memory, and at most 1024 are taken: lower it in the program that wrote the file"
+  elif number=$(kdf_number P) && [ "${number:-0}" -gt 1024 ]; then
+    text="Argon2 asks for $number lanes, and at most 1024 are taken: lower it in the program that wrote the file"
+  elif number=$(kdf_number R) && [ -n "$number" ] && { [ "${number:0:1}" = - ] || [ "$number" -gt 4294967296 ]; }; then
+    text="AES-KDF asks for $number rounds, and at most 4294967296 are made: lower them in the program that wrote the file"
+  elif [ "$(first_bytes 4)" = 50575333 ]; then
+    text='the file of Password Safe asks for more than 67108864 iterations: lower them in Password Safe'
+  fi
+  found[found]=$text
+  [ -n "$text" ]
+}
+
+# How much memory the key derivation of a file takes.
+find_memory() {
+  local subject number
+  for subject in "${files[@]}"; do
+    number=$(kdf_number M)
+    if [ -n "$number" ]; then
+      found[found]="Argon2 of $(quoted "$subject") takes $((number / 1048576)) MiB: close other programs, and see 'ulimit -v'"
+      return
+    fi
+  done
+  return 1
+}
+
+# What the line is that is missing on standard input.
+find_line() {
+  local number line
+  number=${refusal##*: line } number=${number%% *}
+  line=${due_lines[number - 1]-}
+  if [ -z "$line" ]; then return 1; fi
+  line=${line,}
+  if [ "${#lines[@]}" -gt 0 ]; then
+    found[found]="nothing was typed for the $line"
+  else
+    found[found]="line $number of standard input is to be the $line; --tty asks for it at the terminal"
+  fi
+}
+
+# A file of a near name in the same folder.
+find_near() {
+  local folder='' name=${subject##*/} other names=() near
+  if [ "$name" != "$subject" ]; then folder=${subject%/*}/; fi
+  for other in "$folder"*; do if [ -f "$other" ]; then names+=("${other##*/}"); fi; done
+  if [ "${#names[@]}" -gt 200 ] || [ -z "$name" ]; then return 1; fi
+  near=$(nearest "$name" "${names[@]}")
+  found[near]=$(quoted "$folder$near")
+  [ -n "$near" ]
+}
+
+# Whether what a row of the table names is so.
+holds() {
+  case $1 in
+    '') ;;
+    slash) [[ ${positions[1]-} = */ ]] ;;
+    no-key-file) ! is_given key-file && ! is_given key-file-from ;;
+    kdb) [ "$(first_bytes 8)" = 03d9a29a65fb4bb5 ] ;;
+    kdbx) [ "$(first_bytes 8)" = 03d9a29a67fb4bb5 ] ;;
+    kdbx-3.1) [ "$(first_bytes 12)" = 03d9a29a67fb4bb501000300 ] ;;
+    kdbx-4) [[ $(first_bytes 12) = 03d9a29a67fb4bb50?000400 ]] ;;
+    psafe3) [ "$(first_bytes 4)" = 50575333 ] ;;
+    markup) [[ $(first_bytes 4) = 3c* || $(first_bytes 4) = efbbbf3c ]] ;;
+    not-markup) ! holds markup ;;
+    header-hash) has_wrong_hash ;;
+    fault) find_fault ;;
+    limit) find_limit ;;
+    line) find_line ;;
+    memory) find_memory ;;
+    near) find_near ;;
+    *) false ;;
+  esac
+}
+
+# What a refusal is about: a file that the words name, or a word of the program's.
+subject_of() {
+  local name
+  subject=
+  for name in words input memory output "${files[@]}" "${positions[@]}"; do
+    if [[ $refusal == "keepass: $name: "* && ${#name} -gt ${#subject} ]]; then subject=$name; fi
+  done
+}
+
+# Shows what can be done about a refusal, in a line or several.
+hint() {
+  local row fields subject line
+  local -A found=()
+  subject_of
+  if [ "$subject" = words ] && [[ $refusal == *': wrong words' ]]; then
+    if [ -n "$reason" ]; then show_hint "$reason"; fi
+    return
+  fi
+  for row in "${hint_rows[@]}"; do
+    IFS=$'\x1f' read -r -d '' -a fields <<<"$row"$'\x1f'
+    # shellcheck disable=SC2053
+    if [ "$status" = "${fields[0]}" ] && [[ ${refusal#"keepass: $subject: "} == ${fields[1]} ]] &&
+      [[ -z ${fields[2]} || " ${fields[2]} " == *" $command "* ]] && holds "${fields[3]}"; then
+      for line in "${fields[@]:4}"; do if [ "$line" != $'\n' ]; then show_hint "$(filled "$line")"; fi; done
+      return
+    fi
+  done
+}
+
+# Shows one line of a hint.
+show_hint() {
+  printf 'keepass: hint: %s\n' "$(shown "$1")"
+}

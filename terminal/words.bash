@@ -1,0 +1,273 @@
+# Reads the words of a call as the program does: what they ask for, or why they are no command. terminal/tables.bash has
+# the commands and their options, in the words of docs/commands.toml.
+
+# How many letters must be changed, added or left out to make one word of another.
+distance() {
+  local one=$1 other=$2 row=() above left i j cost
+  for ((j = 0; j <= ${#other}; j++)); do row[j]=$j; done
+  for ((i = 1; i <= ${#one}; i++)); do
+    above=${row[0]} row[0]=$i
+    for ((j = 1; j <= ${#other}; j++)); do
+      left=$above above=${row[j]} cost=1
+      if [ "${one:i-1:1}" = "${other:j-1:1}" ]; then cost=0; fi
+      row[j]=$((left + cost < above + 1 ? left + cost : above + 1))
+      if [ $((row[j - 1] + 1)) -lt "${row[j]}" ]; then row[j]=$((row[j - 1] + 1)); fi
+    done
+  done
+  printf '%d' "${row[-1]}"
+}
+
+# The nearest of some words to the first, where one is near: two letters off, or begun so.
+nearest() {
+  local word=$1 other best='' far least=3
+  shift
+  for other; do
+    if [ $((${#word} - ${#other})) -gt 2 ] || [ "${#word}" -gt 40 ]; then continue; fi
+    if [ "${#word}" -gt 2 ] && [ "${other:0:${#word}}" = "$word" ]; then
+      far=1
+    elif [ $((${#other} - ${#word})) -gt 2 ]; then
+      continue
+    else
+      far=$(distance "$word" "$other")
+    fi
+    if [ "$far" -lt "$least" ] && [ $((far * 2)) -le "${#other}" ]; then least=$far best=$other; fi
+  done
+  printf '%s' "$best"
+}
+
+# The same as a question.
+suggestion() {
+  local near
+  near=$(nearest "$@")
+  if [ -n "$near" ]; then printf "; did you mean '%s'?" "$near"; fi
+}
+
+# Keeps the first reason why the words are no command.
+because() {
+  if [ -z "$reason" ]; then reason=$1; fi
+}
+
+# Sets `row` to the row of an option of the command, NAME:LETTER:VALUE:MANY, by its long name or, with one hyphen, its
+# letter, and `value` to what its value is called, if it has one.
+option_row() {
+  local name letter
+  for row in ${option_rows[$command]}; do
+    IFS=: read -r name letter value _ <<<"$row"
+    if [ "--$name" = "$1" ] || { [ -n "$letter" ] && [ "-$letter" = "$1" ]; }; then return; fi
+  done
+  row='' value=''
+  return 1
+}
+
+# What is said of an option that the command does not take: `keepassxc-cli` may have it, or another is near.
+no_option() {
+  local row names=()
+  if [ -n "${foreign_options[$1]-}" ]; then
+    because "$command takes no option '$1': ${foreign_options[$1]}"
+    return
+  fi
+  for row in ${option_rows[$command]}; do names+=("--${row%%:*}"); done
+  case $1 in
+    --*) because "$command takes no option '$1'$(suggestion "$1" "${names[@]}")" ;;
+    *) because "$command takes no option '$1'" ;;
+  esac
+}
+
+# Keeps an option with its value, which is empty for a flag: once, unless it may be repeated.
+give() {
+  if [ -n "${given[${row%%:*}]+set}" ] && [ "${row##*:}" != many ]; then because "'$1' is there twice"; fi
+  given[${row%%:*}]=$2
+}
+
+# Reads an option of a long name.
+read_long() {
+  local word=$1 name=${1%%=*} row value
+  if ! option_row "$name"; then
+    no_option "$name"
+  elif [ -z "$value" ] && [ "$name" != "$word" ]; then
+    because "'$name' takes no value"
+  elif [ -z "$value" ]; then
+    give "$name" ''
+  elif [ "$name" = "$word" ]; then
+    due=$row due_word=$name
+  else
+    give "$name" "${word#*=}"
+  fi
+}
+
+# Reads an option of one hyphen: a letter with its value after it or in the next word, or joined letters of flags.
+read_short() {
+  local letters=${1:1} letter row value
+  if option_row "-${letters:0:1}" && [ -n "$value" ]; then
+    letter=${letters:0:1} letters=${letters:1}
+    if [ -z "$letters" ]; then
+      due=$row due_word=-$letter
+    else
+      give "-$letter" "${letters#=}"
+    fi
+    return
+  fi
+  while [ -n "$letters" ]; do
+    letter=${letters:0:1} letters=${letters:1}
+    if ! option_row "-$letter"; then
+      no_option "-$letter"
+    else
+      if [ -n "$value" ]; then because "'-$letter' needs its own hyphen: -$letter $value"; fi
+      give "-$letter" ''
+    fi
+  done
+}
+
+# Compares the positions with those that the command has.
+read_positions() {
+  local wanted least=0 most=0 place
+  read -r -a wanted <<<"${command_positions[$command]}"
+  for place in "${wanted[@]}"; do
+    case $place in
+      '['*) most=$((most + 1)) ;;
+      *...) least=$((least + 1)) most=$((most + 16)) ;;
+      *) least=$((least + 1)) most=$((most + 1)) ;;
+    esac
+  done
+  if [ "${#positions[@]}" -lt "$least" ]; then
+    because "$command needs ${command_positions[$command]}"
+  elif [ "${#positions[@]}" -gt "$most" ] && [ "$command" = merge ]; then
+    because 'a merge has at most 16 sources: merge the others in a second call'
+  elif [ "${#positions[@]}" -gt "$most" ]; then
+    because "one word too many: '${positions[most]}'; $command takes ${command_positions[$command]}"
+  fi
+}
+
+# Whether words are UTF-8.
+is_utf8() {
+  local LC_ALL=C
+  if [[ "$*" != *[$'\x80'-$'\xff']* ]]; then return; fi
+  printf '%s\n' "$@" | iconv -f UTF-8 -t UTF-8 >/dev/null 2>&1
+}
+
+# Whether an option was given.
+is_given() { [ -n "${given[$1]+set}" ]; }
+
+# Looks for options that do not go together, formats that are unknown, and an edit of nothing.
+read_options() {
+  local word
+  if [ "$command" = import ]; then
+    if is_given plain && is_given set-password; then because "'--plain' makes an export without a password; '--set-password' does not go with it"; fi
+    if is_given plain && is_given set-key-file; then because "'--plain' makes an export without a key file; '--set-key-file' does not go with it"; fi
+    if ! is_given plain && ! is_given set-password && ! is_given set-key-file; then
+      because 'import needs a key for the new database: -p, --set-key-file FILE, or --plain for none'
+    fi
+  fi
+  for word in no-password key-file no-password-from key-file-from same-credentials; do
+    if is_given plain && is_given "$word"; then because "'--$word' does not go with '--plain': an XML export has no key"; fi
+  done
+  for word in no-password-from key-file-from; do
+    if is_given same-credentials && is_given "$word"; then because "'--$word' does not go with '--same-credentials'"; fi
+  done
+  if is_given no-password && ! is_given key-file; then because "'--no-password' needs a key file: -k FILE"; fi
+  if is_given no-password-from && ! is_given key-file-from; then because "'--no-password-from' needs '--key-file-from FILE'"; fi
+  if is_given format && [[ " ${command_formats[$command]} " != *" ${given[format]} "* ]]; then
+    because "unknown format '${given[format]}': ${command_formats[$command]// / or }"
+  fi
+  if [ "$command" = edit ] && ! is_given title && ! is_given username && ! is_given url && ! is_given notes && ! is_given password-prompt; then
+    because 'nothing to change: give -t, -u, --url, --notes or -p'
+  fi
+}
+
+# Reads the words of a call into `command`, `given` (the options with their values) and `positions`, and sets `reason`
+# to why they are no command, by the first cause from the left, or to nothing where they are one.
+read_words() {
+  local word due='' due_word='' ended=''
+  command=${1-} reason='' positions=()
+  declare -gA given=()
+  if [ $# = 0 ]; then
+    because 'no command; keepass --help lists them'
+    return
+  fi
+  if ! is_utf8 "$@"; then because 'a word is not UTF-8'; fi
+  if [ -z "$command" ] || [ -z "${command_positions[$command]-}" ]; then
+    if [ -n "$command" ] && [ -n "${foreign_commands[$command]-}" ]; then
+      because "unknown command '$command': ${foreign_commands[$command]}"
+    else
+      because "unknown command '$command'$(suggestion "$command" "${!command_positions[@]}"); keepass --help lists them"
+    fi
+    command=''
+    for word; do if [[ $word = -q || $word = --quiet ]]; then given[quiet]=''; fi; done
+    return
+  fi
+  shift
+  for word; do
+    if [ -n "$due" ] && [[ $word = -?* ]]; then
+      because "'$due_word' needs a value; one that begins with - is joined to it: $due_word=VALUE"
+      due=''
+    fi
+    if [ -n "$due" ]; then
+      row=$due give "$due_word" "$word"
+      due=''
+    elif [ -n "$ended" ] || [[ $word != -?* ]]; then
+      positions+=("$word")
+    else
+      case $word in
+        --) ended=1 ;;
+        --*) read_long "$word" ;;
+        *) read_short "$word" ;;
+      esac
+    fi
+  done
+  if [ -n "$due" ]; then because "'$due_word' needs a value"; fi
+  read_positions
+  read_options
+  if [ "$command" = clip ]; then read_seconds; fi
+}
+
+# How many bytes a file has.
+size_of() {
+  stat -Lc %s -- "$1" 2>/dev/null || printf 0
+}
+
+# A database among the files that the program opens, after the key file that opens it.
+add_database() {
+  local size
+  size=$(size_of "$1")
+  if [ -n "${2-}" ]; then
+    files+=("$2")
+    size=$((size + $(size_of "$2")))
+  fi
+  files+=("$1")
+  databases+=("$1")
+  sizes+=("$size")
+}
+
+# The files that must be there for the words, in the order in which the program opens them, the databases among them, how
+# much is read for each, and the file that is written.
+files_of() {
+  local source key=${given[key-file]-}
+  files=() databases=() sizes=() target=${positions[0]}
+  if [ "$command" = import ]; then
+    target=${positions[1]}
+    add_database "${positions[0]}"
+    if is_given set-key-file; then files+=("${given[set-key-file]}"); fi
+    return
+  fi
+  add_database "${positions[0]}" "$key"
+  if [ "$command" != merge ]; then return; fi
+  if ! is_given same-credentials; then key=${given[key-file-from]-}; fi
+  for source in "${positions[@]:1}"; do add_database "$source" "$key"; done
+}
+
+# What each line of the input that the words ask for is, in order: the passwords of databases, and then that of an
+# entry or of a new database.
+lines_of() {
+  local source
+  lines=()
+  if [ "$command" = import ]; then
+    if [ "${given[format]-xml}" = psafe3 ]; then lines+=("Password of ${positions[0]}"); fi
+    if is_given set-password; then lines+=("New password of ${positions[1]}"); fi
+    return
+  fi
+  if ! is_given plain && ! is_given no-password; then lines+=("Password of ${positions[0]}"); fi
+  if [ "$command" = merge ] && ! is_given plain && ! is_given same-credentials && ! is_given no-password-from; then
+    for source in "${positions[@]:1}"; do lines+=("Password of $source"); done
+  fi
+  if is_given password-prompt; then lines+=("New password of the entry"); fi
+}

@@ -1,0 +1,286 @@
+"""The refusals that are typed at a pseudo-terminal: `files(folder, data, examples)` makes the files that they name, and
+`ROWS` has a row for each call: (words, what is typed at its questions, status, TEXT of the line, its hints).
+
+In the words, the text and the hints a name in capitals as FAST stands for a file of NAMES. Of the texts, `*` stands for
+what is not compared here, since the tests of the program do."""
+import hashlib, os, re, struct
+
+PASSWORD = "one two three é"
+NAMES = {}
+
+
+def header_end(data):
+    """The length of the header of a KDBX 4 file."""
+    place = 12
+    while True:
+        kind, length = data[place], struct.unpack_from("<I", data, place + 1)[0]
+        place += 5 + length
+        if kind == 0:
+            return place
+
+
+def with_header(data, change):
+    """A KDBX 4 file with another header, which has its right hash again."""
+    end = header_end(data)
+    header = change(data[:end])
+    return header + hashlib.sha256(header).digest() + data[end + 32:]
+
+
+def dictionary_item(kind, name, value):
+    return bytes([kind]) + struct.pack("<I", len(name)) + name + struct.pack("<I", len(value)) + value
+
+
+def with_number(data, name, number):
+    """A KDBX 4 file whose key derivation has this number, of eight bytes."""
+    pattern = re.compile(re.escape(dictionary_item(5, name, b"12345678")[:-8]) + b".{8}", re.S)
+    return with_header(data, lambda header: pattern.sub(lambda found: found.group()[:-8] + struct.pack("<Q", number), header))
+
+
+def xml(inside, meta=""):
+    return f"<KeePassFile><Meta>{meta}</Meta><Root>{inside}</Root></KeePassFile>".encode()
+
+
+def node_id(number):
+    import base64
+    return base64.b64encode(bytes([number]) * 16).decode()
+
+
+def group(number, name, inside="", moved=""):
+    times = f"<Times><LocationChanged>{moved}</LocationChanged></Times>" if moved else ""
+    return f"<Group><UUID>{node_id(number)}</UUID><Name>{name}</Name>{times}{inside}</Group>"
+
+
+def entry(number, title, inside=""):
+    return f"<Entry><UUID>{node_id(number)}</UUID><String><Key>Title</Key><Value>{title}</Value></String>{inside}</Entry>"
+
+
+def files(folder, data, examples):
+    """Makes the files in a folder and names them."""
+    def made(name, file, content):
+        NAMES[name] = f"{folder}/{file}"
+        with open(NAMES[name], "wb") as out:
+            out.write(content)
+
+    def read(path):
+        with open(path, "rb") as file:
+            return file.read()
+
+    fast = read(f"{data}/file-kdbx-chacha20-aeskdf.kdbx")
+    argon = read(f"{data}/keepassxc-aes-argon2d.kdbx")
+    old = read(f"{data}/keepass2-3.1-aes.kdbx")
+    safe = read(f"{data}/gorilla.psafe3")
+    family = read(f"{examples}/family.xml")
+    end = header_end(fast)
+    made("FAST", "fast.kdbx", fast)
+    made("COPY", "copy.kdbx", fast)
+    made("OLD", "old.kdbx", old)
+    made("SAFE", "safe.psafe3", safe)
+    made("PLAIN", "family.xml", family)
+    made("SPACED", "my vault.xml", family)
+    made("KEYED", "keyed.kdbx", read(f"{data}/keepassxc-twofish-aeskdf.kdbx"))
+    made("KEY", "one.key", read(f"{data}/key-1.key"))
+    made("OTHERKEY", "other.key", b"other")
+    made("BADKEY", "bad.keyx", read(f"{data}/key-2.keyx").replace(b"Hash=\"", b"Hash=\"0", 1)[:-1])
+    made("BROKENKEY", "broken.key", read(f"{data}/key-1.key").replace(b"<Data>", b"<Data>!", 1))
+    made("COMPRESSED", "compressed.kdbx", read(f"{data}/keepassxc-compressed.kdbx"))
+    made("HEADER", "header.kdbx", fast[:20] + bytes([fast[20] ^ 1]) + fast[21:])
+    made("BLOCK", "block.kdbx", fast[:-40] + bytes([fast[-40] ^ 1]) + fast[-39:])
+    made("CHANGED", "changed.kdbx", with_header(fast, lambda header: header.replace(b"\x04\x20\0\0\0", b"\x04\x20\0\0\0" + b"x")[:end]
+                                                if False else header[:-30] + bytes([header[-30] ^ 1]) + header[-29:]))
+    made("CUT", "cut.kdbx", fast[:300])
+    made("HEAD", "head.kdbx", fast[:30])
+    made("VERSION", "version.kdbx", fast[:8] + struct.pack("<I", 0x50000) + fast[12:])
+    made("MEMORY", "memory.kdbx", with_number(argon, b"M", 2 << 30))
+    made("ROUNDS", "rounds.kdbx", with_number(fast, b"R", 1 << 33))
+    cipher = bytes.fromhex("d6038a2b8b6f4cb5a524339a31dbb59a")
+    made("CIPHER", "cipher.kdbx", with_header(fast, lambda header: header.replace(cipher, b"x" * 16)))
+    made("VARIANT", "variant.kdbx", with_header(argon, lambda header: header.replace(dictionary_item(4, b"V", b"\x13\0\0\0"), dictionary_item(4, b"V", b"\x10\0\0\0"))))
+    made("KDB", "old.kdb", bytes.fromhex("03d9a29a65fb4bb5") + bytes(200))
+    made("NOTES", "notes.txt", b"milk, bread\n")
+    made("OLDHEADER", "oldheader.kdbx", old)
+    made("SAFEMAC", "safemac.psafe3", safe[:-1] + bytes([safe[-1] ^ 1]))
+    made("CUTXML", "cut.xml", family[:300])
+    made("DEEP", "deep.xml", b"<a>" * 300)
+    made("NILID", "nil.xml", xml(group(0, "Root")))
+    made("NOBINARY", "nobinary.xml", xml(group(1, "Root", entry(2, "Bank", "<Binary><Key>a</Key><Value Ref=\"7\"/></Binary>"))))
+    made("PACKED", "packed.xml", xml(group(1, "Root"), "<Binaries><Binary ID=\"0\" Compressed=\"True\">H4sI</Binary></Binaries>"))
+    made("LATIN", "latin.csv", "Title\nMüller\n".encode("latin-1"))
+    made("NOTITLE", "notitle.csv", b"name,url,username\na,b,c\n")
+    made("BADROW", "badrow.csv", b"Title,URL\na,b\nc\n")
+    made("TABLE", "table.csv", b"Title\nBank\n")
+    made("ONE", "one.xml", xml(group(1, "Root", entry(2, "Bank"))))
+    made("TWO", "two.xml", xml(group(1, "Root", group(2, "Bank"))))
+    early, late = "2026-01-01T00:00:00Z", "2026-01-02T00:00:00Z"
+    made("CROSS1", "cross1.xml", xml(group(1, "Root", group(2, "Work", group(3, "School", moved=late), moved=early))))
+    made("CROSS2", "cross2.xml", xml(group(1, "Root", group(3, "School", group(2, "Work", moved=late), moved=early))))
+    NAMES["FOLDER"] = f"{folder}/folder"
+    os.mkdir(NAMES["FOLDER"])
+    NAMES["PIPE"] = f"{folder}/pipe"
+    os.mkfifo(NAMES["PIPE"])
+    made("DRAFTED", "drafted.xml", family)
+    os.mkdir(f"{folder}/drafted.xml.part")
+    made("LARGE", "large.kdbx", b"")
+    os.truncate(NAMES["LARGE"], 134217729)
+    NAMES["FRESH"] = f"{folder}/new.kdbx"
+    NAMES["NONE"] = f"{folder}/nothing-like-it"
+    NAMES["NEAR"] = f"{folder}/fsat.kdbx"
+    NAMES["FAR"] = f"{folder}/no/such/new.xml"
+
+
+LIST = "keepass --help lists them"
+SHOW = "show DATABASE ENTRY"
+PATHS = "keepass ls -Rf {0} lists the paths; a path is whole, and case counts"
+NO_PASSWORDS = "keepass makes no passwords yet; -p asks for one"
+WRONG = "wrong password, or {0} needs a key file too: -k FILE. If both are right, the {1} was changed: use a backup"
+BACKUP = "the password is right, and the file is damaged: use a backup"
+MALFORMED = "{0} is malformed: open it in the program that wrote it and save it again, or use a backup"
+
+ROWS = [
+    # Words, as one may remember them from keepassxc-cli, and wrong ones of every kind.
+    ("locate FAST mail", [], 1, "wrong words", ["unknown command 'locate': 'search' finds entries"]),
+    ("lst FAST", [], 1, "wrong words", [f"unknown command 'lst'; did you mean 'ls'?; {LIST}"]),
+    ("frobnicate FAST", [], 1, "wrong words", [f"unknown command 'frobnicate'; {LIST}"]),
+    ("generate -L 20", [], 1, "wrong words", ["unknown command 'generate': keepass makes no passwords yet"]),
+    ("db-create -p FRESH", [], 1, "wrong words", ["unknown command 'db-create': 'import' makes databases, of an XML export or a table"]),
+    ("open FAST", [], 1, "wrong words", ["unknown command 'open': each call opens the database itself, and nothing stays open"]),
+    ("attachment-export FAST Bank a b", [], 1, "wrong words",
+     ["unknown command 'attachment-export': keepass has no such command; 'export' prints attachments too"]),
+    ("ls --recurse FAST", [], 1, "wrong words", ["ls takes no option '--recurse'; did you mean '--recursive'?"]),
+    ("ls -R -R FAST", [], 1, "wrong words", ["'-R' is there twice"]),
+    ("ls -Rz FAST", [], 1, "wrong words", ["ls takes no option '-z'"]),
+    ("ls --recursive=yes FAST", [], 1, "wrong words", ["'--recursive' takes no value"]),
+    ("ls", [], 1, "wrong words", ["ls needs DATABASE [GROUP]"]),
+    ("ls FAST Work Mail", [], 1, "wrong words", ["one word too many: 'Mail'; ls takes DATABASE [GROUP]"]),
+    ("ls -f --plain -k KEY PLAIN", [], 1, "wrong words", ["'--key-file' does not go with '--plain': an XML export has no key"]),
+    ("ls --no-password FAST", [], 1, "wrong words", ["'--no-password' needs a key file: -k FILE"]),
+    ("show FAST", [], 1, "wrong words", ["show needs DATABASE ENTRY"]),
+    ("show -t FAST Bank", [], 1, "wrong words", ["show takes no option '-t'"]),
+    ("show --totp FAST Bank", [], 1, "wrong words", ["show takes no option '--totp': there are no one-time codes yet"]),
+    ("show -y 1 FAST Bank", [], 1, "wrong words", ["show takes no option '-y': there is no challenge and response"]),
+    ("add -g FAST Bank", [], 1, "wrong words", [f"add takes no option '-g': {NO_PASSWORDS}"]),
+    ("add -pu me FAST Bank", [], 1, "wrong words", ["'-u' needs its own hyphen: -u NAME"]),
+    ("add --notes -milk FAST Bank", [], 1, "wrong words",
+     ["'--notes' needs a value; one that begins with - is joined to it: --notes=VALUE"]),
+    ("add FAST Bank --username", [], 1, "wrong words", ["'--username' needs a value"]),
+    ("edit FAST Bank", [], 1, "wrong words", ["nothing to change: give -t, -u, --url, --notes or -p"]),
+    ("mv FAST Bank", [], 1, "wrong words", ["mv needs DATABASE NODE GROUP"]),
+    ("merge FAST", [], 1, "wrong words", ["merge needs TARGET SOURCE..."]),
+    ("merge -s FAST" + " COPY" * 17, [], 1, "wrong words", ["a merge has at most 16 sources: merge the others in a second call"]),
+    ("merge -s --key-file-from KEY FAST COPY", [], 1, "wrong words", ["'--key-file-from' does not go with '--same-credentials'"]),
+    ("merge --no-password-from FAST COPY", [], 1, "wrong words", ["'--no-password-from' needs '--key-file-from FILE'"]),
+    ("import PLAIN FRESH", [], 1, "wrong words", ["import needs a key for the new database: -p, --set-key-file FILE, or --plain for none"]),
+    ("import --plain -p PLAIN FRESH", [], 1, "wrong words",
+     ["'--plain' makes an export without a password; '--set-password' does not go with it"]),
+    ("import --format chrome -p PLAIN FRESH", [], 1, "wrong words", ["unknown format 'chrome': xml or psafe3 or csv"]),
+    ("export -f yaml FAST", [], 1, "wrong words", ["unknown format 'yaml': xml or csv"]),
+    ("clip FAST", [], 1, "wrong words", ["clip needs DATABASE ENTRY [FIELD]"]),
+    ("clip -t soon FAST Bank", [], 1, "wrong words", ["'-t' takes a number of seconds"]),
+    ("export FAST", [], 1, "every password would stand on the screen",
+     ["send it to a file: keepass export FAST >FILE; or give - after DATABASE to see it here"]),
+    ("search --plain PLAIN +", [], 1, "empty term at *",
+     ["a term has a text after its sign or its field; keepass ls -Rf --plain PLAIN lists everything"]),
+
+    # What is not there, is there already, or is not allowed.
+    ("show FAST Mial", [PASSWORD], 2, "not found", [PATHS.format("FAST")]),
+    ("show --plain SPACED Mial", [], 2, "not found", [PATHS.format("--plain SPACED")]),
+    ("ls -k KEY KEYED Wrok", [PASSWORD], 2, "not found", [PATHS.format("-k KEY KEYED")]),
+    ("add --plain PLAIN Home/Wifi", [], 2, "not found",
+     ["keepass mkdir --plain PLAIN GROUP makes the group first; keepass ls -R --plain PLAIN lists all"]),
+    ("rm --plain PLAIN Work/", [], 2, "not found", ["a path that ends with / is a group's, and rmdir removes groups"]),
+    ("mv --plain PLAIN Bank Home", [], 2, "not found",
+     ["keepass ls -Rf --plain PLAIN lists the paths; a group's has a / at its end as NODE; case counts"]),
+    ("mkdir --plain PLAIN Home/Cellar", [], 2, "not found",
+     ["the groups before the last / must be there: make them first; keepass ls -R --plain PLAIN lists all"]),
+    ("add --plain PLAIN Bank", [], 2, "already there",
+     ["edit changes an entry that is there; an entry of the same title needs another group"]),
+    ("mkdir --plain PLAIN Work", [], 2, "already there", ["something has this path; keepass ls -Rf --plain PLAIN lists the paths"]),
+    ("mv --plain PLAIN Bank /", [], 2, "already in that group", ["nothing is to be done; GROUP is the path of another group"]),
+    ("mv --plain PLAIN Work/ Work", [], 2, "* into itself", ["a group cannot go into itself or into a group inside it"]),
+    ("rmdir --plain PLAIN /", [], 2, "the root stays", ["the root group can be neither moved nor removed; its path is empty or /"]),
+    ("show -a password FAST Bank", [PASSWORD], 2, "no attribute password",
+     ["keepass show --all FAST Bank shows the names; they are compared letter by letter, as in Password, UserName, URL"]),
+    ("search --plain PLAIN zebra", [], 2, "no results",
+     ["a term is a part of title, user name, URL, notes or tags, and all must match; keepass ls -Rf --plain PLAIN lists everything"]),
+    ("import -p TABLE FAST", [], 2, "file exists", ["import makes new files alone: choose another name, or merge into the file that is there"]),
+
+    # Wrong keys and damage.
+    ("ls FAST", ["wrong"], 3, "damaged or wrong key: *", [WRONG.format("FAST", "header")]),
+    ("ls -k OTHERKEY FAST", [PASSWORD], 3, "damaged or wrong key: *",
+     ["wrong password or wrong key file. If both are right, the header was changed: use a backup"]),
+    ("ls KEYED", [PASSWORD], 3, "damaged or wrong key: *", [WRONG.format("KEYED", "header")]),
+    ("merge -d FAST COPY", [PASSWORD, "wrong"], 3, "damaged or wrong key: *", [WRONG.format("COPY", "header")]),
+    ("ls OLD", ["wrong"], 3, "wrong key or damaged",
+     ["wrong password, or OLD needs a key file too: -k FILE. If both are right, the file is damaged: use a backup"]),
+    ("ls HEADER", [PASSWORD], 3, "damaged or wrong key: *", ["the header is damaged, whatever the password: use a backup"]),
+    ("ls BLOCK", [PASSWORD], 3, "damaged block *", [BACKUP]),
+    ("import --plain --format psafe3 SAFE FRESH", ["wrong"], 3, "wrong password", ["type the password of the file of Password Safe again"]),
+    ("import --plain --format psafe3 SAFEMAC FRESH", ["correct horse"], 3, "damaged or wrong key: *",
+     ["the password is right, and the file was changed or damaged: use a backup"]),
+
+    # Malformed files.
+    ("ls PLAIN", ["x"], 4, "not a KDBX file", ["an XML export is opened with --plain"]),
+    ("ls SAFE", ["x"], 4, "not a KDBX file", ["a file of Password Safe: keepass import --format psafe3 -p SAFE NEW.kdbx makes a database of it"]),
+    ("ls KDB", ["x"], 4, "not a KDBX file",
+     ["a database of KeePass 1: import it in KeePassXC or KeePass 2, and save it as KDBX 4 without compression"]),
+    ("ls NOTES", ["x"], 4, "not a KDBX file", ["NOTES is no database of KeePass: check the name"]),
+    ("ls CUT", [PASSWORD], 4, "ends early at *", ["CUT is cut off at this byte: copy it again, or use a backup"]),
+    ("ls --plain FAST", [], 4, "malformed text at *", ["FAST is a database and no XML export: leave --plain out"]),
+    ("ls --plain CUTXML", [], 4, "malformed text at *", ["the XML is cut off or broken at this byte: export it again, or use a backup"]),
+    ("import --plain FAST FRESH", [], 4, "malformed text at *",
+     ["FAST is a database already: import takes an XML export, a file of Password Safe 3 or a table"]),
+    ("import --plain SAFE FRESH", [], 4, "malformed text at *", ["a file of Password Safe: give --format psafe3"]),
+    ("import --plain TABLE FRESH", [], 4, "malformed text at 0", ["TABLE is no XML export; --format says what it is: xml, psafe3 or csv"]),
+    ("ls --plain NILID", [], 4, "nil id at *", [MALFORMED.format("NILID")]),
+    ("ls --plain NOBINARY", [], 4, "no binary 7",
+     ["an attachment is missing, as KeePassXC leaves them out of its exports: export the database with keepass"]),
+    ("ls -k BROKENKEY FAST", [PASSWORD], 4, "bad key file at *", ["BROKENKEY is a damaged key file: use a copy of it"]),
+    ("import --plain --format psafe3 TABLE FRESH", ["x"], 4, "not a psafe3 file",
+     ["TABLE is no file of Password Safe 3; --format says what it is: xml, psafe3 or csv"]),
+    ("import --plain --format csv LATIN FRESH", [], 4, "not UTF-8 at *",
+     ["save the table in UTF-8, or convert it: iconv -f WINDOWS-1252 -t UTF-8 LATIN >NEW.csv"]),
+    ("import --plain --format csv NOTITLE FRESH", [], 4, "no Title column",
+     ["the first row names the columns, with commas between them: Title, and any of Group, Username, Password, URL, Notes, Last Modified, Created"]),
+    ("import --plain --format csv BADROW FRESH", [], 4, "bad row 2",
+     ["this row after the first has more or fewer fields than the first, or a time that is not as 2026-11-28T12:34:56Z; blank lines do not count"]),
+    ("ls FAST", [b"\xff"], 4, "line 1 is not UTF-8", ["passwords are typed in UTF-8: choose a UTF-8 locale"]),
+
+    # What is not supported.
+    ("ls COMPRESSED", [PASSWORD], 5, "compressed",
+     ["switch compression off once and save the file. In KeePassXC: Database > Database Settings > General, untick 'Enable compression';",
+      "in KeePass 2: File > Database Settings > Compression, choose 'None'. Or without a window, in python3 with pykeepass:",
+      "  import getpass, pykeepass; kp = pykeepass.PyKeePass('COMPRESSED', getpass.getpass())",
+      "  kp.kdbx.header.value.dynamic_header.compression_flags.data.compression = False",
+      "  del kp.kdbx.header['data']; kp.save()"]),
+    ("ls --plain PACKED", [], 5, "compressed",
+     ["attachments in this XML are compressed: export it again, with keepass or from a database without compression"]),
+    ("ls VERSION", ["x"], 5, "version 327680", ["KDBX 3.1, 4.0 and 4.1 are read: save VERSION as KDBX 4 with the program that wrote it"]),
+    ("ls CIPHER", ["x"], 5, "unknown *",
+     ["choose AES-256, Twofish or ChaCha20 as cipher, and AES-KDF, Argon2d or Argon2id as key derivation, in the program that wrote it"]),
+    ("ls VARIANT", ["x"], 5, "variant 16", ["save VARIANT anew with KeePassXC or KeePass 2, with Argon2 or AES-KDF as key derivation"]),
+
+    # Copies that cannot be merged.
+    ("merge --plain ONE TWO", [], 6, "clash at *",
+     ["these are not copies of one database: what is a group in one is an entry in another, or another root. Leave out the file that does not belong"]),
+    ("merge --plain CROSS1 CROSS2", [], 6, "move cycle *",
+     ["each of these groups was moved into another of them: move one of them back in one copy, then merge again"]),
+
+    # Files, limits and streams.
+    ("ls NEAR", [], 7, "no such file", ["did you mean FAST?"]),
+    ("ls --plain NONE", [], 7, "no such file", ["check the name, and the folder that the call was made in"]),
+    ("merge -s FAST NONE", [], 7, "no such file", ["check the name, and the folder that the call was made in"]),
+    ("ls -k NONE FAST", [], 7, "no such file", ["check the name, and the folder that the call was made in"]),
+    ("ls FOLDER", [], 7, "file fault", ["it is a folder, and a file is needed"]),
+    ("ls --plain PIPE", [], 7, "file fault", ["it is a pipe, and a file is needed: write it into a file first"]),
+    ("ls --plain /dev/null", [], 7, "file fault", ["it is a device or a socket, and a file is needed"]),
+    ("mkdir --plain DRAFTED New", [], 7, "file fault", ["DRAFTED.part, the name of its draft, is taken by something that is no file: remove that"]),
+    ("import --plain PLAIN FAR", [], 7, "file fault", None),
+    ("ls LARGE", ["x"], 8, "limit passed", ["the file has 134217729 bytes, and at most 134217728 are read: take attachments out of it"]),
+    ("ls MEMORY", ["x"], 8, "limit passed",
+     ["Argon2 asks for 2048 MiB of memory, and at most 1024 are taken: lower it in the program that wrote the file"]),
+    ("ls ROUNDS", ["x"], 8, "limit passed",
+     ["AES-KDF asks for 8589934592 rounds, and at most 4294967296 are made: lower them in the program that wrote the file"]),
+    ("ls --plain DEEP", [], 8, "limit passed",
+     ["at most 128 levels of groups, 256 open elements, 262144 groups, entries and older versions, times up to 9999: shorten the histories"]),
+    ("ls FAST", [None], 12, "line 1 missing", ["nothing was typed for the password of FAST"]),
+    ("add -p FAST New", [PASSWORD, None], 12, "line 2 missing", ["nothing was typed for the new password of the entry"]),
+]
