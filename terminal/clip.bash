@@ -71,7 +71,6 @@ clip() {
   if [ "$status" != 0 ]; then return; fi
   if [ "$seconds" = 0 ]; then return; fi
   copied=$(sum_of_clipboard)
-  for signal in HUP INT QUIT TERM; do trap "stop $signal" "$signal"; done
   if ! is_given quiet; then printf 'Copied %s; the clipboard is cleared in %d seconds.\n' "$(shown "$field")" "$((10#$seconds))"; fi
   sleep "$seconds" &
   wait $!

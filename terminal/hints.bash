@@ -162,6 +162,14 @@ holds() {
     line) find_line ;;
     memory) find_memory ;;
     near) find_near ;;
+    number)
+      found[found]=${positions[2]-}
+      [[ ${found[found]} =~ ^[0-9]+$ ]]
+      ;;
+    order)
+      found[found]="$command $(quoted "${positions[1]-}") $(quoted "$subject")"
+      [ "$command" != merge ] && [ "$command" != import ] && [ "$subject" = "${positions[0]-}" ] && [ -f "${positions[1]-}" ]
+      ;;
     *) false ;;
   esac
 }

@@ -2,6 +2,63 @@
 # after refusals, and no character that could command the terminal. The script `keepass` reads this file where a standard
 # stream is a terminal, and for `clip`; the program is in `program`, and this folder in `terminal`.
 
+# ---- the terminal
+
+# What is typed at the keyboard, which is 8, is not shown from here on, and the call cannot be suspended, which would leave
+# the terminal silent. The terminal is as before when the call ends, whichever way it ends.
+hide() {
+  settings=$(stty -g <&8) || return
+  trap unhide EXIT
+  stty -echo echonl susp undef <&8
+}
+
+# What is typed is shown again.
+unhide() {
+  if [ -n "$settings" ]; then stty "$settings" <&8; fi
+  settings=''
+}
+
+# From here on a signal ends the call with all that it started. The program runs beside the script, which therefore hears
+# the signal at once.
+heed_signals() {
+  local signal
+  for signal in HUP INT QUIT TERM; do trap "stop $signal" "$signal"; done
+}
+
+# Ends the call by a signal.
+stop() {
+  trap '' HUP INT QUIT TERM
+  # shellcheck disable=SC2046
+  kill $(jobs -p) 2>/dev/null
+  exec 4>&- 6>&-
+  wait
+  if [ -n "$begun" ]; then erase; fi
+  if [ -n "$asking" ]; then tell $'\n'; fi
+  if [ -n "$copied" ]; then clear_clipboard; fi
+  unhide
+  trap - EXIT HUP INT QUIT TERM
+  kill -"$1" $$
+  # A shell does not end by SIGQUIT.
+  exit 131
+}
+
+# The streams: 3 is what the program reads where nothing is asked, and 8 the keyboard.
+open_streams() {
+  exec 3<&0
+  if [ -t 0 ]; then
+    # Where nothing is asked nothing is read.
+    exec 8<&0 3</dev/null
+    hide
+  fi
+}
+
+# What is typed is not shown from here on, before anything else is done.
+settings='' asking='' copied='' begun=''
+heed_signals
+open_streams
+
+# ---- what is shown
+
 # shellcheck source=/dev/null
 . "$terminal/tables.bash"
 . "$terminal/words.bash"
@@ -35,40 +92,6 @@ tell() {
   { printf '%s' "$1" >/dev/tty; } 2>/dev/null || printf '%s' "$1" >&2
 }
 
-# ---- the terminal
-
-# What is typed at the keyboard, which is 8, is not shown from here on, and the call cannot be suspended, which would leave
-# the terminal silent. The terminal is as before when the call ends, whichever way it ends.
-hide() {
-  local signal
-  settings=$(stty -g <&8) || return
-  trap unhide EXIT
-  for signal in HUP INT QUIT TERM; do trap "stop $signal" "$signal"; done
-  stty -echo echonl susp undef <&8
-}
-
-# What is typed is shown again.
-unhide() {
-  if [ -n "$settings" ]; then stty "$settings" <&8; fi
-  settings=''
-}
-
-# Ends the call by a signal.
-stop() {
-  trap '' HUP INT QUIT TERM
-  # shellcheck disable=SC2046
-  kill $(jobs -p) 2>/dev/null
-  exec 4>&- 6>&-
-  wait
-  if [ -n "$asking" ]; then tell $'\n'; fi
-  if [ -n "$copied" ]; then clear_clipboard; fi
-  unhide
-  trap - EXIT HUP INT QUIT TERM
-  kill -"$1" $$
-  # A shell does not end by SIGQUIT.
-  exit 131
-}
-
 # ---- signs of life
 
 # Shows on one line of the terminal what the program is doing, in place of what stood there.
@@ -82,12 +105,6 @@ show_sign() {
   if [ "${#text}" -ge "$width" ]; then text=${text:0:width-3}..; fi
   if [ "$text" != "$sign" ]; then printf '\r\033[K%s' "$text" >&2; fi
   sign=$text
-}
-
-# Takes the sign of life away.
-erase() {
-  if [ -n "$sign" ]; then printf '\r\033[K' >&2; fi
-  sign=''
 }
 
 # What the program is doing: how many of its databases it has opened is seen by how much it has read, and that it writes
@@ -107,32 +124,37 @@ doing() {
   if [ "${#databases[@]}" -gt 1 ]; then printf ' (%d of %d)' "$count" "${#databases[@]}"; fi
 }
 
-# Shows signs of life from half a second on, until it is told to end.
+# Shows signs of life, from half a second on, until it is ended.
 live() {
-  local sleeper='' pause=0.5
-  trap - EXIT HUP INT QUIT
-  trap 'kill "$sleeper" 2>/dev/null; erase; exit' TERM
+  local sign='' pause=0.5
+  trap - EXIT HUP INT QUIT TERM
   while :; do
-    sleep "$pause" &
-    sleeper=$!
-    wait "$sleeper"
+    sleep "$pause" 2>/dev/null
     pause=0.2
     show_sign "$(doing)"
   done
 }
 
+# Takes the sign of life away, where there has been time for one.
+erase() {
+  if [ $((${EPOCHREALTIME/[.,]/} - begun)) -gt 400000 ]; then printf '\r\033[K' >&2; fi
+  begun=''
+}
+
 # Waits for the program, and sets its status.
 follow() {
-  local signs_shown=''
+  local life=''
   if [ -n "$signs" ]; then
-    live 3<&- 4>&- 5>&- 6>&- 7<&- &
-    signs_shown=$!
+    begun=${EPOCHREALTIME/[.,]/}
+    live </dev/null >/dev/null 3<&- 4>&- 5>&- 6>&- 7<&- &
+    life=$!
   fi
   wait "$child"
   status=$?
-  if [ -n "$signs_shown" ]; then
-    kill "$signs_shown"
-    wait "$signs_shown"
+  if [ -n "$life" ]; then
+    kill "$life"
+    wait "$life" 2>/dev/null
+    erase
   fi
 }
 
@@ -289,7 +311,7 @@ help() {
       exit
       ;;
   esac
-  if [ $# = 2 ] && [ "$1" = help ]; then set -- "$2" -h; fi
+  if [ $# = 2 ] && [[ $1 = help || $1 = -h || $1 = --help ]]; then set -- "$2" -h; fi
   if [ -z "${command_positions[${1:-none}]-}" ]; then return; fi
   for word in "${@:2}"; do
     case $word in
@@ -305,21 +327,10 @@ help() {
 
 # ---- the whole call
 
-# The streams: 3 is what the program reads where nothing is asked, and 8 the keyboard.
-open_streams() {
-  exec 3<&0
-  if [ -t 0 ]; then
-    # Where nothing is asked nothing is read.
-    exec 8<&0 3</dev/null
-    hide
-  fi
-}
-
 # A call where a standard stream is a terminal.
 at_terminal() {
-  local settings='' asking='' sign='' signs='' hints='' is_shown='' tty='' refusal='' copied='' status=0 child=''
+  local signs='' hints='' is_shown='' tty='' refusal='' status=0 child=''
   local command reason positions=() words=() files=() databases=() sizes=() target='' lines=() due_lines=()
-  open_streams
   take_words "$@"
   if ! is_given quiet && [ -t 2 ]; then
     if [ "${KEEPASS_HINTS-1}" != 0 ]; then hints=1; fi

@@ -61,9 +61,9 @@ option_row() {
 
 # What is said of an option that the command does not take: `keepassxc-cli` may have it, or another is near.
 no_option() {
-  local row names=()
-  if [ -n "${foreign_options[$1]-}" ]; then
-    because "$command takes no option '$1': ${foreign_options[$1]}"
+  local row names=() foreign=${foreign_options[$command $1]-${foreign_options[$1]-}}
+  if [ -n "$foreign" ]; then
+    because "$command takes no option '$1': $foreign"
     return
   fi
   for row in ${option_rows[$command]}; do names+=("--${row%%:*}"); done
@@ -188,6 +188,10 @@ read_words() {
   if [ -z "$command" ] || [ -z "${command_positions[$command]-}" ]; then
     if [ -n "$command" ] && [ -n "${foreign_commands[$command]-}" ]; then
       because "unknown command '$command': ${foreign_commands[$command]}"
+    elif [[ $command = -* ]]; then
+      because "a command comes first, before '$command'; keepass --help lists them"
+    elif [ -f "$command" ]; then
+      because "a command comes first, before '$command', as ls or show; keepass --help lists them"
     else
       because "unknown command '$command'$(suggestion "$command" "${!command_positions[@]}"); keepass --help lists them"
     fi

@@ -154,7 +154,7 @@ ROWS = [
     ("ls -f --plain -k KEY PLAIN", [], 1, "wrong words", ["'--key-file' does not go with '--plain': an XML export has no key"]),
     ("ls --no-password FAST", [], 1, "wrong words", ["'--no-password' needs a key file: -k FILE"]),
     ("show FAST", [], 1, "wrong words", ["show needs DATABASE ENTRY"]),
-    ("show -t FAST Bank", [], 1, "wrong words", ["show takes no option '-t'"]),
+    ("show -t FAST Bank", [], 1, "wrong words", ["show takes no option '-t': there are no one-time codes yet"]),
     ("show --totp FAST Bank", [], 1, "wrong words", ["show takes no option '--totp': there are no one-time codes yet"]),
     ("show -y 1 FAST Bank", [], 1, "wrong words", ["show takes no option '-y': there is no challenge and response"]),
     ("add -g FAST Bank", [], 1, "wrong words", [f"add takes no option '-g': {NO_PASSWORDS}"]),
@@ -180,10 +180,19 @@ ROWS = [
     ("search --plain PLAIN +", [], 1, "empty term at *",
      ["a term has a text after its sign or its field; keepass ls -Rf --plain PLAIN lists everything"]),
 
+    ("FAST ls", [], 1, "wrong words", [f"a command comes first, before 'FAST', as ls or show; {LIST}"]),
+    ("-R ls FAST", [], 1, "wrong words", [f"a command comes first, before '-R'; {LIST}"]),
+    ("clip -a UserName FAST Bank", [], 1, "wrong words", ["clip takes no option '-a': the field is the third position: clip DATABASE ENTRY FIELD"]),
+    ("rm -r FAST Work", [], 1, "wrong words", ["rm takes no option '-r': 'rmdir' removes groups"]),
+    ("import -k KEY PLAIN FRESH", [], 1, "wrong words", ["import takes no option '-k': a new database gets a key file by --set-key-file FILE"]),
+    ("export -o FRESH FAST", [], 1, "wrong words", ["export takes no option '-o': the output goes to a file by >FILE"]),
+
     # What is not there, is there already, or is not allowed.
     ("show FAST Mial", [PASSWORD], 2, "not found", [PATHS.format("FAST")]),
     ("show --plain SPACED Mial", [], 2, "not found", [PATHS.format("--plain SPACED")]),
-    ("ls -k KEY KEYED Wrok", [PASSWORD], 2, "not found", [PATHS.format("-k KEY KEYED")]),
+    ("show -k KEY KEYED Wrok/x", [PASSWORD], 2, "not found", [PATHS.format("-k KEY KEYED")]),
+    ("ls --plain PLAIN Bank", [], 2, "not found", ["ls lists groups, and show shows an entry; keepass ls -R --plain PLAIN lists everything; case counts"]),
+    ("rmdir --plain PLAIN Bank", [], 2, "not found", ["rmdir removes groups, and rm entries; keepass ls -R --plain PLAIN lists everything; case counts"]),
     ("add --plain PLAIN Home/Wifi", [], 2, "not found",
      ["keepass mkdir --plain PLAIN GROUP makes the group first; keepass ls -R --plain PLAIN lists all"]),
     ("rm --plain PLAIN Work/", [], 2, "not found", ["a path that ends with / is a group's, and rmdir removes groups"]),
@@ -266,6 +275,7 @@ ROWS = [
 
     # Files, limits and streams.
     ("ls NEAR", [], 7, "no such file", ["did you mean FAST?"]),
+    ("show Bank FAST", [], 7, "no such file", ["DATABASE comes first: keepass show FAST Bank"]),
     ("ls --plain NONE", [], 7, "no such file", ["check the name, and the folder that the call was made in"]),
     ("merge -s FAST NONE", [], 7, "no such file", ["check the name, and the folder that the call was made in"]),
     ("ls -k NONE FAST", [], 7, "no such file", ["check the name, and the folder that the call was made in"]),
