@@ -37,10 +37,11 @@ kept() {
 }
 
 # works NAME SAID COMMAND...: the command, which reads input.txt, ends with status 0 and prints this line, or nothing where there is
-# none. No draft may be left.
+# none. No draft may be left, and one file at most may be another one than before: the one that the command writes.
 works() {
-  local name=$1 said=$2 got
+  local name=$1 said=$2 got before
   shift 2
+  before=$(files_seen | grep -v '\.part$')
   "$@" >out.txt 2>err.txt <input.txt
   got=$?
   {
@@ -50,6 +51,7 @@ works() {
   } >report.txt 2>&1
   [ "$got" = 0 ] && [ ! -s err.txt ] && [ "$(cat out.txt)" = "$said" ] && [ -z "$(find . -name '*.part')" ]
   judged "$name" $?
+  may_touch "$name" 1 "$before"
 }
 
 # lists NAME TITLE WORD...: the listing under input.txt has this line.

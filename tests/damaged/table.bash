@@ -1,4 +1,4 @@
-# The tables of documents, for tests/run: it sources this file, and has `program`, `passed` and `failed`.
+# The tables of documents, for tests/run: it sources this file, and has `program`, `passed` and `failed`, and tests/files.bash.
 
 # The ids that a row writes as @0 to @9: sixteen times the byte 0 to 9.
 ids=(AAAAAAAAAAAAAAAAAAAAAA== AQEBAQEBAQEBAQEBAQEBAQ== AgICAgICAgICAgICAgICAg== AwMDAwMDAwMDAwMDAwMDAw== BAQEBAQEBAQEBAQEBAQEBA==
@@ -6,8 +6,9 @@ ids=(AAAAAAAAAAAAAAAAAAAAAA== AQEBAQEBAQEBAQEBAQEBAQ== AgICAgICAgICAgICAgICAg== 
 
 # answered NAME FILE STATUS TEXT: what the program answers to a document; TEXT is what it prints, or the text of its refusal.
 answered() {
-  local out='' err='' got got_out got_err
+  local out='' err='' got got_out got_err before
   if [ "$3" = 0 ]; then out=$4; else err="keepass: $2: $4"$'\n'; fi
+  before=$(files_seen)
   "$program" ls --plain "$2" >out.txt 2>err.txt </dev/null
   got=$?
   IFS= read -r -d '' got_out <out.txt
@@ -20,6 +21,7 @@ answered() {
     echo "  wanted: ${out:0:100}${err%$'\n'}"
     echo "  got:    ${got_out:0:100}${got_err%$'\n'}"
   fi
+  may_touch "$1" 0 "$before"
 }
 
 # documents ROWS: every row of a table of documents. README.md beside this file says how a row is read.

@@ -1,5 +1,6 @@
 # The listings of databases, and the table of calls, for tests/run and tests/opening/run: they source this file, and have
 # `program`, `passed` and `failed`.
+. "$(dirname "${BASH_SOURCE[0]}")/../files.bash"
 
 # changed CHANGE...: does to the file FILE what a row says.
 changed() {
@@ -16,15 +17,11 @@ changed() {
 }
 
 # called NAME STATUS WORD...: calls the program with the input in input.txt, and compares its status with STATUS, and
-# what it prints with want-out.txt and want-err.txt. FILE, if it is there, must stay as it is, its permissions and time of change too.
+# what it prints with want-out.txt and want-err.txt. Every file of the folder must stay as it is, its permissions and time of change too.
 called() {
-  local name=$1 status=$2 got stamp
+  local name=$1 status=$2 got before
   shift 2
-  rm -f before
-  if [ -e FILE ]; then
-    cp FILE before
-    stamp=$(stat -c '%i %a %y' FILE)
-  fi
+  before=$(files_seen)
   "$program" "$@" >out.txt 2>err.txt <input.txt
   got=$?
   if [ "$got" = "$status" ] && cmp -s out.txt want-out.txt && cmp -s err.txt want-err.txt; then
@@ -35,10 +32,7 @@ called() {
     diff want-out.txt out.txt
     diff want-err.txt err.txt
   fi
-  if [ -e before ] && ! { cmp -s before FILE && [ "$(stat -c '%i %a %y' FILE)" = "$stamp" ]; } || [ -e FILE.part ]; then
-    failed=$((failed + 1))
-    echo "FAILED: $name: the file was changed"
-  fi
+  may_touch "$name" 0 "$before"
 }
 
 # calls ROWS DATA: every row of a table of calls. README.md beside this file says how a row is read.
