@@ -48,12 +48,12 @@ use Rattle.growth_laws.proofs.Steps.{move_entry_stays, put_entry_stays, put_grou
 -- ---- an entry that a path names
 
 -- The group that an entry is in.
-record Found (d : BareDoc) (held : Holding) : Type 0 where
-  group : Tree
-  there : group_with held.group d.tree ≡ Some group
-  own : own_entry held.entry.0 group ≡ Some held.entry
+pub record Found (d : BareDoc) (held : Holding) : Type 0 where
+  pub group : Tree
+  pub there : group_with held.group d.tree ≡ Some group
+  pub own : own_entry held.entry.0 group ≡ Some held.entry
 
-found : (path : List ℕ) (d : BareDoc) (held : Holding) → entry_named path d ≡ Ok held → Found d held
+pub found : (path : List ℕ) (d : BareDoc) (held : Holding) → entry_named path d ≡ Ok held → Found d held
 found path d held h =
     let id = bind_ok (named_or_refusal (entry_found d path)) _ held h in
     let group = bind_ok (named_or_refusal (holder id.0 d.tree)) _ held id.1.1 in
@@ -209,7 +209,7 @@ bin_there d u goes none_needed =
     enabled : d.meta.bin.value.enabled ≡ true
     enabled = (and_true d.meta.bin.value.enabled _ goes).0
 
-held_with_bin : (d ready : BareDoc) (held : Holding) (bin : NodeId) (now : ℕ) → Found d held → Ready d ready bin now → Found ready held
+pub held_with_bin : (d ready : BareDoc) (held : Holding) (bin : NodeId) (now : ℕ) → Found d held → Ready d ready bin now → Found ready held
 held_with_bin d ready held bin now f r =
     let off : has_group held.group (empty_bin bin now) ≡ false = ap (λ b. b || false) (is_false (is_id bin held.group) (λ p.
     apart (has_group bin d.tree) (ap (λ v. has_group v d.tree) (same_id bin held.group p) ∙ there) (free_absent bin d r.free))) in

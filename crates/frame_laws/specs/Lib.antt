@@ -1,0 +1,4 @@
+pub mod Entries
+pub mod Example
+pub mod Frame
+pub mod Removals

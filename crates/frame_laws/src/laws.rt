@@ -1,0 +1,36 @@
+//! The laws that commands leave all else as it is. Each function has laws as its contract, for
+//! every document that a command changes; it does nothing, and takes no memory.
+
+ghost use Rattle.frame_laws.specs.Entries.{AddFrames, EditFrames, MakeGroupFrames, MoveEntryFrames};
+ghost use Rattle.frame_laws.specs.Example.{ExampleChanges};
+ghost use Rattle.frame_laws.specs.Removals.{RemoveEntryFrames};
+
+/// An edit changes one entry: of it the fields that are given, when it was changed and looked at,
+/// and its history; every other node, every list of children, the tombstones and what the database
+/// says of itself are as before.
+pub fn edit_frames()
+    ensures { EditFrames }
+{}
+
+/// A moved entry is taken from one list and put at the end of another, and of its record since when
+/// it is there and its previous parent change; all else is as before.
+pub fn move_frames()
+    ensures { MoveEntryFrames }
+{}
+
+/// A new entry or group has the given id and stands last in one list; all else is as before.
+pub fn new_frames()
+    ensures add { AddFrames }
+    ensures make_group { MakeGroupFrames }
+{}
+
+/// A removed entry is moved into the bin, which is made where it is missing, or it is gone and has
+/// a tombstone. All else is as before.
+pub fn removal_frames()
+    ensures { RemoveEntryFrames }
+{}
+
+/// Each of these laws speaks of something: a small database on which the commands are carried out.
+pub fn example_changes()
+    ensures { ExampleChanges }
+{}
