@@ -19,7 +19,7 @@ parts_within : (R : List Db) (Rs : List (List Db)) → AreParts Rs R → IsWithi
 parts_within R [] f m h = absurd h
 parts_within R (Q ∷ Qs) f m h = elim (in_either Q (end_to_end Qs) m h) [ inl x ↦ f.0.1 m x | inr x ↦ parts_within R Qs f.1 m x ]
 
-parts_through : (S R : List Db) (Rs : List (List Db)) → IsPart R S → AreParts Rs R → AreParts Rs S
+pub parts_through : (S R : List Db) (Rs : List (List Db)) → IsPart R S → AreParts Rs R → AreParts Rs S
 parts_through S R [] part f = tt
 parts_through S R (Q ∷ Qs) part f = ((f.0.0, λ m h. part.1 m (f.0.1 m h)), parts_through S R Qs part f.1)
 
@@ -31,7 +31,7 @@ within_join S R Rs a part parts =
     ∙ alike_join S a (R ++ end_to_end Rs) R (end_part S (R ∷ Rs) tt all) part
     (λ m h. elim (in_either R (end_to_end Rs) m h) [ inl x ↦ x | inr x ↦ parts_within R Rs parts m x ]) (λ m h. in_front R (end_to_end Rs) m h)
 
-abbrev first : Db → List Db → Db
+abbrev pub first : Db → List Db → Db
 first m [] = m
 first m (n ∷ ns) = n
 

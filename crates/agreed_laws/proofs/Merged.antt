@@ -31,7 +31,7 @@ abbrev value : BareDoc → MergeResult → BareDoc
 value t (Ok doc) = doc
 value t (Err fail) = t
 
-passed : (o : Option NodeId) (why : NodeId → MergeFail) (next : MergeResult) (doc : BareDoc) → unless_found o why next ≡ Ok doc → (o ≡ None) × (next ≡ Ok doc)
+pub passed : (o : Option NodeId) (why : NodeId → MergeFail) (next : MergeResult) (doc : BareDoc) → unless_found o why next ≡ Ok doc → (o ≡ None) × (next ≡ Ok doc)
 passed None why next doc e = (refl, e)
 passed (Some u) why next doc e = cc e
 
@@ -129,7 +129,7 @@ parts_merged t ss S Rs all a parts joins =
     subst (λ (m : Db). MergesInto m (merge_result t ss)) (ap join joins ∙ join_of_joins S a Rs (parts_some t ss Rs joins) parts) (merges_into t ss all agreed)
 
 -- a part of an agreed set is agreed
-part_agreed : (S R : List Db) → Agreed S → IsPart R S → Agreed R
+pub part_agreed : (S R : List Db) → Agreed S → IsPart R S → Agreed R
 part_agreed S R a part = record {
   compatible = record {
     sound = λ m h. a.compatible.sound m (part.1 m h);

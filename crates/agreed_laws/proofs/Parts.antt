@@ -18,7 +18,7 @@ use Rattle.merge_core.proofs.Regroup.{part_allowed}
 use Rattle.agreed_laws.proofs.Shallow.{none_pass, on_trail}
 
 -- the root is none of the nodes below it
-root_apart : (t : Tree) → AreDistinct (node_ids t) → IsIn (id_of t) (below_ids t) → ⊥
+pub root_apart : (t : Tree) → AreDistinct (node_ids t) → IsIn (id_of t) (below_ids t) → ⊥
 root_apart (node v r es ts) d h = distinct_head v (entry_ids es ++ node_ids_all ts) d h
 
 -- what can be joined has no clash of kinds and no strays

@@ -28,7 +28,7 @@ on_trail S (suc n) (suc i) u less =
     (on_trail S n i (above S u) (omega (arith, less)))
 
 -- where there is no least there is none
-no_least : (us : List NodeId) → least us ≡ None → (u : NodeId) → IsIn u us → ⊥
+pub no_least : (us : List NodeId) → least us ≡ None → (u : NodeId) → IsIn u us → ⊥
 no_least [] e u h = h
 no_least (v ∷ vs) e u h = some (gather lesser (map Some vs)) e
   where

@@ -67,6 +67,10 @@ found path d held h =
       own = ap (λ v. own_entry v at.0) key ∙ at.1.1;
     })
 
+-- it is found there
+pub found_in : (d : BareDoc) (held : Holding) → Found d held → entry_at held.group held.entry.0 d.tree ≡ Some held.entry
+found_in d held f = ap (option_and_then (own_entry held.entry.0)) f.there ∙ f.own
+
 -- ---- entries added
 
 pub add_grows : AddGrows
@@ -95,7 +99,7 @@ versions_now : (v : BareVersion) (e : EntryRecord) → versions_of (with_version
 versions_now v e = ap (unite stats_join (as_map v)) (made_again (versions_of e))
 
 -- the versions after an edit have those before it
-versions_grow : (v : BareVersion) (e : EntryRecord) → unite stats_join (versions_of e) (versions_of (with_version v e)) ≡ versions_of (with_version v e)
+pub versions_grow : (v : BareVersion) (e : EntryRecord) → unite stats_join (versions_of e) (versions_of (with_version v e)) ≡ versions_of (with_version v e)
 versions_grow v e =
     let A = versions_of e in
     let S = as_map v in
@@ -214,15 +218,12 @@ held_with_bin d ready held bin now f r =
     let off : has_group held.group (empty_bin bin now) ≡ false = ap (λ b. b || false) (is_false (is_id bin held.group) (λ p.
     apart (has_group bin d.tree) (ap (λ v. has_group v d.tree) (same_id bin held.group p) ∙ there) (free_absent bin d r.free))) in
     let at : entry_at held.group held.entry.0 ready.tree ≡ Some held.entry =
-    ap (entry_at held.group held.entry.0) r.tree ∙ entry_with_last held.group held.entry.0 (empty_bin bin now) d.tree off ∙ was in
+    ap (entry_at held.group held.entry.0) r.tree ∙ entry_with_last held.group held.entry.0 (empty_bin bin now) d.tree off ∙ found_in d held f in
     let g = found_at held.group held.entry.0 ready.tree held.entry at in
     record { group = g.0; there = g.1.0; own = g.1.1 }
   where
-    was : entry_at held.group held.entry.0 d.tree ≡ Some held.entry
-    was = ap (option_and_then (own_entry held.entry.0)) f.there ∙ f.own
-
     there : has_group held.group d.tree ≡ true
-    there = holds_there held.group held.entry.0 d.tree (ap is_some was)
+    there = holds_there held.group held.entry.0 d.tree (ap is_some (found_in d held f))
 
 entry_recycled_stays : (d : BareDoc) (a : AfterRemoval) → IsDoc d → IsDoc a.doc → (held : Holding) → Found d held → (bin : Option NodeId) (now : ℕ) → is_recycled held.group d ≡ true → is_some bin ≡ needs_bin d
     → entry_recycled bin held now d ≡ Ok a → Stays d a.doc

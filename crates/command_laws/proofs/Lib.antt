@@ -1,0 +1,4 @@
+pub mod Additions
+pub mod Commands
+pub mod Edits
+pub mod ShownTrees

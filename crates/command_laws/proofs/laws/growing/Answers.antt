@@ -1,0 +1,16 @@
+use Rattle.std.proofs.Common.{ap}
+use Rattle.history_laws.specs.Current.{current_view}
+use Rattle.command_laws.proofs.Edits.{edit_grows_in_current, edit_is_now}
+use Rattle.command_laws.proofs.laws.growing.Goals as goal
+
+pub returns-clause-edit : goal.returns-clause-edit
+returns-clause-edit c = edit_grows_in_current
+
+pub returns-clause-growth : goal.returns-clause-growth
+returns-clause-growth c d e h = ap current_view h
+
+pub returns-clause-event : goal.returns-clause-event
+returns-clause-event c n w i e h = h
+
+pub returns-clause-now : goal.returns-clause-now
+returns-clause-now c = edit_is_now

@@ -1,0 +1,59 @@
+-- Edits grow in what is current, whatever old versions are dropped.
+use Rattle.std.specs.Prelude.{◌≡◌, ℕ, List, [], ◌∷◌, Ok}
+use Rattle.vault_model.specs.Db.{Mark, NodeId}
+use Rattle.vault_model.specs.Join.{join}
+use Rattle.vault_model.specs.Plans.{World, change}
+use Rattle.vault_model.specs.SeenNodes.{entry_time}
+use Rattle.vault_model.specs.Shape.{EntryRecord, versions_of}
+use Rattle.vault_model.specs.Tree.{BareDoc, IsDoc, db_in}
+use Rattle.tree_core.specs.After.{Holding, after_edit, entry_named, time_after}
+use Rattle.tree_core.specs.Changes.{changed_at, changed_entry}
+use Rattle.tree_core.specs.NewNodes.{GivenValues, edited_version}
+use Rattle.growth_laws.specs.Growth.{GrowsTo}
+use Rattle.history_laws.specs.Current.{current_view, current}
+use Rattle.history_laws.specs.Histories.{IsTrimmedEvent, schedule_step}
+use Rattle.history_laws.specs.TwoEdits.{IsNow}
+
+-- two records of an entry that differ in its history alone
+pub record IsAlike (a b : EntryRecord) : Type 0 where
+  pub placed : a.placed ≡ b.placed
+  pub previous : a.previous ≡ b.previous
+  pub shown : current (versions_of a) ≡ current (versions_of b)
+
+-- an entry changed to one of two that are alike: the documents are alike in what is current
+abbrev pub RelabelShows : Type 0
+RelabelShows = (d : BareDoc) (g u : NodeId) (a b : EntryRecord) → IsAlike a b
+    → IsDoc (record d { tree = changed_at g (changed_entry u (λ _. a)) d.tree })
+    → IsDoc (record d { tree = changed_at g (changed_entry u (λ _. b)) d.tree })
+    → current_view (db_in (record d { tree = changed_at g (changed_entry u (λ _. a)) d.tree }))
+    ≡ current_view (db_in (record d { tree = changed_at g (changed_entry u (λ _. b)) d.tree }))
+
+-- the database of a document is that of another, grown in what is current
+abbrev pub GrowsInCurrent : BareDoc → BareDoc → Type 0
+GrowsInCurrent d e = current_view (join (db_in d ∷ db_in e ∷ [])) ≡ current_view (db_in e)
+
+-- an entry is edited, whatever versions the limits of histories drop
+abbrev pub EditGrowsInCurrent : Type 0
+EditGrowsInCurrent = (path : List ℕ) (values : GivenValues) (now : ℕ) (d e : BareDoc) → IsDoc d
+    → IsDoc e → after_edit path values now d ≡ Ok e → GrowsInCurrent d e
+
+-- what grows grows in what is current
+abbrev pub GrowthIsInCurrent : Type 0
+GrowthIsInCurrent = (d e : BareDoc) → GrowsTo d e → GrowsInCurrent d e
+
+-- and what grows in what is current is an event where histories are trimmed
+abbrev pub GrowthIsAnEvent : Type 0
+GrowthIsAnEvent = (n : ℕ) (w : World) (i : ℕ) (e : BareDoc) → GrowsInCurrent (w i).doc e
+    → IsTrimmedEvent n w (schedule_step (change i e))
+
+-- the mark of the version that an edit makes of an entry at a time
+abbrev pub edited_mark : BareDoc → GivenValues → ℕ → EntryRecord → Mark
+edited_mark d values time x =
+    (edited_version d.meta.settings.value.protect values time x.current).mark
+
+-- after an edit the version that it made is the current one
+abbrev pub EditIsNow : Type 0
+EditIsNow = (path : List ℕ) (values : GivenValues) (now time : ℕ) (held : Holding) (d e : BareDoc)
+    → IsDoc d → IsDoc e → entry_named path d ≡ Ok held
+    → time_after now (entry_time held.entry.1) ≡ Ok time → after_edit path values now d ≡ Ok e
+    → IsNow (db_in e) held.entry.0 (edited_mark d values time held.entry.1)

@@ -1,0 +1,36 @@
+//! The laws of the commands that change a document. Each function has laws as its contract, for
+//! every document that a command changes; it does nothing, and takes no memory.
+
+ghost use Rattle.command_laws.specs.Adding.{AddAdds, AddingIsFree, EditAdds, MakeGroupAdds, MoveEntryAdds, RecyclingAdds};
+ghost use Rattle.command_laws.specs.Growing.{EditGrowsInCurrent, EditIsNow, GrowthIsAnEvent, GrowthIsInCurrent, RelabelShows};
+
+/// Documents that differ in the history of one entry alone are alike in what is current.
+pub fn relabelled()
+    ensures { RelabelShows }
+{}
+
+/// An edit grows in what is current, whatever versions the limits of histories drop, and the version
+/// that it makes is the current one; what grows grows in what is current; and what does so is an
+/// event of a history.
+pub fn growing()
+    ensures edit { EditGrowsInCurrent }
+    ensures now { EditIsNow }
+    ensures growth { GrowthIsInCurrent }
+    ensures event { GrowthIsAnEvent }
+{}
+
+/// Adding and editing an entry, moving it, also into the bin, and making a group only add: what is
+/// there stays, groups stay where they are, no tombstone is made, and the one new node, if any, is
+/// the one whose id was given.
+pub fn adds()
+    ensures add { AddAdds }
+    ensures edit { EditAdds }
+    ensures move_entry { MoveEntryAdds }
+    ensures make_group { MakeGroupAdds }
+    ensures recycling { RecyclingAdds }
+{}
+
+/// What only adds, with an id that is used nowhere, is a free event of a history.
+pub fn adding_is_free()
+    ensures { AddingIsFree }
+{}

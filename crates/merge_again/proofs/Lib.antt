@@ -1,0 +1,3 @@
+mod JoinAgain
+pub mod MergeAgain
+mod Stamps

@@ -1,0 +1,3 @@
+pub mod ExampleRun
+pub mod Meeting
+pub mod TypedLaws
