@@ -131,7 +131,7 @@ live() {
   while :; do
     sleep "$pause" 2>/dev/null
     pause=0.2
-    show_sign "$(doing)"
+    show_sign "$(doing 2>/dev/null)"
   done
 }
 
@@ -220,12 +220,19 @@ run() {
     refusal="keepass: clip: $clipboard failed" status=70
   fi
   refusal=$refusal$(cat <&7)
-  if [ -n "$refusal" ]; then refuse; fi
+  # Where the output could not be written the program says nothing.
+  if [ -n "$refusal" ] || [ "$status" = 10 ]; then refuse; fi
 }
 
 # Shows a refusal, and what can be done about it.
 refuse() {
-  if [ -t 2 ]; then printf '%s\n' "$refusal" | visible >&2; else printf '%s\n' "$refusal" >&2; fi
+  if [ -z "$refusal" ]; then
+    :
+  elif [ -t 2 ]; then
+    printf '%s\n' "$refusal" | visible >&2
+  else
+    printf '%s\n' "$refusal" >&2
+  fi
   if [ -n "$hints" ]; then hint >&2; fi
 }
 

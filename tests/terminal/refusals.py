@@ -3,7 +3,10 @@
 
 In the words, the text and the hints a name in capitals as FAST stands for a file of NAMES. Of the texts, `*` stands for
 what is not compared here, since the tests of the program do."""
-import hashlib, os, re, struct
+import fcntl, hashlib, os, re, struct, sys
+
+sys.path.insert(0, os.path.join(os.path.dirname(os.path.dirname(os.path.abspath(__file__))), "importing"))
+import psafe
 
 PASSWORD = "one two three é"
 NAMES = {}
@@ -80,13 +83,11 @@ def files(folder, data, examples):
     made("KEYED", "keyed.kdbx", read(f"{data}/keepassxc-twofish-aeskdf.kdbx"))
     made("KEY", "one.key", read(f"{data}/key-1.key"))
     made("OTHERKEY", "other.key", b"other")
-    made("BADKEY", "bad.keyx", read(f"{data}/key-2.keyx").replace(b"Hash=\"", b"Hash=\"0", 1)[:-1])
+    made("BADKEY", "bad.keyx", read(f"{data}/key-2.keyx").replace(b"5901B564", b"5901B565"))
     made("BROKENKEY", "broken.key", read(f"{data}/key-1.key").replace(b"<Data>", b"<Data>!", 1))
     made("COMPRESSED", "compressed.kdbx", read(f"{data}/keepassxc-compressed.kdbx"))
     made("HEADER", "header.kdbx", fast[:20] + bytes([fast[20] ^ 1]) + fast[21:])
     made("BLOCK", "block.kdbx", fast[:-40] + bytes([fast[-40] ^ 1]) + fast[-39:])
-    made("CHANGED", "changed.kdbx", with_header(fast, lambda header: header.replace(b"\x04\x20\0\0\0", b"\x04\x20\0\0\0" + b"x")[:end]
-                                                if False else header[:-30] + bytes([header[-30] ^ 1]) + header[-29:]))
     made("CUT", "cut.kdbx", fast[:300])
     made("HEAD", "head.kdbx", fast[:30])
     made("VERSION", "version.kdbx", fast[:8] + struct.pack("<I", 0x50000) + fast[12:])
@@ -97,8 +98,24 @@ def files(folder, data, examples):
     made("VARIANT", "variant.kdbx", with_header(argon, lambda header: header.replace(dictionary_item(4, b"V", b"\x13\0\0\0"), dictionary_item(4, b"V", b"\x10\0\0\0"))))
     made("KDB", "old.kdb", bytes.fromhex("03d9a29a65fb4bb5") + bytes(200))
     made("NOTES", "notes.txt", b"milk, bread\n")
-    made("OLDHEADER", "oldheader.kdbx", old)
+    # A comment in the header, which the document's own hash of it does not know.
+    made("OLDHEADER", "oldheader.kdbx", old[:12] + b"\x01\x01\x00x" + old[12:])
     made("SAFEMAC", "safemac.psafe3", safe[:-1] + bytes([safe[-1] ^ 1]))
+    record = psafe.record((psafe.UUID, b"1" * 16), title="Bank")
+    made("SAFETWICE", "safetwice.psafe3", psafe.file_of(psafe.HEADER + record + record))
+    made("SAFENIL", "safenil.psafe3", psafe.file_of(psafe.HEADER + psafe.record((psafe.UUID, bytes(16)), title="Bank")))
+    made("SAFEFIELD", "safefield.psafe3", psafe.file_of(psafe.HEADER + psafe.record((psafe.TITLE, b"\xff"))))
+    made("SAFEMANY", "safemany.psafe3", safe[:36] + struct.pack("<I", psafe.ITERATIONS + 1) + safe[40:])
+    made("LONGLINE", "longline", b"x" * 5000 + b"\n")
+    made("LANES", "lanes.kdbx", with_header(argon, lambda header: re.sub(re.escape(dictionary_item(4, b"P", b"1234")[:-4]) + b".{4}",
+                                            dictionary_item(4, b"P", struct.pack("<I", 1025)), header, flags=re.S)))
+    made("LOCKED", "locked.xml", family)
+    os.chmod(NAMES["LOCKED"], 0)
+    made("HELD", "held.xml", family)
+    made("DRAFT", "held.xml.part", b"")
+    # The lock of another call, which it holds while it writes.
+    NAMES["lock"] = open(NAMES["DRAFT"], "rb")
+    fcntl.flock(NAMES["lock"], fcntl.LOCK_EX)
     made("CUTXML", "cut.xml", family[:300])
     made("DEEP", "deep.xml", b"<a>" * 300)
     made("NILID", "nil.xml", xml(group(0, "Root")))
@@ -125,6 +142,7 @@ def files(folder, data, examples):
     NAMES["NONE"] = f"{folder}/nothing-like-it"
     NAMES["NEAR"] = f"{folder}/fsat.kdbx"
     NAMES["FAR"] = f"{folder}/no/such/new.xml"
+    NAMES["FARFOLDER"] = f"{folder}/no/such/"
 
 
 LIST = "keepass --help lists them"
@@ -177,6 +195,7 @@ ROWS = [
     ("clip -t soon FAST Bank", [], 1, "wrong words", ["'-t' takes a number of seconds"]),
     ("export FAST", [], 1, "every password would stand on the screen",
      ["send it to a file: keepass export FAST >FILE; or give - after DATABASE to see it here"]),
+    ("ls --plain \udcff", [], 1, "not UTF-8", ["the words of a call are UTF-8: choose a UTF-8 locale, or rename the file"]),
     ("search --plain PLAIN +", [], 1, "empty term at *",
      ["a term has a text after its sign or its field; keepass ls -Rf --plain PLAIN lists everything"]),
 
@@ -221,6 +240,10 @@ ROWS = [
     ("ls OLD", ["wrong"], 3, "wrong key or damaged",
      ["wrong password, or OLD needs a key file too: -k FILE. If both are right, the file is damaged: use a backup"]),
     ("ls HEADER", [PASSWORD], 3, "damaged or wrong key: *", ["the header is damaged, whatever the password: use a backup"]),
+    ("ls OLDHEADER", [PASSWORD], 3, "damaged or wrong key: *", ["the password is right, and the header was changed or damaged: use a backup"]),
+    ("ls -k KEY OLD", [PASSWORD], 3, "wrong key or damaged",
+     ["wrong password or wrong key file. If both are right, the file is damaged: use a backup"]),
+    ("ls -k BADKEY FAST", [PASSWORD], 3, "key file: *", ["the key file is damaged: use a copy of it"]),
     ("ls BLOCK", [PASSWORD], 3, "damaged block *", [BACKUP]),
     ("import --plain --format psafe3 SAFE FRESH", ["wrong"], 3, "wrong password", ["type the password of the file of Password Safe again"]),
     ("import --plain --format psafe3 SAFEMAC FRESH", ["correct horse"], 3, "damaged or wrong key: *",
@@ -243,6 +266,11 @@ ROWS = [
     ("ls --plain NOBINARY", [], 4, "no binary 7",
      ["an attachment is missing, as KeePassXC leaves them out of its exports: export the database with keepass"]),
     ("ls -k BROKENKEY FAST", [PASSWORD], 4, "bad key file at *", ["BROKENKEY is a damaged key file: use a copy of it"]),
+    ("import --plain --format psafe3 SAFETWICE FRESH", ["pw"], 4, "duplicate id *",
+     ["two records have one id: delete one of them in Password Safe, or make it anew there"]),
+    ("import --plain --format psafe3 SAFENIL FRESH", ["pw"], 4, "nil id at 1", ["the record of this number has no id: make it anew in Password Safe"]),
+    ("import --plain --format psafe3 SAFEFIELD FRESH", ["pw"], 4, "bad field at *",
+     ["the file of Password Safe is malformed: open it in Password Safe and save it again, or use a backup"]),
     ("import --plain --format psafe3 TABLE FRESH", ["x"], 4, "not a psafe3 file",
      ["TABLE is no file of Password Safe 3; --format says what it is: xml, psafe3 or csv"]),
     ("import --plain --format csv LATIN FRESH", [], 4, "not UTF-8 at *",
@@ -283,14 +311,38 @@ ROWS = [
     ("ls --plain PIPE", [], 7, "file fault", ["it is a pipe, and a file is needed: write it into a file first"]),
     ("ls --plain /dev/null", [], 7, "file fault", ["it is a device or a socket, and a file is needed"]),
     ("mkdir --plain DRAFTED New", [], 7, "file fault", ["DRAFTED.part, the name of its draft, is taken by something that is no file: remove that"]),
-    ("import --plain PLAIN FAR", [], 7, "file fault", None),
+    ("import --plain PLAIN FAR", [], 7, "file fault", ["there is no folder FARFOLDER: make it first"]),
+    ("mkdir --plain HELD New", [], 7, "file fault", ["another call is writing it: try again when that has ended"]),
     ("ls LARGE", ["x"], 8, "limit passed", ["the file has 134217729 bytes, and at most 134217728 are read: take attachments out of it"]),
     ("ls MEMORY", ["x"], 8, "limit passed",
      ["Argon2 asks for 2048 MiB of memory, and at most 1024 are taken: lower it in the program that wrote the file"]),
     ("ls ROUNDS", ["x"], 8, "limit passed",
      ["AES-KDF asks for 8589934592 rounds, and at most 4294967296 are made: lower them in the program that wrote the file"]),
+    ("ls LANES", ["x"], 8, "limit passed", ["Argon2 asks for 1025 lanes, and at most 1024 are taken: lower it in the program that wrote the file"]),
+    ("import --plain --format psafe3 SAFEMANY FRESH", ["x"], 8, "limit passed",
+     ["the file of Password Safe asks for more than 67108864 iterations: lower them in Password Safe"]),
     ("ls --plain DEEP", [], 8, "limit passed",
      ["at most 128 levels of groups, 256 open elements, 262144 groups, entries and older versions, times up to 9999: shorten the histories"]),
     ("ls FAST", [None], 12, "line 1 missing", ["nothing was typed for the password of FAST"]),
     ("add -p FAST New", [PASSWORD, None], 12, "line 2 missing", ["nothing was typed for the new password of the entry"]),
 ]
+
+# Calls whose standard input or output is no terminal: (words, standard input, standard output, status, TEXT or None where there is
+# no line, hints).
+REDIRECTED = [
+    ("ls FAST", "/dev/null", None, 12, "line 1 missing", ["line 1 of standard input is to be the password of FAST; --tty asks for it at the terminal"]),
+    ("ls FAST", "LONGLINE", None, 8, "limit passed", ["a line has more than 4096 bytes"]),
+    ("ls FAST", "FOLDER", None, 11, "fault", ["standard input could not be read, or the system gave no random bytes"]),
+    ("ls --plain PLAIN", None, "/dev/full", 10, None, ["the output could not be written: check where it goes, and whether the disk is full"]),
+]
+
+# Hints that no call here gives, and why.
+UNTYPED = {
+    (2, "id taken *", ""): "the id is drawn",
+    (2, "no attribute *", "number"): "it is typed with the other calls of clip",
+    (3, "wrong key or damaged", "kdbx-4"): "its MACs would have to be right",
+    (7, "file fault", ""): "nothing can be seen of its cause",
+    (9, "*", "memory"): "memory is not scarce for the program alone",
+    (9, "*", ""): "memory is not scarce for the program alone",
+    (12, "line * missing", ""): "of a line that the words do not ask for",
+}
