@@ -1,6 +1,6 @@
 -- What is promised of a call, by how it ended.
-use Rattle.std.proofs.Common.{◌≡◌, ◌≢◌, ℕ, List, [], length, refl, sym, ◌∙◌, ap, subst, inl, inr, false, Option, Some, None, arith, append-nil}
-use Rattle.std.specs.Prelude.{◌⊎◌, ◌++◌, Result, Ok, Err, option_map}
+use Rattle.std.proofs.Common.{◌≡◌, ◌≢◌, ◌≤◌, ℕ, List, [], length, refl, sym, ◌∙◌, ap, subst, inl, inr, false, Option, Some, None, arith, append-nil}
+use Rattle.std.specs.Prelude.{◌⊎◌, ◌++◌, Result, Ok, Err, option_map, codes}
 use Rattle.std.proofs.Math.Seq.{take-length}
 use Rattle.outside_core.specs.Counts.{Increased}
 use Rattle.outside_core.specs.Streams.{GainsPrefix, LosesPrefix}
@@ -24,11 +24,12 @@ use Rattle.keepass_call.specs.Outcome.{Counts, Gains, IsAsSaid, IsCut, IsOfSomeF
 use Rattle.cli_words.specs.Words.{command_of}
 use Rattle.cli_files.specs.Tasks.{draws_by}
 use Rattle.call_reading.specs.Reading.{asked_by, left_behind, left_of}
-use Rattle.keepass_call.specs.Telling.{IsPrinted, IsTold, PrintsPage}
+use Rattle.keepass_call.specs.Telling.{IsPrinted, IsTold, PrintsPage, TellsLine, TellsOneLine, memory_line}
 use Rattle.keepass_call.proofs.Answered.{answer_is}
 use Rattle.keepass_call.proofs.HeldTasks.{is_given, is_task}
 use Rattle.keepass_call.proofs.MergeCalls.{merges_agreed, merges_nothing}
 use Rattle.keepass_call.proofs.Pages.{no_page}
+use Rattle.keepass_call.proofs.Ranges.{status_range}
 
 -- ---- what is written
 
@@ -39,10 +40,10 @@ no_gain (Some w) = ap Some (sym (append-nil w))
 unwritten : (before now : Option (List ℕ)) → now ≡ before → Gains before now []
 unwritten before now same = same ∙ no_gain before
 
-no_front : (before now : Option (List ℕ)) (text : List ℕ) → now ≡ before → GainsPrefix before now text
+pub no_front : (before now : Option (List ℕ)) (text : List ℕ) → now ≡ before → GainsPrefix before now text
 no_front before now text same = (0, omega arith, unwritten before now same)
 
-whole_front : (before now : Option (List ℕ)) (text : List ℕ) → Gains before now text → GainsPrefix before now text
+pub whole_front : (before now : Option (List ℕ)) (text : List ℕ) → Gains before now text → GainsPrefix before now text
 whole_front before now text gains =
     (length text, omega arith, gains ∙ ap (λ (t : List ℕ). option_map (λ w. w ++ t) before) (sym (take-length text)))
 
@@ -53,8 +54,7 @@ pub record Printed (words : List (List ℕ)) (time : ℕ) (printed : List ℕ) (
   pub gives : WhereTold words before (λ w. EndsSo printed (answer_of words time w).answer before.store now.store
       × IsLeft before.stream now.stream (answer_of words time w).left)
   pub left : WhereTold words before (λ w. IsLeft before.left now.left (left_of words w.input))
-  pub errors : now.errors ≡ before.errors
-  pub wrote : IsPrinted printed result before.written now.written counts.out counts'.out
+  pub wrote : IsPrinted printed result before.written now.written before.errors now.errors counts.out counts'.out
   pub draft : KeepsDraft before.store now.store
   pub held : page_of words ≡ None → WhereTold words before (λ w. IsOfTask words time w printed before.store now.store)
   pub unwritten : may_write_by (command_of words) ≡ false → IsSame before.store now.store
@@ -74,6 +74,20 @@ refusal_is words time w refusal h = ap (λ (r : Result Ending Refusal). ended (l
 
 module _ (words : List (List ℕ)) (time : ℕ) (printed : List ℕ) (result : ℕ) (before now : Seen) (counts counts' : Counts)
     (p : Printed words time printed result before now counts counts') where
+  -- At status 0 nothing was written on standard error.
+  errors_kept : result ≡ 0 → now.errors ≡ before.errors
+  errors_kept zero = elim p.wrote.1 [ inl same ↦ same | inr failed ↦ absurd (omega (arith, failed.0, zero)) ]
+
+  one_line : WhereTold words before (λ w. TellsOneLine (files_named (command_of words)) (outcome words time w) before now counts counts')
+  one_line w t =
+      elim p.wrote.1 [
+        | inl same ↦ inl (no_front before.errors now.errors (outcome words time w).line same)
+        | inr failed ↦ inr (inr (inr (inr (failed.1, failed.2))))
+      ]
+
+  range : result ≤ 12
+  range = elim p.wrote.0 [ inl whole ↦ omega (arith, whole.0) | inr part ↦ elim part.0 [ inl nine ↦ omega (arith, nine) | inr ten ↦ omega (arith, ten.0) ] ]
+
   done : (w : World) → Tells words before w → result ≡ 0 → Gains before.written now.written printed → IsAsSaid (outcome words time w) result before now
   done w t zero gains =
       let g = p.gives w t in
@@ -81,7 +95,7 @@ module _ (words : List (List ℕ)) (time : ℕ) (printed : List ℕ) (result : �
       (record {
         status = zero;
         text = subst (λ (x : List ℕ). Gains before.written now.written x) g.0.text gains;
-        line = unwritten before.errors now.errors p.errors;
+        line = unwritten before.errors now.errors (errors_kept zero);
         store = g.0.store;
         left = p.left w t;
         stream = g.1;
@@ -89,7 +103,7 @@ module _ (words : List (List ℕ)) (time : ℕ) (printed : List ℕ) (result : �
 
   as_said : WhereTold words before (λ w. (result ≡ 0) ⊎ ((result ≢ 9) × NoFaults counts counts') → IsAsSaid (outcome words time w) result before now)
   as_said w t when =
-      elim p.wrote [
+      elim p.wrote.0 [
         | inl whole ↦ done w t whole.0 whole.1
         | inr part ↦ absurd (elim part.0 [
           | inl nine ↦ elim when [ inl zero ↦ omega (arith, nine, zero) | inr calm ↦ calm.0 nine ]
@@ -98,7 +112,7 @@ module _ (words : List (List ℕ)) (time : ℕ) (printed : List ℕ) (result : �
       ]
 
   never : result ≢ 0 → result ≢ 9 → result ≢ 10 → ⊥
-  never some nine ten = elim p.wrote [ inl whole ↦ some whole.0 | inr part ↦ elim part.0 [ inl is ↦ nine is | inr is ↦ ten is.0 ] ]
+  never some nine ten = elim p.wrote.0 [ inl whole ↦ some whole.0 | inr part ↦ elim part.0 [ inl is ↦ nine is | inr is ↦ ten is.0 ] ]
 
   cut : WhereTold words before (λ w. (result ≡ 9) ⊎ (result ≡ 10) → IsCut (outcome words time w) before now)
   cut w t when =
@@ -106,13 +120,13 @@ module _ (words : List (List ℕ)) (time : ℕ) (printed : List ℕ) (result : �
       subst (λ (o : Outcome). IsCut o before now) (sym (outcome_is words time w g.0.ending g.0.is))
       (record {
         text = subst (λ (x : List ℕ). GainsPrefix before.written now.written x) g.0.text
-            (elim p.wrote [ inl whole ↦ whole_front before.written now.written printed whole.1 | inr part ↦ part.1 ]);
+            (elim p.wrote.0 [ inl whole ↦ whole_front before.written now.written printed whole.1 | inr part ↦ part.1 ]);
         store = inr g.0.store;
       })
 
   gained : result ≡ 0 → Gains before.written now.written printed
   gained zero =
-      elim p.wrote [
+      elim p.wrote.0 [
         | inl whole ↦ whole.1
         | inr part ↦ absurd (elim part.0 [ inl nine ↦ omega (arith, nine, zero) | inr ten ↦ omega (arith, ten.0, zero) ])
       ]
@@ -121,21 +135,21 @@ module _ (words : List (List ℕ)) (time : ℕ) (printed : List ℕ) (result : �
   safe =
       record {
         store = λ h. absurd (never (λ x. omega (arith, x, h)) (λ x. omega (arith, x, h)) (λ x. omega (arith, x, h)));
-        output = λ h. elim p.wrote [
+        output = λ h. elim p.wrote.0 [
           | inl whole ↦ absurd (omega (arith, h, whole.0))
           | inr part ↦ elim part.0 [ inl nine ↦ absurd (omega (arith, h, nine)) | inr ten ↦ inl ten.1 ]
         ];
         input = λ h. absurd (never (λ x. omega (arith, x, h)) (λ x. omega (arith, x, h)) (λ x. omega (arith, x, h)));
         text = λ some nine ten. absurd (never some nine ten);
         files = λ some nine ten. absurd (never some nine ten);
-        errors = λ zero. p.errors;
+        errors = errors_kept;
         draft = p.draft;
         stream = p.stream;
       }
 
   complete : WhereTold words before (λ w. IsComplete words time w result counts counts')
   complete w t ending carried calm =
-      elim p.wrote [ inl whole ↦ inl whole.0 | inr part ↦ elim part.0 [ inl nine ↦ inr nine | inr ten ↦ absurd (calm.out ten.1) ] ]
+      elim p.wrote.0 [ inl whole ↦ inl whole.0 | inr part ↦ elim part.0 [ inl nine ↦ inr nine | inr ten ↦ absurd (calm.out ten.1) ] ]
 
   authentic : page_of words ≡ None → WhereTold words before (λ w. result ≡ 0 → IsAuthentic words time w before now)
   authentic none w t zero =
@@ -155,6 +169,7 @@ module _ (words : List (List ℕ)) (time : ℕ) (printed : List ℕ) (result : �
 
   pub printed_call : IsCall words time result before now counts counts'
   printed_call = record {
+    range = range;
     safe = safe;
     reads_only = p.unwritten;
     draws_nothing = p.undrawn;
@@ -162,6 +177,7 @@ module _ (words : List (List ℕ)) (time : ℕ) (printed : List ℕ) (result : �
     as_said = as_said;
     refused = λ w t some nine ten. absurd (never some nine ten);
     cut = cut;
+    one_line = one_line;
     authentic = authentic;
     agreed_merge = λ w t. merges_agreed words time result before now counts counts' w t (λ some nine ten. absurd (never some nine ten)) (λ none. authentic none w t) (λ zero. as_said w t (inl zero));
     merge_again = λ w t. merges_nothing words time result before now counts counts' w t (λ some nine ten. absurd (never some nine ten)) (λ none. authentic none w t) (λ zero. as_said w t (inl zero));
@@ -188,10 +204,11 @@ page_left words page before input e t = by (command_of words) refl
         subst (λ (r : Result Command Refusal). IsLeft before before (left_behind r input)) (sym is) (left_alone (asked_by (command_of words)) before input t)
 
 -- A call whose words ask for a page, of which all that is seen is what it printed.
-pub page_call : (words : List (List ℕ)) (time : ℕ) (page : List ℕ) (result : ℕ) (before : Seen) (written : Option (List ℕ)) (counts counts' : Counts) → page_of words ≡ Some page
-    → IsPrinted page result before.written written counts.out counts'.out → IsCall words time result before (record before { written = written }) counts counts'
-page_call words time page result before written counts counts' e wrote =
-    printed_call words time page result before (record before { written = written }) counts counts'
+pub page_call : (words : List (List ℕ)) (time : ℕ) (page : List ℕ) (result : ℕ) (before : Seen) (written errors : Option (List ℕ)) (counts counts' : Counts) → page_of words ≡ Some page
+    → IsPrinted page result before.written written before.errors errors counts.out counts'.out
+    → IsCall words time result before (record before { written = written; errors = errors }) counts counts'
+page_call words time page result before written errors counts counts' e wrote =
+    printed_call words time page result before (record before { written = written; errors = errors }) counts counts'
     (record {
       gives = λ w t.
           let is : answer_of words time w ≡ with_left (Ok (ending_without page)) w.dice = ap (λ (p : Option (List ℕ)). page_or_answer p words time w) e in
@@ -205,7 +222,6 @@ page_call words time page result before written counts counts' e wrote =
             left_alone (draws_by (command_of words)) before.stream w.dice t.dice,
           );
       left = λ w t. page_left words page before.left w.input e t.input;
-      errors = refl;
       wrote = wrote;
       draft = inr (refl, refl);
       held = λ none. absurd (no_none page (page_of words) e none);
@@ -214,7 +230,7 @@ page_call words time page result before written counts counts' e wrote =
       stream = loses_none before.stream;
       some_file = λ none. absurd (no_none page (page_of words) e none);
       page = λ text is. record {
-        text = subst (λ (x : List ℕ). IsPrinted x result before.written written counts.out counts'.out) (some_is page text (sym e ∙ is)) wrote;
+        text = subst (λ (x : List ℕ). IsPrinted x result before.written written before.errors errors counts.out counts'.out) (some_is page text (sym e ∙ is)) wrote;
         untouched = refl;
       };
     })
@@ -257,6 +273,35 @@ module _ (words : List (List ℕ)) (time result : ℕ) (before now : Seen) (coun
   untold (inl nine) when = elim when [ inl zero ↦ omega (arith, nine, zero) | inr calm ↦ calm.0 nine ]
   untold (inr ten) when = elim when [ inl zero ↦ omega (arith, ten.0, zero) | inr calm ↦ calm.1.err ten.1 ]
 
+  -- Memory ran out, and its line was written, or a prefix of it.
+  starved : TellsLine 9 memory_line result before.errors now.errors counts.err counts'.err → (result ≡ 9) ⊎ ((result ≡ 10) × Increased counts.err counts'.err)
+  starved (inl own) = inl own.0
+  starved (inr other) = other.0
+
+  -- Of the line a prefix was written.
+  fronted : (own : ℕ) (line : List ℕ) → TellsLine own line result before.errors now.errors counts.err counts'.err → GainsPrefix before.errors now.errors line
+  fronted own line (inl whole) = whole_front before.errors now.errors line whole.1
+  fronted own line (inr part) = part.1
+
+  stopped_line : (stop : Stop) → Stopped words time stop result before now counts counts'
+      → WhereTold words before (λ w. TellsOneLine (files_named (command_of words)) (outcome words time w) before now counts counts')
+  stopped_line (Refused refusal) s w t =
+      inl (subst (λ (o : Outcome). GainsPrefix before.errors now.errors o.line) (sym (refusal_is words time w refusal (s.gives w t).0.is))
+      (fronted (status_of refusal.reason) (error_line refusal.subject (reason_text refusal.reason)) s.told))
+  stopped_line (FileFault name) s w t = inr (inl (s.caused.0, (name, s.caused.1, fronted 7 (error_line name (codes "file fault")) s.told)))
+  stopped_line InputFault s w t = inr (inr (inl (s.caused, fronted 11 (error_line (codes "input") (codes "fault")) s.told)))
+  stopped_line NoMemory s w t = inr (inr (inr (inl (fronted 9 memory_line s.told))))
+
+  within : (own : ℕ) (line : List ℕ) → own ≤ 12 → TellsLine own line result before.errors now.errors counts.err counts'.err → result ≤ 12
+  within own line small (inl whole) = omega (arith, whole.0, small)
+  within own line small (inr part) = elim part.0 [ inl nine ↦ omega (arith, nine) | inr ten ↦ omega (arith, ten.0) ]
+
+  stopped_range : (stop : Stop) → Stopped words time stop result before now counts counts' → result ≤ 12
+  stopped_range (Refused refusal) s = within (status_of refusal.reason) (error_line refusal.subject (reason_text refusal.reason)) (status_range refusal.reason) s.told
+  stopped_range (FileFault name) s = within 7 (error_line name (codes "file fault")) (omega arith) s.told
+  stopped_range InputFault s = within 11 (error_line (codes "input") (codes "fault")) (omega arith) s.told
+  stopped_range NoMemory s = within 9 memory_line (omega arith) s.told
+
   neither : {R : Type 0} → (result ≡ 9) ⊎ ((result ≡ 10) × R) → result ≢ 9 → result ≢ 10 → ⊥
   neither (inl is) nine ten = nine is
   neither (inr is) nine ten = ten is.0
@@ -264,11 +309,11 @@ module _ (words : List (List ℕ)) (time result : ℕ) (before now : Seen) (coun
   stopped_said : (stop : Stop) → Stopped words time stop result before now counts counts'
       → WhereTold words before (λ w. (result ≡ 0) ⊎ ((result ≢ 9) × NoFaults counts counts') → IsAsSaid (outcome words time w) result before now)
   stopped_said (Refused refusal) s w t when =
-      elim s.told [ inl own ↦ refused_so refusal s w t own.0 own.1 | inr other ↦ absurd (untold other when) ]
+      elim s.told [ inl own ↦ refused_so refusal s w t own.0 own.1 | inr other ↦ absurd (untold other.0 when) ]
   stopped_said (FileFault name) s w t when =
       absurd (elim s.told [
         | inl own ↦ elim when [ inl zero ↦ omega (arith, own.0, zero) | inr calm ↦ calm.1.files s.caused.0 ]
-        | inr other ↦ untold other when
+        | inr other ↦ untold other.0 when
       ])
   stopped_said InputFault s w t when =
       absurd (elim s.told [
@@ -276,31 +321,31 @@ module _ (words : List (List ℕ)) (time result : ℕ) (before now : Seen) (coun
           | inl zero ↦ omega (arith, own.0, zero)
           | inr calm ↦ elim s.caused [ inl i ↦ calm.1.input i | inr d ↦ calm.1.dice d ]
         ]
-        | inr other ↦ untold other when
+        | inr other ↦ untold other.0 when
       ])
-  stopped_said NoMemory s w t when = absurd (untold s.told when)
+  stopped_said NoMemory s w t when = absurd (untold (starved s.told) when)
 
   stopped_refused : (stop : Stop) → Stopped words time stop result before now counts counts'
       → WhereTold words before (λ w. IsRefused (files_named (command_of words)) (outcome words time w) result before now counts counts')
   stopped_refused (Refused refusal) s w t some nine ten =
-      elim s.told [ inl own ↦ inl (refused_so refusal s w t own.0 own.1) | inr other ↦ absurd (neither other nine ten) ]
+      elim s.told [ inl own ↦ inl (refused_so refusal s w t own.0 own.1) | inr other ↦ absurd (neither other.0 nine ten) ]
   stopped_refused (FileFault name) s w t some nine ten =
-      elim s.told [ inl own ↦ inr (inl (own.0, s.caused.0, (name, s.caused.1, own.1))) | inr other ↦ absurd (neither other nine ten) ]
+      elim s.told [ inl own ↦ inr (inl (own.0, s.caused.0, (name, s.caused.1, own.1))) | inr other ↦ absurd (neither other.0 nine ten) ]
   stopped_refused InputFault s w t some nine ten =
-      elim s.told [ inl own ↦ inr (inr (own.0, s.caused, own.1)) | inr other ↦ absurd (neither other nine ten) ]
-  stopped_refused NoMemory s w t some nine ten = absurd (neither s.told nine ten)
+      elim s.told [ inl own ↦ inr (inr (own.0, s.caused, own.1)) | inr other ↦ absurd (neither other.0 nine ten) ]
+  stopped_refused NoMemory s w t some nine ten = absurd (neither (starved s.told) nine ten)
 
   store_cause : (stop : Stop) → Stopped words time stop result before now counts counts' → result ≡ 7
       → Increased counts.absences counts'.absences ⊎ Increased counts.files counts'.files
   store_cause (Refused refusal) s h =
       elim s.told [
         | inl is ↦ inl (s.caused (seven_missing refusal.reason (sym is.0 ∙ h)))
-        | inr other ↦ absurd (neither other (λ x. omega (arith, x, h)) (λ x. omega (arith, x, h)))
+        | inr other ↦ absurd (neither other.0 (λ x. omega (arith, x, h)) (λ x. omega (arith, x, h)))
       ]
   store_cause (FileFault name) s h = inr s.caused.0
   store_cause InputFault s h =
-      absurd (elim s.told [ inl is ↦ omega (arith, is.0, h) | inr other ↦ neither other (λ x. omega (arith, x, h)) (λ x. omega (arith, x, h)) ])
-  store_cause NoMemory s h = absurd (neither s.told (λ x. omega (arith, x, h)) (λ x. omega (arith, x, h)))
+      absurd (elim s.told [ inl is ↦ omega (arith, is.0, h) | inr other ↦ neither other.0 (λ x. omega (arith, x, h)) (λ x. omega (arith, x, h)) ])
+  store_cause NoMemory s h = absurd (neither (starved s.told) (λ x. omega (arith, x, h)) (λ x. omega (arith, x, h)))
 
   err_rose : (result ≡ 9) ⊎ ((result ≡ 10) × Increased counts.err counts'.err) → result ≡ 10
       → Increased counts.out counts'.out ⊎ Increased counts.err counts'.err
@@ -309,31 +354,31 @@ module _ (words : List (List ℕ)) (time result : ℕ) (before now : Seen) (coun
 
   output_cause : (stop : Stop) → Stopped words time stop result before now counts counts' → result ≡ 10
       → Increased counts.out counts'.out ⊎ Increased counts.err counts'.err
-  output_cause (Refused refusal) s h = elim s.told [ inl is ↦ absurd ((own refusal.reason).ten (sym is.0 ∙ h)) | inr other ↦ err_rose other h ]
-  output_cause (FileFault name) s h = elim s.told [ inl is ↦ absurd (omega (arith, is.0, h)) | inr other ↦ err_rose other h ]
-  output_cause InputFault s h = elim s.told [ inl is ↦ absurd (omega (arith, is.0, h)) | inr other ↦ err_rose other h ]
-  output_cause NoMemory s h = err_rose s.told h
+  output_cause (Refused refusal) s h = elim s.told [ inl is ↦ absurd ((own refusal.reason).ten (sym is.0 ∙ h)) | inr other ↦ err_rose other.0 h ]
+  output_cause (FileFault name) s h = elim s.told [ inl is ↦ absurd (omega (arith, is.0, h)) | inr other ↦ err_rose other.0 h ]
+  output_cause InputFault s h = elim s.told [ inl is ↦ absurd (omega (arith, is.0, h)) | inr other ↦ err_rose other.0 h ]
+  output_cause NoMemory s h = err_rose (starved s.told) h
 
   input_cause : (stop : Stop) → Stopped words time stop result before now counts counts' → result ≡ 11
       → Increased counts.input counts'.input ⊎ Increased counts.dice counts'.dice
   input_cause (Refused refusal) s h =
       absurd (elim s.told [
         | inl is ↦ (own refusal.reason).eleven (sym is.0 ∙ h)
-        | inr other ↦ neither other (λ x. omega (arith, x, h)) (λ x. omega (arith, x, h))
+        | inr other ↦ neither other.0 (λ x. omega (arith, x, h)) (λ x. omega (arith, x, h))
       ])
   input_cause (FileFault name) s h =
-      absurd (elim s.told [ inl is ↦ omega (arith, is.0, h) | inr other ↦ neither other (λ x. omega (arith, x, h)) (λ x. omega (arith, x, h)) ])
+      absurd (elim s.told [ inl is ↦ omega (arith, is.0, h) | inr other ↦ neither other.0 (λ x. omega (arith, x, h)) (λ x. omega (arith, x, h)) ])
   input_cause InputFault s h = s.caused
-  input_cause NoMemory s h = absurd (neither s.told (λ x. omega (arith, x, h)) (λ x. omega (arith, x, h)))
+  input_cause NoMemory s h = absurd (neither (starved s.told) (λ x. omega (arith, x, h)) (λ x. omega (arith, x, h)))
 
   not_done : (stop : Stop) → Stopped words time stop result before now counts counts' → result ≡ 0 → ⊥
   not_done (Refused refusal) s h =
-      elim s.told [ inl is ↦ (own refusal.reason).zero (sym is.0 ∙ h) | inr other ↦ neither other (λ x. omega (arith, x, h)) (λ x. omega (arith, x, h)) ]
+      elim s.told [ inl is ↦ (own refusal.reason).zero (sym is.0 ∙ h) | inr other ↦ neither other.0 (λ x. omega (arith, x, h)) (λ x. omega (arith, x, h)) ]
   not_done (FileFault name) s h =
-      elim s.told [ inl is ↦ omega (arith, is.0, h) | inr other ↦ neither other (λ x. omega (arith, x, h)) (λ x. omega (arith, x, h)) ]
+      elim s.told [ inl is ↦ omega (arith, is.0, h) | inr other ↦ neither other.0 (λ x. omega (arith, x, h)) (λ x. omega (arith, x, h)) ]
   not_done InputFault s h =
-      elim s.told [ inl is ↦ omega (arith, is.0, h) | inr other ↦ neither other (λ x. omega (arith, x, h)) (λ x. omega (arith, x, h)) ]
-  not_done NoMemory s h = neither s.told (λ x. omega (arith, x, h)) (λ x. omega (arith, x, h))
+      elim s.told [ inl is ↦ omega (arith, is.0, h) | inr other ↦ neither other.0 (λ x. omega (arith, x, h)) (λ x. omega (arith, x, h)) ]
+  not_done NoMemory s h = neither (starved s.told) (λ x. omega (arith, x, h)) (λ x. omega (arith, x, h))
 
   stopped_complete : (stop : Stop) → Stopped words time stop result before now counts counts'
       → WhereTold words before (λ w. IsComplete words time w result counts counts')
@@ -341,10 +386,11 @@ module _ (words : List (List ℕ)) (time result : ℕ) (before now : Seen) (coun
       let e = sym (s.gives w t).0.is ∙ is_given words time w ending carried in cc
   stopped_complete (FileFault name) s w t ending carried calm = absurd (calm.files s.caused.0)
   stopped_complete InputFault s w t ending carried calm = absurd (elim s.caused [ inl i ↦ calm.input i | inr d ↦ calm.dice d ])
-  stopped_complete NoMemory s w t ending carried calm = elim s.told [ inl nine ↦ inr nine | inr ten ↦ absurd (calm.err ten.1) ]
+  stopped_complete NoMemory s w t ending carried calm = elim (starved s.told) [ inl nine ↦ inr nine | inr ten ↦ absurd (calm.err ten.1) ]
 
   pub stopped_call : (stop : Stop) → Stopped words time stop result before now counts counts' → IsCall words time result before now counts counts'
   stopped_call stop s = record {
+    range = stopped_range stop s;
     safe = record {
       store = λ h. store_cause stop s h;
       output = λ h. output_cause stop s h;
@@ -361,6 +407,7 @@ module _ (words : List (List ℕ)) (time result : ℕ) (before now : Seen) (coun
     as_said = stopped_said stop s;
     refused = stopped_refused stop s;
     cut = λ w t when. record { text = no_front before.written now.written (outcome words time w).text s.written; store = inl s.kept };
+    one_line = stopped_line stop s;
     authentic = λ none w t zero. absurd (not_done stop s zero);
     agreed_merge = λ w t. merges_agreed words time result before now counts counts' w t (stopped_refused stop s w t) (λ none zero. absurd (not_done stop s zero)) (λ zero. absurd (not_done stop s zero));
     merge_again = λ w t. merges_nothing words time result before now counts counts' w t (stopped_refused stop s w t) (λ none zero. absurd (not_done stop s zero)) (λ zero. absurd (not_done stop s zero));

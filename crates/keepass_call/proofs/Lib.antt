@@ -3,4 +3,5 @@ pub mod Calls
 pub mod HeldTasks
 pub mod MergeCalls
 pub mod Pages
+pub mod Ranges
 pub mod TaskDocs

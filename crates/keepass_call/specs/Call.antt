@@ -1,10 +1,10 @@
 -- What the program promises of each call.
-use Rattle.std.specs.Prelude.{◌≡◌, ◌≢◌, ◌⊎◌, ℕ, List, None, Some, false}
+use Rattle.std.specs.Prelude.{◌≡◌, ◌≢◌, ◌≤◌, ◌⊎◌, ℕ, List, None, Some, false}
 use Rattle.cli_words.specs.Needs.{files_named}
 use Rattle.keepass_call.specs.Held.{IsAuthentic, IsComplete}
 use Rattle.keepass_call.specs.Merges.{MergesAgreed, MergesNothing}
 use Rattle.keepass_call.specs.Outcome.{Counts, IsAsSaid, IsCut, IsRefused, IsSafe, NoFaults, PrintsOfSomeFile, Seen, WhereTold, may_write_by, outcome}
-use Rattle.keepass_call.specs.Telling.{PrintsPage}
+use Rattle.keepass_call.specs.Telling.{PrintsPage, TellsOneLine}
 use Rattle.cli_answers.specs.Pages.{page_of}
 use Rattle.cli_words.specs.Words.{command_of}
 use Rattle.cli_writing.specs.Writing.{IsSame}
@@ -14,6 +14,8 @@ use Rattle.cli_files.specs.Tasks.{draws_by}
 -- before and after.
 pub record IsCall (words : List (List ℕ)) (time result : ℕ) (before now : Seen)
     (counts counts' : Counts) : Type 0 where
+  -- Reported or not: a status is at most 12.
+  pub range : result ≤ 12
   -- Reported or not: statuses have their causes, and a refusal changes no file.
   pub safe : IsSafe result before now counts counts'
   -- Reported or not: words that are no command that may write change no file, and words that are no
@@ -35,6 +37,9 @@ pub record IsCall (words : List (List ℕ)) (time result : ℕ) (before now : Se
   -- Where memory ran out or output failed, so much is as the outcome says.
   pub cut : WhereTold words before (λ world. (result ≡ 9) ⊎ (result ≡ 10)
       → IsCut (outcome words time world) before now)
+  -- Whatever the status, standard error gains a prefix of one line and nothing else.
+  pub one_line : WhereTold words before (λ world. TellsOneLine (files_named (command_of words))
+      (outcome words time world) before now counts counts')
   -- Where the words ask for no page, what is printed at status 0 is made of documents that the
   -- files hold under the lines and the key files that were given, and a file that was written holds
   -- the document that was made of them, under the same key as before or that of an import.

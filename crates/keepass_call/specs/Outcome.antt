@@ -1,5 +1,5 @@
 -- What a call results in: its phases one after another, and all that is seen of it.
-use Rattle.std.specs.Prelude.{◌≡◌, ◌≢◌, ℕ, Bool, false, List, [], ◌++◌, Contains, Option, None, Some, option_map, ◌⊎◌, Result, Ok, Err, codes}
+use Rattle.std.specs.Prelude.{◌≡◌, ◌≢◌, ℕ, Bool, false, List, [], ◌++◌, Contains, Option, None, Some, option_map, ◌⊎◌, Result, Ok, Err, codes, if◌then◌else◌}
 use Rattle.outside_core.specs.Counts.{Increased}
 use Rattle.outside_core.specs.Files.{FileMap}
 use Rattle.outside_core.specs.Streams.{GainsPrefix, LosesPrefix}
@@ -9,6 +9,7 @@ use Rattle.cli_answers.specs.Phases.{IsLeft, StreamAnswer, TellsStream, then_lef
 use Rattle.cli_writing.specs.Writing.{KeepsDraft, KeepsFiles, NewFile, Store, store}
 use Rattle.cli_commands.specs.Commands.{may_write}
 use Rattle.cli_answers.specs.Pages.{page_of}
+use Rattle.cli_words.specs.Needs.{target_of}
 use Rattle.cli_words.specs.Words.{command_of}
 use Rattle.cli_words.specs.declared.command.Command.{Command}
 use Rattle.cli_files.specs.Tasks.{Task, draws_by}
@@ -138,6 +139,15 @@ WhereTold words before P = (world : World) → Tells words before world → P wo
 abbrev pub may_write_by : Result Command Refusal → Bool
 may_write_by (Ok command) = may_write command
 may_write_by (Err refusal) = false
+
+-- The file that a command may write: the one that it shows or makes, where it may write one.
+abbrev pub written_with : Command → Option (List ℕ)
+written_with command = if may_write command then Some (target_of command) else None
+
+-- The file that words may write, where they are a command that may write one.
+abbrev pub written_by : Result Command Refusal → Option (List ℕ)
+written_by (Ok command) = written_with command
+written_by (Err refusal) = None
 
 -- ---- what a call keeps
 

@@ -1,6 +1,6 @@
 //! The one call of the program: from its words, and the objects of the outside, to its status.
 ghost use Rattle.std.specs.Prelude.{◌≡◌, ℕ, List, Some, IfErr, IfOk, OnErr, false, map, string_bytes};
-ghost use Rattle.outside_core.specs.Streams.{LosesPrefix};
+ghost use Rattle.outside_core.specs.Streams.{GainsPrefix, LosesPrefix};
 ghost use Rattle.cli_answers.specs.Messages.{error_line, reason_text, status_of};
 ghost use Rattle.cli_answers.specs.Phases.{IsCaused, Leaves, TellsStream};
 ghost use Rattle.cli_words.specs.Needs.{files_named};
@@ -99,23 +99,38 @@ fn unwritten(fail: SinkFail) -> u8
     }
 }
 
-// Writes what a call gave, and gives the status that goes with it.
-fn print<O: Sink>(out: &mut O, text: &[u8]) -> u8
-    ensures { IsPrinted text.now result (O.written out.old) (O.written out.new) (O.faults out.old)
-        (O.faults out.new) }
+// Tries to write a line on standard error.
+fn try_line<E: Sink>(err: &mut E, line: &[u8])
+    ensures { GainsPrefix (E.written err.old) (E.written err.new) line.now }
+{
+    match write_all(err, line) {
+        Ok(()) => {}
+        Err(_fail) => {}
+    }
+}
+
+// Writes what a call gave, and gives the status that goes with it. Where standard output fails, a
+// line that says so is tried on standard error.
+fn print<O: Sink, E: Sink>(out: &mut O, err: &mut E, text: &[u8]) -> u8
+    ensures { IsPrinted text.now result (O.written out.old) (O.written out.new)
+        (E.written err.old) (E.written err.new) (O.faults out.old) (O.faults out.new) }
 {
     match write_all(out, text) {
         Ok(()) => 0,
-        Err(fail) => unwritten(fail),
+        Err(SinkFail::NoMemory) => OUT_OF_MEMORY,
+        Err(SinkFail::Failed) => {
+            try_line(err, b"keepass: output: could not be written\n");
+            OUTPUT_FAULT
+        }
     }
 }
 
 // Writes a page, and gives the status that goes with it.
-fn print_page<O: Sink>(out: &mut O, page: &str) -> u8
-    ensures { IsPrinted page.now result (O.written out.old) (O.written out.new) (O.faults out.old)
-        (O.faults out.new) }
+fn print_page<O: Sink, E: Sink>(out: &mut O, err: &mut E, page: &str) -> u8
+    ensures { IsPrinted page.now result (O.written out.old) (O.written out.new)
+        (E.written err.old) (E.written err.new) (O.faults out.old) (O.faults out.new) }
 {
-    print(out, page.as_bytes())
+    print(out, err, page.as_bytes())
 }
 
 // Writes the line of a subject, and gives the status that goes with it.
@@ -166,7 +181,7 @@ fn tell<E: Sink>(alloc: Global, err: &mut E, stop: Stop) -> u8
 /// one outcome. What is printed or written at status 0 is made of documents that the files hold:
 /// each by itself, or sealed under the composite key of its line of input and its key file. A
 /// refusal changes no file, and what was printed where an object fails is a prefix of the outcome's
-/// text.
+/// text. Standard error gains a prefix of one line at most: the outcome's, or that of what failed.
 /// Words that ask for a page print it, and touch nothing else. Words that are no command that may
 /// write change no file and draw nothing. Words that can be
 /// carried out give status 0 where nothing fails. Copies of one database that are parts of an
@@ -193,9 +208,9 @@ pub fn keepass<F: FileStore, S: Source, O: Sink, E: Sink, D: Dice>(
         (E.faults err.new) (D.faults dice.new)) }
 {
     match page_of(words) {
-        Some(page) => print_page(out, page),
+        Some(page) => print_page(out, err, page),
         None => match answer(alloc, words, files, input, dice, now) {
-            Ok(output) => print(out, lend_text(&output)),
+            Ok(output) => print(out, err, lend_text(&output)),
             Err(stop) => tell(alloc, err, stop),
         },
     }

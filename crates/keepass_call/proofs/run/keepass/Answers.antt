@@ -8,7 +8,7 @@ use Rattle.keepass_call.proofs.run.keepass.Goals as goal
 
 pub returns-in-Some : goal.returns-in-Some
 returns-in-Some g c =
-    page_call (map string_bytes c.args.words.now) c.args.now c.in-Some.page.now c.print_page.result _ _ _ _ (sym c.in-Some.ensures) c.print_page.ensures
+    page_call (map string_bytes c.args.words.now) c.args.now c.in-Some.page.now c.print_page.result _ _ _ _ _ (sym c.in-Some.ensures) c.print_page.ensures
 
 pub returns-in-Ok : goal.returns-in-Ok
 returns-in-Ok g c =
@@ -17,7 +17,6 @@ returns-in-Ok g c =
     (record {
       gives = λ w t. ends_as (map string_bytes c.args.words.now) c.args.now w (Ok c.in-Ok.output) _ _ _ _ none (c.in-Ok.ensures.told w t.files t.input t.dice);
       left = λ w t. c.in-Ok.ensures.left w.input t.input;
-      errors = refl;
       wrote = rw c.lend_text.ensures at c.print.ensures;
       draft = c.in-Ok.ensures.draft;
       held = λ n w t. c.in-Ok.ensures.held w t.files t.input t.dice;
