@@ -14,13 +14,14 @@ use Rattle.vault_model.proofs.Ids.{id_itself, same_id}
 use Rattle.vault_model.proofs.Orders.{bytes_order}
 use Rattle.vault_model.proofs.Tests.{is_false}
 use Rattle.merge_core.specs.JoinLaws.{AreParts, end_to_end}
+use Rattle.merge_core.specs.Refusals.{members}
 use Rattle.merge_changes.specs.Equality.{same_doc}
 use Rattle.merge_changes.proofs.SameValues.{doc_decides}
 use Rattle.document_merge.specs.declared.merging.MergeFail.TheVariants.{RootClash, KindClash, MoveCycle, TooDeep, NoMemory}
 use Rattle.document_merge.specs.Merging.{MergeResult, merge_result}
 use Rattle.agreed_laws.specs.Merges.{AreDocs, MergesInto}
-use Rattle.agreed_laws.proofs.Again.{again}
 use Rattle.agreed_laws.proofs.Merged.{parts_merged}
+use Rattle.merge_again.proofs.MergeAgain.{unchanged_means}
 use Rattle.doc_write.specs.Written.{write_outcome}
 use Rattle.doc_write.specs.declared.writing.WriteFail.{WriteFail}
 use Rattle.doc_write.specs.declared.writing.WriteFail.TheVariants as write
@@ -317,20 +318,16 @@ module _ (words : List (List ℕ)) (time result : ℕ) (before now : Seen) (coun
       merges_parts : MergesParts task parts world result now
       merges_parts = record { not_refused = not_refused; merged = merged }
 
-    module _ (first : List Db) (others : List (List Db)) (a : AgreedTask words time world (first ∷ others) task) (within : AreParts others first)
-        (settled : IsSettled LEVELS t) (zero : result ≡ 0) where
-      stays : merge_result t sources ≡ Ok t
-      stays = again t sources a.set first others (task_docs words time world task refl a.is_task) a.agreed a.are_parts.0 within a.joins settled
-
+    module _ (is_task : IsTask words time world task) (settled : IsSettled LEVELS t) (joined : join (members t sources) ≡ db_in t) (zero : result ≡ 0) where
       untouched : IsUntouched task before now
       untouched =
-          let c = carried task a.is_task zero in
+          let c = carried task is_task zero in
           let m = made file access.quiet names t sources c.change c.makes in
-          let is : t ≡ m.new = merged_is t m.new (sym stays ∙ m.merged) in
+          let is : t ≡ m.new = sym ((unchanged_means t sources m.new (task_docs words time world task refl is_task) m.merged).1 (settled, joined)) in
           let equal : same_doc t m.new ≡ true = ap (same_doc t) (sym is) ∙ doc_decides.holds t in
           let no_doc : c.change.doc ≡ None = sym m.doc ∙ ap (λ b. if not b && true then Some m.new else None) equal in
           let left : (answer_of words time world).left ≡ world.dice =
-          ap (λ (s : StreamAnswer Ending). s.left) (answer_so a.is_task)
+          ap (λ (s : StreamAnswer Ending). s.left) (answer_so is_task)
           ∙ ap (λ (r : Result Change Refusal). (after_left r world.dice next).left) c.makes
           ∙ ap (λ (d : Option BareDoc). (ended_with file opened.sealing c.change.text d world.dice).left) no_doc in
           record {
@@ -351,8 +348,7 @@ module _ (words : List (List ℕ)) (time result : ℕ) (before now : Seen) (coun
 
   pub merges_nothing : MergesNothing words time world result before now
   merges_nothing g zero =
-      let m = g.merge in
-      let w = merge_words m.task.command m.is_merge in
-      subst (λ (c : Command). AgreedTask words time world (g.first ∷ g.others) (record m.task { command = c }) → IsUntouched (record m.task { command = c }) before now) w.is
-      (λ a. untouched w.access w.file w.names w.from w.same m.task.lines m.task.opened m.task.sources g.first g.others a g.within g.settled zero)
-      (record { is_task = m.is_task; set = m.set; agreed = m.agreed; are_parts = m.are_parts; joins = m.joins })
+      let w = merge_words g.task.command g.is_merge in
+      subst (λ (c : Command). IsTask words time world (record g.task { command = c }) → IsUntouched (record g.task { command = c }) before now) w.is
+      (λ k. untouched w.access w.file w.names w.from w.same g.task.lines g.task.opened g.task.sources k g.settled g.joined zero)
+      g.is_task

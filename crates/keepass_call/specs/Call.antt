@@ -48,8 +48,8 @@ pub record IsCall (words : List (List ℕ)) (time result : ℕ) (before now : Se
   -- A merge of copies that are parts of an agreed set is never refused because ids clash or moves
   -- make a cycle, and at status 0 the target holds the join of all of them.
   pub agreed_merge : WhereTold words before (λ world. MergesAgreed words time world result now)
-  -- Where the target is settled and has all of them already, such a merge changes nothing at
-  -- status 0.
+  -- Where the target is settled and is the join of itself and the sources, agreed or not, as where
+  -- they were merged into it before, a merge changes nothing at status 0.
   pub merge_again : WhereTold words before (λ world.
       MergesNothing words time world result before now)
   -- What can be carried out is.

@@ -6,6 +6,7 @@ use Rattle.vault_model.specs.Db.{Db}
 use Rattle.vault_model.specs.Join.{join, Agreed}
 use Rattle.vault_model.specs.Tree.{BareDoc, LEVELS, IsSettled, db_in}
 use Rattle.merge_core.specs.JoinLaws.{AreParts, end_to_end}
+use Rattle.merge_core.specs.Refusals.{members}
 use Rattle.agreed_laws.specs.Merges.{IsSettledAs}
 use Rattle.doc_forms.specs.Documents.{DocumentAndHash}
 use Rattle.kdbx_open.specs.Opening.{FileContents}
@@ -90,13 +91,14 @@ MergesAgreed words time world result now =
 
 -- ---- merging again
 
--- The words merge sources whose parts are within the target's, which is settled.
+-- The words merge sources into a target that is settled, and whose database is the join of itself and
+-- theirs.
 pub record IsMergeAgain (words : List (List ℕ)) (time : ℕ) (world : World) : Type 0 where
-  pub first : List Db
-  pub others : List (List Db)
-  pub merge : IsAgreedMerge words time world (first ∷ others)
-  pub within : AreParts others first
-  pub settled : IsSettled LEVELS merge.task.opened.doc
+  pub task : Task
+  pub is_task : IsTask words time world task
+  pub is_merge : merges task.command ≡ true
+  pub settled : IsSettled LEVELS task.opened.doc
+  pub joined : join (members task.opened.doc task.sources) ≡ db_in task.opened.doc
 
 -- What such a merge prints; nothing where it is quiet.
 abbrev pub unmodified_text : Bool → List ℕ
@@ -112,4 +114,4 @@ pub record IsUntouched (task : Task) (before now : Seen) : Type 0 where
 -- That is what each call does at status 0 whose words are such a merge.
 abbrev pub MergesNothing : List (List ℕ) → ℕ → World → ℕ → Seen → Seen → Type 0
 MergesNothing words time world result before now =
-    (again : IsMergeAgain words time world) → result ≡ 0 → IsUntouched again.merge.task before now
+    (again : IsMergeAgain words time world) → result ≡ 0 → IsUntouched again.task before now
