@@ -1,0 +1,4 @@
+pub mod BlindCommands
+pub mod BlindShow
+pub mod MaskedTrees
+pub mod Screens

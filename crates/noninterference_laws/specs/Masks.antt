@@ -1,0 +1,165 @@
+-- Documents without what is hidden, and commands that print the same for all that are alike so.
+use Rattle.std.specs.Prelude.{◌≡◌, ℕ, Bool, true, false, not, ◌&&◌, ◌||◌, cond, List, [], bytes_eq, codes, map, Option, Result, Ok, Err}
+use Rattle.std.specs.Option.{option_map}
+use Rattle.kdbx_frame.specs.declared.settings.Settings.{Settings}
+use Rattle.std.specs.List.{list_all}
+use Rattle.vault_model.specs.Bare.{BareAttachment, BareContent, BareField}
+use Rattle.vault_model.specs.Db.{NodeId}
+use Rattle.vault_model.specs.Shape.{BareVersion, EntryRecord}
+use Rattle.vault_model.specs.Tree.{BareDoc, Tree, Trees, beside, node, none}
+use Rattle.tree_core.specs.After.{Holding, entry_named}
+use Rattle.find_references.specs.Fields.{fields_of}
+use Rattle.find_references.specs.References.{Piece, byte, pieces, reference}
+use Rattle.cli_answers.specs.declared.answers.Refusal.{Refusal}
+use Rattle.cli_words.specs.declared.command.Command.{Command}
+use Rattle.cli_words.specs.declared.command.Command.TheVariants.{Ls, Show, Search, Add, Edit, Move, Remove, MakeGroup, RemoveGroup, Merge, Import, Export, Info}
+use Rattle.cli_printing.specs.Info.{info_shown}
+use Rattle.cli_printing.specs.Listing.{group_lines, tree_listed}
+use Rattle.cli_showing.specs.Showing.{entry_shown}
+use Rattle.cli_commands.specs.Commands.{Change, change_with, makes_node}
+
+-- ---- documents without what is hidden
+
+-- a password, or a value that is marked hidden; a title is always shown
+abbrev pub is_secret : BareField → Bool
+is_secret f = not (bytes_eq (codes "Title") f.key)
+    && (f.hidden || bytes_eq (codes "Password") f.key)
+
+-- a value that is marked hidden; a title is always shown
+abbrev pub is_marked : BareField → Bool
+is_marked f = not (bytes_eq (codes "Title") f.key) && f.hidden
+
+-- Some fields are hidden, and titles are not.
+abbrev pub ShowsTitles : (BareField → Bool) → Type 0
+ShowsTitles p = (f : BareField) → bytes_eq (codes "Title") f.key ≡ true → p f ≡ false
+
+-- a field without its value where that is to be hidden
+abbrev pub mask_field : (BareField → Bool) → BareField → BareField
+mask_field p f = cond (p f) (record f { value = [] }) f
+
+-- an attachment of the same length, all of zeros
+abbrev pub mask_attachment : BareAttachment → BareAttachment
+mask_attachment a = record a { bytes = map (λ b. 0) a.bytes }
+
+abbrev pub mask_content : (BareField → Bool) → BareContent → BareContent
+mask_content p c = record c {
+  fields = map (mask_field p) c.fields;
+  attachments = map mask_attachment c.attachments;
+}
+
+abbrev pub mask_version : (BareField → Bool) → BareVersion → BareVersion
+mask_version p v =
+    record v { mark = record v.mark { content = mask_content p v.mark.content } }
+
+-- an entry so, its old versions too
+abbrev pub mask_entry : (BareField → Bool) → EntryRecord → EntryRecord
+mask_entry p e = record e {
+  current = mask_version p e.current;
+  history = map (mask_version p) e.history;
+}
+
+abbrev pub mask_row : (BareField → Bool) → NodeId × EntryRecord → NodeId × EntryRecord
+mask_row p r = (r.0, mask_entry p r.1)
+
+abbrev mutual
+  pub mask_tree : (BareField → Bool) → Tree → Tree
+  mask_tree p (node u r es ts) = node u r (map (mask_row p) es) (mask_trees p ts)
+
+  -- the same of groups side by side
+  pub mask_trees : (BareField → Bool) → Trees → Trees
+  mask_trees p none = none
+  mask_trees p (beside t ts) = beside (mask_tree p t) (mask_trees p ts)
+
+-- a document so
+abbrev pub mask : (BareField → Bool) → BareDoc → BareDoc
+mask p d = record d { tree = mask_tree p d.tree }
+
+-- two documents are the same but for what is hidden
+abbrev pub LookAlike : (BareField → Bool) → BareDoc → BareDoc → Type 0
+LookAlike p d e = mask p d ≡ mask p e
+
+-- ---- laws
+
+-- what `ls` prints of the group that a path names, or of the root; nothing where the path names
+-- none
+abbrev pub listing : Option (List ℕ) → (recursive flat : Bool) → BareDoc → Option (List ℕ)
+listing group recursive flat d = option_map (group_lines recursive flat []) (tree_listed group d)
+
+-- `ls` prints, or finds no group, the same
+abbrev pub ListingIsBlind : Type 0
+ListingIsBlind = (d e : BareDoc) → LookAlike is_secret d e → (group : Option (List ℕ))
+    (recursive flat : Bool) → listing group recursive flat d ≡ listing group recursive flat e
+
+-- `db-info` prints the same
+abbrev pub InfoIsBlind : Type 0
+InfoIsBlind = (d e : BareDoc) → LookAlike is_secret d e → (settings : Option Settings)
+    → info_shown settings d ≡ info_shown settings e
+
+-- a document looks like itself without what is hidden
+abbrev pub MasksLookAlike : Type 0
+MasksLookAlike = (d : BareDoc) → LookAlike is_secret (mask is_secret d) d
+
+-- ---- commands
+
+-- What a command makes, but for what is hidden: its refusal, or what it prints, and the document
+-- that is written, if one is.
+abbrev pub mask_change : (BareField → Bool) → Result Change Refusal → Result Change Refusal
+mask_change p (Ok change) = Ok (record change { doc = option_map (mask p) change.doc })
+mask_change p (Err refusal) = Err refusal
+
+-- The commands that look at no value but titles: `ls`, `db-info`, `mv`, `rm`, `mkdir` and `rmdir`.
+abbrev pub reads_no_value : Command → Bool
+reads_no_value (Ls access file group recursive flat) = true
+reads_no_value (Show access file entry clear all attachments names) = false
+reads_no_value (Search access file term) = false
+reads_no_value (Add access file entry asked) = false
+reads_no_value (Edit access file entry asked) = false
+reads_no_value (Move access file word group) = true
+reads_no_value (Remove access file entry) = true
+reads_no_value (MakeGroup access file group) = true
+reads_no_value (RemoveGroup access file group) = true
+reads_no_value (Merge access file names from same dry) = false
+reads_no_value (Import access format source from file) = false
+reads_no_value (Export access format file) = false
+reads_no_value (Info access file) = true
+
+-- Such a command refuses the same, or prints the same and makes documents that are the same but for
+-- what is hidden.
+abbrev pub CommandsAreBlind : Type 0
+CommandsAreBlind = (d e : BareDoc) → LookAlike is_secret d e → (command : Command)
+    → reads_no_value command ≡ true → (time : ℕ) (line : Option (List ℕ)) (sources : List BareDoc)
+    (settings : Option Settings) (id : NodeId)
+    → mask_change is_secret (change_with time command line sources settings id d)
+    ≡ mask_change is_secret (change_with time command line sources settings id e)
+
+-- Such a command makes a node, whose id is drawn, of the one document where it does of the other.
+abbrev pub DrawsAreBlind : Type 0
+DrawsAreBlind = (d e : BareDoc) → LookAlike is_secret d e → (command : Command)
+    → makes_node command d ≡ makes_node command e
+
+-- ---- show
+
+-- a piece of a text is no reference
+abbrev pub is_plain_byte : Piece → Bool
+is_plain_byte (byte b) = true
+is_plain_byte (reference r) = false
+
+-- a text has no references
+abbrev pub has_no_reference : List ℕ → Bool
+has_no_reference text = list_all is_plain_byte (pieces 0 text)
+
+-- no value of an entry that is not marked hidden has a reference
+abbrev pub shows_no_reference : EntryRecord → Bool
+shows_no_reference e =
+    list_all (λ (f : BareField). f.hidden || has_no_reference f.value) (fields_of e)
+
+-- Where two documents are the same but for values that are marked hidden and the bytes of
+-- attachments, and no other value of the entry that a path names has a reference, `show` prints the
+-- same of it, or refuses the same, unless hidden values or single fields are asked for.
+abbrev pub ShowIsBlind : Type 0
+ShowIsBlind = (d e : BareDoc) → LookAlike is_marked d e → (path : List ℕ)
+    → ((held : Holding) → entry_named path d ≡ Ok held
+    → shows_no_reference held.entry.1 ≡ true)
+    → (file : List ℕ) (all attachments : Bool)
+    → entry_shown file false all attachments [] path d
+    ≡ entry_shown file false all attachments [] path e
