@@ -14,6 +14,7 @@ use crate::writing;
 use kdbx_frame::Settings;
 use std::fs::{self, File, Files};
 use std::random::RandomSource;
+use std::time::Clock;
 
 // Writes a document as a row says.
 fn write(rt: &(impl Files + AllocGlobal), row: &Row<'_>) -> Result<String, Fault> {
@@ -39,7 +40,7 @@ fn seal(
 
 // Seals a document on the disk, and gives how many bytes of memory the process held before.
 fn seal_file(
-    rt: &(impl Files<File = File> + RandomSource + AllocGlobal),
+    rt: &(impl Files<File = File> + RandomSource + Clock + AllocGlobal),
     row: &Row<'_>,
     settings: &Settings,
 ) -> Result<String, Fault>
@@ -57,7 +58,10 @@ fn seal_file(
 }
 
 // Opens a file on the disk.
-fn open_file(rt: &(impl Files<File = File> + AllocGlobal), row: &Row<'_>) -> Result<String, Fault> {
+fn open_file(
+    rt: &(impl Files<File = File> + RandomSource + Clock + AllocGlobal),
+    row: &Row<'_>,
+) -> Result<String, Fault> {
     let times = short_number_of(row.word(3))?;
     open_often(rt, &Target::new(row.word(2), row.word(1)), times)?;
     Ok(String::from_str(rt.alloc(), "opened")?)
@@ -65,7 +69,7 @@ fn open_file(rt: &(impl Files<File = File> + AllocGlobal), row: &Row<'_>) -> Res
 
 // Seals a document with the settings of a row.
 fn seal_by_settings(
-    rt: &(impl Files<File = File> + RandomSource + AllocGlobal),
+    rt: &(impl Files<File = File> + RandomSource + Clock + AllocGlobal),
     row: &Row<'_>,
     settings: &Settings,
 ) -> Result<String, Fault>
@@ -80,7 +84,7 @@ fn seal_by_settings(
 
 // Seals a document with the settings that a row chooses.
 fn seal_as_chosen(
-    rt: &(impl Files<File = File> + RandomSource + AllocGlobal),
+    rt: &(impl Files<File = File> + RandomSource + Clock + AllocGlobal),
     row: &Row<'_>,
 ) -> Result<String, Fault> {
     match settings_of(rt.alloc(), &row.choices()) {
@@ -91,7 +95,7 @@ fn seal_as_chosen(
 
 /// Does what a row asks for, and gives what is to be printed of it.
 pub fn answer(
-    rt: &(impl Files<File = File> + RandomSource + AllocGlobal),
+    rt: &(impl Files<File = File> + RandomSource + Clock + AllocGlobal),
     row: &Row<'_>,
 ) -> Result<String, Fault> {
     match row.word(0) {

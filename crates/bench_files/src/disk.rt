@@ -11,11 +11,12 @@ use outside_host::{HostDice, HostFiles};
 use std::alloc::Global;
 use std::fs::{self, File, Files};
 use std::random::RandomSource;
+use std::time::Clock;
 use vault_model::Doc;
 
 // Seals a document as a file under a password, as often as asked.
 fn seal_often(
-    rt: &(impl Files<File = File> + RandomSource + AllocGlobal),
+    rt: &(impl Files<File = File> + RandomSource + Clock + AllocGlobal),
     doc: &Doc,
     settings: &Settings,
     target: &Target<'_>,
@@ -23,7 +24,7 @@ fn seal_often(
 ) -> Result<(), Fault>
     requires { IsInOrder settings.now }
 {
-    let mut files = HostFiles::new(rt, rt.alloc());
+    let mut files = HostFiles::new(rt, rt.alloc(), None);
     let mut dice = HostDice::new(rt);
     for _ in 0..times {
         seal(rt.alloc(), doc, settings, target, &mut files, &mut dice)?;
@@ -45,7 +46,7 @@ fn resident(rt: &(impl Files<File = File> + AllocGlobal)) -> u64 {
 /// Seals the document that was read as often as asked, and gives how many bytes of memory the process
 /// held before.
 pub fn seal_read(
-    rt: &(impl Files<File = File> + RandomSource + AllocGlobal),
+    rt: &(impl Files<File = File> + RandomSource + Clock + AllocGlobal),
     doc: &Result<Doc, Fault>,
     settings: &Settings,
     target: &Target<'_>,
@@ -81,11 +82,11 @@ fn open_once<F: FileStore>(alloc: Global, target: &Target<'_>, files: &mut F) ->
 
 /// Opens a file under a password, as often as asked.
 pub fn open_often(
-    rt: &(impl Files<File = File> + AllocGlobal),
+    rt: &(impl Files<File = File> + RandomSource + Clock + AllocGlobal),
     target: &Target<'_>,
     times: u32,
 ) -> Result<(), Fault> {
-    let mut files = HostFiles::new(rt, rt.alloc());
+    let mut files = HostFiles::new(rt, rt.alloc(), None);
     for _ in 0..times {
         open_once(rt.alloc(), target, &mut files)?;
     }

@@ -49,11 +49,12 @@ use std::alloc::{AllocError, Global};
 use std::fs::{File, Files};
 use std::process::ExitCode;
 use std::random::RandomSource;
+use std::time::Clock;
 use std::{env, io};
 
 // What comes of the words of a line.
 fn outcome(
-    rt: &(impl Files<File = File> + RandomSource + AllocGlobal),
+    rt: &(impl Files<File = File> + RandomSource + Clock + AllocGlobal),
     words: &str,
 ) -> Result<String, AllocError> {
     let row = Row::of_line(rt.alloc(), words)?;
@@ -73,7 +74,7 @@ fn parts(line: &str) -> (&str, &str) {
 
 // Prints whether what comes of a line of the input, which has this number, is what is to come of it.
 fn judge(
-    rt: &(impl Files<File = File> + RandomSource + Print + AllocGlobal),
+    rt: &(impl Files<File = File> + RandomSource + Clock + Print + AllocGlobal),
     number: usize,
     line: &str,
 ) -> io::Result<()> {
@@ -88,7 +89,7 @@ fn judge(
 
 // Judges the lines of standard input.
 fn judge_lines(
-    rt: &(impl Files<File = File> + RandomSource + Input + Print + AllocGlobal),
+    rt: &(impl Files<File = File> + RandomSource + Clock + Input + Print + AllocGlobal),
 ) -> io::Result<ExitCode> {
     for (index, line) in rt.lines(rt.alloc()).enumerate() {
         let line = line?;
@@ -115,7 +116,7 @@ fn refuse(rt: &(impl Eprint + AllocGlobal), fault: Fault) -> io::Result<ExitCode
 
 // Does what the words of the command line ask for, and gives the status of the process.
 fn obey(
-    rt: &(impl Files<File = File> + RandomSource + Print + Eprint + AllocGlobal),
+    rt: &(impl Files<File = File> + RandomSource + Clock + Print + Eprint + AllocGlobal),
     words: &[String],
 ) -> io::Result<ExitCode> {
     let row = Row::of_words(rt.alloc(), words)?;

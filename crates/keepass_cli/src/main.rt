@@ -1,8 +1,8 @@
 //! The command line of a password vault: `main`, and the one call that it makes.
 #![tactic(auto)]
 
-use keepass_call::keepass;
-use outside_core::{Sink, write_all};
+use keepass_call::{file_to_write, keepass};
+use outside_core::{NoMemory, Sink, write_all};
 use outside_host::{HostDice, HostFiles, HostInput, HostOutput};
 use std::alloc::AllocGlobal;
 use std::env;
@@ -63,8 +63,12 @@ fn main(rt: HostRuntime) -> ExitCode {
         Ok(words) => words,
         Err(why) => return ExitCode::from(refuse(&mut err, &why)),
     };
+    let target = match file_to_write(alloc, words.as_slice()) {
+        Ok(target) => target,
+        Err(NoMemory) => return ExitCode::from(refuse(&mut err, &NoWords::OutOfMemory)),
+    };
     let now = seconds(&rt);
-    let mut files = HostFiles::new(&rt, alloc);
+    let mut files = HostFiles::new(&rt, alloc, target);
     let mut input = HostInput::new(rt.reader());
     let mut out = HostOutput::new(&rt);
     let mut dice = HostDice::new(&rt);

@@ -6,174 +6,41 @@ ghost use Rattle.outside_core.specs.Counts.{HasCause, Increased, increment};
 use outside_core::{
     Dice, DiceFail, FileFail, FileStore, Sink, SinkFail, Source, SourceFail, Text, increment,
 };
+use outside_disk::{Disk, Draft, file_len, read_from};
 use std::alloc::Global;
-use std::fs::{File, Files, OpenFile, OpenOptions, TryLockError};
-use std::io::{ErrorKind, Read, Seek, SeekFrom, Write};
+use std::fs::{File, Files};
+use std::io::{ErrorKind, Read};
 use std::marker::Model;
-use std::os::unix::fs::{MetadataExt, OpenOptionsExt};
 use std::random::RandomSource;
-use std::{fs, io};
+use std::time::Clock;
 
 /// A file that is open for reading, with the name that it was opened by.
 #[derive(Drop)]
-struct OpenedFile<F> {
+struct OpenedFile {
     name: Text,
-    file: F,
-}
-
-/// A file in the making: the name that it is for, and the name that it is written under until then.
-/// It is locked, so that no other call takes it for one that was left behind.
-#[derive(Drop)]
-struct HostDraft {
-    name: Text,
-    part: String,
     file: File,
 }
 
-/// The length of a regular file in bytes. A folder, a pipe or a device has none to go by.
-fn file_len<F: OpenFile>(file: &F) -> io::Result<u64> {
-    let metadata = file.metadata()?;
-    if metadata.is_file() {
-        Ok(metadata.len())
-    } else {
-        Err(io::Error::from(ErrorKind::InvalidInput))
-    }
-}
-
-/// Opens a regular file for reading. Anything else is refused before it is opened, because opening
-/// a pipe waits until some process writes to it.
-fn open_regular<R: Files>(rt: &R, name: &str) -> io::Result<R::File> {
-    if fs::metadata(rt, name)?.is_file() {
-        fs::open(rt, name)
-    } else {
-        Err(io::Error::from(ErrorKind::InvalidInput))
-    }
-}
-
-/// Reads a file from an offset on.
-fn read_from<F: Read + Seek>(file: &mut F, from: u64, out: &mut [u8]) -> io::Result<usize>
-    ensures { IfOk result (λ n. n ≤ length out.new) }
-{
-    file.seek(SeekFrom::Start(from))?;
-    file.read(out)
-}
-
-/// Takes the lock of a draft, which its call holds until the draft has the file's name or is gone. A
-/// file system that has no locks takes none, and then two calls at once are not kept apart.
-fn hold(file: &File) -> io::Result<()> {
-    match file.try_lock() {
-        Ok(()) => Ok(()),
-        Err(TryLockError::WouldBlock) => Err(io::Error::from(ErrorKind::WouldBlock)),
-        Err(TryLockError::Error(error)) if error.kind() == ErrorKind::Unsupported => Ok(()),
-        Err(TryLockError::Error(error)) => Err(error),
-    }
-}
-
-/// Looks whether a path still names this open file. Another call may have put another one there.
-fn stay_at<R: Files>(rt: &R, file: &File, path: &str) -> io::Result<()> {
-    let held = file.metadata()?;
-    let named = fs::metadata(rt, path)?;
-    if held.ino() == named.ino() && held.dev() == named.dev() {
-        Ok(())
-    } else {
-        Err(io::Error::from(ErrorKind::WouldBlock))
-    }
-}
-
-/// Opens a draft that was left behind. It is opened for writing, because some file systems lock no
-/// file that is open for reading alone.
-fn open_left<R: Files<File = File>>(rt: &R, part: &str) -> io::Result<File> {
-    if fs::metadata(rt, part)?.is_file() {
-        OpenOptions::new().write(true).open(rt, part)
-    } else {
-        Err(io::Error::from(ErrorKind::InvalidInput))
-    }
-}
-
-/// Takes the lock of a draft, which is still at its path then.
-fn hold_at<R: Files>(rt: &R, file: &File, path: &str) -> io::Result<()> {
-    hold(file)?;
-    stay_at(rt, file, path)
-}
-
-/// Removes a draft whose lock can be taken.
-fn remove_held<R: Files<File = File>>(rt: &R, left: &File, part: &str) -> io::Result<()> {
-    hold_at(rt, left, part)?;
-    fs::remove_file(rt, part)
-}
-
-/// Removes a draft that was left by a call that was cut off. The draft of a call that still runs
-/// stays, because that call holds its lock.
-fn remove_left<R: Files<File = File>>(rt: &R, part: &str) -> io::Result<()> {
-    match open_left(rt, part) {
-        Ok(left) => {
-            let removed = remove_held(rt, &left, part);
-            drop(left);
-            removed
-        }
-        Err(error) if error.kind() == ErrorKind::NotFound => Ok(()),
-        Err(error) => Err(error),
-    }
-}
-
-/// Makes the empty file that a draft is written to, which only its owner may read, and locks it. One
-/// that was left behind by a call that was cut off is removed before.
-fn create_part<R: Files<File = File>>(rt: &R, part: &str) -> io::Result<File> {
-    remove_left(rt, part)?;
-    let file = OpenOptions::new()
-        .write(true)
-        .create_new(true)
-        .mode(0o600)
-        .open(rt, part)?;
-    match hold_at(rt, &file, part) {
-        Ok(()) => Ok(file),
-        Err(error) => {
-            drop(file);
-            Err(error)
-        }
-    }
-}
-
-/// Gives a whole draft the permissions of the file that it is to replace, where there is one, brings
-/// it to the disk, and gives it its name.
-fn rename_draft<R: Files<File = File>>(rt: &R, draft: &HostDraft) -> io::Result<()> {
-    if let Ok(replaced) = fs::metadata(rt, draft.name.as_str()) {
-        let _ = draft.file.set_permissions(replaced.permissions());
-    }
-    draft.file.sync_all()?;
-    stay_at(rt, &draft.file, draft.part.as_str())?;
-    fs::rename(rt, draft.part.as_str(), draft.name.as_str())
-}
-
-/// Removes a draft, if its path still names it.
-fn remove_draft<R: Files<File = File>>(rt: &R, draft: &HostDraft) -> io::Result<()> {
-    stay_at(rt, &draft.file, draft.part.as_str())?;
-    fs::remove_file(rt, draft.part.as_str())
-}
-
-/// Publishes a draft. Where that fails, the draft is removed.
-fn publish_draft<R: Files<File = File>>(rt: &R, draft: &HostDraft) -> io::Result<()> {
-    let published = rename_draft(rt, draft);
-    if published.is_err() {
-        let _ = remove_draft(rt, draft);
-    }
-    published
-}
-
-/// The files of the host. A draft is written under its name with `.part` appended, and brought to
-/// the disk before it is given its name. While one call writes a draft, another that begins one of
-/// the same name is refused.
+/// A file in the making, with the name that it is for.
 #[derive(Drop)]
-pub struct HostFiles<'a, R: Files<File = File>> {
-    rt: &'a R,
+struct HostDraft {
+    name: Text,
+    draft: Draft,
+}
+
+/// The files of the host. A draft is written beside the file that it is for, and brought to the disk
+/// before it takes the place of that file.
+#[derive(Drop)]
+pub struct HostFiles<'a, R: Files<File = File> + RandomSource + Clock> {
+    disk: Disk<'a, R>,
     alloc: Global,
-    reading: Option<OpenedFile<R::File>>,
+    reading: Option<OpenedFile>,
     draft: Option<HostDraft>,
     faults: u64,
     absences: u64,
 }
 
-impl<'a, R: Files<File = File>> Model for HostFiles<'a, R> {
+impl<'a, R: Files<File = File> + RandomSource + Clock> Model for HostFiles<'a, R> {
     ghost use Rattle.std.specs.Prelude.{option_map};
     ghost use Rattle.outside_host.specs.Host.{HostStore};
 
@@ -186,13 +53,15 @@ impl<'a, R: Files<File = File>> Model for HostFiles<'a, R> {
     } };
 }
 
-impl<'a, R: Files<File = File>> HostFiles<'a, R> {
-    /// The files of the host that `rt` gives access to.
-    pub fn new(rt: &'a R, alloc: Global) -> HostFiles<'a, R>
+impl<'a, R: Files<File = File> + RandomSource + Clock> HostFiles<'a, R> {
+    /// The files of the host that `rt` gives access to. The file of the name `target`, where one is
+    /// given, is the one that the call may write: it is locked before it is read, and while another
+    /// call holds that lock this one waits, at most ten seconds.
+    pub fn new(rt: &'a R, alloc: Global, target: Option<Text>) -> HostFiles<'a, R>
         ensures { result ≡ record { draft_name = None; faults = 0; absences = 0 } }
     {
         HostFiles {
-            rt,
+            disk: Disk::new(rt, alloc, target),
             alloc,
             reading: None,
             draft: None,
@@ -213,7 +82,7 @@ impl<'a, R: Files<File = File>> HostFiles<'a, R> {
     }
 
     /// The file that was read last, if it has this name.
-    fn take_reading(&mut self, name: &str) -> Option<OpenedFile<R::File>>
+    fn take_reading(&mut self, name: &str) -> Option<OpenedFile>
         ensures { self.new ≡ self.old }
     {
         let opened = self.reading.take()?;
@@ -226,7 +95,7 @@ impl<'a, R: Files<File = File>> HostFiles<'a, R> {
     }
 
     /// The file of a name, opened now.
-    fn open_anew(&mut self, name: &str) -> Result<OpenedFile<R::File>, FileFail>
+    fn open_anew(&mut self, name: &str) -> Result<OpenedFile, FileFail>
         ensures draft_name { self.new.draft_name ≡ self.old.draft_name }
         ensures faults { HasCause FileFail.Failed self.old.faults self.new.faults result }
         ensures absences { HasCause FileFail.NoSuchFile self.old.absences self.new.absences result }
@@ -234,12 +103,16 @@ impl<'a, R: Files<File = File>> HostFiles<'a, R> {
         let Ok(kept) = Text::of(self.alloc, name) else {
             return Err(FileFail::NoMemory);
         };
-        match open_regular(self.rt, name) {
+        match self.disk.open(name) {
             Ok(file) => Ok(OpenedFile { name: kept, file }),
             Err(error) if error.kind() == ErrorKind::NotFound => {
                 drop(kept);
                 self.absences = increment(self.absences);
                 Err(FileFail::NoSuchFile)
+            }
+            Err(error) if error.kind() == ErrorKind::OutOfMemory => {
+                drop(kept);
+                Err(FileFail::NoMemory)
             }
             Err(_error) => {
                 drop(kept);
@@ -249,7 +122,7 @@ impl<'a, R: Files<File = File>> HostFiles<'a, R> {
     }
 
     /// The file of a name, open: the one that was read last, if it has this name.
-    fn open(&mut self, name: &str) -> Result<OpenedFile<R::File>, FileFail>
+    fn open(&mut self, name: &str) -> Result<OpenedFile, FileFail>
         ensures draft_name { self.new.draft_name ≡ self.old.draft_name }
         ensures faults { HasCause FileFail.Failed self.old.faults self.new.faults result }
         ensures absences { HasCause FileFail.NoSuchFile self.old.absences self.new.absences result }
@@ -268,29 +141,24 @@ impl<'a, R: Files<File = File>> HostFiles<'a, R> {
         ensures faults { HasCause FileFail.Failed self.old.faults self.new.faults result }
         ensures absences { self.new.absences ≡ self.old.absences }
     {
-        let Ok(part) = format!(in self.alloc; "{name}.part") else {
-            return Err(FileFail::NoMemory);
-        };
         let Ok(kept) = Text::of(self.alloc, name) else {
-            drop(part);
             return Err(FileFail::NoMemory);
         };
-        match create_part(self.rt, part.as_str()) {
-            Ok(file) => Ok(HostDraft {
-                name: kept,
-                part,
-                file,
-            }),
+        match self.disk.begin(name) {
+            Ok(draft) => Ok(HostDraft { name: kept, draft }),
+            Err(error) if error.kind() == ErrorKind::OutOfMemory => {
+                drop(kept);
+                Err(FileFail::NoMemory)
+            }
             Err(_error) => {
                 drop(kept);
-                drop(part);
                 Err(self.fault())
             }
         }
     }
 }
 
-impl<'a, R: Files<File = File>> FileStore for HostFiles<'a, R> {
+impl<'a, R: Files<File = File> + RandomSource + Clock> FileStore for HostFiles<'a, R> {
     ghost files = { λ _. None };
 
     ghost draft_name = { λ s. s.draft_name };
@@ -345,7 +213,7 @@ impl<'a, R: Files<File = File>> FileStore for HostFiles<'a, R> {
         let Some(mut draft) = self.draft.take() else {
             unreachable!()
         };
-        let written = draft.file.write_all(piece);
+        let written = draft.draft.append(piece);
         self.draft = Some(draft);
         match written {
             Ok(()) => Ok(()),
@@ -358,7 +226,7 @@ impl<'a, R: Files<File = File>> FileStore for HostFiles<'a, R> {
             unreachable!()
         };
         drop(self.reading.take());
-        let published = publish_draft(self.rt, &draft);
+        let published = self.disk.publish(&draft.draft, draft.name.as_str());
         drop(draft);
         match published {
             Ok(()) => Ok(()),
@@ -368,7 +236,7 @@ impl<'a, R: Files<File = File>> FileStore for HostFiles<'a, R> {
 
     fn discard(&mut self) {
         if let Some(draft) = self.draft.take() {
-            let removed = remove_draft(self.rt, &draft);
+            let removed = self.disk.remove(&draft.draft);
             drop(draft);
             if removed.is_err() {
                 self.faults = increment(self.faults);

@@ -1,12 +1,15 @@
-//! The files of the host: what is written is read, a draft that is given up leaves nothing, drafts
-//! of one name are kept apart, and only a regular file is read.
+//! The files of the host: what is written is read, a draft that is given up leaves nothing, of two
+//! drafts of one file the second is refused, one that was left behind is removed and other files are
+//! not, and only a regular file is read.
 use crate::files::{keeps_a_file, read_at, reads, size_of, write_whole};
 use outside_core::{Dice, FileFail, FileStore};
 use outside_host::{HostDice, HostFiles};
-use std::fs;
-use std::fs::{File, Files};
+use std::alloc::Global;
+use std::fs::Files;
+use std::io::Read;
 use std::process::Abort;
 use std::test::Fail;
+use std::{fs, io};
 
 /// A folder of its own for a test on the disk.
 fn scratch(rt: &HostRuntime) -> Result<String, Fail> {
@@ -23,41 +26,64 @@ fn begin_draft<F: FileStore>(files: &mut F, name: &str) -> Result<(), FileFail> 
     files.begin(name)
 }
 
-/// Whether the host has a file of this name; none where it does not say.
-fn is_there<R: Files<File = File>>(host: &R, name: &str) -> Option<bool> {
-    fs::exists(host, name).ok()
+/// How many names a folder has, its own two among them.
+fn count_names(host: &HostRuntime, folder: &str) -> io::Result<usize> {
+    let mut names = host.open_dir(folder)?;
+    let mut window = [0; 4096];
+    let read = names.read(&mut window)?;
+    Ok(window[..read].iter().filter(|byte| **byte == 0).count())
 }
 
-/// A draft is written under the name with `.part`, and nothing is left of one that is given up.
-fn gives_up_a_draft<R: Files<File = File>>(
+/// Whether a folder has so many files.
+fn has_files(host: &HostRuntime, folder: &str, count: usize) -> bool {
+    match count_names(host, folder) {
+        Ok(names) => names.saturating_sub(2) == count,
+        Err(_) => false,
+    }
+}
+
+/// A draft is written beside its file, and nothing is left of one that is given up.
+fn gives_up_a_draft(
     rt: &impl Abort,
-    files: &mut HostFiles<'_, R>,
-    host: &R,
+    files: &mut HostFiles<'_, HostRuntime>,
+    host: &HostRuntime,
+    folder: &str,
     name: &str,
-    part: &str,
 ) {
     assert_eq!(rt; begin_draft(files, name), Ok(()));
-    assert_eq!(rt; is_there(host, part), Some(true));
+    assert!(rt; has_files(host, folder, 2));
     files.discard();
-    assert_eq!(rt; is_there(host, part), Some(false));
+    assert!(rt; has_files(host, folder, 1));
     assert!(rt; reads(files, name, 0, b"bye"));
 }
 
-/// While one store writes a draft, another is refused, and the draft stays the first one's.
-fn keeps_drafts_apart<R: Files<File = File>>(
-    rt: &impl Abort,
-    one: &mut HostFiles<'_, R>,
-    other: &mut HostFiles<'_, R>,
-    host: &R,
+/// What publishing a draft answers once another store has written its file.
+fn publish_late<F: FileStore, G: FileStore>(
+    one: &mut F,
+    other: &mut G,
     name: &str,
-    part: &str,
+) -> Result<(), FileFail> {
+    one.begin(name)?;
+    write_whole(other, name, b"x")?;
+    one.publish()
+}
+
+/// Of two stores that write one file at once, the second is refused, and nothing of its draft is left.
+fn keeps_the_first(
+    rt: &(impl Abort + AllocGlobal),
+    host: &HostRuntime,
+    folder: &str,
+    name: &str,
+    count: usize,
 ) {
-    assert_eq!(rt; begin_draft(one, name), Ok(()));
-    assert_eq!(rt; write_whole(other, name, b"x"), Err(FileFail::Failed));
-    assert_eq!(rt; is_there(host, part), Some(true));
-    one.discard();
-    assert_eq!(rt; write_whole(other, name, b"bye"), Ok(()));
-    assert!(rt; reads(one, name, 0, b"bye"));
+    let mut one = HostFiles::new(host, rt.alloc(), None);
+    let mut other = HostFiles::new(host, rt.alloc(), None);
+    assert_eq!(rt;
+        publish_late(&mut one, &mut other, name),
+        Err(FileFail::Failed)
+    );
+    assert!(rt; reads(&mut one, name, 0, b"x"));
+    assert!(rt; has_files(host, folder, count));
 }
 
 /// In a folder that is missing, no file is found and none is made.
@@ -73,17 +99,16 @@ fn refuses_to_read<F: FileStore>(rt: &impl Abort, files: &mut F, name: &str) {
 }
 
 /// What one store does with the file, and with a folder, a device and a folder that is missing.
-fn keeps_files<R: Files<File = File>>(
+fn keeps_files(
     rt: &(impl Abort + AllocGlobal),
-    host: &R,
+    host: &HostRuntime,
     folder: &str,
     name: &str,
-    part: &str,
     missing: &str,
 ) {
-    let mut files = HostFiles::new(host, rt.alloc());
+    let mut files = HostFiles::new(host, rt.alloc(), None);
     keeps_a_file(rt, &mut files, name);
-    gives_up_a_draft(rt, &mut files, host, name, part);
+    gives_up_a_draft(rt, &mut files, host, folder, name);
     misses_a_folder(rt, &mut files, missing);
     refuses_to_read(rt, &mut files, folder);
     refuses_to_read(rt, &mut files, "/dev/null");
@@ -93,37 +118,35 @@ fn keeps_files<R: Files<File = File>>(
     );
 }
 
-/// What two stores do with the file: a draft that was left behind is replaced.
-fn share_a_name<R: Files<File = File>>(
-    rt: &(impl Abort + AllocGlobal),
-    host: &R,
-    name: &str,
-    part: &str,
-) -> Result<(), Fail> {
-    fs::write(host, part, b"left")?;
-    let mut one = HostFiles::new(host, rt.alloc());
-    let mut other = HostFiles::new(host, rt.alloc());
-    keeps_drafts_apart(rt, &mut one, &mut other, host, name, part);
+/// Makes files whose names are a draft's, but for one whose name is of another file's draft.
+fn leave_drafts(host: &HostRuntime, folder: &str, alloc: Global) -> io::Result<()> {
+    for name in [
+        ".vault.0123456789abcdef.keepass",
+        ".other.0123456789abcdef.keepass",
+    ] {
+        let path = format!(in alloc; "{folder}/{name}")?;
+        fs::write(host, path.as_str(), b"left")?;
+    }
     Ok(())
 }
 
 /// What the host does with the file of this name in the folder.
-fn keeps_and_shares<R: Files<File = File>>(
+fn keeps_and_shares(
     rt: &(impl Abort + AllocGlobal),
-    host: &R,
+    host: &HostRuntime,
     folder: &str,
     name: &str,
 ) -> Result<(), Fail> {
-    let part = format!(in rt.alloc(); "{name}.part")?;
     let missing = format!(in rt.alloc(); "{name}.none/vault")?;
-    keeps_files(rt, host, folder, name, part.as_str(), missing.as_str());
-    share_a_name(rt, host, name, part.as_str())
+    keeps_files(rt, host, folder, name, missing.as_str());
+    leave_drafts(host, folder, rt.alloc())?;
+    keeps_the_first(rt, host, folder, name, 2);
+    Ok(())
 }
 
-/// Removes the file and its folder.
-fn remove_both<R: Files<File = File>>(host: &R, folder: &str, name: &str) -> Result<(), Fail> {
-    fs::remove_file(host, name)?;
-    fs::remove_dir(host, folder)?;
+/// Removes the folder and what is in it.
+fn remove_folder(host: &HostRuntime, folder: &str) -> Result<(), Fail> {
+    fs::remove_dir_all(host, folder)?;
     Ok(())
 }
 
@@ -132,5 +155,5 @@ fn the_host_keeps_files(rt: HostRuntime) -> Result<(), Fail> {
     let folder = scratch(&rt)?;
     let name = format!(in rt.alloc(); "{folder}/vault")?;
     keeps_and_shares(&rt, &rt, folder.as_str(), name.as_str())?;
-    remove_both(&rt, folder.as_str(), name.as_str())
+    remove_folder(&rt, folder.as_str())
 }
