@@ -47,9 +47,9 @@ works() {
   {
     echo "status $got"
     cat out.txt err.txt
-    find . -name '*.part'
+    find . -name '.*.keepass'
   } >report.txt 2>&1
-  [ "$got" = 0 ] && [ ! -s err.txt ] && [ "$(cat out.txt)" = "$said" ] && [ -z "$(find . -name '*.part')" ]
+  [ "$got" = 0 ] && [ ! -s err.txt ] && [ "$(cat out.txt)" = "$said" ] && [ -z "$(find . -name '.*.keepass')" ]
   judged "$name" $?
   may_touch "$name" 1 "$before"
 }
@@ -134,11 +134,6 @@ where_nothing_can_be_written() {
   chmod 644 work/FILE
   kept "$kind: a draft that cannot be written whole" 7 "$fault" work within_two_blocks "$program" edit "$@" -u me work/FILE Bank
   kept "$kind: an entry that cannot be written whole" 7 "$fault" work within_two_blocks "$program" add "$@" work/FILE New
-  mkdir work/FILE.part
-  kept "$kind: a folder in the place of the draft" 7 "$fault" work "$program" edit "$@" -u me work/FILE Bank
-  touch work/FILE.part/file
-  kept "$kind: a folder with a file in the place of the draft" 7 "$fault" work "$program" add "$@" work/FILE New
-  rm -r work/FILE.part
   cp "$program" program
   chmod 755 . program
   chmod 555 work
@@ -157,7 +152,7 @@ whatever_is_in_the_way() {
   cp "$program" program
   chmod 755 . program
   chmod 777 work
-  for mode in 444 600 640; do
+  for mode in 600 640 664; do
     chmod $mode work/FILE
     if [ "$(id -u)" = 0 ]; then chown 65534:65534 work/FILE; fi
     works "$kind: a file of mode $mode" '' as_user ./program edit -q "$@" -u "$mode" work/FILE Bank
@@ -166,29 +161,28 @@ whatever_is_in_the_way() {
   done
   rm program
   chmod 644 work/FILE
-  # What is left of a call that was cut off, or a link, in the place of the draft.
-  printf 'left over' >work/FILE.part
+  # What is left of a call that was cut off, and a file with the name that drafts once had.
+  printf 'left over' >work/.FILE.0123456789abcdef.keepass
+  printf 'another file' >work/FILE.part
   works "$kind: an old draft" '' "$program" edit -q "$@" -u me work/FILE Bank
-  printf 'another file' >work/other
-  ln -s other work/FILE.part
-  works "$kind: a link in the place of the draft" '' "$program" edit -q "$@" -u me work/FILE Bank
-  [ "$(cat work/other)" = 'another file' ]
-  judged "$kind: what the link named is as it was" $?
-  # A file under the name of a link: the name has the new file, and what the link named is the old file.
+  [ "$(cat work/FILE.part)" = 'another file' ]
+  judged "$kind: a file with another name is as it was" $?
+  rm work/FILE.part
+  # A file under the name of a link: the link stays, and the file that it names is the new one.
   cp work/FILE work/real
   ln -sf real work/link
   kept "$kind: a link to a file, refused" 2 'keepass: work/link: already there' work "$program" add "$@" work/link Bank
   works "$kind: a link to a file" 'Successfully added entry Under a link.' "$program" add "$@" work/link 'Under a link'
-  lists "$kind: a link to a file, listed" 'Under a link' "$@" work/link
-  [ ! -L work/link ] && cmp -s work/FILE work/real
-  judged "$kind: a link to a file gives way to the file" $?
+  lists "$kind: a link to a file, listed" 'Under a link' "$@" work/real
+  [ "$(readlink work/link)" = real ]
+  judged "$kind: the link stays" $?
   # Standard streams that are closed or full: status 10, and the file is written.
   number=0
   for where in '>&-' '>/dev/full' '>&- 2>&-' '>/dev/full 2>/dev/full' '2>&-'; do
     number=$((number + 1))
     eval '"$program" add "$@" work/FILE "Added $number" <input.txt >out.txt 2>err.txt' "$where"
     got=$?
-    [ $got = $((number < 5 ? 10 : 0)) ] && [ ! -e work/FILE.part ]
+    [ $got = $((number < 5 ? 10 : 0)) ] && [ -z "$(find work -name '.*.keepass')" ]
     judged "$kind: an entry with $where: status $got" $?
     lists "$kind: an entry with $where, listed" "Added $number" "$@" work/FILE
   done

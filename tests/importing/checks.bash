@@ -8,7 +8,8 @@ import_refusals() {
   cp "$1"/key-1.key .
   rm -f OUT
   calls "$importing/rows" "$1"
-  ls OUT OUT.part >report.txt 2>/dev/null
+  compgen -G "OUT" >report.txt
+  compgen -G ".OUT.*.keepass" >>report.txt
   [ ! -s report.txt ]
   judged 'a refused import leaves no file' $?
   for name in table.csv bad.csv bad.keyx; do rm -f "$name"; done
@@ -61,9 +62,6 @@ imported_where_no_file_can_be() {
   rm -rf work
   mkdir work
   not_imported "$name: a file that cannot be written whole" 7 work/FILE 'file fault' within_two_blocks "$program" "${words[@]}" work/FILE
-  mkdir work/FILE.part
-  not_imported "$name: a folder in the place of the draft" 7 work/FILE 'file fault' "$program" "${words[@]}" work/FILE
-  rmdir work/FILE.part
   cp "$program" program
   chmod 755 . program
   chmod 644 "$source"
@@ -71,7 +69,7 @@ imported_where_no_file_can_be() {
   not_imported "$name: a folder that may not be written" 7 work/FILE 'file fault' as_user ./program "${words[@]}" work/FILE
   chmod 755 work
   # What is left of a call that was cut off is no obstacle, and a file that is there comes before a fault.
-  printf 'left over' >work/FILE.part
+  printf 'left over' >work/.FILE.0123456789abcdef.keepass
   works "$name: an old draft" 'Successfully imported database.' "$program" "${words[@]}" work/FILE
   [ "$(stat -c %a work/FILE)" = 600 ]
   judged "$name: a new file is its owner's alone" $?
@@ -79,7 +77,7 @@ imported_where_no_file_can_be() {
   # The file is written before the report is printed.
   rm work/FILE
   "$program" "${words[@]}" work/FILE >/dev/full 2>err.txt <input.txt
-  [ $? = 10 ] && [ ! -e work/FILE.part ] && [ -s work/FILE ]
+  [ $? = 10 ] && [ -z "$(find work -name '.*.keepass')" ] && [ -s work/FILE ]
   judged "$name: a report that cannot be printed" $?
   rm work/FILE
   works "$name: quietly" '' "$program" "${words[@]:0:1}" -q "${words[@]:1}" work/FILE

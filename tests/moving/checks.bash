@@ -48,14 +48,11 @@ where_no_draft_can_be() {
   kept "$kind: a removal that cannot be written whole" 7 "$fault" work within_two_blocks "$program" rm "$@" work/FILE Bank
   kept "$kind: a group that cannot be written whole" 7 "$fault" work within_two_blocks "$program" mkdir "$@" work/FILE New
   kept "$kind: a removed group that cannot be written whole" 7 "$fault" work within_two_blocks "$program" rmdir "$@" work/FILE Work
-  mkdir work/FILE.part
-  kept "$kind: a folder in the place of the draft of a move" 7 "$fault" work "$program" mv "$@" work/FILE Bank Work
-  rmdir work/FILE.part
   # A refusal comes before the file is written.
   kept "$kind: a refusal where nothing can be written" 2 'keepass: work/FILE: not found' work within_two_blocks "$program" rm "$@" work/FILE Nothing
   # The file is written before the report is printed.
   "$program" mv "$@" work/FILE Bank Work >/dev/full 2>err.txt <input.txt
-  [ $? = 10 ] && [ ! -e work/FILE.part ]
+  [ $? = 10 ] && [ -z "$(find work -name '.*.keepass')" ]
   judged "$kind: a move that cannot be reported" $?
   lists "$kind: it was written" Bank "$@" work/FILE Work
   rm -r work

@@ -60,7 +60,7 @@ unpublished() {
   "$@" >report.txt 2>&1 </dev/null
   got=$?
   if [ $got = 1 ] && [ "$(cat report.txt)" = 'NotSealed(FileFault)' ] && [ "$(ls -ld sealed.kdbx; cksum sealed.kdbx 2>&1)" = "$before" ] &&
-    [ ! -e sealed.kdbx.part ]; then passed=$((passed + 1)); else
+    ! compgen -G ".sealed.kdbx.*.keepass" >/dev/null; then passed=$((passed + 1)); else
     failed=$((failed + 1))
     echo "FAILED: $name: status $got, $(head -c 200 report.txt)"
     ls -l sealed.kdbx*
