@@ -1,0 +1,175 @@
+-- No byte of the dice is drawn twice.
+use Rattle.std.proofs.Common.{◌≡◌, ◌≤◌, ◌+◌, ℕ, Bool, true, false, List, [], ◌∷◌, ◌++◌, length, drop, Option, None, Some, Result, Ok, Err, refl, sym, ap, ◌∙◌, arith, append_assoc, append-nil, length-append}
+use Rattle.std.specs.List.{concat}
+use Rattle.vault_model.specs.Db.{NodeId}
+use Rattle.vault_model.specs.Tree.{BareDoc}
+use Rattle.kdbx_frame.specs.declared.settings.Settings.{Settings}
+use Rattle.kdbx_frame.specs.declared.sealings.Sealing.{Sealing}
+use Rattle.kdbx_seal.specs.Answers.{size_refusal}
+use Rattle.kdbx_seal.specs.Made.{made_file}
+use Rattle.kdbx_seal.specs.declared.fail.SealFail.{SealFail}
+use Rattle.cli_answers.specs.declared.answers.Refusal.{Refusal}
+use Rattle.cli_answers.specs.Phases.{StreamAnswer, after_left, then_left, with_left}
+use Rattle.cli_words.specs.Needs.{target_of}
+use Rattle.cli_writing.specs.Drawing.{next_bytes}
+use Rattle.cli_writing.specs.Writing.{NewFile, plain_file}
+use Rattle.cli_sealing.specs.Draws.{after_draws, draws_of}
+use Rattle.cli_sealing.specs.Sealing.{file_by, file_unless, sealed_file, settings_for}
+use Rattle.cli_commands.specs.Commands.{Change, change_with, drawn_id, makes_node}
+use Rattle.cli_files.specs.Tasks.{Task}
+use Rattle.call_carrying.specs.Endings.{Ending, carried_out, change_of_task, ended_with, ending_with, settings_in}
+use Rattle.randomness_laws.specs.Pieces.{CallsDrawOnce, DrawsFewBytes, FilesAreOfPieces, IdsAreOfPieces, TasksDrawOnce, all_left, all_pieces, change_pieces, id_pieces, sealing_pieces, task_pieces, written_pieces}
+use Rattle.randomness_laws.proofs.Cuts.{concat_append, cut_is, cut_len, lens, lens_most, next_is, next_len, pieces_cut}
+
+-- ---- an id
+
+abbrev after_id : Bool → List ℕ → List ℕ
+after_id true dice = drop 16 dice
+after_id false dice = dice
+
+id_left : {A : Type 0} (b : Bool) (next : NodeId → Result A Refusal) (dice : List ℕ) → (then_left (drawn_id b dice) (λ id left. with_left (next id) left)).left ≡ after_id b dice
+id_left true next dice = refl
+id_left false next dice = refl
+
+id_cut : (b : Bool) (dice : List ℕ) → length (concat (id_pieces b dice)) ≤ length dice → dice ≡ concat (id_pieces b dice) ++ after_id b dice
+id_cut true dice most =
+    let len = next_len 16 dice in
+    let none = ap length (append-nil (next_bytes 16 dice)) in
+    next_is 16 dice (omega (arith, len, none, most)) ∙ ap (λ xs. xs ++ drop 16 dice) (sym (append-nil (next_bytes 16 dice)))
+id_cut false dice most = refl
+
+id_len : (b : Bool) (dice : List ℕ) → length (concat (id_pieces b dice)) ≤ 16
+id_len true dice = let len = next_len 16 dice in let none = ap length (append-nil (next_bytes 16 dice)) in omega (arith, len, none)
+id_len false dice = omega arith
+
+-- ---- a file
+
+file_left : (text : List ℕ) (taken : StreamAnswer NewFile) → (then_left taken (λ file left. with_left (Ok (ending_with text file)) left)).left ≡ taken.left
+file_left text taken = of taken.answer
+  where
+    of : (answer : Result NewFile Refusal) → (after_left answer taken.left (λ file left. with_left (Ok (ending_with text file)) left)).left ≡ taken.left
+    of (Ok file) = refl
+    of (Err refusal) = refl
+
+sealed_left : (name : List ℕ) (s : Settings) (composite : List ℕ) (doc : BareDoc) (dice : List ℕ) → (file_by name s composite doc dice).left ≡ after_draws s dice
+unfolding file_by
+sealed_left name s composite doc dice = refl
+
+written_cut : (name text : List ℕ) (sealing : Option Sealing) (doc : Option BareDoc) (dice : List ℕ) → length (concat (written_pieces sealing doc dice)) ≤ length dice
+    → dice ≡ concat (written_pieces sealing doc dice) ++ (ended_with name sealing text doc dice).left
+written_cut name text sealing None dice most = refl
+written_cut name text None (Some doc) dice most = sym (file_left text (with_left (plain_file name doc) dice))
+written_cut name text (Some sealing) (Some doc) dice most =
+    let s = settings_for sealing.settings doc in
+    let same = ap concat (pieces_cut s dice) in
+    let len = ap length same in
+    let sums = cut_len (lens s) dice in
+    cut_is (lens s) dice (omega (arith, len, sums, most)) ∙ ap (λ xs. xs ++ after_draws s dice) (sym same)
+    ∙ ap (λ xs. concat (sealing_pieces s dice) ++ xs) (sym (file_left text (sealed_file name sealing.settings sealing.composite doc dice) ∙ sealed_left name s sealing.composite doc dice))
+
+change_cut : (name : List ℕ) (sealing : Option Sealing) (answer : Result Change Refusal) (dice : List ℕ) → length (concat (change_pieces sealing answer dice)) ≤ length dice
+    → dice ≡ concat (change_pieces sealing answer dice) ++ (after_left answer dice (λ change left. ended_with name sealing change.text change.doc left)).left
+change_cut name sealing (Ok change) dice most = written_cut name change.text sealing change.doc dice most
+change_cut name sealing (Err refusal) dice most = refl
+
+change_len : (sealing : Option Sealing) (answer : Result Change Refusal) (dice : List ℕ) → length (concat (change_pieces sealing answer dice)) ≤ 176
+change_len sealing (Err refusal) dice = omega arith
+change_len sealing (Ok change) dice = of sealing change.doc
+  where
+    of : (sealing : Option Sealing) (doc : Option BareDoc) → length (concat (written_pieces sealing doc dice)) ≤ 176
+    of sealing None = omega arith
+    of None (Some doc) = omega arith
+    of (Some sealing) (Some doc) =
+        let s = settings_for sealing.settings doc in
+        let len = ap (λ ps. length (concat ps)) (pieces_cut s dice) in
+        let sums = cut_len (lens s) dice in
+        let most = lens_most s in
+        omega (arith, len, sums, most)
+
+-- ---- a task
+
+module _ (time : ℕ) (task : Task) (dice : List ℕ) where
+  abbrev taken : StreamAnswer Change
+  taken = change_of_task time task dice
+
+  abbrev makes : Bool
+  makes = makes_node task.command task.opened.doc
+
+  abbrev ids : List (List ℕ)
+  ids = id_pieces makes dice
+
+  abbrev rest : List (List ℕ)
+  rest = change_pieces task.opened.sealing taken.answer taken.left
+
+  taken_left : taken.left ≡ after_id makes dice
+  taken_left = id_left makes (λ id. change_with time task.command task.lines.more task.sources (settings_in task.opened.sealing) id task.opened.doc) dice
+
+  both_len : length (concat (task_pieces time task dice)) ≡ length (concat ids) + length (concat rest)
+  both_len = ap length (concat_append ids rest) ∙ length-append (concat ids) (concat rest)
+
+  task_cut : length (concat (task_pieces time task dice)) ≤ length dice → dice ≡ concat (task_pieces time task dice) ++ (carried_out time task dice).left
+  unfolding carried_out
+  task_cut most =
+      let both = both_len in
+      let id = id_cut makes dice (omega (arith, both, most)) ∙ ap (λ xs. concat ids ++ xs) (sym taken_left) in
+      let len = ap length id ∙ length-append (concat ids) taken.left in
+      id ∙ ap (λ xs. concat ids ++ xs) (change_cut (target_of task.command) task.opened.sealing taken.answer taken.left (omega (arith, both, len, most)))
+      ∙ sym (append_assoc (concat ids) (concat rest) (carried_out time task dice).left) ∙ ap (λ xs. xs ++ (carried_out time task dice).left) (sym (concat_append ids rest))
+
+  task_len : length (concat (task_pieces time task dice)) ≤ 192
+  task_len = let both = both_len in let id = id_len makes dice in let file = change_len task.opened.sealing taken.answer taken.left in omega (arith, both, id, file)
+
+pub tasks_draw_once : TasksDrawOnce
+tasks_draw_once time task dice most = task_cut time task dice most
+
+pub draws_few_bytes : DrawsFewBytes
+draws_few_bytes time task dice = task_len time task dice
+
+pub calls_draw_once : CallsDrawOnce
+calls_draw_once [] dice most = refl
+calls_draw_once (c ∷ cs) dice most =
+    let first = task_pieces c.time c.task dice in
+    let left = (carried_out c.time c.task dice).left in
+    let both = ap length (concat_append first (all_pieces cs left)) ∙ length-append (concat first) (concat (all_pieces cs left)) in
+    let here = tasks_draw_once c.time c.task dice (omega (arith, both, most)) in
+    let len = ap length here ∙ length-append (concat first) left in
+    here ∙ ap (λ xs. concat first ++ xs) (calls_draw_once cs left (omega (arith, both, len, most)))
+    ∙ sym (append_assoc (concat first) (concat (all_pieces cs left)) (all_left cs left)) ∙ ap (λ xs. xs ++ all_left cs left) (sym (concat_append first (all_pieces cs left)))
+
+-- ---- what the pieces are for
+
+pub ids_are_of_pieces : IdsAreOfPieces
+ids_are_of_pieces time task dice makes =
+    ap (λ b. (then_left (drawn_id b dice) (λ id left. with_left (change_with time task.command task.lines.more task.sources (settings_in task.opened.sealing) id task.opened.doc) left)).answer) makes
+
+abbrev bytes_in : Option NewFile → List ℕ
+bytes_in None = []
+bytes_in (Some file) = file.bytes
+
+abbrev file_in : Result Ending Refusal → Option NewFile
+file_in (Ok ending) = ending.file
+file_in (Err refusal) = None
+
+-- what a file is made of that is not refused
+made_so : (name text : List ℕ) (refusal : Option SealFail) (made bytes left : List ℕ) (ending : Ending)
+    → (then_left (with_left (file_unless name refusal made) left) (λ file left. with_left (Ok (ending_with text file)) left)).answer ≡ Ok ending
+    → ending.file ≡ Some (record { name = name; bytes = bytes }) → bytes ≡ made
+made_so name text None made bytes left ending is has = ap bytes_in (sym has ∙ ap file_in (sym is))
+made_so name text (Some why) made bytes left ending is has = cc is
+
+pub files_are_of_pieces : FilesAreOfPieces
+unfolding carried_out file_by
+files_are_of_pieces time task dice sealing change doc ending bytes sealed makes writes ends has =
+    let left = (change_of_task time task dice).left in
+    let s = settings_for sealing.settings doc in
+    let name = target_of task.command in
+    let so : (after_left (change_of_task time task dice).answer left (λ change left. ended_with name task.opened.sealing change.text change.doc left)).answer
+    ≡ (ended_with name (Some sealing) change.text (Some doc) left).answer =
+    ap (λ a. (after_left a left (λ change left. ended_with name task.opened.sealing change.text change.doc left)).answer) makes
+    ∙ (λ i. (ended_with name (sealed i) change.text (writes i) left).answer) in
+    record {
+      draws = draws_of s left;
+      made = made_so name change.text (size_refusal s (draws_of s left) doc) (made_file s (draws_of s left) sealing.composite doc) bytes (after_draws s left) ending (sym so ∙ ends) has;
+      pieces = ap (λ ps. id_pieces (makes_node task.command task.opened.doc) dice ++ ps)
+          (ap (λ a. change_pieces task.opened.sealing a left) makes ∙ (λ i. written_pieces (sealed i) (writes i) left));
+    }

@@ -1,0 +1,122 @@
+-- What a command draws, piece by piece, and the laws that no byte of the dice is in two pieces.
+use Rattle.std.specs.Prelude.{◌≡◌, ◌≤◌, ℕ, Bool, true, false, List, [], ◌∷◌, ◌++◌, length, take, Option, None, Some, Result, Ok, Err}
+use Rattle.std.specs.List.{concat}
+use Rattle.vault_model.specs.Tree.{BareDoc}
+use Rattle.kdbx_frame.specs.declared.settings.Settings.{Settings}
+use Rattle.kdbx_frame.specs.declared.sealings.Sealing.{Sealing}
+use Rattle.kdbx_frame.specs.Settings.{iv_len}
+use Rattle.kdbx_writing.specs.declared.draws.Draws.{Draws}
+use Rattle.kdbx_writing.specs.Draws.{start_len, stream_len}
+use Rattle.kdbx_seal.specs.Made.{made_file}
+use Rattle.cli_answers.specs.declared.answers.Refusal.{Refusal}
+use Rattle.cli_words.specs.Needs.{target_of}
+use Rattle.cli_writing.specs.Drawing.{next_bytes}
+use Rattle.cli_sealing.specs.Draws.{draws_of}
+use Rattle.cli_sealing.specs.Sealing.{settings_for}
+use Rattle.cli_changes.specs.Ids.{new_id}
+use Rattle.cli_commands.specs.Commands.{Change, change_with, makes_node}
+use Rattle.cli_files.specs.Tasks.{Task}
+use Rattle.call_carrying.specs.Endings.{Ending, carried_out, change_of_task, settings_in}
+
+-- ---- pieces
+
+-- The piece that the id of a new node is made of, where a command makes one.
+abbrev pub id_pieces : Bool → List ℕ → List (List ℕ)
+id_pieces true dice = next_bytes 16 dice ∷ []
+id_pieces false dice = []
+
+-- The pieces that a file is sealed with: the seed or the salt of its key derivation, its master
+-- seed, its IV, the key of its inner stream, and the bytes that its content begins with in version
+-- 3.1.
+abbrev pub file_pieces : Settings → Draws → List (List ℕ)
+file_pieces s draws =
+    draws.kdf ∷ draws.seed ∷ take (iv_len s.cipher) draws.iv
+    ∷ take (stream_len s.version) draws.stream ∷ take (start_len s.version) draws.start ∷ []
+
+-- The pieces of a file that is sealed with these settings and holds this document, drawn from these
+-- dice.
+abbrev pub sealing_pieces : Settings → List ℕ → List (List ℕ)
+sealing_pieces s dice = file_pieces s (draws_of s dice)
+
+-- The pieces of the file that is written, if one is: a plain document draws none.
+abbrev pub written_pieces : Option Sealing → Option BareDoc → List ℕ → List (List ℕ)
+written_pieces sealing None dice = []
+written_pieces None (Some doc) dice = []
+written_pieces (Some sealing) (Some doc) dice =
+    sealing_pieces (settings_for sealing.settings doc) dice
+
+-- The pieces of what is written after a change, if it was not refused.
+abbrev pub change_pieces : Option Sealing → Result Change Refusal → List ℕ → List (List ℕ)
+change_pieces sealing (Ok change) dice = written_pieces sealing change.doc dice
+change_pieces sealing (Err refusal) dice = []
+
+-- All pieces that a task draws at a moment, in their order.
+abbrev pub task_pieces : ℕ → Task → List ℕ → List (List ℕ)
+task_pieces time task dice =
+    id_pieces (makes_node task.command task.opened.doc) dice
+    ++ change_pieces task.opened.sealing (change_of_task time task dice).answer
+    (change_of_task time task dice).left
+
+-- ---- many calls
+
+-- A call that draws: its moment and its task.
+pub record Call : Type 0 where
+  pub time : ℕ
+  pub task : Task
+
+-- The pieces of calls one after another, each of which goes on with what the one before left.
+abbrev pub all_pieces : List Call → List ℕ → List (List ℕ)
+all_pieces [] dice = []
+all_pieces (c ∷ cs) dice =
+    task_pieces c.time c.task dice ++ all_pieces cs (carried_out c.time c.task dice).left
+
+-- What such calls leave of the dice.
+abbrev pub all_left : List Call → List ℕ → List ℕ
+all_left [] dice = dice
+all_left (c ∷ cs) dice = all_left cs (carried_out c.time c.task dice).left
+
+-- ---- laws
+
+-- Where the dice are long enough for what a task draws, they are its pieces and then what it
+-- leaves.
+abbrev pub TasksDrawOnce : Type 0
+TasksDrawOnce = (time : ℕ) (task : Task) (dice : List ℕ)
+    → length (concat (task_pieces time task dice)) ≤ length dice
+    → dice ≡ concat (task_pieces time task dice) ++ (carried_out time task dice).left
+
+-- The same of calls one after another.
+abbrev pub CallsDrawOnce : Type 0
+CallsDrawOnce = (calls : List Call) (dice : List ℕ)
+    → length (concat (all_pieces calls dice)) ≤ length dice
+    → dice ≡ concat (all_pieces calls dice) ++ all_left calls dice
+
+-- The id of a new node is made of its piece.
+abbrev pub IdsAreOfPieces : Type 0
+IdsAreOfPieces = (time : ℕ) (task : Task) (dice : List ℕ)
+    → makes_node task.command task.opened.doc ≡ true
+    → (change_of_task time task dice).answer
+    ≡ change_with time task.command task.lines.more task.sources (settings_in task.opened.sealing)
+    (new_id (next_bytes 16 dice)) task.opened.doc
+
+-- The file that a task writes is sealed with its pieces: it is the file of draws that are these
+-- pieces.
+pub record IsOfPieces (time : ℕ) (task : Task) (dice : List ℕ) (sealing : Sealing) (doc : BareDoc)
+    (bytes : List ℕ) : Type 0 where
+  pub draws : Draws
+  pub made : bytes ≡ made_file (settings_for sealing.settings doc) draws sealing.composite doc
+  pub pieces : task_pieces time task dice
+      ≡ id_pieces (makes_node task.command task.opened.doc) dice
+      ++ file_pieces (settings_for sealing.settings doc) draws
+
+abbrev pub FilesAreOfPieces : Type 0
+FilesAreOfPieces = (time : ℕ) (task : Task) (dice : List ℕ) (sealing : Sealing) (change : Change)
+    (doc : BareDoc) (ending : Ending) (bytes : List ℕ) → task.opened.sealing ≡ Some sealing
+    → (change_of_task time task dice).answer ≡ Ok change → change.doc ≡ Some doc
+    → (carried_out time task dice).answer ≡ Ok ending
+    → ending.file ≡ Some (record { name = target_of task.command; bytes = bytes })
+    → IsOfPieces time task dice sealing doc bytes
+
+-- Dice of 192 bytes are long enough for every task.
+abbrev pub DrawsFewBytes : Type 0
+DrawsFewBytes = (time : ℕ) (task : Task) (dice : List ℕ)
+    → length (concat (task_pieces time task dice)) ≤ 192
