@@ -14,5 +14,6 @@ CurrentIsCurrent = (m : Db) → current_view (current_view m) ≡ current_view m
 
 -- sound databases that are alike in what is current with agreed ones agree too
 abbrev pub AgreementIsCurrent : Type 0
-AgreementIsCurrent = (S T : List Db) → map current_view S ≡ map current_view T → ((m : Db) → IsIn m S → Sound m)
+AgreementIsCurrent = (S T : List Db)
+    → map current_view S ≡ map current_view T → ((m : Db) → IsIn m S → Sound m)
     → Agreed T → Agreed S

@@ -10,7 +10,7 @@ use Rattle.agreed_laws.specs.Merges.{MergesInto}
 use Rattle.agreed_laws.specs.Runs.{docs_of}
 use Rattle.history_laws.specs.Current.{current_view}
 use Rattle.history_laws.specs.FreeHistories.{IsFresh, OnlyAdds}
-use Rattle.run_laws.specs.TrimmedRuns.{DocEvent, IsRun, after_doc_event, after_doc_events, growth, joining, overwriting}
+use Rattle.run_laws.specs.TrimmedRuns.{DocEvent, IsRun, after_doc_event, growth, joining, overwriting, world_after}
 
 -- all databases that were made by growth, each known when it was made
 abbrev pub known_by : List Db → DocEvent → List Db
@@ -46,19 +46,19 @@ pub record IsFreeRun (m : Db) (docs : ℕ → BareDoc) (xs : List DocEvent) : Ty
 abbrev pub FreeRunsAgree : Type 0
 FreeRunsAgree = (m : Db) (docs : ℕ → BareDoc) (xs : List DocEvent) → IsFreeRun m docs xs
     → Agreed (known_by_all (m ∷ []) xs)
-    × ((i : ℕ) → IsWithin (after_doc_events (begin docs) xs i).learned (known_by_all (m ∷ []) xs))
+    × ((i : ℕ) → IsWithin (world_after docs xs i).learned (known_by_all (m ∷ []) xs))
 
 -- after it no merge is refused but where a node is too deep
 abbrev pub FreeRunsMerge : Type 0
 FreeRunsMerge = (m : Db) (docs : ℕ → BareDoc) (xs : List DocEvent) → IsFreeRun m docs xs
     → (i : ℕ) (js : List ℕ)
-    → MergesInto (join (map db_in (docs_of (after_doc_events (begin docs) xs) (i ∷ js))))
-    (merge_result (after_doc_events (begin docs) xs i).doc (docs_of (after_doc_events (begin docs) xs) js))
+    → MergesInto (join (map db_in (docs_of (world_after docs xs) (i ∷ js))))
+    (merge_result (world_after docs xs i).doc (docs_of (world_after docs xs) js))
 
 -- and replicas that have learned the same are alike in what is current
 abbrev pub FreeRunsSame : Type 0
 FreeRunsSame = (m : Db) (docs : ℕ → BareDoc) (xs : List DocEvent) → IsFreeRun m docs xs → (i j : ℕ)
-    → IsWithin (after_doc_events (begin docs) xs i).learned (after_doc_events (begin docs) xs j).learned
-    → IsWithin (after_doc_events (begin docs) xs j).learned (after_doc_events (begin docs) xs i).learned
-    → current_view (db_in (after_doc_events (begin docs) xs i).doc)
-    ≡ current_view (db_in (after_doc_events (begin docs) xs j).doc)
+    → IsWithin (world_after docs xs i).learned (world_after docs xs j).learned
+    → IsWithin (world_after docs xs j).learned (world_after docs xs i).learned
+    → current_view (db_in (world_after docs xs i).doc)
+    ≡ current_view (db_in (world_after docs xs j).doc)

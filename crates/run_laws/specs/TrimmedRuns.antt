@@ -40,6 +40,10 @@ abbrev pub after_doc_events : World → List DocEvent → World
 after_doc_events w [] = w
 after_doc_events w (x ∷ xs) = after_doc_events (after_doc_event w x) xs
 
+-- the replicas after a run that begins with these documents
+abbrev pub world_after : (ℕ → BareDoc) → List DocEvent → World
+world_after docs xs = after_doc_events (begin docs) xs
+
 -- each is one that may be done
 abbrev pub AreDocEvents : World → List DocEvent → Type 0
 AreDocEvents w [] = Unit {0}
@@ -54,15 +58,15 @@ pub record IsRun (docs : ℕ → BareDoc) (xs : List DocEvent) : Type 0 where
 -- the join of it
 abbrev pub TrimmedRunsJoin : Type 0
 TrimmedRunsJoin = (S : List Db) (docs : ℕ → BareDoc) (xs : List DocEvent) → Agreed S → IsRun docs xs
-    → (i : ℕ) → IsWithin (after_doc_events (begin docs) xs i).learned S
-    → current_view (db_in (after_doc_events (begin docs) xs i).doc)
-    ≡ current_view (join (after_doc_events (begin docs) xs i).learned)
+    → (i : ℕ) → IsWithin (world_after docs xs i).learned S
+    → current_view (db_in (world_after docs xs i).doc)
+    ≡ current_view (join (world_after docs xs i).learned)
 
 -- and so replicas that have learned the same are alike in what is current
 abbrev pub TrimmedRunsSame : Type 0
 TrimmedRunsSame = (S : List Db) (docs : ℕ → BareDoc) (xs : List DocEvent) → Agreed S → IsRun docs xs
-    → (i j : ℕ) → IsWithin (after_doc_events (begin docs) xs j).learned S
-    → IsWithin (after_doc_events (begin docs) xs i).learned (after_doc_events (begin docs) xs j).learned
-    → IsWithin (after_doc_events (begin docs) xs j).learned (after_doc_events (begin docs) xs i).learned
-    → current_view (db_in (after_doc_events (begin docs) xs i).doc)
-    ≡ current_view (db_in (after_doc_events (begin docs) xs j).doc)
+    → (i j : ℕ) → IsWithin (world_after docs xs j).learned S
+    → IsWithin (world_after docs xs i).learned (world_after docs xs j).learned
+    → IsWithin (world_after docs xs j).learned (world_after docs xs i).learned
+    → current_view (db_in (world_after docs xs i).doc)
+    ≡ current_view (db_in (world_after docs xs j).doc)

@@ -7,7 +7,7 @@ use Rattle.vault_model.specs.Plans.{World, begin, change, IsStep}
 use Rattle.vault_model.specs.Tree.{BareDoc, LEVELS, IsDoc, db_in}
 use Rattle.document_merge.specs.Merging.{merge_result}
 use Rattle.agreed_laws.specs.Runs.{docs_of}
-use Rattle.run_laws.specs.TrimmedRuns.{DocEvent, after_doc_event, after_doc_events, growth, joining, overwriting}
+use Rattle.run_laws.specs.TrimmedRuns.{DocEvent, after_doc_event, growth, joining, overwriting, world_after}
 
 -- what may be done: a document only grows
 abbrev pub IsWholeDocEvent : World → DocEvent → Type 0
@@ -28,13 +28,13 @@ pub record IsWholeRun (docs : ℕ → BareDoc) (xs : List DocEvent) : Type 0 whe
 -- a replica that has learned what is within an agreed set has the join of it
 abbrev pub WholeRunsJoin : Type 0
 WholeRunsJoin = (S : List Db) (docs : ℕ → BareDoc) (xs : List DocEvent) → Agreed S
-    → IsWholeRun docs xs → (i : ℕ) → IsWithin (after_doc_events (begin docs) xs i).learned S
-    → db_in (after_doc_events (begin docs) xs i).doc ≡ join (after_doc_events (begin docs) xs i).learned
+    → IsWholeRun docs xs → (i : ℕ) → IsWithin (world_after docs xs i).learned S
+    → db_in (world_after docs xs i).doc ≡ join (world_after docs xs i).learned
 
 -- and so replicas that have learned the same have the same database
 abbrev pub WholeRunsSame : Type 0
 WholeRunsSame = (S : List Db) (docs : ℕ → BareDoc) (xs : List DocEvent) → Agreed S
-    → IsWholeRun docs xs → (i j : ℕ) → IsWithin (after_doc_events (begin docs) xs j).learned S
-    → IsWithin (after_doc_events (begin docs) xs i).learned (after_doc_events (begin docs) xs j).learned
-    → IsWithin (after_doc_events (begin docs) xs j).learned (after_doc_events (begin docs) xs i).learned
-    → db_in (after_doc_events (begin docs) xs i).doc ≡ db_in (after_doc_events (begin docs) xs j).doc
+    → IsWholeRun docs xs → (i j : ℕ) → IsWithin (world_after docs xs j).learned S
+    → IsWithin (world_after docs xs i).learned (world_after docs xs j).learned
+    → IsWithin (world_after docs xs j).learned (world_after docs xs i).learned
+    → db_in (world_after docs xs i).doc ≡ db_in (world_after docs xs j).doc
