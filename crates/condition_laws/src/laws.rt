@@ -1,0 +1,31 @@
+//! The laws that commands are carried out under the conditions that the pages name. Each function
+//! has laws as its contract; it does nothing, and takes no memory.
+
+ghost use Rattle.condition_laws.specs.Conditions.{AddSucceeds, EditSucceeds, MakeGroupSucceeds, MoveEntrySucceeds, MoveGroupSucceeds, RemoveEntrySucceeds, RemoveGroupSucceeds};
+
+/// An edit is carried out where its path names an entry, and the entry's last time is before the
+/// last second of the year 9999.
+pub fn edits_succeed()
+    ensures { EditSucceeds }
+{}
+
+/// A move is carried out where both paths name what they must, and the node is not there yet; a
+/// group that is moved is not the root, does not hold its goal, and stays above the last level.
+pub fn moves_succeed()
+    ensures entry { MoveEntrySucceeds }
+    ensures group { MoveGroupSucceeds }
+{}
+
+/// A new node is made where its group is there, its path is free and its id is; a group must fit
+/// above the last level.
+pub fn new_nodes_succeed()
+    ensures add { AddSucceeds }
+    ensures make_group { MakeGroupSucceeds }
+{}
+
+/// A removal is carried out where the path names what it must; what goes into the bin must be able
+/// to be moved there, and where the bin is made its id must be free.
+pub fn removals_succeed()
+    ensures entry { RemoveEntrySucceeds }
+    ensures group { RemoveGroupSucceeds }
+{}

@@ -1,0 +1,4 @@
+pub mod GroupMoves
+pub mod GroupParts
+pub mod GroupRemovals
+pub mod GroupRows
