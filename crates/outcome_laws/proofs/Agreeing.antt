@@ -1,0 +1,217 @@
+-- What a call results in over files that agree on those that its words name.
+use Rattle.std.proofs.Common.{◌≡◌, ℕ, Bool, true, false, inl, inr, List, [], ◌∷◌, ◌++◌, Option, None, Some, Result, Ok, Err, refl, sym, ap, subst, ◌∙◌}
+use Rattle.std.specs.FinMap as map
+use Rattle.outside_core.specs.Files.{FileMap}
+use Rattle.outside_core.specs.Results.{◌>>=◌}
+use Rattle.key_core.specs.Keys.{composite_key}
+use Rattle.kdbx_open.specs.Files.{opening_of}
+use Rattle.kdbx_frame.specs.declared.sealings.Sealing.{Sealing}
+use Rattle.vault_model.specs.Join.{IsIn}
+use Rattle.vault_model.specs.Tree.{BareDoc}
+use Rattle.vault_model.proofs.Tests.{in_back, in_front}
+use Rattle.tree_core.proofs.Options.{never}
+use Rattle.cli_answers.specs.declared.answers.Refusal.{Refusal}
+use Rattle.cli_answers.specs.Pages.{page_of}
+use Rattle.cli_answers.specs.Phases.{StreamAnswer, after_left, then_left, with_left}
+use Rattle.cli_words.specs.declared.command.Access.{Access}
+use Rattle.cli_words.specs.declared.command.Command.{Command}
+use Rattle.cli_words.specs.Needs.{ImportNeeds, Needs, database_files, file_made, files_by, files_named, files_of, import_of, key_files, needs_of, source_files, target_of}
+use Rattle.cli_words.specs.Words.{command_of}
+use Rattle.cli_lines.specs.Lines.{Lines, lines_of}
+use Rattle.cli_writing.specs.Writing.{NewFile, file_or_refusal, plain_file}
+use Rattle.cli_files.specs.Files.{Opened, key_in, key_of, of_file}
+use Rattle.cli_files.specs.Tasks.{Task, task_with}
+use Rattle.cli_databases.specs.Databases.{database_of, databases_of, docs_from, document_in, held_in, held_under, password_from, plain_of, sealed_in, sources_of, vault_or_refusal}
+use Rattle.cli_importing.specs.Imports.{document_by, imported_of, new_sealing, refuse_file, sealing_of, source_of}
+use Rattle.cli_commands.specs.Commands.{Change}
+use Rattle.call_reading.specs.Opening.{databases_by, databases_for, one_database}
+use Rattle.call_reading.specs.Reading.{task_of}
+use Rattle.call_carrying.specs.Endings.{Ending, carried_out, change_of_task, ended_with, ending_with}
+use Rattle.stream_core.specs.InnerStream.{NoKeystream}
+use Rattle.vault_model.specs.declared.forms.DocForm.TheVariants.{Plain}
+use Rattle.doc_write.specs.Written.{write_outcome}
+use Rattle.doc_write.specs.declared.writing.WriteFail.{WriteFail}
+use Rattle.kdbx_seal.specs.Answers.{size_refusal}
+use Rattle.kdbx_seal.specs.Made.{made_file}
+use Rattle.kdbx_seal.specs.declared.fail.SealFail.{SealFail}
+use Rattle.cli_sealing.specs.Draws.{draws_of}
+use Rattle.cli_sealing.specs.Sealing.{file_by, file_unless, sealed_file, settings_for}
+use Rattle.keepass_call.specs.Outcome.{World, answer_of, command_answer, ended, outcome, page_or_answer}
+use Rattle.call_reading.specs.Reading.{left_of}
+use Rattle.keepass_call.proofs.HeldTasks.{is_task}
+use Rattle.outcome_laws.specs.Named.{AgreeOn, OnlyNamedFilesCount, OnlyNamedIsWritten, PagesNeedNoFile, with_files}
+
+-- ---- phases over other files
+
+-- phases whose first parts are the same, and whose next parts are the same after it
+bind_same : {A B E : Type 0} (r s : Result A E) (next later : A → Result B E) → r ≡ s → ((x : A) → next x ≡ later x) → (r >>= next) ≡ (s >>= later)
+bind_same {A = A} {B = B} {E = E} r s next later e f = ap (λ t. t >>= next) e ∙ of s
+  where
+    of : (t : Result A E) → (t >>= next) ≡ (t >>= later)
+    of (Ok x) = f x
+    of (Err e) = refl
+
+module _ (F G : FileMap) where
+  keys_same : (key : Option (List ℕ)) → AgreeOn (key_files key) F G → key_of key F ≡ key_of key G
+  keys_same None agree = refl
+  keys_same (Some name) agree = ap (λ bytes. key_in name bytes >>= λ key. Ok (Some key)) (agree name (inl refl))
+
+  under_same : (file composite : List ℕ) → map.get F file ≡ map.get G file → held_under file F composite ≡ held_under file G composite
+  unfolding held_under
+  under_same file composite e = ap (λ bytes. vault_or_refusal file composite (opening_of bytes composite)) e
+
+  held_same : (plain : Bool) (key : Option (List ℕ)) (file : List ℕ) (password : Option (List ℕ)) → AgreeOn (key_files key ++ file ∷ []) F G → held_in plain key file password F ≡ held_in plain key file password G
+  held_same true key file password agree = ap (plain_of file) (agree file (in_back (key_files key) (file ∷ []) file (inl refl)))
+  held_same false key file password agree =
+      bind_same (key_of key F) (key_of key G) (sealed_in file F password) (sealed_in file G password)
+      (keys_same key (λ name i. agree name (in_front (key_files key) (file ∷ []) name i)))
+      (λ k. under_same file (composite_key password k) (agree file (in_back (key_files key) (file ∷ []) file (inl refl))))
+
+  document_same : (access : Access) (name : List ℕ) (password : Option (List ℕ)) → AgreeOn (database_files access name) F G → document_in access name password F ≡ document_in access name password G
+  document_same access name password agree = ap (λ r. r >>= λ (opened : Opened). Ok opened.doc) (held_same access.plain access.key_file name password agree)
+
+  docs_same : (from : Access) (same : Bool) (target : Option (List ℕ)) (names : List (List ℕ)) (lines : List (Option (List ℕ))) (docs : List BareDoc) → AgreeOn (source_files from names) F G
+      → docs_from from same target names lines docs F ≡ docs_from from same target names lines docs G
+  unfolding docs_from
+  docs_same from same target [] lines docs agree = refl
+  docs_same from same target (name ∷ names) [] docs agree = refl
+  docs_same from same target (name ∷ names) (line ∷ lines) docs agree =
+      bind_same (document_in from name (password_from same target line) F) (document_in from name (password_from same target line) G)
+      (λ doc. docs_from from same target names lines (docs ++ doc ∷ []) F) (λ doc. docs_from from same target names lines (docs ++ doc ∷ []) G)
+      (document_same from name (password_from same target line) (λ n i. agree n (in_front (database_files from name) (source_files from names) n i)))
+      (λ doc. docs_same from same target names lines (docs ++ doc ∷ []) (λ n i. agree n (in_back (database_files from name) (source_files from names) n i)))
+
+  databases_same : (needs : Needs) (lines : Lines) → AgreeOn (files_of needs) F G → databases_of needs lines F ≡ databases_of needs lines G
+  unfolding databases_of
+  databases_same needs lines agree =
+      let own = database_files needs.access needs.file in
+      let others = source_files needs.from needs.sources in
+      bind_same (database_of needs lines.password F) (database_of needs lines.password G)
+      (λ target. sources_of needs lines F >>= λ sources. Ok (record { target = target; sources = sources }))
+      (λ target. sources_of needs lines G >>= λ sources. Ok (record { target = target; sources = sources }))
+      (held_same needs.access.plain needs.access.key_file needs.file lines.password (λ n i. agree n (in_front own others n i)))
+      (λ target. ap (λ r. r >>= λ sources. Ok (record { target = target; sources = sources }))
+      (docs_same needs.from needs.same lines.password needs.sources lines.sources [] (λ n i. agree n (in_back own others n i))))
+
+  sealing_same : (plain : Bool) (key password : Option (List ℕ)) → AgreeOn (key_files key) F G → sealing_of plain key password F ≡ sealing_of plain key password G
+  sealing_same true key password agree = refl
+  sealing_same false key password agree = ap (λ r. r >>= λ key. Ok (Some (new_sealing password key))) (keys_same key agree)
+
+  import_same : (import : ImportNeeds) (lines : Lines) (time : ℕ) → AgreeOn (import.source ∷ import.file ∷ key_files import.access.key_file) F G → imported_of import lines time F ≡ imported_of import lines time G
+  unfolding imported_of
+  import_same import lines time agree =
+      let seal = sealing_same import.access.plain import.access.key_file lines.more (λ n i. agree n (inr (inr i))) in
+      bind_same (source_of import lines.password time F) (source_of import lines.password time G)
+      (λ doc. refuse_file import.file (map.get F import.file) >>= λ _. (sealing_of import.access.plain import.access.key_file lines.more F >>= λ sealing. Ok (record { doc = doc; sealing = sealing })))
+      (λ doc. refuse_file import.file (map.get G import.file) >>= λ _. (sealing_of import.access.plain import.access.key_file lines.more G >>= λ sealing. Ok (record { doc = doc; sealing = sealing })))
+      (ap (of_file import.source (document_by import.format import.source lines.password time)) (agree import.source (inl refl)))
+      (λ doc. bind_same (refuse_file import.file (map.get F import.file)) (refuse_file import.file (map.get G import.file))
+      (λ _. (sealing_of import.access.plain import.access.key_file lines.more F >>= λ sealing. Ok (record { doc = doc; sealing = sealing })))
+      (λ _. (sealing_of import.access.plain import.access.key_file lines.more G >>= λ sealing. Ok (record { doc = doc; sealing = sealing })))
+      (ap (refuse_file import.file) (agree import.file (inr (inl refl))))
+      (λ x. ap (λ r. r >>= λ sealing. Ok (record { doc = doc; sealing = sealing })) seal))
+
+  by_same : (import : Option ImportNeeds) (needs : Needs) (lines : Lines) (time : ℕ) → AgreeOn (files_by import needs) F G → databases_by import needs lines time F ≡ databases_by import needs lines time G
+  by_same (Some import) needs lines time agree = ap (λ r. r >>= λ opened. Ok (one_database opened)) (import_same import lines time agree)
+  by_same None needs lines time agree = databases_same needs lines agree
+
+  command_same : (time : ℕ) (input : List ℕ) (c : Result Command Refusal) → AgreeOn (files_named c) F G
+      → (c >>= λ command. ((lines_of (needs_of command) input).answer >>= λ lines. (databases_for command lines time F >>= λ databases. Ok (task_with command lines databases))))
+      ≡ (c >>= λ command. ((lines_of (needs_of command) input).answer >>= λ lines. (databases_for command lines time G >>= λ databases. Ok (task_with command lines databases))))
+  command_same time input (Err refusal) agree = refl
+  command_same time input (Ok command) agree =
+      bind_same (lines_of (needs_of command) input).answer (lines_of (needs_of command) input).answer
+      (λ lines. databases_for command lines time F >>= λ databases. Ok (task_with command lines databases))
+      (λ lines. databases_for command lines time G >>= λ databases. Ok (task_with command lines databases))
+      refl (λ lines. ap (λ r. r >>= λ databases. Ok (task_with command lines databases)) (by_same (import_of command) (needs_of command) lines time agree))
+
+  task_same : (words : List (List ℕ)) (time : ℕ) (input : List ℕ) → AgreeOn (files_named (command_of words)) F G → task_of words time input F ≡ task_of words time input G
+  unfolding task_of
+  task_same words time input agree = command_same time input (command_of words) agree
+
+-- ---- the outcome
+
+answer_same : (words : List (List ℕ)) (time : ℕ) (world : World) (files : FileMap) → AgreeOn (files_named (command_of words)) world.files files → (page : Option (List ℕ))
+    → page_or_answer page words time world ≡ page_or_answer page words time (with_files world files)
+unfolding command_answer
+answer_same words time world files agree (Some page) = refl
+answer_same words time world files agree None = ap (λ r. then_left (with_left r world.dice) (carried_out time)) (task_same world.files files words time world.input agree)
+
+pub only_named_files_count : OnlyNamedFilesCount
+only_named_files_count words time world files agree =
+    ap (λ (a : StreamAnswer Ending). ended (left_of words world.input) a.answer a.left) (answer_same words time world files agree (page_of words))
+
+pub pages_need_no_file : PagesNeedNoFile
+pages_need_no_file words time world files page is =
+    ap (λ (a : StreamAnswer Ending). ended (left_of words world.input) a.answer a.left)
+    (ap (λ p. page_or_answer p words time world) is ∙ sym (ap (λ p. page_or_answer p words time (with_files world files)) is))
+
+-- ---- the file that is written
+
+abbrev file_in : Result Ending Refusal → Option NewFile
+file_in (Ok ending) = ending.file
+file_in (Err refusal) = None
+
+abbrev name_made : List ℕ → Result NewFile Refusal → List ℕ
+name_made name (Ok file) = file.name
+name_made name (Err refusal) = name
+
+abbrev name_in : List ℕ → Option NewFile → List ℕ
+name_in name None = name
+name_in name (Some file) = file.name
+
+written_name : (name text : List ℕ) (made : Result NewFile Refusal) (left : List ℕ) → ((file : NewFile) → made ≡ Ok file → file.name ≡ name)
+    → name_in name (file_in (after_left made left (λ file rest. with_left (Ok (ending_with text file)) rest)).answer) ≡ name
+written_name name text (Ok file) left is = is file refl
+written_name name text (Err refusal) left is = refl
+
+ended_name : (name text : List ℕ) (sealing : Option Sealing) (doc : Option BareDoc) (dice : List ℕ) → name_in name (file_in (ended_with name sealing text doc dice).answer) ≡ name
+unfolding file_by
+ended_name name text sealing None dice = refl
+ended_name name text None (Some doc) dice = written_name name text (plain_file name doc) dice (λ file is. plain_name name (write_outcome Plain NoKeystream None doc) file is)
+  where
+    plain_name : (name : List ℕ) (r : Result (List ℕ) WriteFail) (file : NewFile) → file_or_refusal name r ≡ Ok file → file.name ≡ name
+    plain_name name (Ok text) file is = ap (name_made name) (sym is)
+    plain_name name (Err why) file is = cc is
+ended_name name text (Some sealing) (Some doc) dice = let s = settings_for sealing.settings doc in written_name name text (sealed_file name sealing.settings sealing.composite doc dice).answer (sealed_file name sealing.settings sealing.composite doc dice).left (λ file is. sealed_name name (size_refusal s (draws_of s dice) doc) (made_file s (draws_of s dice) sealing.composite doc) file is)
+  where
+    sealed_name : (name : List ℕ) (why : Option SealFail) (bytes : List ℕ) (file : NewFile) → file_unless name why bytes ≡ Ok file → file.name ≡ name
+    sealed_name name None bytes file is = ap (name_made name) (sym is)
+    sealed_name name (Some why) bytes file is = cc is
+
+after_name : (name : List ℕ) (sealing : Option Sealing) (answer : Result Change Refusal) (dice : List ℕ)
+    → name_in name (file_in (after_left answer dice (λ change left. ended_with name sealing change.text change.doc left)).answer) ≡ name
+after_name name sealing (Ok change) dice = ended_name name change.text sealing change.doc dice
+after_name name sealing (Err refusal) dice = refl
+
+carried_name : (time : ℕ) (task : Task) (dice : List ℕ) → name_in (target_of task.command) (file_in (carried_out time task dice).answer) ≡ target_of task.command
+unfolding carried_out
+carried_name time task dice = after_name (target_of task.command) task.opened.sealing (change_of_task time task dice).answer (change_of_task time task dice).left
+
+target_named : (import : Option ImportNeeds) (needs : Needs) → IsIn (file_made import needs.file) (files_by import needs)
+target_named (Some import) needs = inr (inl refl)
+target_named None needs =
+    in_front (database_files needs.access needs.file) (source_files needs.from needs.sources) needs.file (in_back (key_files needs.access.key_file) (needs.file ∷ []) needs.file (inl refl))
+
+ended_file : (left : List ℕ) (answer : Result Ending Refusal) (dice : List ℕ) → (ended left answer dice).file ≡ file_in answer
+ended_file left (Ok ending) dice = refl
+ended_file left (Err refusal) dice = refl
+
+named_in : (words : List (List ℕ)) (time : ℕ) (world : World) (file : NewFile) → (page : Option (List ℕ)) → file_in (page_or_answer page words time world).answer ≡ Some file
+    → IsIn file.name (files_named (command_of words))
+unfolding command_answer
+named_in words time world file (Some page) has = never file has
+named_in words time world file None has = of (task_of words time world.input world.files) refl has
+  where
+    of : (t : Result Task Refusal) → task_of words time world.input world.files ≡ t → file_in (after_left t world.dice (carried_out time)).answer ≡ Some file → IsIn file.name (files_named (command_of words))
+    of (Err refusal) is h = never file h
+    of (Ok task) is h =
+        let command = (is_task words time world task is).is_command in
+        let name : file.name ≡ target_of task.command = ap (name_in (target_of task.command)) (sym h) ∙ carried_name time task world.dice in
+        subst (λ (c : Result Command Refusal). IsIn file.name (files_named c)) (sym command)
+        (subst (λ (n : List ℕ). IsIn n (files_named (Ok task.command))) (sym name) (target_named (import_of task.command) (needs_of task.command)))
+
+pub only_named_is_written : OnlyNamedIsWritten
+only_named_is_written words time world file is =
+    named_in words time world file (page_of words)
+    (sym (ended_file (left_of words world.input) (answer_of words time world).answer (answer_of words time world).left) ∙ is)
