@@ -1,0 +1,170 @@
+-- The conditions of a call suffice.
+use Rattle.std.proofs.Common.{◌≡◌, ◌≤◌, ℕ, Bool, true, false, inl, nat_lt, List, Option, None, Some, Result, Ok, Err, is_some, refl, ap, ◌∙◌, arith}
+use Rattle.std.proofs.lemmas.Bool.{ltb-true}
+use Rattle.std.specs.Prelude.{if◌then◌else◌}
+use Rattle.outside_core.specs.Results.{◌>>=◌}
+use Rattle.time_core.specs.Times.{last_stamp}
+use Rattle.vault_model.specs.Db.{NodeId}
+use Rattle.vault_model.specs.Tree.{BareDoc, IsDoc, Tree}
+use Rattle.vault_model.proofs.Tests.{is_false}
+use Rattle.tree_core.specs.declared.fails.TreeFail.{TreeFail}
+use Rattle.tree_core.specs.declared.fails.TreeFail.TheVariants.{StampLimit}
+use Rattle.tree_core.specs.After.{after_add, after_edit, after_make_group, after_move_entry, after_move_group, after_remove_entry, after_remove_group, needs_bin}
+use Rattle.condition_laws.proofs.Succeeds.{add_succeeds, edit_succeeds, make_group_succeeds, move_entry_succeeds, move_group_succeeds, remove_entry_succeeds, remove_group_succeeds}
+use Rattle.kdbx_frame.specs.declared.settings.Settings.{Settings}
+use Rattle.kdbx_frame.specs.declared.sealings.Sealing.{Sealing}
+use Rattle.kdbx_seal.specs.Made.{made_file}
+use Rattle.cli_answers.specs.declared.answers.Refusal.{Refusal}
+use Rattle.cli_answers.specs.Phases.{after_left, then_left, with_left}
+use Rattle.cli_words.specs.declared.command.Command.{Command}
+use Rattle.cli_words.specs.declared.command.Command.TheVariants.{Ls, Show, Search, Add, Edit, Move, Remove, MakeGroup, RemoveGroup, Merge, Import, Export, Info}
+use Rattle.cli_words.specs.Needs.{import_of, target_of}
+use Rattle.cli_printing.specs.Listing.{tree_listed}
+use Rattle.cli_writing.specs.Writing.{file_or_refusal}
+use Rattle.cli_sealing.specs.Draws.{after_draws, draws_of}
+use Rattle.cli_sealing.specs.Sealing.{file_by, file_unless, settings_for}
+use Rattle.cli_changes.specs.Entries.{AfterCommand, after_add_command, after_edit_command, time_of, values_of, with_edited_at, with_entry_at}
+use Rattle.cli_changes.specs.Fails.{change_or_refusal}
+use Rattle.cli_changes.specs.Nodes.{after_entry_move, after_group_move, after_mkdir, after_rm, after_rmdir, names_group, with_entry_moved_at, with_group_at, with_group_moved_at, without_entry_at, without_group_at}
+use Rattle.cli_commands.specs.Commands.{bin_id, change_with, drawn_id, listing_of, makes_node, new_document}
+use Rattle.call_carrying.specs.Endings.{carried_out, change_of_task, ended_with, ending_with, settings_in}
+use Rattle.keepass_call.proofs.TaskDocs.{task_docs}
+use Rattle.completeness_laws.specs.Conditions.{Answers, CanChange, CanMove, CommandsSucceed, ConditionsSuffice, FitsFile, id_for}
+
+-- ---- commands that change the tree
+
+-- Some answer is not refused.
+abbrev Gives : {A E : Type 0} → Result A E → Type 0
+Gives {A} {E} r = (x : A) × (r ≡ Ok x)
+
+sure : {A E : Type 0} (x : A) → Gives {A = A} {E = E} (Ok x)
+sure x = (x, refl)
+
+-- what is the same gives the same
+gives_so : {A E : Type 0} (r s : Result A E) → r ≡ s → Gives s → Gives r
+gives_so r s e g = (g.0, e ∙ g.1)
+
+-- a first step that gives something, after which the next does
+after_one : {A B E : Type 0} (r : Result A E) (next : A → Result B E) → Gives r → ((x : A) → Gives (next x)) → Gives (r >>= next)
+after_one r next one rest = let two = rest one.0 in (two.0, ap (λ t. t >>= next) one.1 ∙ two.1)
+
+-- a change at a moment of the calendar
+at_moment : {A : Type 0} (file : List ℕ) (now : ℕ) (made : ℕ → Result A TreeFail) → now ≤ last_stamp → Gives (made now) → Gives (change_or_refusal file (time_of now >>= made))
+at_moment file now made within gives =
+    (gives.0, ap (λ b. change_or_refusal file ((if b then Err (StampLimit now) else Ok now) >>= made)) (is_false (nat_lt last_stamp now) (λ p. let less = ltb-true last_stamp now p in omega (arith, less, within))) ∙ ap (change_or_refusal file) gives.1)
+
+-- what a change of a document prints and leaves
+reported : {A : Type 0} (r : Result A Refusal) (next : A → Result AfterCommand Refusal) → Gives r → ((x : A) → Gives (next x)) → Gives (new_document (r >>= next))
+reported r next one rest = let two = after_one r next one rest in (record { text = two.0.text; doc = Some two.0.doc }, ap new_document two.1)
+
+module _ (time : ℕ) (within : time ≤ last_stamp) (file : List ℕ) (quiet : Bool) (id : NodeId) (d : BareDoc) (isd : IsDoc d) where
+  move_gives : (b : Bool) (node group : List ℕ) → CanMove b node group time d → Gives (new_document (if b then after_group_move file quiet node group time d else after_entry_move file quiet node group time d))
+  unfolding after_group_move after_entry_move
+  move_gives true node group can = reported (change_or_refusal file (with_group_moved_at node group time d)) _
+      (at_moment file time (λ t. after_move_group node group t d) within (move_group_succeeds node group time d can)) (λ new. sure _)
+  move_gives false node group can = reported (change_or_refusal file (with_entry_moved_at node group time d)) _
+      (at_moment file time (λ t. after_move_entry node group t d) within (move_entry_succeeds node group time d isd can)) (λ new. sure _)
+
+  -- a bin is given exactly where one has to be made
+  bin_given : (b : Bool) → is_some (if b then Some id else None) ≡ b
+  bin_given true = refl
+  bin_given false = refl
+
+  listing_gives : (recursive flat : Bool) (o : Option Tree) (tree : Tree) → o ≡ Some tree → Gives (listing_of file recursive flat o)
+  listing_gives recursive flat None tree is = cc is
+  listing_gives recursive flat (Some t) tree is = sure _
+
+gives_answers : (time : ℕ) (command : Command) (line : Option (List ℕ)) (sources : List BareDoc) (settings : Option Settings) (id : NodeId) (d : BareDoc) → Gives (change_with time command line sources settings id d)
+    → Answers time command line sources settings id d
+gives_answers time command line sources settings id d gives = record { change = gives.0; is = gives.1 }
+
+pub commands_succeed : CommandsSucceed
+unfolding after_add_command after_edit_command after_mkdir after_rm after_rmdir
+commands_succeed time (Ls access file group recursive flat) line sources settings id d within isd can =
+    gives_answers time (Ls access file group recursive flat) line sources settings id d (listing_gives time within file access.quiet id d isd recursive flat (tree_listed group d) can.0 can.1)
+commands_succeed time (Show access file entry clear all attachments names) line sources settings id d within isd can = can
+commands_succeed time (Search access file term) line sources settings id d within isd can = can
+commands_succeed time (Add access file entry asked) line sources settings id d within isd can =
+    gives_answers time (Add access file entry asked) line sources settings id d (reported (change_or_refusal file (with_entry_at entry id (values_of asked line) time d)) _
+    (at_moment file time (λ t. after_add entry id (values_of asked line) t d) within (add_succeeds entry id (values_of asked line) time d can)) (λ new. sure _))
+commands_succeed time (Edit access file entry asked) line sources settings id d within isd can =
+    gives_answers time (Edit access file entry asked) line sources settings id d (reported (change_or_refusal file (with_edited_at entry (values_of asked line) time d)) _
+    (at_moment file time (λ t. after_edit entry (values_of asked line) t d) within (edit_succeeds entry (values_of asked line) time d isd can)) (λ new. sure _))
+commands_succeed time (Move access file node group) line sources settings id d within isd can =
+    gives_answers time (Move access file node group) line sources settings id d (move_gives time within file access.quiet id d isd (names_group node) node group can)
+commands_succeed time (Remove access file entry) line sources settings id d within isd can =
+    gives_answers time (Remove access file entry) line sources settings id d (reported (change_or_refusal file (without_entry_at entry (bin_id id d) time d)) _
+    (at_moment file time (λ t. after_remove_entry entry (bin_id id d) t d) within (remove_entry_succeeds entry (bin_id id d) time d isd can)) (λ after. sure _))
+commands_succeed time (MakeGroup access file group) line sources settings id d within isd can =
+    gives_answers time (MakeGroup access file group) line sources settings id d (reported (change_or_refusal file (with_group_at group id time d)) _
+    (at_moment file time (λ t. after_make_group group id t d) within (make_group_succeeds group id time d can)) (λ new. sure _))
+commands_succeed time (RemoveGroup access file group) line sources settings id d within isd can =
+    gives_answers time (RemoveGroup access file group) line sources settings id d (reported (change_or_refusal file (without_group_at group (bin_id id d) time d)) _
+    (at_moment file time (λ t. after_remove_group group (bin_id id d) t d) within
+    (remove_group_succeeds group (bin_id id d) time d (bin_given time within file access.quiet id d isd (needs_bin d)) can)) (λ after. sure _))
+commands_succeed time (Merge access file names from same dry) line sources settings id d within isd can = can
+commands_succeed time (Import access format source from file) line sources settings id d within isd can =
+    gives_answers time (Import access format source from file) line sources settings id d (sure _)
+commands_succeed time (Export access format file) line sources settings id d within isd can = can
+commands_succeed time (Info access file) line sources settings id d within isd can =
+    gives_answers time (Info access file) line sources settings id d (sure _)
+
+-- ---- calls
+
+id_answer : {A : Type 0} (b : Bool) (next : NodeId → Result A Refusal) (dice : List ℕ) → (then_left (drawn_id b dice) (λ id left. with_left (next id) left)).answer ≡ next (id_for b dice)
+id_answer true next dice = refl
+id_answer false next dice = refl
+
+-- what is written where a document fits its file
+written_gives : (name text : List ℕ) (sealing : Option Sealing) (d : BareDoc) (dice : List ℕ) → FitsFile sealing d dice → Gives (ended_with name sealing text (Some d) dice).answer
+unfolding file_by
+written_gives name text None d dice fits =
+    gives_so _ _ (ap (λ r. (then_left (with_left (file_or_refusal name r) dice) (λ file left. with_left (Ok (ending_with text file)) left)).answer) fits.1) (sure _)
+written_gives name text (Some sealing) d dice fits =
+    let s = settings_for sealing.settings d in
+    gives_so _ _
+    (ap (λ why. (then_left (with_left (file_unless name why (made_file s (draws_of s dice) sealing.composite d)) (after_draws s dice)) (λ file left. with_left (Ok (ending_with text file)) left)).answer) fits)
+    (sure _)
+
+ended_gives : (name text : List ℕ) (sealing : Option Sealing) (doc : Option BareDoc) (dice : List ℕ) → ((d : BareDoc) → doc ≡ Some d → FitsFile sealing d dice) → Gives (ended_with name sealing text doc dice).answer
+ended_gives name text sealing None dice fits = sure _
+ended_gives name text sealing (Some d) dice fits = written_gives name text sealing d dice (fits d refl)
+
+-- the commands that open their database have a document; an import does not ask for it
+answers : (time : ℕ) (command : Command) (line : Option (List ℕ)) (sources : List BareDoc) (settings : Option Settings) (id : NodeId) (d : BareDoc) → time ≤ last_stamp → (import_of command ≡ None → IsDoc d)
+    → CanChange time command line sources settings id d → Answers time command line sources settings id d
+answers time (Import access format source from file) line sources settings id d within isd can =
+    gives_answers time (Import access format source from file) line sources settings id d (sure _)
+answers time (Ls access file group recursive flat) line sources settings id d within isd can = commands_succeed time (Ls access file group recursive flat) line sources settings id d within (isd refl) can
+answers time (Show access file entry clear all attachments names) line sources settings id d within isd can = can
+answers time (Search access file term) line sources settings id d within isd can = can
+answers time (Add access file entry asked) line sources settings id d within isd can = commands_succeed time (Add access file entry asked) line sources settings id d within (isd refl) can
+answers time (Edit access file entry asked) line sources settings id d within isd can = commands_succeed time (Edit access file entry asked) line sources settings id d within (isd refl) can
+answers time (Move access file node group) line sources settings id d within isd can = commands_succeed time (Move access file node group) line sources settings id d within (isd refl) can
+answers time (Remove access file entry) line sources settings id d within isd can = commands_succeed time (Remove access file entry) line sources settings id d within (isd refl) can
+answers time (MakeGroup access file group) line sources settings id d within isd can = commands_succeed time (MakeGroup access file group) line sources settings id d within (isd refl) can
+answers time (RemoveGroup access file group) line sources settings id d within isd can = commands_succeed time (RemoveGroup access file group) line sources settings id d within (isd refl) can
+answers time (Merge access file names from same dry) line sources settings id d within isd can = can
+answers time (Export access format file) line sources settings id d within isd can = can
+answers time (Info access file) line sources settings id d within isd can = commands_succeed time (Info access file) line sources settings id d within (isd refl) can
+
+pub conditions_suffice : ConditionsSuffice
+unfolding carried_out
+conditions_suffice words time world can =
+    let task = can.task in
+    let settings = settings_in task.opened.sealing in
+    let made = makes_node task.command task.opened.doc in
+    let a = answers time task.command task.lines.more task.sources settings (id_for made world.dice) task.opened.doc can.in_calendar
+    (λ none. task_docs words time world task none can.is_task task.opened.doc (inl refl)) can.can in
+    let is : (change_of_task time task world.dice).answer ≡ Ok a.change =
+    id_answer made (λ id. change_with time task.command task.lines.more task.sources settings id task.opened.doc) world.dice ∙ a.is in
+    let left = (change_of_task time task world.dice).left in
+    let e = ended_gives (target_of task.command) a.change.text task.opened.sealing a.change.doc left (λ d writes. can.fits a.change d is writes) in
+    record {
+      ending = e.0;
+      is = record {
+        task = task;
+        is_task = can.is_task;
+        gives = ap (λ r. (after_left r left (λ change rest. ended_with (target_of task.command) task.opened.sealing change.text change.doc rest)).answer) is ∙ e.1;
+      };
+    }

@@ -1,0 +1,112 @@
+-- Under which conditions a call is carried out.
+use Rattle.std.specs.Prelude.{◌≡◌, ◌≤◌, ℕ, Bool, true, false, List, Option, None, Some, Ok}
+use Rattle.time_core.specs.Times.{last_stamp}
+use Rattle.stream_core.specs.InnerStream.{NoKeystream}
+use Rattle.vault_model.specs.declared.forms.DocForm.TheVariants.{Plain}
+use Rattle.vault_model.specs.Db.{NodeId, nil_id}
+use Rattle.vault_model.specs.Tree.{BareDoc, IsDoc, Tree}
+use Rattle.tree_core.specs.Finding.{without_slashes}
+use Rattle.condition_laws.specs.Conditions.{CanAdd, CanEdit, CanMakeGroup, CanMoveEntry, CanMoveGroup, CanRemoveEntry, CanRemoveGroup}
+use Rattle.doc_write.specs.Written.{write_outcome}
+use Rattle.kdbx_frame.specs.declared.settings.Settings.{Settings}
+use Rattle.kdbx_frame.specs.declared.sealings.Sealing.{Sealing}
+use Rattle.kdbx_seal.specs.Answers.{size_refusal}
+use Rattle.cli_words.specs.declared.command.Command.{Command}
+use Rattle.cli_words.specs.declared.command.Command.TheVariants.{Ls, Show, Search, Add, Edit, Move, Remove, MakeGroup, RemoveGroup, Merge, Import, Export, Info}
+use Rattle.cli_printing.specs.Listing.{tree_listed}
+use Rattle.cli_writing.specs.Drawing.{next_bytes}
+use Rattle.cli_sealing.specs.Draws.{draws_of}
+use Rattle.cli_sealing.specs.Sealing.{settings_for}
+use Rattle.cli_changes.specs.Ids.{new_id}
+use Rattle.cli_changes.specs.Nodes.{names_group}
+use Rattle.cli_commands.specs.Commands.{Change, bin_id, change_with, makes_node}
+use Rattle.cli_files.specs.Tasks.{Task}
+use Rattle.call_carrying.specs.Endings.{Ending, change_of_task, settings_in}
+use Rattle.keepass_call.specs.Held.{IsCarried, IsTask}
+use Rattle.keepass_call.specs.Outcome.{World}
+
+-- ---- the command
+
+-- The node of the first word can be moved: a group where the word ends with a slash, else an entry.
+abbrev pub CanMove : Bool → (path goal : List ℕ) → ℕ → BareDoc → Type 0
+CanMove true path goal now d = CanMoveGroup path goal now d
+CanMove false path goal now d = CanMoveEntry path goal now d
+
+-- What a command makes of a document is defined, and no refusal.
+pub record Answers (time : ℕ) (command : Command) (line : Option (List ℕ)) (sources : List BareDoc)
+    (settings : Option Settings) (id : NodeId) (d : BareDoc) : Type 0 where
+  pub change : Change
+  pub is : change_with time command line sources settings id d ≡ Ok change
+
+-- The condition of each command on its document; a node that it makes has this id. Of those that
+-- print values, merge or export it is that their definition is no refusal.
+abbrev pub CanChange : ℕ → Command → Option (List ℕ) → List BareDoc → Option Settings → NodeId
+    → BareDoc → Type 0
+CanChange time (Ls access file group recursive flat) line sources settings id d =
+    (tree : Tree) × (tree_listed group d ≡ Some tree)
+CanChange time (Show access file entry clear all attachments names) line sources settings id d =
+    Answers time (Show access file entry clear all attachments names) line sources settings id d
+CanChange time (Search access file term) line sources settings id d =
+    Answers time (Search access file term) line sources settings id d
+CanChange time (Add access file entry asked) line sources settings id d = CanAdd entry id d
+CanChange time (Edit access file entry asked) line sources settings id d = CanEdit entry time d
+CanChange time (Move access file node group) line sources settings id d =
+    CanMove (names_group node) node group time d
+CanChange time (Remove access file entry) line sources settings id d =
+    CanRemoveEntry entry (bin_id id d) time d
+CanChange time (MakeGroup access file group) line sources settings id d =
+    CanMakeGroup (without_slashes group) id d
+CanChange time (RemoveGroup access file group) line sources settings id d =
+    CanRemoveGroup group (bin_id id d) time d
+CanChange time (Merge access file names from same dry) line sources settings id d =
+    Answers time (Merge access file names from same dry) line sources settings id d
+CanChange time (Import access format source from file) line sources settings id d = Unit {0}
+CanChange time (Export access format file) line sources settings id d =
+    Answers time (Export access format file) line sources settings id d
+CanChange time (Info access file) line sources settings id d = Unit {0}
+
+-- Under its condition a command is not refused on a document, at a moment of the calendar.
+abbrev pub CommandsSucceed : Type 0
+CommandsSucceed = (time : ℕ) (command : Command) (line : Option (List ℕ)) (sources : List BareDoc)
+    (settings : Option Settings) (id : NodeId) (d : BareDoc) → time ≤ last_stamp → IsDoc d
+    → CanChange time command line sources settings id d
+    → Answers time command line sources settings id d
+
+-- ---- the call
+
+-- The id of a node that a command makes, of the dice.
+abbrev pub id_for : Bool → List ℕ → NodeId
+id_for true dice = new_id (next_bytes 16 dice)
+id_for false dice = nil_id
+
+-- A document is within the limits of its file: a plain document, or one that is sealed with what is
+-- drawn from the dice.
+abbrev pub FitsFile : Option Sealing → BareDoc → List ℕ → Type 0
+FitsFile None d dice =
+    (text : List ℕ) × (write_outcome Plain NoKeystream None d ≡ Ok text)
+FitsFile (Some sealing) d dice = size_refusal (settings_for sealing.settings d)
+    (draws_of (settings_for sealing.settings d) dice) d ≡ None
+
+-- The words are a task, whose lines and files are there and hold its databases; the moment is in
+-- the calendar; the condition of the command holds; and a document that is written fits its file.
+pub record CanBeCarried (words : List (List ℕ)) (time : ℕ) (world : World) : Type 0 where
+  pub task : Task
+  pub is_task : IsTask words time world task
+  pub in_calendar : time ≤ last_stamp
+  pub can : CanChange time task.command task.lines.more task.sources
+      (settings_in task.opened.sealing)
+      (id_for (makes_node task.command task.opened.doc) world.dice) task.opened.doc
+  pub fits : (change : Change) (d : BareDoc)
+      → (change_of_task time task world.dice).answer ≡ Ok change → change.doc ≡ Some d
+      → FitsFile task.opened.sealing d (change_of_task time task world.dice).left
+
+-- A call ends in some way as it is defined, without a refusal.
+pub record IsCarriedOut (words : List (List ℕ)) (time : ℕ) (world : World) : Type 0 where
+  pub ending : Ending
+  pub is : IsCarried words time world ending
+
+-- Such a call can be carried out.
+abbrev pub ConditionsSuffice : Type 0
+ConditionsSuffice = (words : List (List ℕ)) (time : ℕ) (world : World)
+    → CanBeCarried words time world
+    → IsCarriedOut words time world
