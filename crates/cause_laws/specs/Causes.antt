@@ -71,6 +71,7 @@ HasWrongBlocksIn V40 fail base key header file =
 HasWrongBlocksIn V41 fail base key header file =
     AreContents base (length file) (after_header header.size file) (Err fail)
 
+-- A file begins with a header, and its blocks are wrong in this way under the keys of its composite.
 pub record HasWrongBlocks (fail : BlockFail) (file composite : List ℕ) : Type 0 where
   pub header : Header
   pub begins : Begins file header
@@ -88,6 +89,7 @@ IsBadlyPadded Aes key iv content = HasNoPadding (aes256_decipher key) iv content
 IsBadlyPadded Twofish key iv content = HasNoPadding (twofish256_decipher key) iv content
 IsBadlyPadded ChaCha key iv content = ⊥
 
+-- A file begins with a header, and the content of its blocks is padded wrongly under its key.
 pub record HasBadPadding (file composite : List ℕ) : Type 0 where
   pub header : Header
   pub begins : Begins file header

@@ -42,6 +42,7 @@ pub record CanEdit (path : List ℕ) (now : ℕ) (d : BareDoc) : Type 0 where
   pub entry : NamesEntry path d
   pub time : HasTimeAfter (entry_time entry.before) now
 
+-- Where an entry can be edited, `edit` gives a document.
 abbrev pub EditSucceeds : Type 0
 EditSucceeds = (path : List ℕ) (values : GivenValues) (now : ℕ) (d : BareDoc) → IsDoc d
     → CanEdit path now d → (e : BareDoc) × (after_edit path values now d ≡ Ok e)
@@ -56,6 +57,7 @@ pub record CanMoveEntry (path goal : List ℕ) (now : ℕ) (d : BareDoc) : Type 
   pub apart : is_id entry.group to ≡ false
   pub time : HasTimeAfter entry.before.placed now
 
+-- Where an entry can be moved, `mv` gives a document.
 abbrev pub MoveEntrySucceeds : Type 0
 MoveEntrySucceeds = (path goal : List ℕ) (now : ℕ) (d : BareDoc) → IsDoc d
     → CanMoveEntry path goal now d → (e : BareDoc) × (after_move_entry path goal now d ≡ Ok e)
@@ -76,6 +78,7 @@ pub record CanMoveGroup (path goal : List ℕ) (now : ℕ) (d : BareDoc) : Type 
   pub no_root : is_id moving.id (id_of d.tree) ≡ false
   pub put : CanPut moving.group to (level_of to d.tree) now
 
+-- Where a group can be moved, `mv` gives a document.
 abbrev pub MoveGroupSucceeds : Type 0
 MoveGroupSucceeds = (path goal : List ℕ) (now : ℕ) (d : BareDoc) → CanMoveGroup path goal now d
     → (e : BareDoc) × (after_move_group path goal now d ≡ Ok e)
@@ -89,6 +92,7 @@ pub record CanAdd (path : List ℕ) (id : NodeId) (d : BareDoc) : Type 0 where
   pub free_path : has_entry_path d (new_path path) ≡ false
   pub free_id : is_free id d ≡ true
 
+-- Where an entry can be added, `add` gives a document.
 abbrev pub AddSucceeds : Type 0
 AddSucceeds = (path : List ℕ) (id : NodeId) (values : GivenValues) (now : ℕ) (d : BareDoc)
     → CanAdd path id d → (e : BareDoc) × (after_add path id values now d ≡ Ok e)
@@ -103,6 +107,7 @@ pub record CanMakeGroup (path : List ℕ) (id : NodeId) (d : BareDoc) : Type 0 w
   pub fits : level_of group d.tree + 1 ≤ LEVELS
   pub free_id : is_free id d ≡ true
 
+-- Where a group can be made, `mkdir` gives a document.
 abbrev pub MakeGroupSucceeds : Type 0
 MakeGroupSucceeds = (path : List ℕ) (id : NodeId) (now : ℕ) (d : BareDoc)
     → CanMakeGroup (without_slashes path) id d
@@ -123,6 +128,7 @@ pub record CanRemoveEntry (path : List ℕ) (bin : Option NodeId) (now : ℕ) (d
     pub made : is_recycled entry.group d ≡ true → CanMakeBin bin now d
     pub time : is_recycled entry.group d ≡ true → HasTimeAfter entry.before.placed now
 
+-- Where an entry can be removed, `rm` gives a document.
 abbrev pub RemoveEntrySucceeds : Type 0
 RemoveEntrySucceeds = (path : List ℕ) (bin : Option NodeId) (now : ℕ) (d : BareDoc) → IsDoc d
     → CanRemoveEntry path bin now d

@@ -18,6 +18,7 @@ use Rattle.frame_laws.specs.Frame.{HasLostEntry, HasNewEntry, HasNewGroup, AreSa
 
 -- ---- fields by their keys
 
+-- Whether a key is this one.
 abbrev pub is_key : List ℕ → List ℕ → Bool
 is_key = eq_by_cmp bytes_cmp
 
@@ -92,6 +93,7 @@ pub record EditsEntry (path : List ℕ) (values : GivenValues) (now : ℕ) (d e 
     pub tombs : e.tombs ≡ d.tombs
     pub meta : e.meta ≡ d.meta
 
+-- `edit` of a document that gives one edits the entry that the path names, and nothing else.
 abbrev pub EditFrames : Type 0
 EditFrames = (path : List ℕ) (values : GivenValues) (now : ℕ) (d e : BareDoc) → IsDoc d → IsDoc e
     → after_edit path values now d ≡ Ok e → EditsEntry path values now d e
@@ -122,6 +124,7 @@ pub record MovesEntry (path goal : List ℕ) (now : ℕ) (d e : BareDoc) : Type 
   pub aimed : group_found d goal ≡ Some to
   pub moved : EntryMoves entry from to now d e
 
+-- `mv` of an entry moves the entry that the path names, and nothing else.
 abbrev pub MoveEntryFrames : Type 0
 MoveEntryFrames = (path goal : List ℕ) (now : ℕ) (d e : BareDoc) → IsDoc d → IsDoc e
     → after_move_entry path goal now d ≡ Ok e → MovesEntry path goal now d e
@@ -143,6 +146,7 @@ pub record AddsEntry (path : List ℕ) (id : NodeId) (values : GivenValues) (now
   pub tombs : e.tombs ≡ d.tombs
   pub meta : e.meta ≡ d.meta
 
+-- `add` adds one entry, and changes nothing else.
 abbrev pub AddFrames : Type 0
 AddFrames = (path : List ℕ) (id : NodeId) (values : GivenValues) (now : ℕ) (d e : BareDoc)
     → IsDoc d → IsDoc e → after_add path id values now d ≡ Ok e → AddsEntry path id values now d e
@@ -161,6 +165,7 @@ pub record MakesGroup (path : List ℕ) (id : NodeId) (now : ℕ) (d e : BareDoc
   pub tombs : e.tombs ≡ d.tombs
   pub meta : e.meta ≡ d.meta
 
+-- `mkdir` makes one group, and changes nothing else.
 abbrev pub MakeGroupFrames : Type 0
 MakeGroupFrames = (path : List ℕ) (id : NodeId) (now : ℕ) (d e : BareDoc) → IsDoc d → IsDoc e
     → after_make_group path id now d ≡ Ok e → MakesGroup (without_slashes path) id now d e

@@ -26,12 +26,15 @@ tomb_of d u = get (shape_of d).tombs u
 
 -- ---- some nodes
 
+-- None of all nodes.
 abbrev pub no_node : NodeId → Bool
 no_node q = false
 
+-- This node alone.
 abbrev pub only : NodeId → NodeId → Bool
 only u q = is_id q u
 
+-- These two nodes.
 abbrev pub either : NodeId → NodeId → NodeId → Bool
 either u w q = is_id q u || is_id q w
 

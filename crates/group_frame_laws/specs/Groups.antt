@@ -43,6 +43,7 @@ pub record MovesGroup (path goal : List ℕ) (now : ℕ) (d e : BareDoc) : Type 
   pub aimed : group_found d goal ≡ Some to
   pub moved : GroupMoves group from to now d e
 
+-- `mv` of a group moves the group that the path names, and nothing else.
 abbrev pub MoveGroupFrames : Type 0
 MoveGroupFrames = (path goal : List ℕ) (now : ℕ) (d e : BareDoc) → IsDoc d → IsDoc e
     → after_move_group path goal now d ≡ Ok e → MovesGroup path goal now d e

@@ -41,12 +41,14 @@ mask_field p f = cond (p f) (record f { value = [] }) f
 abbrev pub mask_attachment : BareAttachment → BareAttachment
 mask_attachment a = record a { bytes = map (λ b. 0) a.bytes }
 
+-- A content whose fields of this kind are empty, and whose attachments are zeros.
 abbrev pub mask_content : (BareField → Bool) → BareContent → BareContent
 mask_content p c = record c {
   fields = map (mask_field p) c.fields;
   attachments = map mask_attachment c.attachments;
 }
 
+-- A version with such a content.
 abbrev pub mask_version : (BareField → Bool) → BareVersion → BareVersion
 mask_version p v =
     record v { mark = record v.mark { content = mask_content p v.mark.content } }
@@ -58,10 +60,12 @@ mask_entry p e = record e {
   history = map (mask_version p) e.history;
 }
 
+-- An entry so, with its id.
 abbrev pub mask_row : (BareField → Bool) → NodeId × EntryRecord → NodeId × EntryRecord
 mask_row p r = (r.0, mask_entry p r.1)
 
 abbrev mutual
+  -- A group whose entries are so, and those of the groups in it.
   pub mask_tree : (BareField → Bool) → Tree → Tree
   mask_tree p (node u r es ts) = node u r (map (mask_row p) es) (mask_trees p ts)
 

@@ -108,6 +108,7 @@ pub record IsOfPieces (time : ℕ) (task : Task) (dice : List ℕ) (sealing : Se
       ≡ id_pieces (makes_node task.command task.opened.doc) dice
       ++ file_pieces (settings_for sealing.settings doc) draws
 
+-- A file that a call seals is made of the pieces that were drawn for it.
 abbrev pub FilesAreOfPieces : Type 0
 FilesAreOfPieces = (time : ℕ) (task : Task) (dice : List ℕ) (sealing : Sealing) (change : Change)
     (doc : BareDoc) (ending : Ending) (bytes : List ℕ) → task.opened.sealing ≡ Some sealing
