@@ -57,6 +57,11 @@ has_wrong_hash() {
   [ "$(head -c $((${#bytes} / 2)) -- "$subject" | sha256sum | cut -d' ' -f1)" = "$found_hash" ]
 }
 
+# Whether another call holds the lock of the file that a refusal is about.
+is_held() {
+  [ -f "$subject" ] && command -v flock >/dev/null && ! flock -ns 9 9<"$subject"
+}
+
 # What is wrong with a file that could not be read or written, as far as it can be seen.
 find_fault() {
   local folder=. found_fault=''
@@ -69,9 +74,7 @@ find_fault() {
     found_fault='it is a device or a socket, and a file is needed'
   elif [ -e "$subject" ] && ! [ -r "$subject" ]; then
     found_fault='you have no permission to read it: see ls -l'
-  elif [ -d "$subject.part" ] || [ -p "$subject.part" ] || { [ -L "$subject.part" ] && ! [ -e "$subject.part" ]; }; then
-    found_fault="$(quoted "$subject.part"), the name of its draft, is taken by something that is no file: remove that"
-  elif [ -e "$subject.part" ]; then
+  elif [ "$subject" = "$target" ] && is_held; then
     found_fault='another call is writing it: try again when that has ended'
   elif ! [ -d "$folder" ]; then
     found_fault="there is no folder $(quoted "$folder"): make it first"

@@ -107,11 +107,22 @@ show_sign() {
   sign=$text
 }
 
+# Whether the file that is written has a draft, which is beside the file that its name leads to.
+is_drafted() {
+  local LC_ALL=C place name draft
+  place=$(readlink -f -- "$target") || return
+  name=${place##*/}
+  for draft in "${place%/*}/.${name:0:100}".????????????????.keepass; do
+    if [ -e "$draft" ]; then return; fi
+  done
+  return 1
+}
+
 # What the program is doing: how many of its databases it has opened is seen by how much it has read, and that it writes
 # by its draft.
 doing() {
   local place count=0 total=0 read
-  if [ -e "$target.part" ]; then
+  if is_drafted; then
     printf 'writing %s ..' "$(shown "$target")"
     return
   fi
@@ -220,7 +231,7 @@ run() {
     refusal="keepass: clip: $clipboard failed" status=70
   fi
   refusal=$refusal$(cat <&7)
-  # Where the output could not be written the program says nothing.
+  # Where the output could not be written there may be no line.
   if [ -n "$refusal" ] || [ "$status" = 10 ]; then refuse; fi
 }
 

@@ -112,9 +112,8 @@ def files(folder, data, examples):
     made("LOCKED", "locked.xml", family)
     os.chmod(NAMES["LOCKED"], 0)
     made("HELD", "held.xml", family)
-    made("DRAFT", "held.xml.part", b"")
-    # The lock of another call, which it holds while it writes.
-    NAMES["lock"] = open(NAMES["DRAFT"], "rb")
+    # The lock of another call, which it holds from before it reads until it has written.
+    NAMES["lock"] = open(NAMES["HELD"], "rb")
     fcntl.flock(NAMES["lock"], fcntl.LOCK_EX)
     made("CUTXML", "cut.xml", family[:300])
     made("DEEP", "deep.xml", b"<a>" * 300)
@@ -134,8 +133,6 @@ def files(folder, data, examples):
     os.mkdir(NAMES["FOLDER"])
     NAMES["PIPE"] = f"{folder}/pipe"
     os.mkfifo(NAMES["PIPE"])
-    made("DRAFTED", "drafted.xml", family)
-    os.mkdir(f"{folder}/drafted.xml.part")
     made("LARGE", "large.kdbx", b"")
     os.truncate(NAMES["LARGE"], 134217729)
     NAMES["FRESH"] = f"{folder}/new.kdbx"
@@ -310,7 +307,6 @@ ROWS = [
     ("ls FOLDER", [], 7, "file fault", ["it is a folder, and a file is needed"]),
     ("ls --plain PIPE", [], 7, "file fault", ["it is a pipe, and a file is needed: write it into a file first"]),
     ("ls --plain /dev/null", [], 7, "file fault", ["it is a device or a socket, and a file is needed"]),
-    ("mkdir --plain DRAFTED New", [], 7, "file fault", ["DRAFTED.part, the name of its draft, is taken by something that is no file: remove that"]),
     ("import --plain PLAIN FAR", [], 7, "file fault", ["there is no folder FARFOLDER: make it first"]),
     ("mkdir --plain HELD New", [], 7, "file fault", ["another call is writing it: try again when that has ended"]),
     ("ls LARGE", ["x"], 8, "limit passed", ["the file has 134217729 bytes, and at most 134217728 are read: take attachments out of it"]),
@@ -327,13 +323,12 @@ ROWS = [
     ("add -p FAST New", [PASSWORD, None], 12, "line 2 missing", ["nothing was typed for the new password of the entry"]),
 ]
 
-# Calls whose standard input or output is no terminal: (words, standard input, standard output, status, TEXT or None where there is
-# no line, hints).
+# Calls whose standard input or output is no terminal: (words, standard input, standard output, status, TEXT, hints).
 REDIRECTED = [
     ("ls FAST", "/dev/null", None, 12, "line 1 missing", ["line 1 of standard input is to be the password of FAST; --tty asks for it at the terminal"]),
     ("ls FAST", "LONGLINE", None, 8, "limit passed", ["a line has more than 4096 bytes"]),
     ("ls FAST", "FOLDER", None, 11, "fault", ["standard input could not be read, or the system gave no random bytes"]),
-    ("ls --plain PLAIN", None, "/dev/full", 10, None, ["the output could not be written: check where it goes, and whether the disk is full"]),
+    ("ls --plain PLAIN", None, "/dev/full", 10, "could not be written", ["the output could not be written: check where it goes, and whether the disk is full"]),
 ]
 
 # Hints that no call here gives, and why.
