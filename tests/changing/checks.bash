@@ -37,11 +37,12 @@ kept() {
 }
 
 # works NAME SAID COMMAND...: the command, which reads input.txt, ends with status 0 and prints this line, or nothing where there is
-# none. No draft may be left, and one file at most may be another one than before: the one that the command writes.
+# none. No draft may be left, and one file at most may be another one than before: the one that the command writes. Drafts that lay
+# there before do not count.
 works() {
   local name=$1 said=$2 got before
   shift 2
-  before=$(files_seen | grep -v '\.part$')
+  before=$(files_seen | grep -v '/\.[^/]*\.[0-9a-f]\{16\}\.keepass$')
   "$@" >out.txt 2>err.txt <input.txt
   got=$?
   {
