@@ -131,11 +131,15 @@ impl<'a, R: Files<File = File> + RandomSource + Clock> Disk<'a, R> {
     }
 
     /// Brings a draft to the disk, and gives it the name that it is for. Where that fails, the draft is
-    /// removed. The file that the call was to write is let go, and its lock with it.
+    /// removed. The file that the call was to write is let go, and its lock with it; a second name of
+    /// that file which an import left then goes, too.
     pub fn publish(&mut self, draft: &Draft, name: &str) -> io::Result<()> {
         let published = draft.publish(self.rt, name);
         if let Some(target) = &mut self.target {
             target.found = Found::Unasked;
+        }
+        if published.is_ok() {
+            let _ = draft.remove_second_names(self.rt, self.alloc, self.read.as_slice());
         }
         published
     }

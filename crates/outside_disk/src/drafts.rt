@@ -243,13 +243,7 @@ fn prepare<R: Files<File = File>>(
     read: &[FileId],
 ) -> io::Result<()> {
     let owners = own_draft(&draft.made.file, &draft.base.found)?;
-    let leavings = Leavings {
-        folder: draft.folder.path.as_str(),
-        stem: stem_of(draft.base.place.as_str()),
-        owners,
-        read,
-    };
-    let _ = remove_left(rt, alloc, &leavings);
+    let _ = remove_left(rt, alloc, &draft.leavings(owners, read));
     Ok(())
 }
 
@@ -345,6 +339,16 @@ fn put_again<R: Files<File = File>>(
 }
 
 impl Draft {
+    /// The drafts of the same file, with these owners, that calls which were cut off may have left.
+    fn leavings<'a>(&'a self, owners: [u32; 2], read: &'a [FileId]) -> Leavings<'a> {
+        Leavings {
+            folder: self.folder.path.as_str(),
+            stem: stem_of(self.base.place.as_str()),
+            owners,
+            read,
+        }
+    }
+
     /// Appends a whole piece.
     pub fn append(&mut self, piece: &[u8]) -> io::Result<()> {
         self.made.file.write_all(piece)
@@ -389,6 +393,24 @@ impl Draft {
                 let _ = self.remove(rt);
                 Err(error)
             }
+        }
+    }
+
+    /// Removes what a call that was cut off left as a second name of the file that this draft has
+    /// replaced: an import gives its draft the second name that the file is to have, and then takes the
+    /// first. That name is locked as long as the file that it names is held, so it goes once that is
+    /// let go.
+    pub fn remove_second_names<R: Files<File = File>>(
+        &self,
+        rt: &R,
+        alloc: Global,
+        read: &[FileId],
+    ) -> io::Result<()> {
+        match &self.base.found {
+            Some(found) if found.nlink() > 1 => {
+                remove_left(rt, alloc, &self.leavings([found.uid(); 2], read))
+            }
+            _ => Ok(()),
         }
     }
 
