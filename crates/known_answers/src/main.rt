@@ -13,6 +13,7 @@ mod inner_fields;
 mod keys;
 mod macs;
 mod markup;
+mod one_time_codes;
 mod question;
 mod refusals;
 mod safes;
@@ -42,6 +43,8 @@ fn found(alloc: Global, question: &Question<'_>) -> Result<String, Fault> {
         "blake2b" => argon::digest(alloc, question),
         "argon2d" => argon::argon2d(alloc, question),
         "argon2id" => argon::argon2id(alloc, question),
+        "code-of-uri" => one_time_codes::of_uri(alloc, question),
+        "code-of-seed" => one_time_codes::of_seed(alloc, question),
         _ => found_in_files(alloc, question),
     }
 }

@@ -1,0 +1,4 @@
+pub mod Choices
+pub mod Evenness
+pub mod Streams
+mod Vectors
