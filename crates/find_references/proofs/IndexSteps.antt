@@ -20,7 +20,6 @@ use Rattle.std.proofs.lemmas.Map.Lookups.{exact_unsigned}
 use Rattle.std.specs.declared.borrow.CowSlice.{CowSlice}
 use Rattle.std.specs.declared.borrow.CowSlice.TheVariants.{Borrowed}
 use Rattle.find_references.proofs.SoughtEntries.{find_in_both}
-use Rattle.find_references.specs.declared.parts.Part.{Part}
 use Rattle.find_references.specs.declared.parts.Part.TheVariants.{Title, UserName, Password, Url, Notes, Id}
 use Rattle.find_references.specs.declared.parts.Place.{Place}
 use Rattle.find_references.specs.declared.parts.Place.TheVariants.{In, OtherField}

@@ -9,7 +9,6 @@ use Rattle.std.specs.List.{find, list_any}
 use Rattle.std.specs.Ordering.{nat_cmp}
 use Rattle.std.specs.Str.{bytes_eq, str_to_ascii_lowercase}
 use Rattle.std.specs.declared.borrow.CowSlice.{CowSlice}
-use Rattle.find_references.specs.declared.parts.Part.{Part}
 use Rattle.find_references.specs.declared.parts.Part.TheVariants.{Title, UserName, Password, Url, Notes, Id}
 use Rattle.find_references.specs.declared.parts.Place.{Place}
 use Rattle.find_references.specs.declared.parts.Place.TheVariants.{In, OtherField}
