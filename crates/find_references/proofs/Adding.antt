@@ -9,6 +9,10 @@ use Rattle.find_references.specs.Fields.{has_at, part_value}
 use Rattle.find_references.specs.References.{Reference, reference_at}
 use Rattle.find_references.specs.Resolved.{Made, after_step, after_steps, copied, reference_steps, sought, steps}
 use Rattle.find_references.proofs.Pieces.{stands_first}
+use Rattle.std.specs.Borrow.{Bor}
+use Rattle.vault_model.specs.SeenNodes.{tree_seen}
+use Rattle.vault_model.specs.Tree.{entry_rows}
+use Rattle.vault_model.specs.declared.nodes.Group.{Group}
 use Rattle.find_references.proofs.Steps.{Row, after_pieces, after_reference, with_levels}
 
 refused_whole : {A B : Type 0} (e : FindFail) (first : Result A FindFail) (next : A → Result B FindFail) (left whole : Result B FindFail)
@@ -78,3 +82,16 @@ module _ (k : ℕ) (rows : List Row) (text : List ℕ) (r : Reference) (made : M
   replaced_left row count now value there is same done =
       sym (ap (λ x. x >>= after_pieces k rows (drop (length r.written) text)) (ap (λ v. after_steps (steps k rows v) count) (sym same) ∙ done))
       ∙ counted count (Some row) there is
+
+-- the same over the entries of the same group
+pub refused_over : (e : FindFail) (a b : Bor Group) (k : ℕ) (value : List ℕ) (count : Made) → a ≡ b
+    → Fails (meaning_of e) (after_steps (steps k (entry_rows (tree_seen a.now)) value) count)
+    → Fails (meaning_of e) (after_steps (steps k (entry_rows (tree_seen b.now)) value) count)
+refused_over e a b k value count same h =
+    subst (λ (g : Bor Group). Fails (meaning_of e) (after_steps (steps k (entry_rows (tree_seen g.now)) value) count)) same h
+
+pub made_over : (a b : Bor Group) (k : ℕ) (value : List ℕ) (count now : Made) → a ≡ b
+    → after_steps (steps k (entry_rows (tree_seen a.now)) value) count ≡ Ok now
+    → after_steps (steps k (entry_rows (tree_seen b.now)) value) count ≡ Ok now
+made_over a b k value count now same h =
+    subst (λ (g : Bor Group). after_steps (steps k (entry_rows (tree_seen g.now)) value) count ≡ Ok now) same h

@@ -1,5 +1,6 @@
 pub mod Adding
 pub mod Examples
+pub mod IndexSteps
 pub mod Limits
 pub mod Pieces
 pub mod SoughtEntries

@@ -1,2 +1,4 @@
+pub mod Indexed
 pub mod Seen
+pub mod SeenEntries
 pub mod Sought

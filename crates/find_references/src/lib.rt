@@ -4,6 +4,7 @@
 
 mod fail;
 mod fields;
+mod indexing;
 pub mod laws;
 mod parsing;
 mod parts;

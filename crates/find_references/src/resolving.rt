@@ -3,20 +3,20 @@
 ghost use Rattle.std.specs.Prelude.{◌≡◌, ◌≤◌, OnOk};
 ghost use Rattle.find_references.specs.Resolved.{after_step, after_steps, copied, resolved, sought, steps};
 ghost use Rattle.find_references.specs.inside.Seen.{made_seen};
+ghost use Rattle.find_references.specs.inside.SeenEntries.{IsIndexed, rows_of};
 ghost use Rattle.find_references.specs.Results.{meaning_of};
 ghost use Rattle.outside_core.specs.Results.{Returns};
 ghost use Rattle.vault_model.specs.SeenDoc.{doc_seen};
-ghost use Rattle.vault_model.specs.SeenNodes.{tree_seen};
-ghost use Rattle.vault_model.specs.Tree.{entry_rows};
 
 use crate::FindFail;
 use crate::fields::part_value;
 use crate::reading::reference_at;
-use crate::seeking::entry_in;
+use crate::seeking::Entries;
 use outside_core::NoMemory;
 use secret_core::Secret;
 use std::alloc::Global;
-use vault_model::{Doc, Entry, Group};
+use std::collections::BTreeMap;
+use vault_model::{Doc, Entry};
 
 /// How many references may be looked for.
 const MOST_REFERENCES: u64 = 65_536;
@@ -81,13 +81,15 @@ fn count(made: &mut Resolving) -> Result<(), FindFail>
 fn add_resolved(
     alloc: Global,
     made: &mut Resolving,
-    root: &Group,
+    entries: &mut Entries<'_>,
     levels: u8,
     text: &[u8],
 ) -> Result<(), FindFail>
-    ensures { Returns meaning_of (λ _. made_seen made.new) result
-        (after_steps (steps levels (entry_rows (tree_seen root.now)) text.now)
-        (made_seen made.old)) }
+    requires { IsIndexed entries.old }
+    ensures made { Returns meaning_of (λ _. made_seen made.new) result
+        (after_steps (steps levels (rows_of entries.old) text.now) (made_seen made.old)) }
+    ensures root { entries.new.root ≡ entries.old.root }
+    ensures indexed { OnOk result (IsIndexed entries.new) }
 {
     if levels == 0 {
         return copy(alloc, made, text);
@@ -100,12 +102,12 @@ fn add_resolved(
             continue;
         };
         count(made)?;
-        match entry_in(root, reference.place, reference.text) {
+        match entries.find(alloc, reference.place, reference.text)? {
             Some(entry) => {
                 let mut buffer = [0; 32];
                 let digits = entry.id.encode_simple(&mut buffer);
                 let value = part_value(reference.wanted, entry, digits.as_bytes());
-                add_resolved(alloc, made, root, levels - 1, value)?;
+                add_resolved(alloc, made, entries, levels - 1, value)?;
             }
             None => copy(alloc, made, reference.written)?,
         }
@@ -126,6 +128,11 @@ pub fn resolve(alloc: Global, doc: &Doc, text: &[u8]) -> Result<Secret, FindFail
         references: 0,
         text: Secret::with_room(alloc, text.len())?,
     };
-    add_resolved(alloc, &mut made, &doc.root, MOST_LEVELS, text)?;
+    let mut entries = Entries {
+        root: &doc.root,
+        looks: 0,
+        indexes: BTreeMap::new(alloc),
+    };
+    add_resolved(alloc, &mut made, &mut entries, MOST_LEVELS, text)?;
     Ok(made.text)
 }
