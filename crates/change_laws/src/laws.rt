@@ -1,0 +1,13 @@
+//! The laws of the changes of commands. Each function has laws as its contract; it does nothing, and
+//! takes no memory.
+
+ghost use Rattle.change_laws.specs.Changes.{CommandsGrow, MergesMerge};
+
+/// Where a command that adds, edits, moves, removes or makes something is not refused, it leaves a
+/// document that grew in what is current, whatever versions the limits of histories drop; and a merge
+/// leaves what its target and sources are merged into, which it writes where that is another document
+/// than the target.
+pub fn changes()
+    ensures grown { CommandsGrow }
+    ensures merged { MergesMerge }
+{}
