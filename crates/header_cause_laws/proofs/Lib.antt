@@ -1,0 +1,5 @@
+pub mod FieldFails
+pub mod Fields
+pub mod HeaderRefusals
+pub mod KeyRefusals
+pub mod Steps

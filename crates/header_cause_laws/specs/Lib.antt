@@ -1,0 +1,3 @@
+pub mod HeaderCauses
+pub mod Headers
+pub mod KeyCauses
