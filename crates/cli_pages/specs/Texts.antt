@@ -1,0 +1,207 @@
+-- The line that says why words are no command.
+use Rattle.std.specs.Prelude.{ℕ, Bool, not, ◌&&◌, ◌||◌, ◌==◌, ◌*◌, nat_eq, nat_lt, if◌then◌else◌, is_some, length, map, List, [], ◌∷◌, ◌++◌, codes, Option, None, Some}
+use Rattle.std.specs.List.{find}
+use Rattle.std.specs.Str.{chars}
+use Rattle.strsim.specs.Edits.{levenshtein_row}
+use Rattle.cli_saying.specs.declared.names.CommandName.{CommandName}
+use Rattle.cli_saying.specs.declared.names.CommandName.TheVariants as name
+use Rattle.cli_saying.specs.declared.forms.CommandOption.{CommandOption}
+use Rattle.cli_saying.specs.declared.forms.CommandOption.TheVariants.{Recursive, Flat, Quiet, Plain, NoPassword, KeyFile, Title, User, Url, Notes, EntryPassword, SameCredentials, DryRun, KeyFileFrom, NoPasswordFrom, Clear, All, Attachments, Format, Attribute, SetPassword, SetKeyFile}
+use Rattle.cli_saying.specs.Options.{form_of, name_option}
+use Rattle.cli_pages.specs.declared.cause.Cause.{Cause}
+use Rattle.cli_pages.specs.declared.cause.Cause.TheVariants.{NoCommand, OptionFirst, UnknownCommand, UnknownOption, UnknownLetter, UnknownWord, TakesNoValue, OptionTwice, LetterTwice, FlagsTwice, JoinedValue, NoValue, OptionAsValue, FewPositions, ExtraPosition, ManySources, NotWithPlain, NotWithSame, NoKeyFile, NoKeyFileFrom, NoNewKey, UnknownImportFormat, UnknownExportFormat}
+
+-- ---- commands and options
+
+-- The name of a command.
+abbrev pub command_text : CommandName → List ℕ
+command_text name.Ls = codes "ls"
+command_text name.Show = codes "show"
+command_text name.Search = codes "search"
+command_text name.Add = codes "add"
+command_text name.Edit = codes "edit"
+command_text name.Move = codes "mv"
+command_text name.Remove = codes "rm"
+command_text name.MakeGroup = codes "mkdir"
+command_text name.RemoveGroup = codes "rmdir"
+command_text name.Merge = codes "merge"
+command_text name.Import = codes "import"
+command_text name.Export = codes "export"
+command_text name.Info = codes "db-info"
+
+-- The positions of a command by their names.
+abbrev pub positions_text : CommandName → List ℕ
+positions_text name.Ls = codes "DATABASE [GROUP]"
+positions_text name.Show = codes "DATABASE ENTRY"
+positions_text name.Search = codes "DATABASE TERM"
+positions_text name.Add = codes "DATABASE ENTRY"
+positions_text name.Edit = codes "DATABASE ENTRY"
+positions_text name.Move = codes "DATABASE NODE GROUP"
+positions_text name.Remove = codes "DATABASE ENTRY"
+positions_text name.MakeGroup = codes "DATABASE GROUP"
+positions_text name.RemoveGroup = codes "DATABASE GROUP"
+positions_text name.Merge = codes "TARGET SOURCE..."
+positions_text name.Import = codes "SOURCE DATABASE"
+positions_text name.Export = codes "DATABASE"
+positions_text name.Info = codes "DATABASE"
+
+-- The commands.
+abbrev pub commands : List CommandName
+commands =
+    name.Ls ∷ name.Show ∷ name.Search ∷ name.Add ∷ name.Edit ∷ name.Move ∷ name.Remove
+    ∷ name.MakeGroup ∷ name.RemoveGroup ∷ name.Merge ∷ name.Import ∷ name.Export ∷ name.Info ∷ []
+
+-- The options, whichever command takes them.
+abbrev pub options : List CommandOption
+options =
+    Recursive ∷ Flat ∷ Quiet ∷ Plain ∷ NoPassword ∷ KeyFile ∷ Title ∷ User ∷ Url ∷ Notes
+    ∷ EntryPassword ∷ SameCredentials ∷ DryRun ∷ KeyFileFrom ∷ NoPasswordFrom ∷ Clear ∷ All
+    ∷ Attachments ∷ Format ∷ Attribute ∷ SetPassword ∷ SetKeyFile ∷ []
+
+-- The long name of an option.
+abbrev pub option_text : CommandOption → List ℕ
+option_text option = (form_of option).name
+
+-- ---- the nearest name
+
+-- How many characters must be put in, taken out or changed to make one text of another.
+abbrev pub distance : List ℕ → List ℕ → ℕ
+distance word name = levenshtein_row nat_eq (chars word) (chars name) (length (chars name))
+
+-- A name is near at this distance: two at most, and no more than half of the name.
+abbrev pub is_short : ℕ → List ℕ → Bool
+is_short far name = not (nat_lt 2 far) && not (nat_lt (length name) (far * 2))
+
+-- A name is near a word.
+abbrev pub is_near : List ℕ → List ℕ → Bool
+is_near word name = is_short (distance word name) name
+
+-- Words between two texts.
+abbrev pub around : (before word after : List ℕ) → List ℕ
+around before word after = before ++ word ++ after
+
+-- The first command whose name is near a word.
+unfoldable pub near_command : List ℕ → Option CommandName
+near_command word = find (λ command. is_near word (command_text command)) commands
+
+-- A command takes an option of this long name.
+abbrev pub takes : CommandName → CommandOption → Bool
+takes command option = is_some (name_option command (option_text option))
+
+-- A command takes an option whose name is near a word.
+abbrev pub is_near_option : CommandName → List ℕ → CommandOption → Bool
+is_near_option command word option = takes command option && is_near word (option_text option)
+
+-- The first option that a command takes and whose name is near a word.
+abbrev pub near_option : CommandName → List ℕ → Option CommandOption
+near_option command word = find (is_near_option command word) options
+
+-- The command that was perhaps meant.
+abbrev pub perhaps_command : Option CommandName → List ℕ
+perhaps_command None = []
+perhaps_command (Some command) =
+    around (codes "; did you mean '") (command_text command) (codes "'?")
+
+-- The option that was perhaps meant.
+abbrev pub perhaps_option : Option CommandOption → List ℕ
+perhaps_option None = []
+perhaps_option (Some option) =
+    around (codes "; did you mean '--") (option_text option) (codes "'?")
+
+-- ---- what is said of each cause
+
+-- A word that no command is called by, and the command that was perhaps meant.
+unfoldable pub unknown_or_near : List ℕ → Option CommandName → List ℕ
+unknown_or_near word near = around (codes "unknown command '") word (codes "'")
+    ++ perhaps_command near
+
+-- A word that no command is called by.
+abbrev pub unknown_command : List ℕ → List ℕ
+unknown_command word =
+    unknown_or_near word (near_command word) ++ codes "; keepass --help lists them"
+
+-- An option that a command does not take, after what it begins with.
+abbrev pub not_taken : CommandName → (sign name : List ℕ) → List ℕ
+not_taken command sign name = command_text command
+    ++ around (codes " takes no option '") sign [] ++ around [] name (codes "'")
+
+-- A long name of no option that a command takes.
+abbrev pub unknown_option : CommandName → List ℕ → List ℕ
+unknown_option command name =
+    not_taken command (codes "--") name ++ perhaps_option (near_option command name)
+
+-- A position more than a command takes.
+abbrev pub extra_position : CommandName → List ℕ → List ℕ
+extra_position command word = around (codes "one word too many: '") word (codes "'; ")
+    ++ command_text command ++ codes " takes " ++ positions_text command
+
+-- Fewer positions than a command needs.
+abbrev pub few_positions : CommandName → List ℕ
+few_positions command = command_text command ++ codes " needs " ++ positions_text command
+
+-- An option whose next word is an option.
+abbrev pub option_as_value : List ℕ → List ℕ
+option_as_value word = around (codes "'") word
+    (codes "' needs a value; one that begins with - is joined to it: ")
+    ++ around [] word (codes "=VALUE")
+
+-- An option by its long name, and what is said of it.
+abbrev pub about_option : CommandOption → List ℕ → List ℕ
+about_option option text = around (codes "'--") (option_text option) text
+
+-- An option by its letter, and what is said of it.
+abbrev pub about_letter : ℕ → List ℕ → List ℕ
+about_letter letter text = codes "'-" ++ letter ∷ [] ++ text
+
+-- What all words lack together, or what does not go together.
+abbrev pub whole_text : Cause → List ℕ
+whole_text ManySources = codes "a merge has at most 16 sources: merge the others in a second call"
+whole_text (NotWithPlain option) =
+    about_option option (codes "' does not go with '--plain': an XML export has no key")
+whole_text (NotWithSame option) =
+    about_option option (codes "' does not go with '--same-credentials'")
+whole_text NoKeyFile = codes "'--no-password' needs a key file: -k FILE"
+whole_text NoKeyFileFrom = codes "'--no-password-from' needs '--key-file-from FILE'"
+whole_text NoNewKey =
+    codes "import needs a key for the new database: -p, --set-key-file FILE, or --plain for none"
+whole_text (UnknownImportFormat name) = around (codes "unknown format '") name
+    (codes "': xml or psafe3 or csv")
+whole_text (UnknownExportFormat name) = around (codes "unknown format '") name
+    (codes "': xml or csv")
+whole_text cause = codes "nothing to change: give -t, -u, --url, --notes or -p"
+
+-- What is said of an option by its name or its letter.
+abbrev pub option_line : Cause → List ℕ
+option_line (TakesNoValue option) = about_option option (codes "' takes no value")
+option_line (OptionTwice option) = about_option option (codes "' is there twice")
+option_line (LetterTwice letter) = about_letter letter (codes "' is there twice")
+option_line (JoinedValue letter) =
+    about_letter letter (codes "' has a value and needs its own hyphen")
+option_line (UnknownOption command name) = unknown_option command name
+option_line (UnknownLetter command letter) = not_taken command (codes "-") (letter ∷ [])
+option_line (UnknownWord command word) = not_taken command [] word
+option_line cause = whole_text cause
+
+-- Why words are no command.
+abbrev pub cause_text : Cause → List ℕ
+cause_text NoCommand = codes "no command; keepass --help lists them"
+cause_text (OptionFirst word) = around (codes "a command comes first, before '") word
+    (codes "'; keepass --help lists them")
+cause_text (UnknownCommand word) = unknown_command word
+cause_text (FlagsTwice word) = around (codes "a flag of '") word (codes "' is there twice")
+cause_text (NoValue word) = around (codes "'") word (codes "' needs a value")
+cause_text (OptionAsValue word) = option_as_value word
+cause_text (FewPositions command) = few_positions command
+cause_text (ExtraPosition command word) = extra_position command word
+cause_text cause = option_line cause
+
+-- ---- the line
+
+-- A byte as it is shown: a control character, which could end the line, is `?`.
+abbrev pub shown_byte : ℕ → ℕ
+shown_byte byte = if nat_lt byte 32 || byte == 127 then 63 else byte
+
+-- The line that says why words are no command; nothing where they are one.
+abbrev pub cause_line : Option Cause → List ℕ
+cause_line None = []
+cause_line (Some cause) = map shown_byte (cause_text cause) ++ codes "\n"

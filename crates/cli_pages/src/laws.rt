@@ -1,0 +1,25 @@
+//! What holds of the page that says why words are no command. The functions do nothing, and take no
+//! memory.
+ghost use Rattle.std.specs.Prelude.{◌≡◌, ◌≢◌, ℕ, List, [], Ok, Some};
+ghost use Rattle.cli_pages.specs.Laws.{IsCommandOrPage, IsLine};
+ghost use Rattle.cli_pages.specs.Pages.{page_of, why};
+ghost use Rattle.cli_words.specs.Words.{command_of};
+ghost use Rattle.cli_words.specs.declared.command.Command.{Command};
+
+/// Nothing is said of words that are a command, or that ask for a page.
+pub fn commands_and_pages_have_no_line()
+    ensures command { (words : List (List ℕ)) (command : Command) → command_of words ≡ Ok command
+        → why words ≡ [] }
+    ensures page { (words : List (List ℕ)) (page : List ℕ) → page_of words ≡ Some page
+        → why words ≡ [] }
+{}
+
+/// Words of which nothing is said are a command, or ask for a page.
+pub fn words_without_a_line_are_commands_or_pages()
+    ensures { (words : List (List ℕ)) → why words ≡ [] → IsCommandOrPage words }
+{}
+
+/// What is said is one line, without control characters but the line feed at its end.
+pub fn the_line_is_one_line()
+    ensures { (words : List (List ℕ)) → why words ≢ [] → IsLine (why words) }
+{}

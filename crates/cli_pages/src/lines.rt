@@ -1,0 +1,294 @@
+//! Writing the line that says why words are no command.
+ghost use Rattle.std.specs.Prelude.{◌≡◌, ◌++◌, ◌∷◌, [], IfOk, OnOk, Some, codes, map};
+ghost use Rattle.cli_pages.specs.Texts as spec;
+
+use crate::cause::Cause;
+use crate::near::{command_text, near_command, near_option, option_text};
+use cli_saying::{CommandName, CommandOption};
+use outside_core::{Bytes, NoMemory};
+use std::alloc::Global;
+
+// The positions of a command by their names.
+fn positions_text(command: CommandName) -> &'static str
+    ensures { result.now ≡ spec.positions_text command }
+{
+    match command {
+        CommandName::Ls => "DATABASE [GROUP]",
+        CommandName::Show | CommandName::Add | CommandName::Edit | CommandName::Remove => {
+            "DATABASE ENTRY"
+        }
+        CommandName::Search => "DATABASE TERM",
+        CommandName::Move => "DATABASE NODE GROUP",
+        CommandName::MakeGroup | CommandName::RemoveGroup => "DATABASE GROUP",
+        CommandName::Merge => "TARGET SOURCE...",
+        CommandName::Import => "SOURCE DATABASE",
+        CommandName::Export | CommandName::Info => "DATABASE",
+    }
+}
+
+// Adds a word between two texts.
+fn add_around(text: &mut Bytes, before: &str, word: &str, after: &str) -> Result<(), NoMemory>
+    ensures { OnOk result (text.new ≡ text.old ++ spec.around before.now word.now after.now) }
+{
+    text.add(before.as_bytes())?;
+    text.add(word.as_bytes())?;
+    text.add(after.as_bytes())
+}
+
+// Adds the command that was perhaps meant.
+fn add_command(text: &mut Bytes, near: Option<CommandName>) -> Result<(), NoMemory>
+    ensures { OnOk result (text.new ≡ text.old ++ spec.perhaps_command near) }
+{
+    match near {
+        Some(command) => add_around(text, "; did you mean '", command_text(command), "'?"),
+        None => Ok(()),
+    }
+}
+
+// Adds the option that was perhaps meant.
+fn add_option(text: &mut Bytes, near: Option<CommandOption>) -> Result<(), NoMemory>
+    ensures { OnOk result (text.new ≡ text.old ++ spec.perhaps_option near) }
+{
+    match near {
+        Some(option) => add_around(text, "; did you mean '--", option_text(option), "'?"),
+        None => Ok(()),
+    }
+}
+
+// Adds that no command has this name, and the one that was perhaps meant.
+#[tactic(auto, unfolding(crate::specs::Texts::unknown_or_near))]
+fn add_unknown(text: &mut Bytes, word: &str, near: Option<CommandName>) -> Result<(), NoMemory>
+    ensures { OnOk result (text.new ≡ text.old ++ spec.unknown_or_near word.now near) }
+{
+    add_around(text, "unknown command '", word, "'")?;
+    add_command(text, near)
+}
+
+// Adds that no command has this name.
+fn add_unknown_command(alloc: Global, text: &mut Bytes, word: &str) -> Result<(), NoMemory>
+    ensures { OnOk result (text.new ≡ text.old ++ spec.unknown_command word.now) }
+{
+    add_unknown(text, word, near_command(alloc, word)?)?;
+    text.add(b"; keepass --help lists them")
+}
+
+// Adds that a command takes no option that begins with this.
+fn add_not_taken(text: &mut Bytes, command: CommandName, sign: &str) -> Result<(), NoMemory>
+    ensures { OnOk result (text.new ≡ text.old ++ spec.command_text command
+        ++ spec.around (codes " takes no option '") sign.now []) }
+{
+    text.add(command_text(command).as_bytes())?;
+    add_around(text, " takes no option '", sign, "")
+}
+
+// Adds that a command takes no option of this long name.
+fn add_unknown_option(
+    alloc: Global,
+    text: &mut Bytes,
+    command: CommandName,
+    name: &str,
+) -> Result<(), NoMemory>
+    ensures { OnOk result (text.new ≡ text.old ++ spec.unknown_option command name.now) }
+{
+    add_not_taken(text, command, "--")?;
+    add_around(text, "", name, "'")?;
+    add_option(text, near_option(alloc, command, name)?)
+}
+
+// Adds that a command takes no option of this letter.
+fn add_unknown_letter(text: &mut Bytes, command: CommandName, letter: u8) -> Result<(), NoMemory>
+    ensures { OnOk result (text.new
+        ≡ text.old ++ spec.not_taken command (codes "-") (letter ∷ [])) }
+{
+    add_not_taken(text, command, "-")?;
+    text.add(&[letter, b'\''])
+}
+
+// Adds that a command takes no option of a letter of this word.
+fn add_unknown_word(text: &mut Bytes, command: CommandName, word: &str) -> Result<(), NoMemory>
+    ensures { OnOk result (text.new ≡ text.old ++ spec.not_taken command [] word.now) }
+{
+    add_not_taken(text, command, "")?;
+    add_around(text, "", word, "'")
+}
+
+// Adds that a word is one position too many.
+fn add_extra(text: &mut Bytes, command: CommandName, word: &str) -> Result<(), NoMemory>
+    ensures { OnOk result (text.new ≡ text.old ++ spec.extra_position command word.now) }
+{
+    add_around(text, "one word too many: '", word, "'; ")?;
+    add_around(
+        text,
+        command_text(command),
+        " takes ",
+        positions_text(command),
+    )
+}
+
+// Adds that positions are missing.
+fn add_few(text: &mut Bytes, command: CommandName) -> Result<(), NoMemory>
+    ensures { OnOk result (text.new ≡ text.old ++ spec.few_positions command) }
+{
+    add_around(
+        text,
+        command_text(command),
+        " needs ",
+        positions_text(command),
+    )
+}
+
+// Adds that the next word of an option is an option.
+fn add_option_as_value(text: &mut Bytes, word: &str) -> Result<(), NoMemory>
+    ensures { OnOk result (text.new ≡ text.old ++ spec.option_as_value word.now) }
+{
+    let joined = "' needs a value; one that begins with - is joined to it: ";
+    add_around(text, "'", word, joined)?;
+    add_around(text, "", word, "=VALUE")
+}
+
+// Adds an option by its long name, and what is said of it.
+fn add_about(text: &mut Bytes, option: CommandOption, about: &str) -> Result<(), NoMemory>
+    ensures { OnOk result (text.new ≡ text.old ++ spec.about_option option about.now) }
+{
+    add_around(text, "'--", option_text(option), about)
+}
+
+// Adds an option by its letter, and what is said of it.
+fn add_letter(text: &mut Bytes, letter: u8, about: &str) -> Result<(), NoMemory>
+    ensures { OnOk result (text.new ≡ text.old ++ spec.about_letter letter about.now) }
+{
+    text.add(&[b'\'', b'-', letter])?;
+    text.add(about.as_bytes())
+}
+
+// Adds what all words lack together, or what does not go together.
+fn add_whole(text: &mut Bytes, cause: &Cause) -> Result<(), NoMemory>
+    ensures { OnOk result (text.new ≡ text.old ++ spec.whole_text cause.now) }
+{
+    match cause {
+        Cause::ManySources => {
+            text.add(b"a merge has at most 16 sources: merge the others in a second call")
+        }
+        Cause::NotWithPlain(option) => {
+            add_about(
+                text,
+                *option,
+                "' does not go with '--plain': an XML export has no key",
+            )
+        }
+        Cause::NotWithSame(option) => {
+            add_about(text, *option, "' does not go with '--same-credentials'")
+        }
+        Cause::NoKeyFile => text.add(b"'--no-password' needs a key file: -k FILE"),
+        Cause::NoKeyFileFrom => text.add(b"'--no-password-from' needs '--key-file-from FILE'"),
+        Cause::NoNewKey => text.add(
+            b"import needs a key for the new database: -p, --set-key-file FILE, or --plain for none",
+        ),
+        Cause::UnknownImportFormat(name) => {
+            add_around(
+                text,
+                "unknown format '",
+                name.as_str(),
+                "': xml or psafe3 or csv",
+            )
+        }
+        Cause::UnknownExportFormat(name) => {
+            add_around(text, "unknown format '", name.as_str(), "': xml or csv")
+        }
+        _ => text.add(b"nothing to change: give -t, -u, --url, --notes or -p"),
+    }
+}
+
+// Adds what is said of an option by its name or its letter.
+fn add_by_name(alloc: Global, text: &mut Bytes, cause: &Cause) -> Result<(), NoMemory>
+    ensures { OnOk result (text.new ≡ text.old ++ spec.option_line cause.now) }
+{
+    match cause {
+        Cause::TakesNoValue(option) => add_about(text, *option, "' takes no value"),
+        Cause::OptionTwice(option) => add_about(text, *option, "' is there twice"),
+        Cause::LetterTwice(letter) => add_letter(text, *letter, "' is there twice"),
+        Cause::JoinedValue(letter) => {
+            add_letter(text, *letter, "' has a value and needs its own hyphen")
+        }
+        Cause::UnknownOption(command, name) => {
+            add_unknown_option(alloc, text, *command, name.as_str())
+        }
+        Cause::UnknownLetter(command, letter) => add_unknown_letter(text, *command, *letter),
+        Cause::UnknownWord(command, word) => add_unknown_word(text, *command, word.as_str()),
+        _ => add_whole(text, cause),
+    }
+}
+
+// Adds why words are no command.
+fn add_cause(alloc: Global, text: &mut Bytes, cause: &Cause) -> Result<(), NoMemory>
+    ensures { OnOk result (text.new ≡ text.old ++ spec.cause_text cause.now) }
+{
+    match cause {
+        Cause::NoCommand => text.add(b"no command; keepass --help lists them"),
+        Cause::OptionFirst(word) => {
+            let before = "a command comes first, before '";
+            add_around(text, before, word.as_str(), "'; keepass --help lists them")
+        }
+        Cause::UnknownCommand(word) => add_unknown_command(alloc, text, word.as_str()),
+        Cause::FlagsTwice(word) => {
+            add_around(text, "a flag of '", word.as_str(), "' is there twice")
+        }
+        Cause::NoValue(word) => add_around(text, "'", word.as_str(), "' needs a value"),
+        Cause::OptionAsValue(word) => add_option_as_value(text, word.as_str()),
+        Cause::FewPositions(command) => add_few(text, *command),
+        Cause::ExtraPosition(command, word) => add_extra(text, *command, word.as_str()),
+        _ => add_by_name(alloc, text, cause),
+    }
+}
+
+// A byte as it is shown.
+fn shown_byte(byte: u8) -> u8
+    ensures { result ≡ spec.shown_byte byte }
+{
+    if byte < 32 || byte == 127 { b'?' } else { byte }
+}
+
+// Adds bytes as they are shown.
+fn add_shown(line: &mut Bytes, text: &[u8]) -> Result<(), NoMemory>
+    ensures { OnOk result (line.new ≡ line.old ++ map spec.shown_byte text.now) }
+{
+    for byte in text {
+        let Ok(()) = line.push(shown_byte(*byte)) else {
+            return Err(NoMemory);
+        };
+    }
+    Ok(())
+}
+
+// Adds the line that says why words are no command.
+fn add_line(alloc: Global, line: &mut Bytes, cause: &Cause) -> Result<(), NoMemory>
+    ensures { OnOk result (line.new ≡ line.old ++ spec.cause_line (Some cause.now)) }
+{
+    let mut text = Bytes::new(alloc);
+    let mut made = add_cause(alloc, &mut text, cause);
+    if made.is_ok() {
+        made = add_shown(line, text.as_slice());
+    }
+    drop(text);
+    made?;
+    line.add(b"\n")
+}
+
+/// The line that says why words are no command; nothing where they are one.
+pub(crate) fn cause_line(alloc: Global, cause: Option<Cause>) -> Result<Bytes, NoMemory>
+    ensures { IfOk result (λ line. line ≡ spec.cause_line cause) }
+{
+    let mut line = Bytes::new(alloc);
+    let Some(cause) = cause else {
+        return Ok(line);
+    };
+    let made = add_line(alloc, &mut line, &cause);
+    drop(cause);
+    match made {
+        Ok(()) => Ok(line),
+        Err(fail) => {
+            drop(line);
+            Err(fail)
+        }
+    }
+}

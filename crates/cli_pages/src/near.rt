@@ -1,0 +1,205 @@
+//! Finding the name that was perhaps meant.
+ghost use Rattle.std.specs.Prelude.{◌≡◌, IfOk};
+ghost use Rattle.std.specs.List.{find};
+ghost use Rattle.cli_pages.specs.Texts as spec;
+
+use cli_saying::{CommandName, CommandOption, name_option};
+use outside_core::NoMemory;
+use std::alloc::Global;
+use strsim::levenshtein;
+
+/// The commands.
+const COMMANDS: [CommandName; 13] = [
+    CommandName::Ls,
+    CommandName::Show,
+    CommandName::Search,
+    CommandName::Add,
+    CommandName::Edit,
+    CommandName::Move,
+    CommandName::Remove,
+    CommandName::MakeGroup,
+    CommandName::RemoveGroup,
+    CommandName::Merge,
+    CommandName::Import,
+    CommandName::Export,
+    CommandName::Info,
+];
+
+/// The options, whichever command takes them.
+const OPTIONS: [CommandOption; 22] = [
+    CommandOption::Recursive,
+    CommandOption::Flat,
+    CommandOption::Quiet,
+    CommandOption::Plain,
+    CommandOption::NoPassword,
+    CommandOption::KeyFile,
+    CommandOption::Title,
+    CommandOption::User,
+    CommandOption::Url,
+    CommandOption::Notes,
+    CommandOption::EntryPassword,
+    CommandOption::SameCredentials,
+    CommandOption::DryRun,
+    CommandOption::KeyFileFrom,
+    CommandOption::NoPasswordFrom,
+    CommandOption::Clear,
+    CommandOption::All,
+    CommandOption::Attachments,
+    CommandOption::Format,
+    CommandOption::Attribute,
+    CommandOption::SetPassword,
+    CommandOption::SetKeyFile,
+];
+
+/// The name of a command.
+pub(crate) fn command_text(command: CommandName) -> &'static str
+    ensures { result.now ≡ spec.command_text command }
+{
+    match command {
+        CommandName::Ls => "ls",
+        CommandName::Show => "show",
+        CommandName::Search => "search",
+        CommandName::Add => "add",
+        CommandName::Edit => "edit",
+        CommandName::Move => "mv",
+        CommandName::Remove => "rm",
+        CommandName::MakeGroup => "mkdir",
+        CommandName::RemoveGroup => "rmdir",
+        CommandName::Merge => "merge",
+        CommandName::Import => "import",
+        CommandName::Export => "export",
+        CommandName::Info => "db-info",
+    }
+}
+
+/// The long name of an option.
+pub(crate) fn option_text(option: CommandOption) -> &'static str
+    ensures { result.now ≡ spec.option_text option }
+{
+    match option {
+        CommandOption::Recursive => "recursive",
+        CommandOption::Flat => "flatten",
+        CommandOption::Quiet => "quiet",
+        CommandOption::Plain => "plain",
+        CommandOption::NoPassword => "no-password",
+        CommandOption::KeyFile => "key-file",
+        CommandOption::Title => "title",
+        CommandOption::User => "username",
+        CommandOption::Url => "url",
+        CommandOption::Notes => "notes",
+        CommandOption::EntryPassword => "password-prompt",
+        CommandOption::SameCredentials => "same-credentials",
+        CommandOption::DryRun => "dry-run",
+        CommandOption::KeyFileFrom => "key-file-from",
+        CommandOption::NoPasswordFrom => "no-password-from",
+        CommandOption::Clear => "show-protected",
+        CommandOption::All => "all",
+        CommandOption::Attachments => "show-attachments",
+        CommandOption::Format => "format",
+        CommandOption::Attribute => "attributes",
+        CommandOption::SetPassword => "set-password",
+        CommandOption::SetKeyFile => "set-key-file",
+        CommandOption::ImportFormat => "format",
+    }
+}
+
+// Reports whether a name is near at this distance.
+fn is_short(far: usize, name: &str) -> bool
+    ensures { result ≡ spec.is_short far name.now }
+{
+    far <= 2 && far * 2 <= name.len()
+}
+
+// Reports whether a name is near a word.
+fn is_near(alloc: Global, word: &str, name: &str) -> Result<bool, NoMemory>
+    ensures { IfOk result (λ near. near ≡ spec.is_near word.now name.now) }
+{
+    match levenshtein(alloc, word, name) {
+        Ok(far) => Ok(is_short(far, name)),
+        Err(_none) => Err(NoMemory),
+    }
+}
+
+// Reports whether the name of a command is near a word.
+fn is_near_command(alloc: Global, word: &str, command: CommandName) -> Result<bool, NoMemory>
+    ensures { IfOk result (λ near. near ≡ spec.is_near word.now (spec.command_text command)) }
+{
+    is_near(alloc, word, command_text(command))
+}
+
+// The first of these commands whose name is near a word.
+fn first_command(
+    alloc: Global,
+    word: &str,
+    commands: &[CommandName],
+) -> Result<Option<CommandName>, NoMemory>
+    ensures { IfOk result (λ near. near
+        ≡ find (λ command. spec.is_near word.now (spec.command_text command)) commands.now) }
+{
+    for command in commands {
+        if is_near_command(alloc, word, *command)? {
+            return Ok(Some(*command));
+        }
+    }
+    Ok(None)
+}
+
+/// The first command whose name is near a word.
+#[tactic(auto, unfolding(crate::specs::Texts::near_command))]
+pub(crate) fn near_command(alloc: Global, word: &str) -> Result<Option<CommandName>, NoMemory>
+    ensures { IfOk result (λ near. near ≡ spec.near_command word.now) }
+{
+    first_command(alloc, word, &COMMANDS)
+}
+
+// Reports whether a command takes an option of this long name.
+fn takes(command: CommandName, option: CommandOption) -> bool
+    ensures { result ≡ spec.takes command option }
+{
+    name_option(command, option_text(option)).is_some()
+}
+
+// Reports whether a command takes an option whose name is near a word.
+fn is_near_option(
+    alloc: Global,
+    command: CommandName,
+    word: &str,
+    option: CommandOption,
+) -> Result<bool, NoMemory>
+    ensures { IfOk result (λ near. near ≡ spec.is_near_option command word.now option) }
+{
+    if takes(command, option) {
+        is_near(alloc, word, option_text(option))
+    } else {
+        Ok(false)
+    }
+}
+
+// The first of these options that a command takes and whose name is near a word.
+fn first_option(
+    alloc: Global,
+    command: CommandName,
+    word: &str,
+    options: &[CommandOption],
+) -> Result<Option<CommandOption>, NoMemory>
+    ensures { IfOk result (λ near. near
+        ≡ find (spec.is_near_option command word.now) options.now) }
+{
+    for option in options {
+        if is_near_option(alloc, command, word, *option)? {
+            return Ok(Some(*option));
+        }
+    }
+    Ok(None)
+}
+
+/// The first option that a command takes and whose name is near a word.
+pub(crate) fn near_option(
+    alloc: Global,
+    command: CommandName,
+    word: &str,
+) -> Result<Option<CommandOption>, NoMemory>
+    ensures { IfOk result (λ near. near ≡ spec.near_option command word.now) }
+{
+    first_option(alloc, command, word, &OPTIONS)
+}
