@@ -1,3 +1,4 @@
+pub mod Examples
 pub mod FieldFails
 pub mod Fields
 pub mod HeaderRefusals

@@ -1,3 +1,4 @@
+pub mod Examples
 pub mod HeaderCauses
 pub mod Headers
 pub mod KeyCauses

@@ -1,6 +1,7 @@
 //! The laws that each refusal of a header, or of a key file, has its cause in the bytes. Each
 //! function has a law as its contract; it does nothing, and takes no memory.
 
+ghost use Rattle.header_cause_laws.specs.Examples.{ExampleRefusals};
 ghost use Rattle.header_cause_laws.specs.HeaderCauses.{HeaderRefusalsHaveCauses};
 ghost use Rattle.header_cause_laws.specs.KeyCauses.{KeyRefusalsHaveCauses};
 
@@ -17,4 +18,9 @@ pub fn headers()
 /// one in no form, or a key whose hash is not the one that it keeps.
 pub fn key_files()
     ensures { KeyRefusalsHaveCauses }
+{}
+
+/// Each of these laws speaks of something: a few bytes that are refused.
+pub fn example_refusals()
+    ensures { ExampleRefusals }
 {}

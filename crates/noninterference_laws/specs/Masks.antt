@@ -1,21 +1,26 @@
 -- Documents without what is hidden, and commands that print the same for all that are alike so.
-use Rattle.std.specs.Prelude.{◌≡◌, ℕ, Bool, true, false, not, ◌&&◌, ◌||◌, cond, List, [], bytes_eq, codes, map, Option, Result, Ok, Err}
+use Rattle.std.specs.Prelude.{◌≡◌, ℕ, Bool, true, false, not, ◌&&◌, ◌||◌, cond, List, [], ◌∷◌, bytes_eq, codes, map, Option, Result, Ok, Err}
 use Rattle.std.specs.Option.{option_map}
 use Rattle.kdbx_frame.specs.declared.settings.Settings.{Settings}
-use Rattle.std.specs.List.{list_all}
+use Rattle.std.specs.List.{list_all, list_any}
 use Rattle.vault_model.specs.Bare.{BareAttachment, BareContent, BareField}
 use Rattle.vault_model.specs.Db.{NodeId}
 use Rattle.vault_model.specs.Shape.{BareVersion, EntryRecord}
 use Rattle.vault_model.specs.Tree.{BareDoc, Tree, Trees, beside, node, none}
 use Rattle.tree_core.specs.After.{Holding, entry_named}
-use Rattle.find_references.specs.Fields.{fields_of}
+use Rattle.find_references.specs.Fields.{fields_of, is_other}
 use Rattle.find_references.specs.References.{Piece, byte, pieces, reference}
+use Rattle.find_references.specs.Terms.{terms_of}
+use Rattle.find_references.specs.declared.terms.SearchField.{SearchField}
+use Rattle.find_references.specs.declared.terms.SearchField.TheVariants as field
+use Rattle.find_references.specs.declared.terms.Term.{Term}
+use Rattle.find_core.specs.Search.{found_in}
 use Rattle.cli_answers.specs.declared.answers.Refusal.{Refusal}
 use Rattle.cli_words.specs.declared.command.Command.{Command}
 use Rattle.cli_words.specs.declared.command.Command.TheVariants.{Ls, Show, Search, Add, Edit, Move, Remove, MakeGroup, RemoveGroup, Merge, Import, Export, Info}
 use Rattle.cli_printing.specs.Info.{info_shown}
 use Rattle.cli_printing.specs.Listing.{group_lines, tree_listed}
-use Rattle.cli_showing.specs.Showing.{entry_shown}
+use Rattle.cli_showing.specs.Showing.{entries_shown, entry_shown}
 use Rattle.cli_commands.specs.Commands.{Change, change_with, makes_node}
 
 -- ---- documents without what is hidden
@@ -167,3 +172,38 @@ ShowIsBlind = (d e : BareDoc) → LookAlike is_marked d e → (path : List ℕ)
     → (file : List ℕ) (all attachments : Bool)
     → entry_shown file false all attachments [] path d
     ≡ entry_shown file false all attachments [] path e
+
+-- ---- search
+
+-- The keys of the fields that a term without a field's name looks at.
+abbrev pub plain_keys : List (List ℕ)
+plain_keys = codes "Title" ∷ codes "UserName" ∷ codes "URL" ∷ codes "Notes" ∷ []
+
+-- A term of this kind looks at the value of a field. Tags, and the name of a group, are no fields.
+abbrev pub looks_at : SearchField → BareField → Bool
+looks_at field.Any f = list_any (λ key. bytes_eq key f.key) plain_keys
+looks_at field.Title f = bytes_eq (codes "Title") f.key
+looks_at field.UserName f = bytes_eq (codes "UserName") f.key
+looks_at field.Password f = bytes_eq (codes "Password") f.key
+looks_at field.Url f = bytes_eq (codes "URL") f.key
+looks_at field.Notes f = bytes_eq (codes "Notes") f.key
+looks_at field.Tags f = false
+looks_at field.Group f = false
+looks_at field.Attr f = is_other f
+
+-- One of some terms looks at a value of an entry that is hidden.
+abbrev pub looks_at_secret : List Term → EntryRecord → Bool
+looks_at_secret terms e = list_any (λ (term : Term). list_any
+    (λ f. looks_at term.field f && is_secret f) (fields_of e)) terms
+
+-- The terms of a search look at no hidden value of an entry that is searched.
+abbrev pub LooksAtNoSecret : List ℕ → BareDoc → Type 0
+LooksAtNoSecret words d = (terms : List Term) → terms_of words ≡ Ok terms
+    → found_in (λ name. looks_at_secret terms) true d.tree ≡ []
+
+-- Such a search finds the same, or refuses the same, in two documents that are the same but for
+-- what is hidden.
+abbrev pub SearchIsBlind : Type 0
+SearchIsBlind = (d e : BareDoc) → LookAlike is_secret d e → (words : List ℕ)
+    → LooksAtNoSecret words d → (file : List ℕ)
+    → entries_shown file words d ≡ entries_shown file words e

@@ -1,7 +1,8 @@
 //! The laws that what is hidden is not printed unasked. Each function has laws as its contract; it
 //! does nothing, and takes no memory.
 
-ghost use Rattle.noninterference_laws.specs.Masks.{CommandsAreBlind, DrawsAreBlind, InfoIsBlind, ListingIsBlind, MasksLookAlike, ShowIsBlind};
+ghost use Rattle.noninterference_laws.specs.Example.{ExampleDatabases};
+ghost use Rattle.noninterference_laws.specs.Masks.{CommandsAreBlind, DrawsAreBlind, InfoIsBlind, ListingIsBlind, MasksLookAlike, SearchIsBlind, ShowIsBlind};
 
 /// Documents that differ only in passwords, in values that are hidden and in the bytes of
 /// attachments have the same listings and the same `db-info`.
@@ -19,4 +20,15 @@ pub fn commands()
     ensures same { CommandsAreBlind }
     ensures draws { DrawsAreBlind }
     ensures show { ShowIsBlind }
+{}
+
+/// On such documents `search` finds the same, or refuses the same, where no term looks at a hidden
+/// value of an entry that is searched. Titles, tags and the names of groups are never hidden.
+pub fn search()
+    ensures { SearchIsBlind }
+{}
+
+/// Each of these laws speaks of something: two databases that differ in a password alone.
+pub fn example_databases()
+    ensures { ExampleDatabases }
 {}

@@ -1,0 +1,4 @@
+pub mod Examples
+pub mod SafeRefusals
+pub mod TableRefusals
+pub mod TreeRefusals

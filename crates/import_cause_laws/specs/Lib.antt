@@ -1,0 +1,4 @@
+pub mod Examples
+pub mod SafeCauses
+pub mod TableCauses
+pub mod Trees
