@@ -1,0 +1,266 @@
+-- What one event does to the documents of the copies.
+use Rattle.std.proofs.Common.{◌≡◌, ◌≢◌, ◌<◌, ◌⊎◌, ℕ, Bool, true, false, cond, inl, inr, List, [], ◌∷◌, ◌++◌, Option, Some, None, Result, Ok, Err, refl, sym, ap, subst, ◌∙◌, true≢false}
+use Rattle.std.specs.Prelude.{if◌then◌else◌}
+use Rattle.std.specs.FinMap.{get, get-insert, insert}
+use Rattle.std.specs.Option.{unwrap_or}
+use Rattle.outside_core.specs.Files.{FileMap}
+use Rattle.vault_model.specs.Db.{Db}
+use Rattle.vault_model.specs.Join.{is_id}
+use Rattle.vault_model.specs.Plans.{Replica, learned_by, put}
+use Rattle.vault_model.specs.Plans as plans
+use Rattle.vault_model.specs.Tree.{BareDoc, IsDoc, db_in}
+use Rattle.vault_model.proofs.Ids.{id_itself, same_id}
+use Rattle.vault_model.proofs.Orders.{bytes_order}
+use Rattle.vault_model.proofs.Tests.{is_false}
+use Rattle.document_merge.specs.Merging.{merge_result}
+use Rattle.agreed_laws.specs.Runs.{docs_of}
+use Rattle.command_laws.specs.Growing.{GrowsInCurrent}
+use Rattle.run_laws.specs.TrimmedRuns.{AreDocEvents, DocEvent, after_doc_events, growth, joining, overwriting}
+use Rattle.cli_answers.specs.declared.answers.Refusal.{Refusal}
+use Rattle.cli_words.specs.declared.command.Access.{Access}
+use Rattle.cli_words.specs.declared.command.Command.{Command}
+use Rattle.cli_words.specs.declared.command.Command.TheVariants.{Ls, Show, Search, Add, Edit, Move, Remove, MakeGroup, RemoveGroup, Merge, Import, Export, Info}
+use Rattle.cli_words.specs.Needs.{ImportNeeds, file_made, import_of, needs_of, target_of}
+use Rattle.cli_words.specs.Words.{command_of}
+use Rattle.cli_files.specs.Tasks.{Task, databases_in}
+use Rattle.cli_databases.specs.Held.{HoldDatabases}
+use Rattle.call_reading.specs.Opening.{HoldImportOrDatabases}
+use Rattle.cli_commands.specs.Commands.{Change, change_of, may_write}
+use Rattle.change_laws.specs.Changes.{edits}
+use Rattle.change_laws.proofs.Changed.{commands_grow, merges_merge}
+use Rattle.call_carrying.specs.Endings.{ReadsBack, change_of_task, settings_in}
+use Rattle.keepass_call.specs.Held.{IsTask}
+use Rattle.keepass_call.specs.Merges.{merges}
+use Rattle.keepass_call.specs.Outcome.{may_write_by}
+use Rattle.keepass_call.proofs.Pages.{no_page}
+use Rattle.call_histories.specs.Copies.{AreApart, CallSeen, Copies, CopyHolds, Disks, HoldsDoc, OpensCopies}
+use Rattle.call_histories.specs.Histories.{Did, Event, IsCallOn, IsDeed, IsEvent, WritesTask, call, copied, disks_after, done, made_by, put_files, with_bytes}
+use Rattle.call_histories.proofs.Held.{IsHeld, IsThat, IsWritten, changed, copies_opened, copy_opened, either, held_is_doc, kept, key_in, written}
+
+-- ---- commands that may write
+
+-- A command changes its document by itself, or is this merge.
+record IsMerge (command : Command) : Type 0 where
+  access : Access
+  file : List ℕ
+  names : List (List ℕ)
+  from : Access
+  same : Bool
+  is : Merge access file names from same false ≡ command
+
+abbrev Kind : Command → Type 0
+Kind command = ((edits command ≡ true) × (merges command ≡ false)) ⊎ IsMerge command
+
+kind_of : (command : Command) → may_write command ≡ true → import_of command ≡ None → Kind command
+kind_of (Ls access file group recursive flat) w i = absurd (true≢false (sym w))
+kind_of (Show access file entry clear all attachments names) w i = absurd (true≢false (sym w))
+kind_of (Search access file term) w i = absurd (true≢false (sym w))
+kind_of (Add access file entry asked) w i = inl (refl, refl)
+kind_of (Edit access file entry asked) w i = inl (refl, refl)
+kind_of (Move access file node group) w i = inl (refl, refl)
+kind_of (Remove access file entry) w i = inl (refl, refl)
+kind_of (MakeGroup access file group) w i = inl (refl, refl)
+kind_of (RemoveGroup access file group) w i = inl (refl, refl)
+kind_of (Merge access file names from same true) w i = absurd (true≢false (sym w))
+kind_of (Merge access file names from same false) w i = inr (record { access = access; file = file; names = names; from = from; same = same; is = refl })
+kind_of (Import access format source from file) w i = cc i
+kind_of (Export access format file) w i = absurd (true≢false (sym w))
+kind_of (Info access file) w i = absurd (true≢false (sym w))
+
+merges_so : (command : Command) → IsMerge command → merges command ≡ true
+merges_so command m = ap merges (sym m.is)
+
+-- ---- what a task makes
+
+-- What is done to a target, and the document that it has then.
+record Makes (t : BareDoc) (ss : List BareDoc) (command : Command) (doc : Option BareDoc) : Type 0 where
+  new : BareDoc
+  is : (doc ≡ Some new) ⊎ ((doc ≡ None) × (t ≡ new))
+  by : ((merges command ≡ false) × (IsDoc new → GrowsInCurrent t new)) ⊎ ((merges command ≡ true) × (merge_result t ss ≡ Ok new))
+
+task_makes : (time : ℕ) (task : Task) (dice : List ℕ) (change : Change) → IsDoc task.opened.doc → Kind task.command
+    → (change_of_task time task dice).answer ≡ Ok change → Makes task.opened.doc task.sources task.command change.doc
+task_makes time task dice change isd (inl e) h =
+    let g = commands_grow time task.command task.lines.more task.sources (settings_in task.opened.sealing) task.opened.doc dice change isd e.0 h in
+    record { new = g.doc; is = inl g.is; by = inl (e.1, g.grows) }
+task_makes time task dice change isd (inr m) h =
+    let g = merges_merge time m.access m.file m.names m.from m.same task.lines.more task.sources (settings_in task.opened.sealing) task.opened.doc dice change
+    (subst (λ (command : Command). (change_of time command task.lines.more task.sources (settings_in task.opened.sealing) task.opened.doc dice).answer ≡ Ok change) (sym m.is) h) in
+    record { new = g.doc; is = g.is; by = inr (merges_so task.command m, g.merged) }
+
+-- ---- one event
+
+-- What an event did, and what the files hold after it.
+pub record IsStep (copies : Copies) (disks : Disks) (w : plans.World) (e : Event) : Type 0 where
+  pub deed : Option DocEvent
+  pub is : IsDeed e deed
+  pub may : AreDocEvents w (done (deed ∷ []))
+  pub hold : (k : ℕ) → k < copies.count → CopyHolds (disks_after copies disks e) (copies.copy k) (after_doc_events w (done (deed ∷ [])) k).doc
+
+module _ (copies : Copies) (disks : Disks) (w : plans.World) (hold : (k : ℕ) → k < copies.count → CopyHolds disks (copies.copy k) (w k).doc) (c : CallSeen) (on : IsCallOn copies disks c) where
+  -- the files of the copies on the disk, as the call finds them
+  held : (i : ℕ) → i < copies.count → (copies.copy i).disk ≡ c.disk → IsHeld c.world.files (copies.copy i).name (copies.copy i).key (w i).doc
+  held i less there =
+      let h = hold i less in
+      record {
+        bytes = h.bytes;
+        found = on.files i less there ∙ ap (λ (m : ℕ). get (disks m) (copies.copy i).name) (sym there) ∙ h.found;
+        holds = h.holds;
+      }
+
+  -- what a task opens is what the copies hold
+  module _ (task : Task) (is_task : IsTask c.words c.time c.world task) (writes : may_write task.command ≡ true) where
+    opens : OpensCopies copies c task
+    opens = on.opens task is_task writes
+
+    databases : HoldDatabases (needs_of task.command) task.lines c.world.files (databases_in task)
+    databases = subst (λ (i : Option ImportNeeds). HoldImportOrDatabases i (needs_of task.command) task.lines c.time c.world.files (databases_in task)) opens.no_import is_task.holds
+
+    pub target_is : IsThat (copies.copy c.target).key (w c.target).doc task.opened
+    target_is = copy_opened copies c w held (needs_of task.command).access task.lines.password (needs_of task.command).file c.target task.opened databases.target opens.target
+
+    pub sources_are : task.sources ≡ docs_of w c.sources
+    sources_are = copies_opened copies c w held (needs_of task.command).from (needs_of task.command).same task.lines.password (needs_of task.command).sources task.lines.sources c.sources
+        task.sources databases.sources opens.sources
+
+module _ (copies : Copies) (apart : AreApart copies) (disks : Disks) (w : plans.World) (doc : (j : ℕ) → IsDoc (w j).doc)
+    (hold : (k : ℕ) → k < copies.count → CopyHolds disks (copies.copy k) (w k).doc) where
+  -- ---- a call
+
+  module _ (c : CallSeen) (on : IsCallOn copies disks c) where
+    -- no file changed
+    nothing : IsDeed (call c) None → c.now.store.files ≡ c.before.store.files → IsStep copies disks w (call c)
+    nothing is same = record {
+      deed = None;
+      is = is;
+      may = tt;
+      hold = subst (λ (f : FileMap). (k : ℕ) → k < copies.count → CopyHolds (put_files disks c.disk f) (copies.copy k) (w k).doc)
+          (sym (ap (λ (o : Option FileMap). unwrap_or o (disks c.disk)) (same ∙ on.told.files)))
+          (kept copies disks w hold c.disk c.world.files on.files);
+    }
+
+    module _ (status : (c.result ≡ 0) ⊎ ((c.result ≡ 9) ⊎ (c.result ≡ 10))) (wt : WritesTask c) (writes : may_write wt.task.command ≡ true) where
+      abbrev task : Task
+      task = wt.task
+
+      abbrev opened_so : OpensCopies copies c wt.task
+      opened_so = opens copies disks w hold c on wt.task wt.is_task writes
+
+      that : IsThat (copies.copy c.target).key (w c.target).doc task.opened
+      that = target_is copies disks w hold c on wt.task wt.is_task writes
+
+      is_doc : IsDoc task.opened.doc
+      is_doc = subst IsDoc (sym that.doc) (doc c.target)
+
+      makes : Makes (w c.target).doc (docs_of w c.sources) task.command wt.change.doc
+      makes = subst (λ (ds : List BareDoc). Makes (w c.target).doc ds task.command wt.change.doc) (sources_are copies disks w hold c on wt.task wt.is_task writes)
+          (subst (λ (d : BareDoc). Makes d task.sources task.command wt.change.doc) that.doc
+          (task_makes c.time task c.world.dice wt.change is_doc (kind_of task.command writes opened_so.no_import) wt.makes))
+
+      name_is : target_of task.command ≡ (copies.copy c.target).name
+      name_is = ap (λ (i : Option ImportNeeds). file_made i (needs_of task.command).file) opened_so.no_import ∙ sym opened_so.target.named
+
+      held_there : IsHeld c.world.files (copies.copy c.target).name (key_in task.opened.sealing) (w c.target).doc
+      held_there = subst (λ (k : Option (List ℕ)). IsHeld c.world.files (copies.copy c.target).name k (w c.target).doc) (sym that.under)
+          (held copies disks w hold c on c.target opened_so.target.there opened_so.target.disk)
+
+      after : IsWritten (copies.copy c.target).name (copies.copy c.target).key makes.new c.world.files c.now.store
+      after = subst (λ (k : Option (List ℕ)). IsWritten (copies.copy c.target).name k makes.new c.world.files c.now.store) that.under
+          (written (copies.copy c.target).name task.opened.sealing (w c.target).doc makes.new c.world.files c.before.store c.now.store on.told.files held_there wt.change.doc makes.is
+          (subst (λ (n : List ℕ). ReadsBack n task.opened.sealing wt.change.doc c.before.store c.now.store) name_is wt.reads_back))
+
+      new_doc : IsDoc makes.new
+      new_doc = held_is_doc (copies.copy c.target).key after.held.bytes makes.new after.held.holds
+
+      -- the files after it, whatever the copy has learned
+      holds_after : (learned : List Db) (k : ℕ) → k < copies.count
+          → CopyHolds (disks_after copies disks (call c)) (copies.copy k) (put w c.target (record { doc = makes.new; learned = learned }) k).doc
+      holds_after learned = subst (λ (f : FileMap). (k : ℕ) → k < copies.count → CopyHolds (put_files disks c.disk f) (copies.copy k) (put w c.target (record { doc = makes.new; learned = learned }) k).doc)
+          (sym (ap (λ (o : Option FileMap). unwrap_or o (disks c.disk)) after.are))
+          (changed copies disks w hold apart c.target opened_so.target.there c.disk opened_so.target.disk after.files (record { doc = makes.new; learned = learned }) after.held
+          (λ k less there off. after.others (copies.copy k).name off ∙ on.files k less there))
+
+      did_so : (x : DocEvent) → x ≡ made_by task.command c makes.new → Did c x
+      did_so x is = record { status = status; command = task.command; is_command = wt.is_task.is_command; writes = writes; doc = makes.new; is = is }
+
+      something : IsStep copies disks w (call c)
+      something = elim makes.by [
+        | inl g ↦ record {
+          deed = Some (growth c.target makes.new);
+          is = did_so (growth c.target makes.new) (sym (ap (λ b. if b then joining c.target c.sources makes.new else growth c.target makes.new) g.0));
+          may = ((new_doc, g.1 new_doc), tt);
+          hold = holds_after ((w c.target).learned ++ db_in makes.new ∷ []);
+        }
+        | inr m ↦ record {
+          deed = Some (joining c.target c.sources makes.new);
+          is = did_so (joining c.target c.sources makes.new) (sym (ap (λ b. if b then joining c.target c.sources makes.new else growth c.target makes.new) m.0));
+          may = (m.1, tt);
+          hold = holds_after ((w c.target).learned ++ learned_by w c.sources);
+        }
+      ]
+
+    -- ---- by words and status
+
+    read_only : may_write_by (command_of c.words) ≡ false → IsStep copies disks w (call c)
+    read_only e = nothing (inr e) (on.is_call.reads_only e).files
+
+    by_status : (command : Command) → command_of c.words ≡ Ok command → may_write command ≡ true → IsStep copies disks w (call c)
+    by_status command e writes =
+        let same : (wt : WritesTask c) → may_write wt.task.command ≡ true = λ wt. sym (ap may_write_by wt.is_task.is_command) ∙ ap may_write_by e ∙ writes in
+        elim (either c.result 0) [
+          | inl zero ↦
+              let a = on.is_call.authentic (no_page c.words command e) c.world on.told zero in
+              let wt : WritesTask c = record { task = a.task; is_task = a.is_task; change = a.change; makes = a.makes; reads_back = a.reads_back } in
+              something (inl zero) wt (same wt)
+          | inr more ↦
+              elim (either c.result 9) [
+                | inl nine ↦ cut_off command (inl nine) more same
+                | inr not_nine ↦ elim (either c.result 10) [
+                  | inl ten ↦ cut_off command (inr ten) more same
+                  | inr not_ten ↦ nothing (inl more) (on.is_call.safe.files more not_nine not_ten).files
+                ]
+              ]
+        ]
+      where
+        cut_off : (command : Command) → (c.result ≡ 9) ⊎ (c.result ≡ 10) → c.result ≢ 0 → ((wt : WritesTask c) → may_write wt.task.command ≡ true) → IsStep copies disks w (call c)
+        cut_off command status more same = elim (on.cut status) [
+          | inl keeps ↦ nothing (inl more) keeps.files
+          | inr wt ↦ something (inr status) wt (same wt)
+        ]
+
+    called : IsStep copies disks w (call c)
+    called = by (command_of c.words) refl
+      where
+        chosen : (command : Command) → command_of c.words ≡ Ok command → (b : Bool) → may_write command ≡ b → IsStep copies disks w (call c)
+        chosen command e true m = by_status command e m
+        chosen command e false m = read_only (ap may_write_by e ∙ m)
+
+        by : (r : Result Command Refusal) → command_of c.words ≡ r → IsStep copies disks w (call c)
+        by (Err refusal) e = read_only (ap may_write_by e)
+        by (Ok command) e = chosen command e (may_write command) refl
+
+  -- ---- a copy
+
+  copied_over : (i j : ℕ) → IsEvent copies disks (copied i j) → IsStep copies disks w (copied i j)
+  copied_over i j h =
+      let from = hold j h.1 in
+      let name = (copies.copy i).name in
+      let old = disks (copies.copy i).disk in
+      record {
+        deed = Some (overwriting i j);
+        is = refl;
+        may = (tt, tt);
+        hold = subst (λ (o : Option (List ℕ)). (k : ℕ) → k < copies.count → CopyHolds (put_files disks (copies.copy i).disk (with_bytes old name o)) (copies.copy k) (put w i (w j) k).doc) (sym from.found)
+            (changed copies disks w hold apart i h.0 (copies.copy i).disk refl (insert old name from.bytes) (w j)
+            (record {
+              bytes = from.bytes;
+              found = get-insert bytes_order.total old name from.bytes name ∙ ap (λ b. cond b (Some from.bytes) (get old name)) (id_itself name);
+              holds = subst (λ (key : Option (List ℕ)). HoldsDoc key (w j).doc from.bytes) (sym h.2) from.holds;
+            })
+            (λ k less there off. get-insert bytes_order.total old name from.bytes (copies.copy k).name
+            ∙ ap (λ b. cond b (Some from.bytes) (get old (copies.copy k).name)) (is_false (is_id (copies.copy k).name name) (λ q. off (same_id (copies.copy k).name name q)))));
+      }
+
+  pub one_step : (e : Event) → IsEvent copies disks e → IsStep copies disks w e
+  one_step (call c) h = called c h
+  one_step (copied i j) h = copied_over i j h
