@@ -13,7 +13,7 @@ use Rattle.block_core.specs.Twofish.{twofish256_decipher}
 use Rattle.block_core.proofs.PaddingSteps.{unpadded_is}
 use Rattle.mac_core.specs.Blocks.{concat_contents}
 use Rattle.mac_core.specs.Contents.{AreContents, contents_of}
-use Rattle.mac_core.specs.HashedBlocks.{AreHashed, hashed_contents_of}
+use Rattle.mac_core.specs.HashedBlocks.{hashed_contents_of}
 use Rattle.mac_core.specs.declared.fail.BlockFail.{BlockFail}
 use Rattle.mac_core.proofs.ContentSteps as contents
 use Rattle.mac_core.proofs.HashedBlocks.{contents_of-AreHashed}

@@ -2,6 +2,7 @@
 //! laws as its contract; it does nothing, and takes no memory.
 
 ghost use Rattle.cause_laws.specs.Causes.{RefusalsHaveCauses};
+ghost use Rattle.cause_laws.specs.Examples.{ExampleRefusal};
 
 /// A file that is refused has the cause of its refusal: the MAC that it keeps is not its header's,
 /// a block is damaged or the file ends before its end block does, no padding is right, it does not
@@ -9,4 +10,9 @@ ghost use Rattle.cause_laws.specs.Causes.{RefusalsHaveCauses};
 /// its header's; or its header, its inner fields or its text are what their readers refuse.
 pub fn openings()
     ensures { RefusalsHaveCauses }
+{}
+
+/// The law speaks of something: a file of no bytes is refused.
+pub fn example_refusal()
+    ensures { ExampleRefusal }
 {}

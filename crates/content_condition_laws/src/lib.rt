@@ -1,0 +1,4 @@
+//! The laws that `show`, `search`, `export` and `merge` are carried out under their conditions.
+#![tactic(auto)]
+
+pub mod laws;
