@@ -54,5 +54,9 @@ pub fn of_seed(alloc: Global, question: &Question<'_>) -> Result<String, Fault> 
     } else {
         None
     };
-    answer(alloc, read_otp_fields(alloc, None, Some(seed), settings), moment)
+    answer(
+        alloc,
+        read_otp_fields(alloc, None, Some(seed), settings),
+        moment,
+    )
 }
