@@ -18,7 +18,7 @@ use Rattle.cli_files.specs.declared.task.Task as memory
 use Rattle.cli_commands.specs.Commands.{may_write}
 use Rattle.cli_files.proofs.HeldKeys.{in_turn}
 use Rattle.call_carrying.specs.Endings.{Ending, Ends, EndsRefused, IsOfDice, IsOfSomeDice, carried_out}
-use Rattle.cli_answers.specs.Pages.{page_of}
+use Rattle.cli_pages.specs.Pages.{page_of}
 use Rattle.keepass_call.specs.Outcome.{IsOfSomeFile, IsOfTask, World, answer_of, command_answer, may_write_by, page_or_answer}
 use Rattle.keepass_call.proofs.Pages.{no_page}
 use Rattle.cli_commands.specs.SeenChange.{output_text}

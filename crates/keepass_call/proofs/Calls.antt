@@ -1,6 +1,6 @@
 -- What is promised of a call, by how it ended.
 use Rattle.std.proofs.Common.{◌≡◌, ◌≢◌, ◌≤◌, ℕ, List, [], length, refl, sym, ◌∙◌, ap, subst, inl, inr, false, Option, Some, None, arith, append-nil}
-use Rattle.std.specs.Prelude.{◌⊎◌, ◌++◌, Result, Ok, Err, option_map, codes}
+use Rattle.std.specs.Prelude.{◌⊎◌, ◌++◌, IsSome, Result, Ok, Err, option_map, codes}
 use Rattle.std.proofs.Math.Seq.{take-length}
 use Rattle.outside_core.specs.Counts.{Increased}
 use Rattle.outside_core.specs.Streams.{GainsPrefix, LosesPrefix}
@@ -19,7 +19,7 @@ use Rattle.cli_lines.proofs.Inputs.{left_alone}
 use Rattle.cli_words.specs.declared.command.Command.{Command}
 use Rattle.call_carrying.specs.Endings.{Ending, Ends, EndsSo, ending_without}
 use Rattle.keepass_call.specs.Held.{IsAuthentic, IsComplete}
-use Rattle.cli_answers.specs.Pages.{page_of}
+use Rattle.cli_pages.specs.Pages.{page_of}
 use Rattle.keepass_call.specs.Outcome.{Counts, Gains, IsAsSaid, IsCut, IsOfSomeFile, IsOfTask, IsRefused, IsSafe, NoFaults, Outcome, Seen, Tells, WhereTold, World, answer_of, ended, may_write_by, outcome, page_or_answer}
 use Rattle.cli_words.specs.Words.{command_of}
 use Rattle.cli_files.specs.Tasks.{draws_by}
@@ -234,6 +234,19 @@ page_call words time page result before written errors counts counts' e wrote =
         untouched = refl;
       };
     })
+
+-- The text of a page that is there.
+some_text : (page : Option (List ℕ)) → IsSome page → (text : List ℕ) × (page ≡ Some text)
+some_text None some = cc some
+some_text (Some text) some = (text, refl)
+
+-- A call whose words ask for a page, for which memory ran out before anything was printed.
+pub starved_page : (words : List (List ℕ)) (time : ℕ) (before : Seen) (counts : Counts) → IsSome (page_of words)
+    → IsCall words time 9 before (record before { written = before.written; errors = before.errors }) counts counts
+starved_page words time before counts some =
+    let page : (text : List ℕ) × (page_of words ≡ Some text) = some_text (page_of words) some in
+    page_call words time page.0 9 before before.written before.errors counts counts page.1
+    (inr (inl refl, no_front before.written before.written page.0 refl), inl refl)
 
 -- ---- a call that stopped
 

@@ -39,7 +39,7 @@ use Rattle.cli_words.specs.declared.command.Command.{Command}
 use Rattle.cli_words.specs.declared.command.Command.TheVariants.{Ls, Show, Search, Add, Edit, Move, Remove, MakeGroup, RemoveGroup, Merge, Import, Export, Info}
 use Rattle.cli_words.specs.Needs.{files_named, target_of}
 use Rattle.cli_words.specs.Words.{command_of}
-use Rattle.cli_answers.specs.Pages.{page_of}
+use Rattle.cli_pages.specs.Pages.{page_of}
 use Rattle.cli_lines.specs.Lines.{Lines}
 use Rattle.cli_files.specs.Files.{Opened, plain_document}
 use Rattle.cli_databases.specs.Held.{HoldsBy}

@@ -8,7 +8,7 @@ use Rattle.cli_answers.specs.Messages.{status_of, reason_text, error_line}
 use Rattle.cli_answers.specs.Phases.{IsLeft, StreamAnswer, TellsStream, then_left, with_left}
 use Rattle.cli_writing.specs.Writing.{KeepsDraft, KeepsFiles, NewFile, Store, store}
 use Rattle.cli_commands.specs.Commands.{may_write}
-use Rattle.cli_answers.specs.Pages.{page_of}
+use Rattle.cli_pages.specs.Pages.{page_of}
 use Rattle.cli_words.specs.Needs.{target_of}
 use Rattle.cli_words.specs.Words.{command_of}
 use Rattle.cli_words.specs.declared.command.Command.{Command}

@@ -16,9 +16,10 @@ ghost use Rattle.keepass_call.specs.Telling.{IsPrinted, IsTold, IsUnwritten, Tel
 
 use call_carrying::carry_out;
 use call_reading::read_task;
-use cli_answers::{Reason, Stop, line, page_of, status, text_of_reason};
+use cli_answers::{Reason, Stop, line, status, text_of_reason};
 use cli_commands::{Output, lend_text};
-use outside_core::{Dice, FileStore, NoMemory, Sink, SinkFail, Source, write_all};
+use cli_pages::page_of;
+use outside_core::{Bytes, Dice, FileStore, NoMemory, Sink, SinkFail, Source, write_all};
 use std::alloc::Global;
 
 /// The status of a call at which the store failed.
@@ -126,11 +127,13 @@ fn print<O: Sink, E: Sink>(out: &mut O, err: &mut E, text: &[u8]) -> u8
 }
 
 // Writes a page, and gives the status that goes with it.
-fn print_page<O: Sink, E: Sink>(out: &mut O, err: &mut E, page: &str) -> u8
-    ensures { IsPrinted page.now result (O.written out.old) (O.written out.new)
+fn print_page<O: Sink, E: Sink>(out: &mut O, err: &mut E, page: Bytes) -> u8
+    ensures { IsPrinted page result (O.written out.old) (O.written out.new)
         (E.written err.old) (E.written err.new) (O.faults out.old) (O.faults out.new) }
 {
-    print(out, err, page.as_bytes())
+    let status = print(out, err, page.as_slice());
+    drop(page);
+    status
 }
 
 // Writes the line of a subject, and gives the status that goes with it.
@@ -207,11 +210,12 @@ pub fn keepass<F: FileStore, S: Source, O: Sink, E: Sink, D: Dice>(
         (counts (F.faults files.new) (F.absences files.new) (S.faults input.new) (O.faults out.new)
         (E.faults err.new) (D.faults dice.new)) }
 {
-    match page_of(words) {
-        Some(page) => print_page(out, err, page),
-        None => match answer(alloc, words, files, input, dice, now) {
+    match page_of(alloc, words) {
+        Ok(Some(page)) => print_page(out, err, page),
+        Ok(None) => match answer(alloc, words, files, input, dice, now) {
             Ok(output) => print(out, err, lend_text(&output)),
             Err(stop) => tell(alloc, err, stop),
         },
+        Err(_none) => OUT_OF_MEMORY,
     }
 }

@@ -11,7 +11,7 @@ use Rattle.vault_model.specs.Tree.{BareDoc}
 use Rattle.vault_model.proofs.Tests.{in_back, in_front}
 use Rattle.tree_core.proofs.Options.{never}
 use Rattle.cli_answers.specs.declared.answers.Refusal.{Refusal}
-use Rattle.cli_answers.specs.Pages.{page_of}
+use Rattle.cli_pages.specs.Pages.{page_of}
 use Rattle.cli_answers.specs.Phases.{StreamAnswer, after_left, then_left, with_left}
 use Rattle.cli_words.specs.declared.command.Access.{Access}
 use Rattle.cli_words.specs.declared.command.Command.{Command}

@@ -3,7 +3,7 @@ use Rattle.std.specs.Prelude.{◌≡◌, ℕ, List, Some}
 use Rattle.std.specs.FinMap as map
 use Rattle.outside_core.specs.Files.{FileMap}
 use Rattle.vault_model.specs.Join.{IsIn}
-use Rattle.cli_answers.specs.Pages.{page_of}
+use Rattle.cli_pages.specs.Pages.{page_of}
 use Rattle.cli_words.specs.Needs.{files_named}
 use Rattle.cli_words.specs.Words.{command_of}
 use Rattle.cli_writing.specs.Writing.{NewFile}

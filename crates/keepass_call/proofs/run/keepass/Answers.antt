@@ -1,18 +1,21 @@
-use Rattle.std.proofs.Common.{◌≡◌, None, Ok, Err, map, refl, sym}
+use Rattle.std.proofs.Common.{◌≡◌, None, Ok, Err, map, refl, sym, ◌∙◌}
 use Rattle.std.specs.Prelude.{string_bytes}
 use Rattle.cli_commands.specs.SeenChange.{output_text}
-use Rattle.cli_answers.specs.Pages.{page_of}
+use Rattle.cli_pages.specs.Pages.{page_of}
 use Rattle.keepass_call.proofs.Answered.{ends_as}
-use Rattle.keepass_call.proofs.Calls.{no_none, page_call, printed_call, stopped_call}
+use Rattle.keepass_call.proofs.Calls.{no_none, page_call, printed_call, starved_page, stopped_call}
 use Rattle.keepass_call.proofs.run.keepass.Goals as goal
 
-pub returns-in-Some : goal.returns-in-Some
-returns-in-Some g c =
-    page_call (map string_bytes c.args.words.now) c.args.now c.in-Some.page.now c.print_page.result _ _ _ _ _ (sym c.in-Some.ensures) c.print_page.ensures
+pub returns-in-Ok-Some : goal.returns-in-Ok-Some
+returns-in-Ok-Some g c =
+    page_call (map string_bytes c.args.words.now) c.args.now c.in-Ok-Some.page c.print_page.result _ _ _ _ _ (sym c.in-Ok-Some.ensures.page ∙ c.in-Ok-Some.field-0-is) c.print_page.ensures
+
+pub returns-in-Err : goal.returns-in-Err
+returns-in-Err g c = starved_page (map string_bytes c.args.words.now) c.args.now _ _ c.in-Err.ensures.memory
 
 pub returns-in-Ok : goal.returns-in-Ok
 returns-in-Ok g c =
-    let none : page_of (map string_bytes c.args.words.now) ≡ None = sym c.in-None.ensures in
+    let none : page_of (map string_bytes c.args.words.now) ≡ None = sym c.in-Ok-None.ensures.page ∙ c.in-Ok-None.field-0-is in
     printed_call (map string_bytes c.args.words.now) c.args.now (output_text c.in-Ok.output) c.print.result _ _ _ _
     (record {
       gives = λ w t. ends_as (map string_bytes c.args.words.now) c.args.now w (Ok c.in-Ok.output) _ _ _ _ none (c.in-Ok.ensures.told w t.files t.input t.dice);
@@ -27,20 +30,20 @@ returns-in-Ok g c =
       page = λ text is. absurd (no_none text _ is none);
     })
 
-pub returns-in-Err : goal.returns-in-Err
-returns-in-Err g c =
-    let none : page_of (map string_bytes c.args.words.now) ≡ None = sym c.in-None.ensures in
-    stopped_call (map string_bytes c.args.words.now) c.args.now c.tell.result _ _ _ _ c.in-Err.stop
+pub returns-in-Err-answer : goal.returns-in-Err-answer
+returns-in-Err-answer g c =
+    let none : page_of (map string_bytes c.args.words.now) ≡ None = sym c.in-Ok-None.ensures.page ∙ c.in-Ok-None.field-0-is in
+    stopped_call (map string_bytes c.args.words.now) c.args.now c.tell.result _ _ _ _ c.in-Err-answer.stop
     (record {
-      gives = λ w t. ends_as (map string_bytes c.args.words.now) c.args.now w (Err c.in-Err.stop) _ _ _ _ none (c.in-Err.ensures.told w t.files t.input t.dice);
-      left = λ w t. c.in-Err.ensures.left w.input t.input;
-      kept = c.in-Err.ensures.kept;
+      gives = λ w t. ends_as (map string_bytes c.args.words.now) c.args.now w (Err c.in-Err-answer.stop) _ _ _ _ none (c.in-Err-answer.ensures.told w t.files t.input t.dice);
+      left = λ w t. c.in-Err-answer.ensures.left w.input t.input;
+      kept = c.in-Err-answer.ensures.kept;
       written = refl;
-      draft = c.in-Err.ensures.draft;
-      unwritten = c.in-Err.ensures.unwritten;
-      undrawn = c.in-Err.ensures.undrawn;
-      stream = c.in-Err.ensures.stream;
-      caused = c.in-Err.ensures.cause;
+      draft = c.in-Err-answer.ensures.draft;
+      unwritten = c.in-Err-answer.ensures.unwritten;
+      undrawn = c.in-Err-answer.ensures.undrawn;
+      stream = c.in-Err-answer.ensures.stream;
+      caused = c.in-Err-answer.ensures.cause;
       told = c.tell.ensures;
       no_page = none;
     })
