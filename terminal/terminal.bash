@@ -289,6 +289,7 @@ take_words() {
     read_words "${words[@]}"
     is_shown=1
   fi
+  ask_why "${words[@]}"
 }
 
 # ---- help

@@ -224,6 +224,30 @@ read_words() {
   if [ "$command" = clip ]; then read_seconds; fi
 }
 
+# Sets `reason` to why the words of the program are no command, as the program says it; where they are one, to nothing. Of a
+# command or an option of another program it says what stands for it here. Words that ask for a page keep their reason, since
+# nothing is asked for them.
+ask_why() {
+  local line word foreign
+  if [ "$command" = clip ] || ! line=$("$program" --why "$@" 3<&- 8<&- </dev/null 2>/dev/null); then return; fi
+  if [ -n "$line$command" ]; then reason=$line; fi
+  case $line in
+    "unknown command '"?*)
+      if [ -n "${1-}" ] && [ -n "${foreign_commands[$1]-}" ]; then
+        reason="unknown command '$1': ${foreign_commands[$1]}"
+      elif [ -f "$1" ]; then
+        reason="a command comes first, before '$1', as ls or show; keepass --help lists them"
+      fi
+      ;;
+    "$command takes no option '"*)
+      word=${line#*\'}
+      word=${word%%\'*}
+      foreign=${foreign_options[$command $word]-${foreign_options[$word]-}}
+      if [ -n "$foreign" ]; then reason="$command takes no option '$word': $foreign"; fi
+      ;;
+  esac
+}
+
 # How many bytes a file has.
 size_of() {
   stat -Lc %s -- "$1" 2>/dev/null || printf 0
