@@ -1,8 +1,9 @@
 //! What a call is to do, from its words, its input and its files.
-ghost use Rattle.std.specs.Prelude.{◌≡◌, ◌≤◌, ℕ, List, Ok, Some, IfErr, IfOk, IfSome, is_some, map, not, string_bytes};
+ghost use Rattle.std.specs.Prelude.{◌≡◌, ◌≤◌, ℕ, List, Ok, Err, Some, IfErr, IfOk, IfSome, is_some, map, not, string_bytes};
 ghost use Rattle.outside_core.specs.Files.{FileMap};
 ghost use Rattle.kdbx_frame.specs.Settings.{IsInOrder};
-ghost use Rattle.cli_answers.specs.Phases.{IsEarlyStop, Leaves, Returns, TellsStream};
+ghost use Rattle.cli_answers.specs.Phases.{IsEarlyStop, IsWordsStop, Leaves, Returns, TellsStream};
+ghost use Rattle.cli_answers.specs.declared.answers.Refusal.{Refusal};
 ghost use Rattle.cli_lines.specs.Lines.{IsTextLine};
 ghost use Rattle.cli_lines.specs.SeenLines.{lines_seen};
 ghost use Rattle.cli_words.specs.Needs.{files_named, needs_of, target_access};
@@ -43,6 +44,10 @@ pub fn read_task<F: FileStore, S: Source>(
         → TellsStream (asked_by (command_of (map string_bytes words.now))) (S.left input.old) i
         → Leaves result (S.left input.old) (S.left input.new)
         (left_of (map string_bytes words.now) i) }
+    ensures unread { (refusal : Refusal) → command_of (map string_bytes words.now) ≡ Err refusal
+        → S.left input.new ≡ S.left input.old }
+    ensures wrong { (refusal : Refusal) → command_of (map string_bytes words.now) ≡ Err refusal
+        → IfErr result IsWordsStop }
     ensures cause { IfErr result (IsEarlyStop
         (files_named (command_of (map string_bytes words.now))) (F.faults files.old)
         (F.faults files.new) (F.absences files.old) (F.absences files.new) (S.faults input.old)

@@ -25,7 +25,7 @@ use Rattle.cli_commands.specs.SeenChange.{output_text}
 use Rattle.cli_files.specs.Tasks.{Task, draws, draws_by}
 use Rattle.call_reading.specs.Reading.{HasSomeFile, task_of}
 
-same_store : (before mid : Store) → IsSame before mid → mid ≡ before
+pub same_store : (before mid : Store) → IsSame before mid → mid ≡ before
 same_store before mid h =
     ap (λ (f : _). record { files = f; draft_name = mid.draft_name; draft_bytes = mid.draft_bytes }) h.files
     ∙ ap (λ (n : Option (List ℕ)). record { files = before.files; draft_name = n; draft_bytes = mid.draft_bytes }) h.draft_name

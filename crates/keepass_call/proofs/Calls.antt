@@ -9,9 +9,9 @@ use Rattle.cli_answers.specs.declared.answers.Stop.{Stop}
 use Rattle.cli_answers.specs.declared.answers.Stop.TheVariants.{Refused, FileFault, InputFault, NoMemory}
 use Rattle.cli_answers.proofs.Statuses.{own, seven_missing}
 use Rattle.cli_answers.specs.Messages.{error_line, reason_text, status_of}
-use Rattle.cli_answers.specs.Phases.{IsCaused, IsLeft, Leaves, StreamAnswer, TellsStream, with_left}
+use Rattle.cli_answers.specs.Phases.{IsCaused, IsLeft, IsWordsStop, Leaves, StreamAnswer, TellsStream, with_left}
 use Rattle.cli_words.specs.Needs.{files_named}
-use Rattle.cli_writing.specs.Writing.{IsSame, KeepsDraft, KeepsFiles}
+use Rattle.cli_writing.specs.Writing.{IsSame, KeepsDraft, KeepsFiles, Store}
 use Rattle.cli_commands.specs.declared.output.Output.{Output}
 use Rattle.keepass_call.specs.Call.{IsCall}
 use Rattle.cli_commands.proofs.Changes.{loses_none}
@@ -20,12 +20,12 @@ use Rattle.cli_words.specs.declared.command.Command.{Command}
 use Rattle.call_carrying.specs.Endings.{Ending, Ends, EndsSo, ending_without}
 use Rattle.keepass_call.specs.Held.{IsAuthentic, IsComplete}
 use Rattle.cli_pages.specs.Pages.{page_of}
-use Rattle.keepass_call.specs.Outcome.{Counts, Gains, IsAsSaid, IsCut, IsOfSomeFile, IsOfTask, IsRefused, IsSafe, NoFaults, Outcome, Seen, Tells, WhereTold, World, answer_of, ended, may_write_by, outcome, page_or_answer}
+use Rattle.keepass_call.specs.Outcome.{Counts, Gains, IsAsSaid, IsCut, IsOfSomeFile, IsOfTask, IsRefused, IsSafe, IsUsage, NoFaults, Outcome, Seen, Tells, WhereTold, World, answer_of, ended, may_write_by, outcome, page_or_answer}
 use Rattle.cli_words.specs.Words.{command_of}
 use Rattle.cli_files.specs.Tasks.{draws_by}
 use Rattle.call_reading.specs.Reading.{asked_by, left_behind, left_of}
 use Rattle.keepass_call.specs.Telling.{IsPrinted, IsTold, PrintsPage, TellsLine, TellsOneLine, memory_line}
-use Rattle.keepass_call.proofs.Answered.{answer_is}
+use Rattle.keepass_call.proofs.Answered.{answer_is, same_store}
 use Rattle.keepass_call.proofs.HeldTasks.{is_given, is_task}
 use Rattle.keepass_call.proofs.MergeCalls.{merges_agreed, merges_nothing}
 use Rattle.keepass_call.proofs.Pages.{no_page}
@@ -71,6 +71,9 @@ outcome_is words time w e h = ap (λ (r : Result Ending Refusal). ended (left_of
 refusal_is : (words : List (List ℕ)) (time : ℕ) (w : World) (refusal : Refusal) → (answer_of words time w).answer ≡ Err refusal
     → outcome words time w ≡ ended (left_of words w.input) (Err refusal) (answer_of words time w).left
 refusal_is words time w refusal h = ap (λ (r : Result Ending Refusal). ended (left_of words w.input) r (answer_of words time w).left) h
+
+not_both : (read : Result Command Refusal) (refusal : Refusal) (command : Command) → read ≡ Err refusal → read ≡ Ok command → ⊥
+not_both read refusal command wrong right = cc (sym wrong ∙ right)
 
 module _ (words : List (List ℕ)) (time : ℕ) (printed : List ℕ) (result : ℕ) (before now : Seen) (counts counts' : Counts)
     (p : Printed words time printed result before now counts counts') where
@@ -167,6 +170,10 @@ module _ (words : List (List ℕ)) (time : ℕ) (printed : List ℕ) (result : �
         file = g.0.store;
       }
 
+  -- Words that are no command print nothing.
+  usage : (refusal : Refusal) → command_of words ≡ Err refusal → page_of words ≡ None → IsUsage result before now
+  usage refusal wrong none = absurd (not_both (command_of words) refusal _ wrong (p.some_file none).has_file.is_command)
+
   pub printed_call : IsCall words time result before now counts counts'
   printed_call = record {
     range = range;
@@ -174,6 +181,7 @@ module _ (words : List (List ℕ)) (time : ℕ) (printed : List ℕ) (result : �
     reads_only = p.unwritten;
     draws_nothing = p.undrawn;
     page = p.page;
+    usage = usage;
     as_said = as_said;
     refused = λ w t some nine ten. absurd (never some nine ten);
     cut = cut;
@@ -264,6 +272,17 @@ pub record Stopped (words : List (List ℕ)) (time : ℕ) (stop : Stop) (result 
       counts.dice counts'.dice stop
   pub told : IsTold stop result before.errors now.errors counts.err counts'.err
   pub no_page : page_of words ≡ None
+  pub unread : (refusal : Refusal) → command_of words ≡ Err refusal → now.left ≡ before.left
+  pub wrong : (refusal : Refusal) → command_of words ≡ Err refusal → IsWordsStop stop
+
+-- All but standard error is as before.
+untouched : (before now : Seen) → now.written ≡ before.written → now.store ≡ before.store → now.left ≡ before.left → now.stream ≡ before.stream
+    → now ≡ record before { errors = now.errors }
+untouched before now w s l d =
+    ap (λ (x : Option (List ℕ)). record { written = x; errors = now.errors; store = now.store; left = now.left; stream = now.stream }) w
+    ∙ ap (λ (x : Store). record { written = before.written; errors = now.errors; store = x; left = now.left; stream = now.stream }) s
+    ∙ ap (λ (x : Option (List ℕ)). record { written = before.written; errors = now.errors; store = before.store; left = x; stream = now.stream }) l
+    ∙ ap (λ (x : Option (List ℕ)). record { written = before.written; errors = now.errors; store = before.store; left = before.left; stream = x }) d
 
 module _ (words : List (List ℕ)) (time result : ℕ) (before now : Seen) (counts counts' : Counts) where
   refused_so : (refusal : Refusal) → Stopped words time (Refused refusal) result before now counts counts' → (w : World) → Tells words before w
@@ -401,6 +420,21 @@ module _ (words : List (List ℕ)) (time result : ℕ) (before now : Seen) (coun
   stopped_complete InputFault s w t ending carried calm = absurd (elim s.caused [ inl i ↦ calm.input i | inr d ↦ calm.dice d ])
   stopped_complete NoMemory s w t ending carried calm = elim (starved s.told) [ inl nine ↦ inr nine | inr ten ↦ absurd (calm.err ten.1) ]
 
+  -- The status of words that are no command.
+  usage_status : (stop : Stop) → Stopped words time stop result before now counts counts' → IsWordsStop stop → (result ≡ 1) ⊎ (result ≡ 9) ⊎ (result ≡ 10)
+  usage_status (Refused refusal) s w =
+      elim s.told [ inl is ↦ inl (is.0 ∙ ap status_of w) | inr other ↦ elim other.0 [ inl nine ↦ inr (inl nine) | inr ten ↦ inr (inr ten.0) ] ]
+  usage_status (FileFault name) s w = absurd w
+  usage_status InputFault s w = absurd w
+  usage_status NoMemory s w = elim (starved s.told) [ inl nine ↦ inr (inl nine) | inr ten ↦ inr (inr ten.0) ]
+
+  stopped_usage : (stop : Stop) → Stopped words time stop result before now counts counts' → (refusal : Refusal) → command_of words ≡ Err refusal → IsUsage result before now
+  stopped_usage stop s refusal wrong = record {
+    status = usage_status stop s (s.wrong refusal wrong);
+    untouched = untouched before now s.written (same_store before.store now.store (s.unwritten (ap may_write_by wrong))) (s.unread refusal wrong)
+        (s.undrawn (ap draws_by wrong));
+  }
+
   pub stopped_call : (stop : Stop) → Stopped words time stop result before now counts counts' → IsCall words time result before now counts counts'
   stopped_call stop s = record {
     range = stopped_range stop s;
@@ -417,6 +451,7 @@ module _ (words : List (List ℕ)) (time result : ℕ) (before now : Seen) (coun
     reads_only = s.unwritten;
     draws_nothing = s.undrawn;
     page = λ text is. absurd (no_none text (page_of words) is s.no_page);
+    usage = λ refusal wrong none. stopped_usage stop s refusal wrong;
     as_said = stopped_said stop s;
     refused = stopped_refused stop s;
     cut = λ w t when. record { text = no_front before.written now.written (outcome words time w).text s.written; store = inl s.kept };

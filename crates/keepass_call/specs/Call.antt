@@ -1,9 +1,10 @@
 -- What the program promises of each call.
-use Rattle.std.specs.Prelude.{◌≡◌, ◌≢◌, ◌≤◌, ◌⊎◌, ℕ, List, None, Some, false}
+use Rattle.std.specs.Prelude.{◌≡◌, ◌≢◌, ◌≤◌, ◌⊎◌, ℕ, List, None, Some, Err, false}
+use Rattle.cli_answers.specs.declared.answers.Refusal.{Refusal}
 use Rattle.cli_words.specs.Needs.{files_named}
 use Rattle.keepass_call.specs.Held.{IsAuthentic, IsComplete}
 use Rattle.keepass_call.specs.Merges.{MergesAgreed, MergesNothing}
-use Rattle.keepass_call.specs.Outcome.{Counts, IsAsSaid, IsCut, IsRefused, IsSafe, NoFaults, PrintsOfSomeFile, Seen, WhereTold, may_write_by, outcome}
+use Rattle.keepass_call.specs.Outcome.{Counts, IsAsSaid, IsCut, IsRefused, IsSafe, IsUsage, NoFaults, PrintsOfSomeFile, Seen, WhereTold, may_write_by, outcome}
 use Rattle.keepass_call.specs.Telling.{PrintsPage, TellsOneLine}
 use Rattle.cli_pages.specs.Pages.{page_of}
 use Rattle.cli_words.specs.Words.{command_of}
@@ -25,6 +26,9 @@ pub record IsCall (words : List (List ℕ)) (time result : ℕ) (before now : Se
   -- Reported or not: words that ask for a page print it, and touch nothing else.
   pub page : (text : List ℕ) → page_of words ≡ Some text
       → PrintsPage text result before now counts counts'
+  -- Reported or not: words that are no command and ask for no page touch nothing but standard error.
+  pub usage : (refusal : Refusal) → command_of words ≡ Err refusal → page_of words ≡ None
+      → IsUsage result before now
   -- Where the status is 0, or nothing failed and memory did not run out, all is as the outcome of
   -- the words says.
   pub as_said : WhereTold words before (λ world. (result ≡ 0)

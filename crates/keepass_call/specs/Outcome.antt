@@ -196,6 +196,12 @@ pub record IsSafe (result : ℕ) (before now : Seen) (counts counts' : Counts) :
   pub draft : KeepsDraft before.store now.store
   pub stream : LosesPrefix before.stream now.stream
 
+-- A call of words that are no command: the status is that of wrong words, or memory ran out or the
+-- output failed, and nothing but standard error is touched: nothing is printed, read or drawn.
+pub record IsUsage (result : ℕ) (before now : Seen) : Type 0 where
+  pub status : (result ≡ 1) ⊎ (result ≡ 9) ⊎ (result ≡ 10)
+  pub untouched : now ≡ record before { errors = now.errors }
+
 -- ---- what was printed and written
 
 -- This is what the words print over a world, whose dice are these, and the file that was written,

@@ -1,8 +1,9 @@
 //! The one call of the program: from its words, and the objects of the outside, to its status.
-ghost use Rattle.std.specs.Prelude.{◌≡◌, ℕ, List, Some, IfErr, IfOk, OnErr, false, map, string_bytes};
+ghost use Rattle.std.specs.Prelude.{◌≡◌, ℕ, List, Some, Err, IfErr, IfOk, OnErr, false, map, string_bytes};
 ghost use Rattle.outside_core.specs.Streams.{GainsPrefix, LosesPrefix};
 ghost use Rattle.cli_answers.specs.Messages.{error_line, reason_text, status_of};
-ghost use Rattle.cli_answers.specs.Phases.{IsCaused, Leaves, TellsStream};
+ghost use Rattle.cli_answers.specs.Phases.{IsCaused, IsWordsStop, Leaves, TellsStream};
+ghost use Rattle.cli_answers.specs.declared.answers.Refusal.{Refusal};
 ghost use Rattle.cli_words.specs.Needs.{files_named};
 ghost use Rattle.cli_writing.specs.Writing.{IsSame, KeepsDraft, KeepsFiles, store};
 ghost use Rattle.keepass_call.specs.Call.{IsCall};
@@ -69,6 +70,10 @@ fn answer<F: FileStore, S: Source, D: Dice>(
         → TellsStream (asked_by (command_of (map string_bytes words.now))) (S.left input.old) i
         → Leaves result (S.left input.old) (S.left input.new)
         (left_of (map string_bytes words.now) i) }
+    ensures unread { (refusal : Refusal) → command_of (map string_bytes words.now) ≡ Err refusal
+        → S.left input.new ≡ S.left input.old }
+    ensures wrong { (refusal : Refusal) → command_of (map string_bytes words.now) ≡ Err refusal
+        → IfErr result IsWordsStop }
     ensures kept { OnErr result (KeepsFiles
         (store (F.files files.old) (F.draft_name files.old) (F.draft_bytes files.old))
         (store (F.files files.new) (F.draft_name files.new) (F.draft_bytes files.new))) }

@@ -46,4 +46,6 @@ returns-in-Err-answer g c =
       caused = c.in-Err-answer.ensures.cause;
       told = c.tell.ensures;
       no_page = none;
+      unread = c.in-Err-answer.ensures.unread;
+      wrong = c.in-Err-answer.ensures.wrong;
     })
