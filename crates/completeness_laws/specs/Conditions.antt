@@ -1,12 +1,14 @@
 -- Under which conditions a call is carried out.
-use Rattle.std.specs.Prelude.{◌≡◌, ◌≤◌, ℕ, Bool, true, false, List, Option, None, Some, Ok}
+use Rattle.std.specs.Prelude.{◌≡◌, ◌≤◌, ℕ, Bool, true, false, List, ◌∷◌, Option, None, Some, Ok}
 use Rattle.time_core.specs.Times.{last_stamp}
 use Rattle.stream_core.specs.InnerStream.{NoKeystream}
 use Rattle.vault_model.specs.declared.forms.DocForm.TheVariants.{Plain}
 use Rattle.vault_model.specs.Db.{NodeId, nil_id}
-use Rattle.vault_model.specs.Tree.{BareDoc, IsDoc, Tree}
+use Rattle.vault_model.specs.Tree.{BareDoc, Tree}
 use Rattle.tree_core.specs.Finding.{without_slashes}
 use Rattle.condition_laws.specs.Conditions.{CanAdd, CanEdit, CanMakeGroup, CanMoveEntry, CanMoveGroup, CanRemoveEntry, CanRemoveGroup}
+use Rattle.agreed_laws.specs.Merges.{AreDocs}
+use Rattle.content_condition_laws.specs.Conditions.{CanBeMerged, CanExport, CanSearch, CanShow}
 use Rattle.doc_write.specs.Written.{write_outcome}
 use Rattle.kdbx_frame.specs.declared.settings.Settings.{Settings}
 use Rattle.kdbx_frame.specs.declared.sealings.Sealing.{Sealing}
@@ -38,16 +40,14 @@ pub record Answers (time : ℕ) (command : Command) (line : Option (List ℕ)) (
   pub change : Change
   pub is : change_with time command line sources settings id d ≡ Ok change
 
--- The condition of each command on its document; a node that it makes has this id. Of those that
--- print values, merge or export it is that their definition is no refusal.
+-- The condition of each command on its document; a node that it makes has this id.
 abbrev pub CanChange : ℕ → Command → Option (List ℕ) → List BareDoc → Option Settings → NodeId
     → BareDoc → Type 0
 CanChange time (Ls access file group recursive flat) line sources settings id d =
     (tree : Tree) × (tree_listed group d ≡ Some tree)
 CanChange time (Show access file entry clear all attachments names) line sources settings id d =
-    Answers time (Show access file entry clear all attachments names) line sources settings id d
-CanChange time (Search access file term) line sources settings id d =
-    Answers time (Search access file term) line sources settings id d
+    CanShow entry clear all names d
+CanChange time (Search access file term) line sources settings id d = CanSearch term d
 CanChange time (Add access file entry asked) line sources settings id d = CanAdd entry id d
 CanChange time (Edit access file entry asked) line sources settings id d = CanEdit entry time d
 CanChange time (Move access file node group) line sources settings id d =
@@ -59,17 +59,16 @@ CanChange time (MakeGroup access file group) line sources settings id d =
 CanChange time (RemoveGroup access file group) line sources settings id d =
     CanRemoveGroup group (bin_id id d) time d
 CanChange time (Merge access file names from same dry) line sources settings id d =
-    Answers time (Merge access file names from same dry) line sources settings id d
+    CanBeMerged d sources
 CanChange time (Import access format source from file) line sources settings id d = Unit {0}
-CanChange time (Export access format file) line sources settings id d =
-    Answers time (Export access format file) line sources settings id d
+CanChange time (Export access format file) line sources settings id d = CanExport format d
 CanChange time (Info access file) line sources settings id d = Unit {0}
 
 -- Under its condition a command is not refused on a document, at a moment of the calendar.
 abbrev pub CommandsSucceed : Type 0
 CommandsSucceed = (time : ℕ) (command : Command) (line : Option (List ℕ)) (sources : List BareDoc)
-    (settings : Option Settings) (id : NodeId) (d : BareDoc) → time ≤ last_stamp → IsDoc d
-    → CanChange time command line sources settings id d
+    (settings : Option Settings) (id : NodeId) (d : BareDoc) → time ≤ last_stamp
+    → AreDocs (d ∷ sources) → CanChange time command line sources settings id d
     → Answers time command line sources settings id d
 
 -- ---- the call
