@@ -1,5 +1,8 @@
 //! One-time codes.
 
+ghost use Rattle.std.specs.Prelude.{IfOk};
+ghost use Rattle.otp_core.specs.Codes.{IsWithin};
+
 use crate::question::{Fault, Question};
 use crate::refusals::{named, numbered};
 use otp_core::{Otp, OtpFail, otp_code, read_otp_fields};
@@ -26,7 +29,9 @@ fn spelled(alloc: Global, code: u32, digits: u32) -> Result<String, AllocError> 
 }
 
 // The code at a moment, or why there is none.
-fn answer(alloc: Global, otp: Result<Otp, OtpFail>, moment: u64) -> Result<String, Fault> {
+fn answer(alloc: Global, otp: Result<Otp, OtpFail>, moment: u64) -> Result<String, Fault>
+    requires { IfOk otp (λ otp. IsWithin otp) }
+{
     match otp {
         Ok(otp) => {
             let code = spelled(alloc, otp_code(&otp, moment), otp.digits);
