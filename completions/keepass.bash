@@ -29,7 +29,7 @@ _keepass() {
   if [ "$word" = = ]; then word=; elif [ "$before" = = ]; then before=${COMP_WORDS[COMP_CWORD - 2]}; fi
   if [ "$COMP_CWORD" -eq 1 ]; then
     case $word in
-      -*) COMPREPLY=($(compgen -W '--help --version' -- "$word")) ;;
+      -*) COMPREPLY=($(compgen -W '--help --version --why' -- "$word")) ;;
       *) COMPREPLY=($(compgen -W 'ls show search add edit mv rm mkdir rmdir merge import export db-info clip' -- "$word")) ;;
     esac
     return

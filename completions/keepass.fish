@@ -48,6 +48,7 @@ end
 complete -c keepass -f
 complete -c keepass -n __fish_use_subcommand -l help -d 'Prints how the program is called.'
 complete -c keepass -n __fish_use_subcommand -l version -d 'Prints the version of the program.'
+complete -c keepass -n __fish_use_subcommand -l why -d 'Prints in a line why WORDS are no command, and nothing where they are one.'
 complete -c keepass -n __fish_use_subcommand -a ls -d 'list a group'
 complete -c keepass -n '__fish_seen_subcommand_from ls' -l help -d 'How the command is called.'
 complete -c keepass -n '__fish_seen_subcommand_from ls' -l recursive -s R -d 'The groups inside are listed too, each indented by two spaces more.'
