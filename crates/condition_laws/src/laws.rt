@@ -2,6 +2,7 @@
 //! has laws as its contract; it does nothing, and takes no memory.
 
 ghost use Rattle.condition_laws.specs.Conditions.{AddSucceeds, EditSucceeds, MakeGroupSucceeds, MoveEntrySucceeds, MoveGroupSucceeds, RemoveEntrySucceeds, RemoveGroupSucceeds};
+ghost use Rattle.condition_laws.specs.Example.{ExampleConditions};
 
 /// An edit is carried out where its path names an entry, and the entry's last time is before the
 /// last second of the year 9999.
@@ -28,4 +29,10 @@ pub fn new_nodes_succeed()
 pub fn removals_succeed()
     ensures entry { RemoveEntrySucceeds }
     ensures group { RemoveGroupSucceeds }
+{}
+
+/// Each of these laws speaks of something: a small database on which the commands can be carried
+/// out.
+pub fn example_conditions()
+    ensures { ExampleConditions }
 {}

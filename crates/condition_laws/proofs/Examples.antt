@@ -1,0 +1,70 @@
+-- Conditions of a small database, computed.
+use Rattle.std.proofs.Common.{◌≡◌, List, [], ◌∷◌, ℕ, Option, None, Some, codes, refl, sym, ap, arith, inl, inr}
+use Rattle.std.proofs.lemmas.Option.{same_Some}
+use Rattle.vault_model.specs.Db.{NodeId, nil_id}
+use Rattle.vault_model.specs.Tree.{Tree, node, none}
+use Rattle.merge_core.specs.Example.{as_it_was, bank, edited, entry, group, home, mail, root, version, work}
+use Rattle.frame_laws.specs.Example.{without_bin}
+use Rattle.tree_core.specs.Finding.{entry_found, group_found, has_entry_path, has_group_path}
+use Rattle.tree_core.specs.Changes.{is_free}
+use Rattle.frame_laws.specs.Frame.{entry_of}
+use Rattle.frame_laws.proofs.Examples.{example_changes}
+use Rattle.growth_laws.proofs.Stays.{entry_is}
+use Rattle.condition_laws.specs.Example.{ExampleConditions}
+
+bank_is : entry_of as_it_was bank ≡ Some (entry 10 nil_id (version 10 (codes "Bank") (codes "a")) [])
+bank_is = entry_is as_it_was example_changes.doc bank (entry 10 nil_id (version 10 (codes "Bank") (codes "a")) []) (inl refl)
+
+mail_is : entry_of as_it_was mail ≡ Some (entry 10 nil_id (version 10 (codes "Mail") []) [])
+mail_is = entry_is as_it_was example_changes.doc mail (entry 10 nil_id (version 10 (codes "Mail") []) []) (inr (inl refl))
+
+bare_mail_is : entry_of without_bin mail ≡ Some (entry 10 nil_id (version 10 (codes "Mail") []) [])
+bare_mail_is = entry_is without_bin example_changes.bare mail (entry 10 nil_id (version 10 (codes "Mail") []) []) (inr (inl refl))
+
+pub example_conditions : ExampleConditions
+unfolding entry_found group_found has_entry_path has_group_path
+example_conditions = record {
+  edit = record {
+    entry = record { entry = bank; group = root; before = entry 10 nil_id (version 10 (codes "Bank") (codes "a")) []; named = refl; held = refl; is = bank_is };
+    time = omega arith;
+  };
+  move_entry = record {
+    entry = record { entry = bank; group = root; before = entry 10 nil_id (version 10 (codes "Bank") (codes "a")) []; named = refl; held = refl; is = bank_is };
+    to = work;
+    aimed = refl;
+    apart = refl;
+    time = omega arith;
+  };
+  move_group = record {
+    moving = record { id = work; group = node work (group 10 (codes "Work")) [] none; named = refl; is = refl };
+    to = home;
+    aimed = refl;
+    apart = refl;
+    no_root = refl;
+    put = record { outside = refl; fits = omega arith; time = omega arith };
+  };
+  add = record { group = work; named = refl; free_path = refl; free_id = refl };
+  make_group = record { group = root; named = refl; free_path = refl; no_root = refl; fits = omega arith; free_id = refl };
+  delete_entry = record {
+    entry = record { entry = mail; group = root; before = entry 10 nil_id (version 10 (codes "Mail") []) []; named = refl; held = refl; is = mail_is };
+    made = λ is. cc is;
+    time = λ is. cc is;
+  };
+  recycle_entry = record {
+    entry = record { entry = mail; group = root; before = entry 10 nil_id (version 10 (codes "Mail") []) []; named = refl; held = refl; is = bare_mail_is };
+    made = λ is id given. (ap (λ u. is_free u without_bin) (sym (same_Some home id given)), omega arith);
+    time = λ is. omega arith;
+  };
+  delete_group = record {
+    removing = record { id = work; group = node work (group 10 (codes "Work")) [] none; named = refl; is = refl };
+    no_root = refl;
+    made = λ is. cc is;
+    put = λ is. cc is;
+  };
+  recycle_group = record {
+    removing = record { id = work; group = node work (group 10 (codes "Work")) [] none; named = refl; is = refl };
+    no_root = refl;
+    made = λ is id given. (ap (λ u. is_free u without_bin) (sym (same_Some home id given)), omega arith);
+    put = λ is. record { outside = refl; fits = omega arith; time = omega arith };
+  };
+}
