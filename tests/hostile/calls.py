@@ -1,5 +1,5 @@
 """Every command on a file in which something may be wrong, and what a call may say and leave. Used by `damaged` and `shapes`."""
-import os, re, subprocess, tempfile
+import os, re, select, signal, tempfile
 
 FILE, OTHER, NEW, KEY = "FILE", "OTHER", "NEW", "KEY"
 SECONDS = 120
@@ -63,22 +63,28 @@ def imports(form):
 
 
 class Place:
-    """A folder with some files in which calls are made."""
+    """A folder with some files in which calls are made. What a call reads and prints is in files, since pipes would take longer than the
+    call itself."""
 
     def __init__(self, program, parent=None):
-        self.program, self.folder = os.path.realpath(program), tempfile.mkdtemp(dir=parent or DISK)
+        self.program, self.folder, self.seen = os.path.realpath(program), tempfile.mkdtemp(dir=parent or DISK), {}
+        self.streams = [tempfile.TemporaryFile(dir=DISK, buffering=0) for _ in range(3)]
 
     def put(self, files):
-        """These files and no others."""
+        """These files and no others. A number stands for so many bytes of zero. What is there already stays."""
+        same = {name for name, data in files.items() if name in self.seen and self.seen[name][-1] == data}
+        if same == self.seen.keys() == files.keys():
+            return
         for name in os.listdir(self.folder):
             if name not in files:
                 os.remove(os.path.join(self.folder, name))
-        for name, data in files.items():
+        for name in files.keys() - same:
             with open(os.path.join(self.folder, name), "wb") as file:
-                file.write(data)
+                file.truncate(files[name]) if isinstance(files[name], int) else file.write(files[name])
+        self.seen = self.state()
 
     def read(self, name):
-        with open(os.path.join(self.folder, name), "rb") as file:
+        with open(os.path.join(self.folder, name), "rb", 0) as file:
             return file.read()
 
     def state(self):
@@ -89,16 +95,32 @@ class Place:
             found[name] = one.st_ino, one.st_mode, one.st_mtime_ns, one.st_size, self.read(name) if one.st_size < 2**22 else None
         return found
 
+    def run(self, words, lines):
+        """The status of the program, or None where it does not end."""
+        for stream, content in zip(self.streams, (lines, b"", b"")):
+            stream.seek(0)
+            stream.truncate()
+            stream.write(content)
+            stream.seek(0)
+        os.chdir(self.folder)
+        actions = [(os.POSIX_SPAWN_DUP2, stream.fileno(), number) for number, stream in enumerate(self.streams)]
+        child = os.posix_spawn(self.program, [self.program, *words], os.environ, file_actions=actions)
+        ended, waiting = os.pidfd_open(child), select.poll()
+        waiting.register(ended, select.POLLIN)
+        in_time = waiting.poll(1000 * SECONDS)
+        os.close(ended)
+        if not in_time:
+            os.kill(child, signal.SIGKILL)
+        status = os.waitstatus_to_exitcode(os.waitpid(child, 0)[1])
+        return status if in_time else None
+
     def call(self, call, access, lines):
         """A call, and what it did: status, output, line, and the names of the files that are not as they were."""
-        before = self.state()
-        try:
-            ended = subprocess.run([self.program, *call.words(access)], cwd=self.folder, input=lines, capture_output=True, timeout=SECONDS)
-        except subprocess.TimeoutExpired:
-            return None, b"", b"", []
-        after = self.state()
+        before, status = self.seen, self.run(call.words(access), lines)
+        self.seen = after = self.state()
+        _, out, err = [(stream.seek(0), stream.read())[1] for stream in self.streams]
         changed = sorted(name for name in before.keys() | after.keys() if before.get(name) != after.get(name))
-        return ended.returncode, ended.stdout, ended.stderr, changed
+        return status, out, err, changed
 
 
 def faults(call, found, allowed, due=None):

@@ -1,10 +1,23 @@
-# Hostile use, for tests/run: it sources this file after tests/changing/checks.bash, and has `top`, `program`, `passed` and `failed`.
+# Hostile use, for tests/run: it sources this file after tests/changing/checks.bash, and has `top`, `way`, `program`, `passed`
+# and `failed`.
 hostile=$top/tests/hostile
 
-# hostile_use: all of it. The program of rows is there as the gate leaves it.
+# In so many equal parts each change of the damaged files is tried by the gate.
+damaged_parts=8
+
+# each_change NUMBER: one of these parts, the first one being 1.
+each_change() {
+  many_times "each change of damaged files, by every command, part $1 of $damaged_parts" "$hostile/damaged" "$program" all "$1/$damaged_parts"
+}
+
+# hostile_use: all of it, but of the damaged files a third where the gate does not try them all. The program of rows is there as the
+# gate leaves it.
 hostile_use() {
   local rows line
-  many_times 'damaged files, by every command' "$hostile/damaged" "$program"
+  if [ "$way" != --gate ]; then
+    many_times 'a third of the damaged files, by commands in turns' "$hostile/damaged" "$program"
+    echo 'skipped: each change of damaged files, by every command; .ci/run does that'
+  fi
   many_times 'files at the limits, by every command' "$hostile/shapes" "$program"
   many_times 'what calls leave in memory' "$hostile/secrets" "$program"
   while IFS= read -r line; do echo "$line"; done < <(grep '^skipped: ' report.txt)
