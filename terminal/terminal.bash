@@ -35,6 +35,7 @@ stop() {
   if [ -n "$begun" ]; then erase; fi
   if [ -n "$asking" ]; then tell $'\n'; fi
   if [ -n "$copied" ]; then clear_clipboard; fi
+  give_back_at_terminal 0
   unhide
   trap - EXIT HUP INT QUIT TERM
   kill -"$1" $$
@@ -53,7 +54,7 @@ open_streams() {
 }
 
 # What is typed is not shown from here on, before anything else is done.
-settings='' asking='' copied='' begun=''
+settings='' asking='' copied='' begun='' replaced=''
 heed_signals
 open_streams
 
@@ -64,6 +65,7 @@ open_streams
 . "$terminal/words.bash"
 . "$terminal/hints.bash"
 . "$terminal/clip.bash"
+. "$terminal/replacing.bash"
 
 # What is read with the characters shown that could command the terminal: control characters but line feeds, and those that
 # turn the direction of text. It is shown at its end, and not before.
@@ -235,6 +237,13 @@ run() {
   if [ -n "$refusal" ] || [ "$status" = 10 ]; then refuse; fi
 }
 
+# Gives a file that was replaced what the old one had, after a call with this status.
+give_back_at_terminal() {
+  if [ -z "$replaced" ]; then return; fi
+  give_back "$1"
+  printf '%s' "$lost" | visible >&2
+}
+
 # Shows a refusal, and what can be done about it.
 refuse() {
   if [ -z "$refusal" ]; then
@@ -378,7 +387,9 @@ at_terminal() {
   if [ "$command" = clip ] && [ -z "$reason" ]; then
     clip
   else
+    if [ -n "$more" ] && [ -z "$reason" ]; then remember "$target"; fi
     run "${words[@]}"
+    give_back_at_terminal "$status"
   fi
   exit "$status"
 }

@@ -7,7 +7,8 @@ NOBODY = 65534
 
 
 def state(folder):
-    """Every file below a folder: its kind, number, mode, owner, length, time of its last change, and its bytes or what it names."""
+    """Every file below a folder: its kind, number, mode, owner, length, time of its last change, attributes with its access control list,
+    and its bytes or what it names."""
     found = {}
     for path, folders, files in os.walk(folder):
         for name in folders + files:
@@ -20,8 +21,16 @@ def state(folder):
             # A folder's own time changes with each draft.
             time = None if stat.S_ISDIR(one.st_mode) else one.st_mtime_ns
             size = None if stat.S_ISDIR(one.st_mode) else one.st_size
-            found[os.path.relpath(whole, folder)] = (stat.S_IFMT(one.st_mode), one.st_ino, stat.S_IMODE(one.st_mode), one.st_uid, one.st_gid, size, time, content)
+            found[os.path.relpath(whole, folder)] = (stat.S_IFMT(one.st_mode), one.st_ino, stat.S_IMODE(one.st_mode), one.st_uid, one.st_gid, size, time, extras(whole), content)
     return found
+
+
+def extras(path):
+    """The attributes of a file, among them its access control list, where the file system has such."""
+    try:
+        return {name: os.getxattr(path, name, follow_symlinks=False) for name in os.listxattr(path, follow_symlinks=False)}
+    except OSError:
+        return {}
 
 
 def differences(before, after):
