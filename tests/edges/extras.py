@@ -195,19 +195,22 @@ def signals(extras):
         before = state(extras.rows.folder)
         with open(extras.rows.path("w.xml")) as held:
             fcntl.flock(held, fcntl.LOCK_EX)
-            call = subprocess.Popen([extras.script, *EDIT], cwd=extras.rows.folder, stdin=subprocess.DEVNULL, stdout=subprocess.PIPE, stderr=subprocess.PIPE)
+            # The tests may run beside a shell that ignores signals of the keyboard.
+            call = subprocess.Popen([extras.script, *EDIT], cwd=extras.rows.folder, stdin=subprocess.DEVNULL, stdout=subprocess.PIPE, stderr=subprocess.PIPE,
+                                    preexec_fn=lambda: signal.signal(send, signal.SIG_DFL))
             program = program_of(call.pid)
             call.send_signal(send)
             call.communicate()
-            left = is_there(program)
+            left = program is not None and is_there(program)
         is_script = program == call.pid
         extras.rows.judged(f"signal {send} to a call, {'something' if has else 'nothing'} to give back",
                            call.returncode == -send and is_script != has and not left and state(extras.rows.folder) == before, call.returncode, program, call.pid, left)
 
 
 def program_of(pid):
-    """The process of a call that is the program, the script itself or one that it started, once there is one."""
-    while True:
+    """The process of a call that is the program, the script itself or one that it started, once there is one; None where the call has
+    ended."""
+    while is_there(pid):
         for one in (pid, *below(pid)):
             try:
                 if os.path.basename(os.readlink(f"/proc/{one}/exe")).startswith("keepass_cli"):
