@@ -30,24 +30,25 @@ _keepass() {
   if [ "$COMP_CWORD" -eq 1 ]; then
     case $word in
       -*) COMPREPLY=($(compgen -W '--help --version --why' -- "$word")) ;;
-      *) COMPREPLY=($(compgen -W 'ls show search add edit mv rm mkdir rmdir merge import export db-info clip' -- "$word")) ;;
+      *) COMPREPLY=($(compgen -W 'ls show search add edit mv rm mkdir rmdir merge import export db-info generate clip' -- "$word")) ;;
     esac
     return
   fi
   case "$command $before" in
     'import --format') COMPREPLY=($(compgen -W 'xml psafe3 csv' -- "$word")); return ;;
     'export -f' | 'export --format') COMPREPLY=($(compgen -W 'xml csv' -- "$word")); return ;;
+    'edit -t' | 'export -f' | 'clip -t') return ;;
   esac
   case $before in
     --key-file | --key-file-from | --set-key-file | -k) _keepass_files "$word" all; return ;;
-    --attributes | --notes | --seconds | --title | --url | --username | -a | -t | -u) return ;;
+    --attributes | --exclude | --length | --notes | --seconds | --title | --url | --username | -L | -a | -u | -x) return ;;
   esac
   case $command in
     ls) kinds=(file group) options='-R --recursive -f --flatten -k --key-file --no-password --plain -q --quiet --help' ;;
-    show) kinds=(file entry) options='-s --show-protected --all --show-attachments -a --attributes -k --key-file --no-password --plain -q --quiet --help' ;;
+    show) kinds=(file entry) options='-s --show-protected --all --show-attachments -a --attributes -t --totp -k --key-file --no-password --plain -q --quiet --help' ;;
     search) kinds=(file nothing) options='-k --key-file --no-password --plain -q --quiet --help' ;;
-    add) kinds=(file entry) options='-u --username --url --notes -p --password-prompt -k --key-file --no-password --plain -q --quiet --help' ;;
-    edit) kinds=(file entry) options='-t --title -u --username --url --notes -p --password-prompt -k --key-file --no-password --plain -q --quiet --help' ;;
+    add) kinds=(file entry) options='-u --username --url --notes -p --password-prompt -g --generate -L --length -l --lower -U --upper -n --numeric -s --special -x --exclude -k --key-file --no-password --plain -q --quiet --help' ;;
+    edit) kinds=(file entry) options='-t --title -u --username --url --notes -p --password-prompt -g --generate -L --length -l --lower -U --upper -n --numeric -s --special -x --exclude --otp -k --key-file --no-password --plain -q --quiet --help' ;;
     mv) kinds=(file node group) options='-k --key-file --no-password --plain -q --quiet --help' ;;
     rm) kinds=(file entry) options='-k --key-file --no-password --plain -q --quiet --help' ;;
     mkdir) kinds=(file group) options='-k --key-file --no-password --plain -q --quiet --help' ;;
@@ -56,6 +57,7 @@ _keepass() {
     import) kinds=(file file) options='--format -p --set-password --set-key-file --plain -q --quiet --help' ;;
     export) kinds=(file) options='-f --format -k --key-file --no-password --plain -q --quiet --help' ;;
     db-info) kinds=(file) options='-k --key-file --no-password --plain -q --quiet --help' ;;
+    generate) kinds=() options='-L --length -l --lower -U --upper -n --numeric -s --special -x --exclude --help' ;;
     clip) kinds=(file entry field) options='-t --seconds -k --key-file --no-password --plain -q --quiet --help' ;;
     *) return ;;
   esac
@@ -67,8 +69,8 @@ _keepass() {
     case $value${COMP_WORDS[number]} in
       *=) value=1 ;;
       1*) value= ;;
-      --attributes | --format | --key-file | --key-file-from | --notes | --seconds | --set-key-file | --title | --url | --username | -a | -k | -t | -u | -f) if [ "${COMP_WORDS[number]} $command" != '-f ls' ]; then value=1; fi ;;
-      -*) ;;
+      --attributes | --exclude | --format | --key-file | --key-file-from | --length | --notes | --seconds | --set-key-file | --title | --url | --username | -L | -a | -k | -u | -x) value=1 ;;
+      -*) case "$command ${COMP_WORDS[number]}" in 'edit -t' | 'export -f' | 'clip -t') value=1 ;; esac ;;
       *)
         place=$((place + 1))
         if [ "$place" = 1 ]; then first=${COMP_WORDS[number]}; fi
@@ -76,7 +78,7 @@ _keepass() {
     esac
   done
   if [ "$place" -ge "${#kinds[@]}" ]; then
-    kind=${kinds[${#kinds[@]} - 1]}
+    kind=${kinds[*]: -1}
     if [ "$kind" = "${kind%...}" ]; then return; fi
   else
     kind=${kinds[place]}

@@ -3,10 +3,13 @@
 # The words at positions before the cursor, after the command, without options and their values.
 function __keepass_positions
     set -l value
+    set -l command (commandline -opc)[2]
     for word in (commandline -opc)[3..-1]
         if set -q value[1]
             set -e value[1]
-        else if contains -- $word --attributes --format --key-file --key-file-from --notes --seconds --set-key-file --title --url --username -a -k -t -u
+        else if contains -- $word --attributes --exclude --format --key-file --key-file-from --length --notes --seconds --set-key-file --title --url --username -L -a -k -u -x
+            set value 1
+        else if contains -- "$command $word" 'edit -t' 'export -f' 'clip -t'
             set value 1
         else if not string match -q -- '-*' $word
             printf '%s\n' $word
@@ -63,6 +66,7 @@ complete -c keepass -n '__fish_seen_subcommand_from show' -l show-protected -s s
 complete -c keepass -n '__fish_seen_subcommand_from show' -l all -d 'All fields of the entry are shown.'
 complete -c keepass -n '__fish_seen_subcommand_from show' -l show-attachments -d 'The names and the sizes of the entry\'s attachments are shown too.'
 complete -c keepass -n '__fish_seen_subcommand_from show' -l attributes -s a -x -d 'The value of this field alone is shown, a protected one too. May be given several times.'
+complete -c keepass -n '__fish_seen_subcommand_from show' -l totp -s t -d 'The entry\'s one-time code is shown and nothing else, or after the values of --attributes. Goes with neither --all nor --show-attachments.'
 complete -c keepass -n '__fish_seen_subcommand_from show' -l key-file -s k -r -F -d 'The database needs this key file besides its password.'
 complete -c keepass -n '__fish_seen_subcommand_from show' -l no-password -d 'The database has no password: no line is read for it. Needs a key file.'
 complete -c keepass -n '__fish_seen_subcommand_from show' -l plain -d 'The database is a plain XML export, which has no password and no key file.'
@@ -79,6 +83,13 @@ complete -c keepass -n '__fish_seen_subcommand_from add' -l username -s u -x -d 
 complete -c keepass -n '__fish_seen_subcommand_from add' -l url -x -d 'The address.'
 complete -c keepass -n '__fish_seen_subcommand_from add' -l notes -x -d 'The notes.'
 complete -c keepass -n '__fish_seen_subcommand_from add' -l password-prompt -s p -d 'The entry\'s password is the line of standard input after the one of the database.'
+complete -c keepass -n '__fish_seen_subcommand_from add' -l generate -s g -d 'The entry\'s password is generated, by the six options below. Does not go with --password-prompt.'
+complete -c keepass -n '__fish_seen_subcommand_from add' -l length -s L -x -d 'How many characters the password has: 1 to 4096, 32 where nothing is said.'
+complete -c keepass -n '__fish_seen_subcommand_from add' -l lower -s l -d 'Small letters are among its characters.'
+complete -c keepass -n '__fish_seen_subcommand_from add' -l upper -s U -d 'Capital letters are among them.'
+complete -c keepass -n '__fish_seen_subcommand_from add' -l numeric -s n -d 'Digits are among them.'
+complete -c keepass -n '__fish_seen_subcommand_from add' -l special -s s -d 'Signs are among them: the 32 of ASCII.'
+complete -c keepass -n '__fish_seen_subcommand_from add' -l exclude -s x -x -d 'None of these characters is among them.'
 complete -c keepass -n '__fish_seen_subcommand_from add' -l key-file -s k -r -F -d 'The database needs this key file besides its password.'
 complete -c keepass -n '__fish_seen_subcommand_from add' -l no-password -d 'The database has no password: no line is read for it. Needs a key file.'
 complete -c keepass -n '__fish_seen_subcommand_from add' -l plain -d 'The database is a plain XML export, which has no password and no key file.'
@@ -90,6 +101,14 @@ complete -c keepass -n '__fish_seen_subcommand_from edit' -l username -s u -x -d
 complete -c keepass -n '__fish_seen_subcommand_from edit' -l url -x -d 'The address.'
 complete -c keepass -n '__fish_seen_subcommand_from edit' -l notes -x -d 'The notes.'
 complete -c keepass -n '__fish_seen_subcommand_from edit' -l password-prompt -s p -d 'The entry\'s password is the line of standard input after the one of the database.'
+complete -c keepass -n '__fish_seen_subcommand_from edit' -l generate -s g -d 'The entry\'s password is generated, by the six options below. Does not go with --password-prompt.'
+complete -c keepass -n '__fish_seen_subcommand_from edit' -l length -s L -x -d 'How many characters the password has: 1 to 4096, 32 where nothing is said.'
+complete -c keepass -n '__fish_seen_subcommand_from edit' -l lower -s l -d 'Small letters are among its characters.'
+complete -c keepass -n '__fish_seen_subcommand_from edit' -l upper -s U -d 'Capital letters are among them.'
+complete -c keepass -n '__fish_seen_subcommand_from edit' -l numeric -s n -d 'Digits are among them.'
+complete -c keepass -n '__fish_seen_subcommand_from edit' -l special -s s -d 'Signs are among them: the 32 of ASCII.'
+complete -c keepass -n '__fish_seen_subcommand_from edit' -l exclude -s x -x -d 'None of these characters is among them.'
+complete -c keepass -n '__fish_seen_subcommand_from edit' -l otp -d 'The entry\'s one-time code is a line of standard input, after all others: an otpauth URI. An empty line takes it away.'
 complete -c keepass -n '__fish_seen_subcommand_from edit' -l key-file -s k -r -F -d 'The database needs this key file besides its password.'
 complete -c keepass -n '__fish_seen_subcommand_from edit' -l no-password -d 'The database has no password: no line is read for it. Needs a key file.'
 complete -c keepass -n '__fish_seen_subcommand_from edit' -l plain -d 'The database is a plain XML export, which has no password and no key file.'
@@ -148,6 +167,14 @@ complete -c keepass -n '__fish_seen_subcommand_from db-info' -l key-file -s k -r
 complete -c keepass -n '__fish_seen_subcommand_from db-info' -l no-password -d 'The database has no password: no line is read for it. Needs a key file.'
 complete -c keepass -n '__fish_seen_subcommand_from db-info' -l plain -d 'The database is a plain XML export, which has no password and no key file.'
 complete -c keepass -n '__fish_seen_subcommand_from db-info' -l quiet -s q -d 'Nothing is reported.'
+complete -c keepass -n __fish_use_subcommand -a generate -d 'generate a password'
+complete -c keepass -n '__fish_seen_subcommand_from generate' -l help -d 'How the command is called.'
+complete -c keepass -n '__fish_seen_subcommand_from generate' -l length -s L -x -d 'How many characters the password has: 1 to 4096, 32 where nothing is said.'
+complete -c keepass -n '__fish_seen_subcommand_from generate' -l lower -s l -d 'Small letters are among its characters.'
+complete -c keepass -n '__fish_seen_subcommand_from generate' -l upper -s U -d 'Capital letters are among them.'
+complete -c keepass -n '__fish_seen_subcommand_from generate' -l numeric -s n -d 'Digits are among them.'
+complete -c keepass -n '__fish_seen_subcommand_from generate' -l special -s s -d 'Signs are among them: the 32 of ASCII.'
+complete -c keepass -n '__fish_seen_subcommand_from generate' -l exclude -s x -x -d 'None of these characters is among them.'
 complete -c keepass -n __fish_use_subcommand -a clip -d 'copy a value to the clipboard'
 complete -c keepass -n '__fish_seen_subcommand_from clip' -l help -d 'How the command is called.'
 complete -c keepass -n '__fish_seen_subcommand_from clip' -l seconds -s t -x -d 'How long the value stays: 10 seconds where nothing is said, and for good with 0.'

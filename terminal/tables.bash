@@ -4,10 +4,10 @@
 # The options of each command: name, letter, value, and `many` where it may be repeated.
 declare -gA option_rows=(
   ['ls']='recursive:R:: flatten:f:: key-file:k:FILE: no-password::: plain::: quiet:q::'
-  ['show']='show-protected:s:: all::: show-attachments::: attributes:a:NAME:many key-file:k:FILE: no-password::: plain::: quiet:q::'
+  ['show']='show-protected:s:: all::: show-attachments::: attributes:a:NAME:many totp:t:: key-file:k:FILE: no-password::: plain::: quiet:q::'
   ['search']='key-file:k:FILE: no-password::: plain::: quiet:q::'
-  ['add']='username:u:NAME: url::URL: notes::TEXT: password-prompt:p:: key-file:k:FILE: no-password::: plain::: quiet:q::'
-  ['edit']='title:t:TITLE: username:u:NAME: url::URL: notes::TEXT: password-prompt:p:: key-file:k:FILE: no-password::: plain::: quiet:q::'
+  ['add']='username:u:NAME: url::URL: notes::TEXT: password-prompt:p:: generate:g:: length:L:NUMBER: lower:l:: upper:U:: numeric:n:: special:s:: exclude:x:CHARS: key-file:k:FILE: no-password::: plain::: quiet:q::'
+  ['edit']='title:t:TITLE: username:u:NAME: url::URL: notes::TEXT: password-prompt:p:: generate:g:: length:L:NUMBER: lower:l:: upper:U:: numeric:n:: special:s:: exclude:x:CHARS: otp::: key-file:k:FILE: no-password::: plain::: quiet:q::'
   ['mv']='key-file:k:FILE: no-password::: plain::: quiet:q::'
   ['rm']='key-file:k:FILE: no-password::: plain::: quiet:q::'
   ['mkdir']='key-file:k:FILE: no-password::: plain::: quiet:q::'
@@ -16,6 +16,7 @@ declare -gA option_rows=(
   ['import']='format::FORMAT: set-password:p:: set-key-file::FILE: plain::: quiet:q::'
   ['export']='format:f:FORMAT: key-file:k:FILE: no-password::: plain::: quiet:q::'
   ['db-info']='key-file:k:FILE: no-password::: plain::: quiet:q::'
+  ['generate']='length:L:NUMBER: lower:l:: upper:U:: numeric:n:: special:s:: exclude:x:CHARS:'
   ['clip']='seconds:t:SECONDS: key-file:k:FILE: no-password::: plain::: quiet:q::'
 )
 
@@ -34,6 +35,7 @@ declare -gA command_positions=(
   ['import']='SOURCE DATABASE'
   ['export']='DATABASE'
   ['db-info']='DATABASE'
+  ['generate']=''
   ['clip']='DATABASE ENTRY [FIELD]'
 )
 
@@ -52,11 +54,12 @@ declare -gA command_briefs=(
   ['import']='make a database of another file'
   ['export']='print a whole database, passwords too'
   ['db-info']='tell what a file is'
+  ['generate']='generate a password'
   ['clip']='copy a value to the clipboard'
 )
 
 # The commands in the order of the help.
-command_order='ls show search add edit mv rm mkdir rmdir merge import export db-info clip'
+command_order='ls show search add edit mv rm mkdir rmdir merge import export db-info generate clip'
 
 # The formats of the commands that have one.
 declare -gA command_formats=(
@@ -77,13 +80,12 @@ declare -gA foreign_commands=(
   ['db-create']=$'\'import\' makes databases, of an XML export or a table'
   ['db-edit']='keepass has no such command'
   ['delete']=$'\'rm\' removes entries, \'rmdir\' groups'
-  ['diceware']='keepass makes no passwords yet'
+  ['diceware']=$'\'generate\' makes passwords, of characters and not of words'
   ['estimate']='keepass has no such command'
   ['exit']='each call opens the database itself, and nothing stays open'
   ['extract']=$'\'export\' prints a whole database'
   ['close']='each call opens the database itself, and nothing stays open'
   ['find']=$'\'search\' finds entries'
-  ['generate']='keepass makes no passwords yet'
   ['get']=$'\'show\' shows an entry'
   ['info']=$'\'db-info\' tells what a file is'
   ['list']=$'\'ls\' lists a group'
@@ -104,7 +106,6 @@ declare -gA foreign_options=(
   ['clip --attribute']='the field is the third position: clip DATABASE ENTRY FIELD'
   ['clip -b']='ENTRY is a whole path'
   ['clip --best-match']='ENTRY is a whole path'
-  ['show -t']='there are no one-time codes yet'
   ['rm -r']=$'\'rmdir\' removes groups'
   ['rm -R']=$'\'rmdir\' removes groups'
   ['rm -f']='nothing is asked before an entry goes into the bin'
@@ -117,11 +118,8 @@ declare -gA foreign_options=(
   ['export --output']='the output goes to a file by >FILE'
   ['-o']='the output goes to a file by >FILE'
   ['--password-file']='a password is a line of standard input: <FILE'
-  ['--totp']='there are no one-time codes yet'
-  ['--generate']='keepass makes no passwords yet; -p asks for one'
-  ['--length']='keepass makes no passwords yet; -p asks for one'
-  ['-g']='keepass makes no passwords yet; -p asks for one'
-  ['-L']='keepass makes no passwords yet; -p asks for one'
+  ['clip --totp']=$'\'show -t\' shows a one-time code'
+  ['generate --every-group']='each character is chosen by itself: choose a longer password'
   ['--yubikey']='there is no challenge and response'
   ['--yubikey-from']='there is no challenge and response'
   ['-y']='there is no challenge and response'
@@ -153,6 +151,7 @@ hint_rows=(
   $'2\x1fid taken *\x1f\x1f\x1fthe id that was drawn is in use: try again'
   $'2\x1fno attribute *\x1fclip\x1fnumber\x1fseconds are given by -t: keepass clip -t {found} {opened}{database} {entry}'
   $'2\x1fno attribute *\x1f\x1f\x1fkeepass show --all {opened}{database} {entry} shows the names; they are compared letter by letter, as in Password, UserName, URL'
+  $'2\x1fno one-time code\x1f\x1f\x1fkeepass edit --otp {opened}{database} {entry} gives it one, from a line that is an otpauth URI'
   $'2\x1fno results\x1f\x1f\x1fa term is a part of title, user name, URL, notes or tags, and all must match; keepass ls -Rf {opened}{database} lists everything'
   $'2\x1ffile exists\x1f\x1f\x1fimport makes new files alone: choose another name, or merge into the file that is there'
   $'3\x1fdamaged or wrong key: *\x1f\x1fpsafe3\x1fthe password is right, and the file was changed or damaged: use a backup'
@@ -166,6 +165,7 @@ hint_rows=(
   $'3\x1fdamaged block *\x1f\x1f\x1fthe password is right, and the file is damaged: use a backup'
   $'3\x1fwrong password\x1f\x1f\x1ftype the password of the file of Password Safe again'
   $'3\x1fkey file: *\x1f\x1f\x1fthe key file is damaged: use a copy of it'
+  $'4\x1fbad one-time code at *\x1f\x1f\x1fa one-time code is made from a URI such as otpauth://totp/NAME?secret=SECRET, with the secret in base32; the number is where it goes wrong'
   $'4\x1fnot a KDBX file\x1f\x1fkdb\x1fa database of KeePass 1: import it in KeePassXC or KeePass 2, and save it as KDBX 4 without compression'
   $'4\x1fnot a KDBX file\x1f\x1fpsafe3\x1fa file of Password Safe: keepass import --format psafe3 -p {file} NEW.kdbx makes a database of it'
   $'4\x1fnot a KDBX file\x1f\x1fmarkup\x1fan XML export is opened with --plain'

@@ -340,7 +340,7 @@ help() {
       ;;
   esac
   if [ $# = 2 ] && [[ $1 = help || $1 = -h || $1 = --help ]]; then set -- "$2" -h; fi
-  if [ -z "${command_positions[${1:-none}]-}" ]; then return; fi
+  if [ -z "${command_briefs[${1:-none}]-}" ]; then return; fi
   for word in "${@:2}"; do
     case $word in
       --) return ;;

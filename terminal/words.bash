@@ -17,9 +17,9 @@ distance() {
   printf '%d' "${row[-1]}"
 }
 
-# The nearest of some words to the first, where one is near: two letters off, or begun so.
+# The nearest of some words to the first, where one is near: one letter off, two where both begin alike, or begun so.
 nearest() {
-  local word=$1 other best='' far least=3
+  local word=$1 other best='' far least=3 one two
   shift
   for other; do
     if [ $((${#word} - ${#other})) -gt 2 ] || [ "${#word}" -gt 40 ]; then continue; fi
@@ -29,6 +29,9 @@ nearest() {
       continue
     else
       far=$(distance "$word" "$other")
+      # Options come with their hyphens.
+      one=${word#--} two=${other#--}
+      if [ "$far" -gt 1 ] && [ "${one:0:1}" != "${two:0:1}" ]; then continue; fi
     fi
     if [ "$far" -lt "$least" ] && [ $((far * 2)) -le "${#other}" ]; then least=$far best=$other; fi
   done
@@ -73,10 +76,10 @@ no_option() {
   esac
 }
 
-# Keeps an option with its value, which is empty for a flag: once, unless it may be repeated.
+# Keeps the option of `row` with its value, which is empty for a flag: once, unless it may be repeated.
 give() {
-  if [ -n "${given[${row%%:*}]+set}" ] && [ "${row##*:}" != many ]; then because "'$1' is there twice"; fi
-  given[${row%%:*}]=$2
+  if [ -n "${given[${row%%:*}]+set}" ] && [ "${row##*:}" != many ]; then because "'--${row%%:*}' is given twice"; fi
+  given[${row%%:*}]=$1
 }
 
 # Reads an option of a long name.
@@ -87,11 +90,11 @@ read_long() {
   elif [ -z "$value" ] && [ "$name" != "$word" ]; then
     because "'$name' takes no value"
   elif [ -z "$value" ]; then
-    give "$name" ''
+    give ''
   elif [ "$name" = "$word" ]; then
     due=$row due_word=$name
   else
-    give "$name" "${word#*=}"
+    give "${word#*=}"
   fi
 }
 
@@ -103,17 +106,19 @@ read_short() {
     if [ -z "$letters" ]; then
       due=$row due_word=-$letter
     else
-      give "-$letter" "${letters#=}"
+      give "${letters#=}"
     fi
     return
   fi
+  letter=''
   while [ -n "$letters" ]; do
+    if [ -n "$letter" ] && [ "${letters:0:1}" = = ]; then because "'-$letter' takes no value"; fi
     letter=${letters:0:1} letters=${letters:1}
     if ! option_row "-$letter"; then
       no_option "-$letter"
     else
       if [ -n "$value" ]; then because "'-$letter' needs its own hyphen: -$letter $value"; fi
-      give "-$letter" ''
+      give ''
     fi
   done
 }
@@ -134,7 +139,7 @@ read_positions() {
   elif [ "${#positions[@]}" -gt "$most" ] && [ "$command" = merge ]; then
     because 'a merge has at most 16 sources: merge the others in a second call'
   elif [ "${#positions[@]}" -gt "$most" ]; then
-    because "one word too many: '${positions[most]}'; $command takes ${command_positions[$command]}"
+    because "one word too many: '${positions[most]}'; $command takes ${command_positions[$command]:-only options}"
   fi
 }
 
@@ -147,6 +152,31 @@ is_utf8() {
 
 # Whether an option was given.
 is_given() { [ -n "${given[$1]+set}" ]; }
+
+# Looks at what is said of a generated password: with `generate` and `--generate` a length and the characters that are left,
+# and otherwise that nothing is said.
+read_profile() {
+  local word number=${given[length]-32} characters='' left='' place
+  if [ "$command" != generate ] && ! is_given generate; then
+    for word in length exclude lower upper numeric special; do
+      if is_given "$word"; then because "'--$word' needs '--generate'"; fi
+    done
+    return
+  fi
+  if is_given password-prompt; then because "'--generate' does not go with '--password-prompt'"; fi
+  if [[ ! $number =~ ^[0-9]{1,4}$ ]] || [ "$((10#$number))" -lt 1 ] || [ "$((10#$number))" -gt 4096 ]; then
+    because "unknown length '$number': 1 to 4096"
+  fi
+  if is_given lower; then characters+=abcdefghijklmnopqrstuvwxyz; fi
+  if is_given upper; then characters+=ABCDEFGHIJKLMNOPQRSTUVWXYZ; fi
+  if is_given numeric; then characters+=0123456789; fi
+  if is_given special; then characters+='!"#$%&'\''()*+,-./:;<=>?@[\]^_`{|}~'; fi
+  if [ -z "$characters" ]; then characters=abcdefghijklmnopqrstuvwxyzABCDEFGHIJKLMNOPQRSTUVWXYZ0123456789; fi
+  for ((place = 0; place < ${#characters}; place++)); do
+    if [[ ${given[exclude]-} != *"${characters:place:1}"* ]]; then left=1; fi
+  done
+  if [ -z "$left" ]; then because 'no characters are left: --exclude has all of them'; fi
+}
 
 # Looks for options that do not go together, formats that are unknown, and an edit of nothing.
 read_options() {
@@ -169,8 +199,13 @@ read_options() {
   if is_given format && [[ " ${command_formats[$command]} " != *" ${given[format]} "* ]]; then
     because "unknown format '${given[format]}': ${command_formats[$command]// / or }"
   fi
-  if [ "$command" = edit ] && ! is_given title && ! is_given username && ! is_given url && ! is_given notes && ! is_given password-prompt; then
-    because 'nothing to change: give -t, -u, --url, --notes or -p'
+  for word in all show-attachments; do
+    if is_given totp && is_given "$word"; then because "'--totp' does not go with '--$word'"; fi
+  done
+  read_profile
+  if [ "$command" = edit ] && ! is_given title && ! is_given username && ! is_given url && ! is_given notes && ! is_given password-prompt \
+    && ! is_given generate && ! is_given otp; then
+    because 'nothing to change: give -t, -u, --url, --notes, -p, -g or --otp'
   fi
 }
 
@@ -185,7 +220,7 @@ read_words() {
     return
   fi
   if ! is_utf8 "$@"; then because 'a word is not UTF-8'; fi
-  if [ -z "$command" ] || [ -z "${command_positions[$command]-}" ]; then
+  if [ -z "$command" ] || [ -z "${command_briefs[$command]-}" ]; then
     if [ -n "$command" ] && [ -n "${foreign_commands[$command]-}" ]; then
       because "unknown command '$command': ${foreign_commands[$command]}"
     elif [[ $command = -* ]]; then
@@ -206,7 +241,7 @@ read_words() {
       due=''
     fi
     if [ -n "$due" ]; then
-      row=$due give "$due_word" "$word"
+      row=$due give "$word"
       due=''
     elif [ -n "$ended" ] || [[ $word != -?* ]]; then
       positions+=("$word")
@@ -270,7 +305,8 @@ add_database() {
 # much is read for each, and the file that is written.
 files_of() {
   local source key=${given[key-file]-}
-  files=() databases=() sizes=() target=${positions[0]}
+  files=() databases=() sizes=() target=${positions[0]-}
+  if [ "$command" = generate ]; then return; fi
   if [ "$command" = import ]; then
     target=${positions[1]}
     add_database "${positions[0]}"
@@ -283,11 +319,12 @@ files_of() {
   for source in "${positions[@]:1}"; do add_database "$source" "$key"; done
 }
 
-# What each line of the input that the words ask for is, in order: the passwords of databases, and then that of an
-# entry or of a new database.
+# What each line of the input that the words ask for is, in order: the passwords of databases, then that of an entry or of
+# a new database, and then a one-time code.
 lines_of() {
   local source
   lines=()
+  if [ "$command" = generate ]; then return; fi
   if [ "$command" = import ]; then
     if [ "${given[format]-xml}" = psafe3 ]; then lines+=("Password of ${positions[0]}"); fi
     if is_given set-password; then lines+=("New password of ${positions[1]}"); fi
@@ -298,4 +335,5 @@ lines_of() {
     for source in "${positions[@]:1}"; do lines+=("Password of $source"); done
   fi
   if is_given password-prompt; then lines+=("New password of the entry"); fi
+  if is_given otp; then lines+=("One-time code of the entry, otpauth://.."); fi
 }

@@ -208,6 +208,12 @@ options_of_changes() {
   printf '\n' >input.txt
   works 'an empty password' 'Successfully edited entry Bank.' "$program" edit --plain -p FILE Bank
   works 'flags joined, and a value in the same word' '' "$program" edit --plain -qp -unobody FILE Bank
+  printf 'otpauth://totp/x?secret=GE\n' >input.txt
+  works 'a one-time code' 'Successfully edited entry Bank.' "$program" edit --plain --otp FILE Bank
+  printf 'second\n\n' >input.txt
+  works 'a one-time code taken away, after a password' 'Successfully edited entry Bank.' "$program" edit --plain --otp -p FILE Bank
+  printf '\n' >input.txt
+  works 'a one-time code taken away that is not there' '' "$program" edit --plain -q --otp FILE Bank
   : >input.txt
   works 'a title with a slash in it' 'Successfully edited entry a/b.' "$program" edit --plain -t=a/b FILE 'Wi-Fi at home'
   works 'a title that is taken' 'Successfully edited entry Bank.' "$program" edit --plain --title Bank FILE a/b
@@ -219,8 +225,8 @@ options_of_changes() {
   rm -f FILE second
 }
 
-# two_edits WORD...: adds an entry to the first group, and edits it and `Bank` twice. The words open FILE, and `lines` has the line
-# that they need, if any.
+# two_edits WORD...: adds an entry to the first group, and edits it and `Bank` twice; the new one gets a one-time code at last. The words
+# open FILE, and `lines` has the line that they need, if any.
 two_edits() {
   local group bank
   printf '%s' "$lines" >input.txt
@@ -230,8 +236,9 @@ two_edits() {
   works "$name: an entry is added" 'Successfully added entry New – neu.' "$program" add "$@" -p -u ada --url 'https://new.example/?a=1&b=2' --notes $'one\ntwo' FILE "$group/New – neu"
   printf '%ssecond\n' "$lines" >input.txt
   works "$name: it is edited" 'Successfully edited entry New – neu.' "$program" edit "$@" -p -u ada.l FILE "/$group/New – neu"
+  printf '%s%s\n' "$lines" 'otpauth://totp/x?secret=GEZDGNBVGY3TQOJQ&digits=8' >input.txt
+  works "$name: it is edited again" 'Successfully edited entry Renamed – 邮件.' "$program" edit "$@" -t 'Renamed – 邮件' --url '' --notes three --otp FILE "$group/New – neu"
   printf '%s' "$lines" >input.txt
-  works "$name: it is edited again" 'Successfully edited entry Renamed – 邮件.' "$program" edit "$@" -t 'Renamed – 邮件' --url '' --notes three FILE "$group/New – neu"
   works "$name: an entry that was there" '' "$program" edit "$@" -q -u 'new user' FILE "$bank"
   printf '%snew password\n' "$lines" >input.txt
   works "$name: an entry that was there, again" 'Successfully edited entry Bank.' "$program" edit "$@" -p --notes 'new notes' FILE "$bank"
@@ -321,6 +328,7 @@ changed_files() {
   cp "$1/keepassxc-saved-by-pykeepass.kdbx" FILE
   many_times 'sealed: two at once' "$changing/together" "$program" FILE "$secret" 20
   options_of_changes
+  many_times 'plain: one-time codes' "$changing/codes" "$program"
   entries_of_other_programs "$1"
   rm -rf disk large.xml large.kdbx rows.txt before.txt after.txt report.txt
 }

@@ -1,6 +1,6 @@
 #!/usr/bin/env python3
-"""A slow model of `keepass mv`, `rm`, `mkdir` and `rmdir`, written from the rules alone: what a call prints or refuses, and every byte of
-the document that it writes. Documents are read by the reader of tests/damaged, in the form of tests/writing/compare.
+"""A slow model of `keepass mv`, `rm`, `mkdir`, `rmdir` and `edit`, written from the rules alone: what a call prints or refuses, and every byte
+of the document that it writes. Documents are read by the reader of tests/damaged, in the form of tests/writing/compare.
 
     model.py                   tries the model on known texts: their lengths and SHA-256 are from another writer of the same rules
     model.py WORD...           does what the program does with these words (--plain alone, and `ls`), so that the tests can be tried on it
@@ -204,6 +204,24 @@ def remove_group(document, path, identity, now):
     found = find_group(document, path)
     refuse_if(found.parent is None, 2, "the root stays")
     return remove(document, found, "Group", identity, now), found.node["Name"]
+
+
+def edit_entry(document, path, values, now):
+    """Makes another version of an entry, with these values by their keys; the version that was current is the last of the history. A field that
+    is new is hidden as the database says; `otp` is hidden whatever it was, and an empty text takes it away. The history must be below its limits."""
+    entry = find_entry(document, path).node
+    history = entry["History"]["Entry"]
+    now = time_after(now, max(version["Times"]["LastModificationTime"] for version in [entry, *history]))
+    history.append(copy.deepcopy({key: part for key, part in entry.items() if key != "History"}))
+    for key, value in values.items():
+        hidden = key == "otp" or document["Meta"]["MemoryProtection"][f"Protect{key}"]
+        if key in entry["String"] and key != "otp":
+            hidden = entry["String"][key]["hidden"]
+        entry["String"][key] = {"Key": key, "Value": value, "hidden": hidden}
+    if values.get("otp") == "":
+        del entry["String"]["otp"]
+    entry["Times"] |= {"LastModificationTime": now, "LastAccessTime": now}
+    return title(entry)
 
 
 def changed(document, command, positions, identity, now):

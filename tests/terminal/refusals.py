@@ -145,7 +145,6 @@ def files(folder, data, examples):
 LIST = "keepass --help lists them"
 SHOW = "show DATABASE ENTRY"
 PATHS = "keepass ls -Rf {0} lists the paths; a path is whole, and case counts"
-NO_PASSWORDS = "keepass makes no passwords yet; -p asks for one"
 WRONG = "wrong password, or {0} needs a key file too: -k FILE. If both are right, the {1} was changed: use a backup"
 BACKUP = "the password is right, and the file is damaged: use a backup"
 MALFORMED = "{0} is malformed: open it in the program that wrote it and save it again, or use a backup"
@@ -155,13 +154,18 @@ ROWS = [
     ("locate FAST mail", [], 1, "wrong words", ["unknown command 'locate': 'search' finds entries"]),
     ("lst FAST", [], 1, "wrong words", [f"unknown command 'lst'; did you mean 'ls'?; {LIST}"]),
     ("frobnicate FAST", [], 1, "wrong words", [f"unknown command 'frobnicate'; {LIST}"]),
-    ("generate -L 20", [], 1, "wrong words", ["unknown command 'generate': keepass makes no passwords yet"]),
+    ("diceware", [], 1, "wrong words", ["unknown command 'diceware': 'generate' makes passwords, of characters and not of words"]),
+    ("generate --every-group", [], 1, "wrong words", ["generate takes no option '--every-group': each character is chosen by itself: choose a longer password"]),
+    ("generate -L 0", [], 1, "wrong words", ["unknown length '0': 1 to 4096"]),
+    ("generate -n -x 0123456789", [], 1, "wrong words", ["no characters are left: --exclude has all of them"]),
+    ("generate FAST", [], 1, "wrong words", ["one word too many: 'FAST'; generate takes only options"]),
     ("db-create -p FRESH", [], 1, "wrong words", ["unknown command 'db-create': 'import' makes databases, of an XML export or a table"]),
     ("open FAST", [], 1, "wrong words", ["unknown command 'open': each call opens the database itself, and nothing stays open"]),
     ("attachment-export FAST Bank a b", [], 1, "wrong words",
      ["unknown command 'attachment-export': keepass has no such command; 'export' prints attachments too"]),
     ("ls --recurse FAST", [], 1, "wrong words", ["ls takes no option '--recurse'; did you mean '--recursive'?"]),
-    ("ls -R -R FAST", [], 1, "wrong words", ["'-R' is there twice"]),
+    ("ls -R -R FAST", [], 1, "wrong words", ["'--recursive' is given twice"]),
+    ("ls -R=yes FAST", [], 1, "wrong words", ["'-R' takes no value"]),
     ("ls -Rz FAST", [], 1, "wrong words", ["ls takes no option '-z'"]),
     ("ls --recursive=yes FAST", [], 1, "wrong words", ["'--recursive' takes no value"]),
     ("ls", [], 1, "wrong words", ["ls needs DATABASE [GROUP]"]),
@@ -169,15 +173,16 @@ ROWS = [
     ("ls -f --plain -k KEY PLAIN", [], 1, "wrong words", ["'--key-file' does not go with '--plain': an XML export has no key"]),
     ("ls --no-password FAST", [], 1, "wrong words", ["'--no-password' needs a key file: -k FILE"]),
     ("show FAST", [], 1, "wrong words", ["show needs DATABASE ENTRY"]),
-    ("show -t FAST Bank", [], 1, "wrong words", ["show takes no option '-t': there are no one-time codes yet"]),
-    ("show --totp FAST Bank", [], 1, "wrong words", ["show takes no option '--totp': there are no one-time codes yet"]),
+    ("show -t --all FAST Bank", [], 1, "wrong words", ["'--totp' does not go with '--all'"]),
+    ("clip --totp FAST Bank", [], 1, "wrong words", ["clip takes no option '--totp': 'show -t' shows a one-time code"]),
     ("show -y 1 FAST Bank", [], 1, "wrong words", ["show takes no option '-y': there is no challenge and response"]),
-    ("add -g FAST Bank", [], 1, "wrong words", [f"add takes no option '-g': {NO_PASSWORDS}"]),
+    ("add -g -p FAST Bank", [], 1, "wrong words", ["'--generate' does not go with '--password-prompt'"]),
+    ("add -L 8 FAST Bank", [], 1, "wrong words", ["'--length' needs '--generate'"]),
     ("add -pu me FAST Bank", [], 1, "wrong words", ["'-u' has a value and needs its own hyphen"]),
     ("add --notes -milk FAST Bank", [], 1, "wrong words",
      ["'--notes' needs a value; one that begins with - is joined to it: --notes=VALUE"]),
     ("add FAST Bank --username", [], 1, "wrong words", ["'--username' needs a value"]),
-    ("edit FAST Bank", [], 1, "wrong words", ["nothing to change: give -t, -u, --url, --notes or -p"]),
+    ("edit FAST Bank", [], 1, "wrong words", ["nothing to change: give -t, -u, --url, --notes, -p, -g or --otp"]),
     ("mv FAST Bank", [], 1, "wrong words", ["mv needs DATABASE NODE GROUP"]),
     ("merge FAST", [], 1, "wrong words", ["merge needs TARGET SOURCE..."]),
     ("merge -s FAST" + " COPY" * 17, [], 1, "wrong words", ["a merge has at most 16 sources: merge the others in a second call"]),
@@ -188,8 +193,8 @@ ROWS = [
      ["'--set-password' does not go with '--plain': an XML export has no key"]),
     ("import --plain --set-key-file KEY PLAIN FRESH", [], 1, "wrong words", ["'--set-key-file' does not go with '--plain': an XML export has no key"]),
     ("merge --plain -s PLAIN SPACED", [], 1, "wrong words", ["'--same-credentials' does not go with '--plain': an XML export has no key"]),
-    ("ls -RR FAST", [], 1, "wrong words", ["a flag of '-RR' is there twice"]),
-    ("ls --recursive --recursive FAST", [], 1, "wrong words", ["'--recursive' is there twice"]),
+    ("ls -RR FAST", [], 1, "wrong words", ["a flag of '-RR' is given twice"]),
+    ("ls --recursive --recursive FAST", [], 1, "wrong words", ["'--recursive' is given twice"]),
     ("ls -é FAST", [], 1, "wrong words", ["ls takes no option '-é'"]),
     ("ls --zebra -R -R FAST", [], 1, "wrong words", ["ls takes no option '--zebra'"]),
     ("import --format chrome -p PLAIN FRESH", [], 1, "wrong words", ["unknown format 'chrome': xml or psafe3 or csv"]),
@@ -230,6 +235,8 @@ ROWS = [
     ("rmdir --plain PLAIN /", [], 2, "the root stays", ["the root group can be neither moved nor removed; its path is empty or /"]),
     ("show -a password FAST Bank", [PASSWORD], 2, "no attribute password",
      ["keepass show --all FAST Bank shows the names; they are compared letter by letter, as in Password, UserName, URL"]),
+    ("show --plain -t PLAIN Bank", [], 2, "no one-time code",
+     ["keepass edit --otp --plain PLAIN Bank gives it one, from a line that is an otpauth URI"]),
     ("search --plain PLAIN zebra", [], 2, "no results",
      ["a term is a part of title, user name, URL, notes or tags, and all must match; keepass ls -Rf --plain PLAIN lists everything"]),
     ("import -p TABLE FAST", [], 2, "file exists", ["import makes new files alone: choose another name, or merge into the file that is there"]),
@@ -252,7 +259,9 @@ ROWS = [
     ("import --plain --format psafe3 SAFEMAC FRESH", ["correct horse"], 3, "damaged or wrong key: *",
      ["the password is right, and the file was changed or damaged: use a backup"]),
 
-    # Malformed files.
+    # Malformed files and texts.
+    ("edit --plain --otp PLAIN Bank", ["nonsense"], 4, "bad one-time code at *",
+     ["a one-time code is made from a URI such as otpauth://totp/NAME?secret=SECRET, with the secret in base32; the number is where it goes wrong"]),
     ("ls PLAIN", ["x"], 4, "not a KDBX file", ["an XML export is opened with --plain"]),
     ("ls SAFE", ["x"], 4, "not a KDBX file", ["a file of Password Safe: keepass import --format psafe3 -p SAFE NEW.kdbx makes a database of it"]),
     ("ls KDB", ["x"], 4, "not a KDBX file",

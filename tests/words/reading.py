@@ -1,10 +1,10 @@
 """A second reader of the words of a call, written from the manual and not from the program.
 
 `read(words)` gives None where the words are wrong, and otherwise a dictionary: the command, the options that were given
-with their values (True of a flag, a list of the names of `--attributes`), the positions, and how many lines of standard
-input are read. `line(words)` is the same as crates/words_reader prints it. The table of commands and options is
+with their values (True of a flag, a list of the names of `--attributes`), the positions, how many lines of standard input
+are read, and of a password that is generated its length and the characters that it can have. `line(words)` is the same as crates/words_reader prints it. The table of commands and options is
 docs/commands.toml."""
-import os, tomllib
+import os, re, string, tomllib
 
 top = os.path.dirname(os.path.dirname(os.path.dirname(os.path.abspath(__file__))))
 table = tomllib.load(open(f"{top}/docs/commands.toml", "rb"))
@@ -12,15 +12,25 @@ OPTIONS = table["options"]
 CREDENTIALS = ["key-file", "no-password"]
 EVERYWHERE = ["plain", "quiet"]
 COMMANDS = {command["name"]: command for command in table["commands"]}
-CHANGES = ("title", "username", "url", "notes", "password-prompt")
+CHANGES = ("title", "username", "url", "notes", "password-prompt", "generate", "otp")
+PROFILE = ("length", "lower", "upper", "numeric", "special", "exclude")
+CLASSES = {"lower": string.ascii_lowercase, "upper": string.ascii_uppercase, "numeric": string.digits, "special": string.punctuation}
 
 
 class Wrong(Exception):
     """The words are no command."""
 
 
+def has_database(command):
+    return COMMANDS[command].get("database", True)
+
+
+def has_credentials(command):
+    return has_database(command) and COMMANDS[command].get("credentials", True)
+
+
 def taken_by(command):
-    return COMMANDS[command]["options"] + (CREDENTIALS if COMMANDS[command].get("credentials", True) else []) + EVERYWHERE
+    return COMMANDS[command]["options"] + CREDENTIALS * has_credentials(command) + EVERYWHERE * has_database(command)
 
 
 def of_name(command, long_name):
@@ -89,6 +99,18 @@ def opens(plain, no_password, key_file):
     return not (no_password or key_file) if plain else key_file or not no_password
 
 
+def profile(given):
+    """The length of a generated password, and the characters that it can have."""
+    length = given.get("length", "32")
+    if not re.fullmatch("[0-9]{1,4}", length) or not 1 <= int(length) <= 4096:
+        raise Wrong
+    classes = [name for name in CLASSES if name in given] or ["lower", "upper", "numeric"]
+    characters = [c for name in classes for c in CLASSES[name] if c not in given.get("exclude", "")]
+    if not characters:
+        raise Wrong
+    return int(length), "".join(characters)
+
+
 def read(words):
     try:
         return command_of(words)
@@ -117,6 +139,17 @@ def command_of(words):
             raise Wrong
     if command == "edit" and not any(name in given for name in CHANGES):
         raise Wrong
+    if "totp" in given and ("all" in given or "show-attachments" in given):
+        raise Wrong
+    generated = None
+    if command == "generate" or "generate" in given:
+        if "password-prompt" in given:
+            raise Wrong
+        generated = profile(given)
+    elif any(name in given for name in PROFILE):
+        raise Wrong
+    if command == "generate":
+        return {"command": command, "given": given, "positions": positions, "lines": 0, "generated": generated}
     plain, same = "plain" in given, "same-credentials" in given
     if command == "import":
         set_password = "set-password" in given
@@ -134,9 +167,8 @@ def command_of(words):
     lines = 0 if plain or "no-password" in given else 1
     if command == "merge" and not (plain or same or "no-password-from" in given):
         lines += len(positions) - 1
-    if "password-prompt" in given:
-        lines += 1
-    return {"command": command, "given": given, "positions": positions, "lines": lines}
+    lines += ("password-prompt" in given) + ("otp" in given)
+    return {"command": command, "given": given, "positions": positions, "lines": lines, "generated": generated}
 
 
 def access(name, plain, quiet, key_file, no_password):
@@ -145,7 +177,12 @@ def access(name, plain, quiet, key_file, no_password):
     return parts + ([f"key-file={key_file}"] if key_file is not None else []) + ["no-password"] * no_password
 
 
-def own_parts(command, given, positions):
+def profile_parts(generated):
+    """The parts of a line for a generated password."""
+    return [] if generated is None else [f"length={generated[0]}", f"alphabet={generated[1]}"]
+
+
+def own_parts(command, given, positions, generated):
     """The parts of a line that only this command has."""
     def flags(*names):
         return [name for name in names if name in given]
@@ -158,10 +195,10 @@ def own_parts(command, given, positions):
         return [f"group={group}" for group in positions[1:]] + flags("recursive", "flatten")
     if command == "show":
         return ([f"entry={positions[1]}"] + flags("show-protected", "all", "show-attachments")
-                + [f"attribute={name}" for name in given.get("attributes", [])])
+                + [f"attribute={name}" for name in given.get("attributes", [])] + flags("totp"))
     if command in ("add", "edit"):
         return ([f"entry={positions[1]}"] + texts("title", "username", "url", "notes")
-                + (["password"] if "password-prompt" in given else []))
+                + (["password"] if "password-prompt" in given else []) + profile_parts(generated) + flags("otp"))
     if command == "merge":
         opened = given.get("key-file-from"), "no-password-from" in given
         if "same-credentials" in given:
@@ -183,8 +220,11 @@ def line(words):
     if found is None:
         return "wrong"
     command, given, positions = found["command"], found["given"], found["positions"]
+    generated = found.get("generated")
+    if command == "generate":
+        return "".join(part + "\t" for part in [command] + profile_parts(generated))
     plain, quiet = "plain" in given, "quiet" in given
     opened = access(positions[0], plain, quiet, given.get("key-file"), "no-password" in given)
     if command == "import":
         opened = access(positions[1], plain, quiet, given.get("set-key-file"), not plain and "set-password" not in given)
-    return "".join(part + "\t" for part in [command] + opened + own_parts(command, given, positions))
+    return "".join(part + "\t" for part in [command] + opened + own_parts(command, given, positions, generated))

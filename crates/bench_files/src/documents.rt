@@ -62,6 +62,7 @@ pub fn put_another(alloc: Global, doc: &mut Doc) -> Result<(), Fault> {
         password: None,
         url: None,
         notes: None,
+        otp: None,
     };
     let id = Uuid::from_bytes([255; 16]);
     match add(alloc, doc, "Another", id, &values, now) {

@@ -1,7 +1,6 @@
 -- How a task is carried out.
 use Rattle.std.proofs.Common.{◌≡◌, ◌≤◌, ◌+◌, ℕ, List, drop, refl, inl, sym, ◌∙◌, ap, subst, Bool, true, false, Option, Some, None, option_map, Result, Ok, Err}
-use Rattle.std.specs.Prelude.{◌&&◌, IfErr, IfOk, IfSome, OnErr, OnOk, is_some, not}
-use Rattle.std.proofs.lemmas.List.{drop-drop}
+use Rattle.std.specs.Prelude.{◌&&◌, ◌||◌, IfErr, IfOk, IfSome, OnErr, OnOk, is_some, not}
 use Rattle.outside_core.specs.Streams.{LosesPrefix}
 use Rattle.vault_model.specs.Tree.{BareDoc}
 use Rattle.kdbx_frame.specs.Settings.{IsInOrder}
@@ -21,7 +20,7 @@ use Rattle.cli_words.specs.Needs.{target_access, target_of}
 use Rattle.cli_writing.specs.Held.{IsWritten}
 use Rattle.cli_writing.specs.Writing.{IsWriteStop, KeepsDraft, KeepsFiles, NewFile, Store, Writes}
 use Rattle.cli_commands.specs.declared.output.Output.{Output}
-use Rattle.cli_commands.specs.Commands.{Change, change_of, draws_id, may_write}
+use Rattle.cli_commands.specs.Commands.{Change, change_of, draws_change, may_write}
 use Rattle.cli_commands.proofs.Changes.{none_changed}
 use Rattle.call_carrying.specs.Endings.{Ending, Ends, EndsRefused, EndsSo, EndsWith, HoldsNew, IsOfDice, IsOfSomeDice, ReadsBack, WritesNew, carried_out, ended_with, ending_with, ending_without, new_file, settings_in}
 use Rattle.cli_commands.specs.SeenChange.{doc_if, output_text}
@@ -116,30 +115,37 @@ reads_same name is_written sealing doc before e =
 
 -- ---- the dice
 
-pub loses_both : (old mid new : Option (List ℕ)) → LosesPrefix old mid → LosesPrefix mid new → LosesPrefix old new
-loses_both None mid new h g = (0, g.1 ∙ ap (option_map (drop g.0)) h.1)
-loses_both (Some x) mid new h g = (h.0 + g.0, g.1 ∙ ap (option_map (drop g.0)) h.1 ∙ ap Some (drop-drop g.0 h.0 x))
-
 pub left_after : (old mid new : Option (List ℕ)) (l m : List ℕ) → IsLeft old mid l → IsLeft mid new m → IsLeft old new m
 left_after None mid new l m h g = g ∙ ap (option_map (λ (x : List ℕ). m)) h
 left_after (Some x) mid new l m h g = g ∙ ap (option_map (λ (x : List ℕ). m)) h
 
--- A command that draws an id draws.
-pub tells_id : (command : Command) (dice : Option (List ℕ)) (d : List ℕ) → TellsStream (draws command) dice d → TellsStream (draws_id command) dice d
-tells_id command (Some x) d t = t
-tells_id (Ls access file group recursive flat) None d t = refl
-tells_id (Show access file entry clear all attachments names) None d t = refl
-tells_id (Search access file term) None d t = refl
-tells_id (Add access file entry asked) None d t = t
-tells_id (Edit access file entry asked) None d t = refl
-tells_id (Move access file node group) None d t = refl
-tells_id (Remove access file entry) None d t = t
-tells_id (MakeGroup access file group) None d t = t
-tells_id (RemoveGroup access file group) None d t = t
-tells_id (Merge access file names from same dry) None d t = refl
-tells_id (Import access format source from file) None d t = refl
-tells_id (Export access format file) None d t = refl
-tells_id (Info access file) None d t = refl
+first_none : (a b : Bool) → (a || b) ≡ false → a ≡ false
+first_none false b e = refl
+first_none true b e = cc
+
+second_none : (a b : Bool) → (a || b) ≡ false → b ≡ false
+second_none false b e = e
+second_none true b e = cc
+
+-- A command that draws an id or a password draws.
+pub no_change : (command : Command) → draws command ≡ false → draws_change command ≡ false
+no_change (Ls access file group recursive flat) e = refl
+no_change (Show access file entry clear all attachments names totp) e = refl
+no_change (Search access file term) e = refl
+no_change (Add access file entry asked) e = cc
+no_change (Edit access file entry asked) e = second_none (not access.plain) (is_some asked.generated) e
+no_change (Move access file node group) e = refl
+no_change (Remove access file entry) e = cc
+no_change (MakeGroup access file group) e = cc
+no_change (RemoveGroup access file group) e = cc
+no_change (Merge access file names from same dry) e = refl
+no_change (Import access format source from file) e = refl
+no_change (Export access format file) e = refl
+no_change (Info access file) e = refl
+
+pub tells_change : (command : Command) (dice : Option (List ℕ)) (d : List ℕ) → TellsStream (draws command) dice d → TellsStream (draws_change command) dice d
+tells_change command (Some x) d t = t
+tells_change command None d t = no_change command t
 
 -- What is left is reported, where a file is sealed.
 pub tells_after : (asked sealed : Bool) (old mid : Option (List ℕ)) (d l : List ℕ) → (asked ≡ false → sealed ≡ false) → TellsStream asked old d → IsLeft old mid l
@@ -147,91 +153,79 @@ pub tells_after : (asked sealed : Bool) (old mid : Option (List ℕ)) (d l : Lis
 tells_after asked sealed (Some x) mid d l none t h = subst (λ (m : Option (List ℕ)). TellsStream sealed m l) (sym h) refl
 tells_after asked sealed None mid d l none t h = subst (λ (m : Option (List ℕ)). TellsStream sealed m l) (sym h) (none t)
 
-pub no_id : (command : Command) → draws command ≡ false → draws_id command ≡ false
-no_id (Ls access file group recursive flat) e = refl
-no_id (Show access file entry clear all attachments names) e = refl
-no_id (Search access file term) e = refl
-no_id (Add access file entry asked) e = e
-no_id (Edit access file entry asked) e = refl
-no_id (Move access file node group) e = refl
-no_id (Remove access file entry) e = e
-no_id (MakeGroup access file group) e = e
-no_id (RemoveGroup access file group) e = e
-no_id (Merge access file names from same dry) e = refl
-no_id (Import access format source from file) e = refl
-no_id (Export access format file) e = refl
-no_id (Info access file) e = refl
-
 -- ---- a task
 
 -- What a task is carried out to whose command makes this change.
-carried_by : (time : ℕ) (task : Task) (line : Option (List ℕ)) (settings : Option Settings) (dice : List ℕ) (change : Change) → line ≡ task.lines.more → settings ≡ settings_in task.opened.sealing
-    → (change_of time task.command line task.sources settings task.opened.doc dice).answer ≡ Ok change
-    → carried_out time task dice ≡ ended_with (target_of task.command) task.opened.sealing change.text change.doc (change_of time task.command line task.sources settings task.opened.doc dice).left
+carried_by : (time : ℕ) (task : Task) (line otp : Option (List ℕ)) (settings : Option Settings) (dice : List ℕ) (change : Change) → line ≡ task.lines.more → otp ≡ task.lines.otp → settings ≡ settings_in task.opened.sealing
+    → (change_of time task.command line otp task.sources settings task.opened.doc dice).answer ≡ Ok change
+    → carried_out time task dice ≡ ended_with (target_of task.command) task.opened.sealing change.text change.doc (change_of time task.command line otp task.sources settings task.opened.doc dice).left
 unfolding carried_out
-carried_by time task line settings dice change e s h =
-    ap (λ (l : Option (List ℕ)). then_left (change_of time task.command l task.sources (settings_in task.opened.sealing) task.opened.doc dice) (λ change left. ended_with (target_of task.command) task.opened.sealing change.text change.doc left)) (sym e)
-    ∙ ap (λ (x : Option Settings). then_left (change_of time task.command line task.sources x task.opened.doc dice) (λ change left. ended_with (target_of task.command) task.opened.sealing change.text change.doc left)) (sym s)
-    ∙ ap (λ (r : Result Change Refusal). then_left (with_left r (change_of time task.command line task.sources settings task.opened.doc dice).left)
+carried_by time task line otp settings dice change e o s h =
+    ap (λ (l : Option (List ℕ)). then_left (change_of time task.command l task.lines.otp task.sources (settings_in task.opened.sealing) task.opened.doc dice) (λ change left. ended_with (target_of task.command) task.opened.sealing change.text change.doc left)) (sym e)
+    ∙ ap (λ (x : Option (List ℕ)). then_left (change_of time task.command line x task.sources (settings_in task.opened.sealing) task.opened.doc dice) (λ change left. ended_with (target_of task.command) task.opened.sealing change.text change.doc left)) (sym o)
+    ∙ ap (λ (x : Option Settings). then_left (change_of time task.command line otp task.sources x task.opened.doc dice) (λ change left. ended_with (target_of task.command) task.opened.sealing change.text change.doc left)) (sym s)
+    ∙ ap (λ (r : Result Change Refusal). then_left (with_left r (change_of time task.command line otp task.sources settings task.opened.doc dice).left)
     (λ change left. ended_with (target_of task.command) task.opened.sealing change.text change.doc left)) h
 
-refused_by : (time : ℕ) (task : Task) (line : Option (List ℕ)) (settings : Option Settings) (dice : List ℕ) (refusal : Refusal) → line ≡ task.lines.more → settings ≡ settings_in task.opened.sealing
-    → (change_of time task.command line task.sources settings task.opened.doc dice).answer ≡ Err refusal
-    → carried_out time task dice ≡ with_left (Err refusal) (change_of time task.command line task.sources settings task.opened.doc dice).left
+refused_by : (time : ℕ) (task : Task) (line otp : Option (List ℕ)) (settings : Option Settings) (dice : List ℕ) (refusal : Refusal) → line ≡ task.lines.more → otp ≡ task.lines.otp → settings ≡ settings_in task.opened.sealing
+    → (change_of time task.command line otp task.sources settings task.opened.doc dice).answer ≡ Err refusal
+    → carried_out time task dice ≡ with_left (Err refusal) (change_of time task.command line otp task.sources settings task.opened.doc dice).left
 unfolding carried_out
-refused_by time task line settings dice refusal e s h =
-    ap (λ (l : Option (List ℕ)). then_left (change_of time task.command l task.sources (settings_in task.opened.sealing) task.opened.doc dice) (λ change left. ended_with (target_of task.command) task.opened.sealing change.text change.doc left)) (sym e)
-    ∙ ap (λ (x : Option Settings). then_left (change_of time task.command line task.sources x task.opened.doc dice) (λ change left. ended_with (target_of task.command) task.opened.sealing change.text change.doc left)) (sym s)
-    ∙ ap (λ (r : Result Change Refusal). then_left (with_left r (change_of time task.command line task.sources settings task.opened.doc dice).left)
+refused_by time task line otp settings dice refusal e o s h =
+    ap (λ (l : Option (List ℕ)). then_left (change_of time task.command l task.lines.otp task.sources (settings_in task.opened.sealing) task.opened.doc dice) (λ change left. ended_with (target_of task.command) task.opened.sealing change.text change.doc left)) (sym e)
+    ∙ ap (λ (x : Option (List ℕ)). then_left (change_of time task.command line x task.sources (settings_in task.opened.sealing) task.opened.doc dice) (λ change left. ended_with (target_of task.command) task.opened.sealing change.text change.doc left)) (sym o)
+    ∙ ap (λ (x : Option Settings). then_left (change_of time task.command line otp task.sources x task.opened.doc dice) (λ change left. ended_with (target_of task.command) task.opened.sealing change.text change.doc left)) (sym s)
+    ∙ ap (λ (r : Result Change Refusal). then_left (with_left r (change_of time task.command line otp task.sources settings task.opened.doc dice).left)
     (λ change left. ended_with (target_of task.command) task.opened.sealing change.text change.doc left)) h
 
 -- The change was made and the file written, if one is.
-pub ends_by : (time : ℕ) (task : Task) (line : Option (List ℕ)) (settings : Option Settings) (dice name : List ℕ) (change : Change) (before now : Store) (old mid new : Option (List ℕ))
-    → line ≡ task.lines.more → settings ≡ settings_in task.opened.sealing → name ≡ (target_of task.command)
-    → (change_of time task.command line task.sources settings task.opened.doc dice).answer ≡ Ok change → IsLeft old mid (change_of time task.command line task.sources settings task.opened.doc dice).left
-    → EndsWith change.text (Ok tt) (ended_with name task.opened.sealing change.text change.doc (change_of time task.command line task.sources settings task.opened.doc dice).left) before now mid new
+pub ends_by : (time : ℕ) (task : Task) (line otp : Option (List ℕ)) (settings : Option Settings) (dice name : List ℕ) (change : Change) (before now : Store) (old mid new : Option (List ℕ))
+    → line ≡ task.lines.more → otp ≡ task.lines.otp → settings ≡ settings_in task.opened.sealing → name ≡ (target_of task.command)
+    → (change_of time task.command line otp task.sources settings task.opened.doc dice).answer ≡ Ok change → IsLeft old mid (change_of time task.command line otp task.sources settings task.opened.doc dice).left
+    → EndsWith change.text (Ok tt) (ended_with name task.opened.sealing change.text change.doc (change_of time task.command line otp task.sources settings task.opened.doc dice).left) before now mid new
     → EndsSo change.text (carried_out time task dice).answer before now × IsLeft old new (carried_out time task dice).left
-ends_by time task line settings dice name change before now old mid new e s n h l w =
-    let made = (change_of time task.command line task.sources settings task.opened.doc dice).left in
+ends_by time task line otp settings dice name change before now old mid new e o s n h l w =
+    let made = (change_of time task.command line otp task.sources settings task.opened.doc dice).left in
     let there = subst (λ (f : List ℕ). EndsWith change.text (Ok tt) (ended_with f task.opened.sealing change.text change.doc made) before now mid new) n w in
-    subst (λ (t : StreamAnswer Ending). EndsSo change.text t.answer before now × IsLeft old new t.left) (sym (carried_by time task line settings dice change e s h))
+    subst (λ (t : StreamAnswer Ending). EndsSo change.text t.answer before now × IsLeft old new t.left) (sym (carried_by time task line otp settings dice change e o s h))
     (there.0, left_after old mid new made (ended_with (target_of task.command) task.opened.sealing change.text change.doc made).left l there.1)
 
 -- The change was refused.
-pub change_refused : (stop : Stop) (time : ℕ) (task : Task) (line : Option (List ℕ)) (settings : Option Settings) (dice : List ℕ) (before : Store) (stream stream' : Option (List ℕ))
-    → line ≡ task.lines.more → settings ≡ settings_in task.opened.sealing → RefusesAskedStream stop stream stream' (change_of time task.command line task.sources settings task.opened.doc dice)
+pub change_refused : (stop : Stop) (time : ℕ) (task : Task) (line otp : Option (List ℕ)) (settings : Option Settings) (dice : List ℕ) (before : Store) (stream stream' : Option (List ℕ))
+    → line ≡ task.lines.more → otp ≡ task.lines.otp → settings ≡ settings_in task.opened.sealing → RefusesAskedStream stop stream stream' (change_of time task.command line otp task.sources settings task.opened.doc dice)
     → Ends (Err stop) (carried_out time task dice) before before stream stream'
-change_refused (Refused refusal) time task line settings dice before stream stream' e s h =
-    subst (λ (t : StreamAnswer Ending). EndsRefused refusal t.answer before before × IsLeft stream stream' t.left) (sym (refused_by time task line settings dice refusal e s h.0))
+change_refused (Refused refusal) time task line otp settings dice before stream stream' e o s h =
+    subst (λ (t : StreamAnswer Ending). EndsRefused refusal t.answer before before × IsLeft stream stream' t.left) (sym (refused_by time task line otp settings dice refusal e o s h.0))
     (record { is = refl; same = record { files = refl; draft_name = refl; draft_bytes = refl } }, h.1)
-change_refused (FileFault name) time task line settings dice before stream stream' e s h = tt
-change_refused InputFault time task line settings dice before stream stream' e s h = tt
-change_refused NoMemory time task line settings dice before stream stream' e s h = tt
+change_refused (FileFault name) time task line otp settings dice before stream stream' e o s h = tt
+change_refused InputFault time task line otp settings dice before stream stream' e o s h = tt
+change_refused NoMemory time task line otp settings dice before stream stream' e o s h = tt
 
 -- The file was refused.
-pub file_refused : (stop : Stop) (time : ℕ) (task : Task) (line : Option (List ℕ)) (settings : Option Settings) (dice name : List ℕ) (change : Change) (before now : Store) (old mid new : Option (List ℕ))
-    → line ≡ task.lines.more → settings ≡ settings_in task.opened.sealing → name ≡ (target_of task.command)
-    → (change_of time task.command line task.sources settings task.opened.doc dice).answer ≡ Ok change → IsLeft old mid (change_of time task.command line task.sources settings task.opened.doc dice).left
-    → EndsWith change.text (Err stop) (ended_with name task.opened.sealing change.text change.doc (change_of time task.command line task.sources settings task.opened.doc dice).left) before now mid new
+pub file_refused : (stop : Stop) (time : ℕ) (task : Task) (line otp : Option (List ℕ)) (settings : Option Settings) (dice name : List ℕ) (change : Change) (before now : Store) (old mid new : Option (List ℕ))
+    → line ≡ task.lines.more → otp ≡ task.lines.otp → settings ≡ settings_in task.opened.sealing → name ≡ (target_of task.command)
+    → (change_of time task.command line otp task.sources settings task.opened.doc dice).answer ≡ Ok change → IsLeft old mid (change_of time task.command line otp task.sources settings task.opened.doc dice).left
+    → EndsWith change.text (Err stop) (ended_with name task.opened.sealing change.text change.doc (change_of time task.command line otp task.sources settings task.opened.doc dice).left) before now mid new
     → Ends (Err stop) (carried_out time task dice) before now old new
-file_refused (Refused refusal) time task line settings dice name change before now old mid new e s n h l w =
-    let made = (change_of time task.command line task.sources settings task.opened.doc dice).left in
+file_refused (Refused refusal) time task line otp settings dice name change before now old mid new e o s n h l w =
+    let made = (change_of time task.command line otp task.sources settings task.opened.doc dice).left in
     let there = subst (λ (f : List ℕ). EndsWith change.text (Err (Refused refusal)) (ended_with f task.opened.sealing change.text change.doc made) before now mid new) n w in
-    subst (λ (t : StreamAnswer Ending). EndsRefused refusal t.answer before now × IsLeft old new t.left) (sym (carried_by time task line settings dice change e s h))
+    subst (λ (t : StreamAnswer Ending). EndsRefused refusal t.answer before now × IsLeft old new t.left) (sym (carried_by time task line otp settings dice change e o s h))
     (there.0, left_after old mid new made (ended_with (target_of task.command) task.opened.sealing change.text change.doc made).left l there.1)
-file_refused (FileFault given) time task line settings dice name change before now old mid new e s n h l w = tt
-file_refused InputFault time task line settings dice name change before now old mid new e s n h l w = tt
-file_refused NoMemory time task line settings dice name change before now old mid new e s n h l w = tt
+file_refused (FileFault given) time task line otp settings dice name change before now old mid new e o s n h l w = tt
+file_refused InputFault time task line otp settings dice name change before now old mid new e o s n h l w = tt
+file_refused NoMemory time task line otp settings dice name change before now old mid new e o s n h l w = tt
 
 -- What was printed and written is of the change.
-pub of_dice : (time : ℕ) (task : Task) (line : Option (List ℕ)) (settings : Option Settings) (dice name printed : List ℕ) (change : Change) (before now : Store)
-    → line ≡ task.lines.more → settings ≡ settings_in task.opened.sealing → name ≡ (target_of task.command) → printed ≡ change.text
-    → (change_of time task.command line task.sources settings task.opened.doc dice).answer ≡ Ok change → ReadsBack name task.opened.sealing change.doc before now
+pub of_dice : (time : ℕ) (task : Task) (line otp : Option (List ℕ)) (settings : Option Settings) (dice name printed : List ℕ) (change : Change) (before now : Store)
+    → line ≡ task.lines.more → otp ≡ task.lines.otp → settings ≡ settings_in task.opened.sealing → name ≡ (target_of task.command) → printed ≡ change.text
+    → (change_of time task.command line otp task.sources settings task.opened.doc dice).answer ≡ Ok change → ReadsBack name task.opened.sealing change.doc before now
     → IsOfDice time task dice printed before now
-of_dice time task line settings dice name printed change before now e s n p h r = record {
+of_dice time task line otp settings dice name printed change before now e o s n p h r = record {
   change = change;
-  makes = subst (λ (l : Option (List ℕ)). (change_of time task.command l task.sources (settings_in task.opened.sealing) task.opened.doc dice).answer ≡ Ok change) e
-      (subst (λ (x : Option Settings). (change_of time task.command line task.sources x task.opened.doc dice).answer ≡ Ok change) s h);
+  makes = subst (λ (l : Option (List ℕ)). (change_of time task.command l task.lines.otp task.sources (settings_in task.opened.sealing) task.opened.doc dice).answer ≡ Ok change) e
+      (subst (λ (x : Option (List ℕ)). (change_of time task.command line x task.sources (settings_in task.opened.sealing) task.opened.doc dice).answer ≡ Ok change) o
+      (subst (λ (x : Option Settings). (change_of time task.command line otp task.sources x task.opened.doc dice).answer ≡ Ok change) s h));
   text = p;
   reads_back = subst (λ (f : List ℕ). ReadsBack f task.opened.sealing change.doc before now) n r;
 }
@@ -254,9 +248,9 @@ unfolding carried_out
 carried_kept true time command lines sources doc one other dice w k same =
     ap (λ (s : Option Sealing). carried_out time (task_with command lines (record { target = record { doc = doc; sealing = s }; sources = sources })) dice) (same refl)
 carried_kept false time command lines sources doc one other dice w k same =
-    ap (λ (x : Option Settings). then_left (change_of time command lines.more sources x doc dice) (λ change left. ended_with (target_of command) one change.text change.doc left)) k
-    ∙ ends_so (target_of command) (change_of time command lines.more sources (settings_in other) doc dice).answer (change_of time command lines.more sources (settings_in other) doc dice).left one other
-    (none_changed time command lines.more sources (settings_in other) doc dice w)
+    ap (λ (x : Option Settings). then_left (change_of time command lines.more lines.otp sources x doc dice) (λ change left. ended_with (target_of command) one change.text change.doc left)) k
+    ∙ ends_so (target_of command) (change_of time command lines.more lines.otp sources (settings_in other) doc dice).answer (change_of time command lines.more lines.otp sources (settings_in other) doc dice).left one other
+    (none_changed time command lines.more lines.otp sources (settings_in other) doc dice w)
 
 pub ends_kept : (time : ℕ) (command : Command) (lines : Lines) (sources : List BareDoc) (doc : BareDoc) (one other : Option Sealing) (d : List ℕ) (result : Result Output Stop) (before now : Store) (dice dice' : Option (List ℕ))
     → settings_in one ≡ settings_in other → (may_write command ≡ true → one ≡ other)
@@ -282,12 +276,12 @@ of_dice_kept : (time : ℕ) (command : Command) (lines : Lines) (sources : List 
     → IsOfDice time (task_with command lines (record { target = record { doc = doc; sealing = other }; sources = sources })) d printed before now
 of_dice_kept time command lines sources doc one other d printed before now k same h = record {
   change = h.change;
-  makes = subst (λ (x : Option Settings). (change_of time command lines.more sources x doc d).answer ≡ Ok h.change) k h.makes;
+  makes = subst (λ (x : Option Settings). (change_of time command lines.more lines.otp sources x doc d).answer ≡ Ok h.change) k h.makes;
   text = h.text;
   reads_back =
       reads_kept (may_write command) (target_of command) one other h.change.doc before now same
-      (λ w. if_made (change_of time command lines.more sources (settings_in one) doc d).answer h.change h.makes
-      (none_changed time command lines.more sources (settings_in one) doc d w)) h.reads_back;
+      (λ w. if_made (change_of time command lines.more lines.otp sources (settings_in one) doc d).answer h.change h.makes
+      (none_changed time command lines.more lines.otp sources (settings_in one) doc d w)) h.reads_back;
 }
 
 pub all_kept : (time : ℕ) (command : Command) (lines : Lines) (sources : List BareDoc) (doc : BareDoc) (one other : Option Sealing) (d : List ℕ) (result : Result Output Stop) (before now : Store)
@@ -317,10 +311,11 @@ none_and written sealed h = ap (λ (w : Bool). w && sealed) h
 pub undrawn_unsealed : (command : Command) (sealed written : Bool) → (may_write command ≡ false → written ≡ false) → sealed ≡ not (target_access command).plain
     → draws command ≡ false → (written && sealed) ≡ false
 undrawn_unsealed (Ls access file group recursive flat) sealed written w h e = none_and written sealed (w refl)
-undrawn_unsealed (Show access file entry clear all attachments names) sealed written w h e = none_and written sealed (w refl)
+undrawn_unsealed (Show access file entry clear all attachments names totp) sealed written w h e = none_and written sealed (w refl)
 undrawn_unsealed (Search access file term) sealed written w h e = none_and written sealed (w refl)
 undrawn_unsealed (Add access file entry asked) sealed written w h e = cc
-undrawn_unsealed (Edit access file entry asked) sealed written w h e = and_none written sealed (h ∙ e)
+undrawn_unsealed (Edit access file entry asked) sealed written w h e =
+    and_none written sealed (h ∙ first_none (not access.plain) (is_some asked.generated) e)
 undrawn_unsealed (Move access file node group) sealed written w h e = and_none written sealed (h ∙ e)
 undrawn_unsealed (Remove access file entry) sealed written w h e = cc
 undrawn_unsealed (MakeGroup access file group) sealed written w h e = cc

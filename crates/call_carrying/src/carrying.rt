@@ -5,9 +5,10 @@ ghost use Rattle.secret_core.specs.Secret.{AllZero};
 ghost use Rattle.vault_model.specs.SeenDoc.{doc_seen};
 ghost use Rattle.kdbx_frame.specs.Settings.{IsInOrder};
 ghost use Rattle.cli_answers.specs.Phases.{IsCommandStop, TellsStream};
-ghost use Rattle.cli_lines.specs.Lines.{IsTextLine};
+ghost use Rattle.cli_lines.specs.Lines.{AreTextLines};
+ghost use Rattle.cli_profiles.specs.Profiles.{IsProfile};
 ghost use Rattle.cli_lines.specs.SeenLines.{lines_seen};
-ghost use Rattle.cli_words.specs.Needs.{target_access, target_of};
+ghost use Rattle.cli_words.specs.Needs.{generated_by, target_access, target_of};
 ghost use Rattle.cli_writing.specs.Held.{IsWritten};
 ghost use Rattle.cli_writing.specs.Writing.{IsSame, KeepsDraft, KeepsFiles, store};
 ghost use Rattle.cli_commands.specs.Commands.{may_write};
@@ -160,7 +161,9 @@ fn carry_out_on<F: FileStore, D: Dice>(
     task: &mut Task,
     now: u64,
 ) -> Result<Output, Stop>
-    requires text { IsTextLine (lines_seen task.old.lines).more }
+    requires text { AreTextLines (lines_seen task.old.lines).more
+        (lines_seen task.old.lines).otp }
+    requires profile { IfSome (generated_by task.old.command) IsProfile }
     requires in_order { IfSome task.old.opened.sealing (λ s. IsInOrder s.settings) }
     requires sealed { is_some task.old.opened.sealing
         ≡ not (target_access task.old.command).plain }
@@ -195,6 +198,7 @@ fn carry_out_on<F: FileStore, D: Dice>(
 {
     let input = CommandInput {
         line: bytes_in(&task.lines.more),
+        otp: bytes_in(&task.lines.otp),
         sources: task.sources.as_slice(),
         settings: settings_of(&task.opened.sealing),
         now,
@@ -223,7 +227,8 @@ pub fn carry_out<F: FileStore, D: Dice>(
     mut task: Task,
     now: u64,
 ) -> Result<Output, Stop>
-    requires text { IsTextLine (lines_seen task.lines).more }
+    requires text { AreTextLines (lines_seen task.lines).more (lines_seen task.lines).otp }
+    requires profile { IfSome (generated_by task.command) IsProfile }
     requires in_order { IfSome task.opened.sealing (λ s. IsInOrder s.settings) }
     requires sealed { is_some task.opened.sealing ≡ not (target_access task.command).plain }
     ensures told { (d : List ℕ) → TellsStream (draws task.command) (D.stream dice.old) d

@@ -122,7 +122,7 @@ abbrev plainly : Access
 plainly = record { plain = true; quiet = false; key_file = None; no_password = false }
 
 abbrev no_lines : List (Option (List ℕ)) → Lines
-no_lines sources = record { password = None; sources = sources; more = None }
+no_lines sources = record { password = None; sources = sources; more = None; otp = None }
 
 abbrev pub three_task : Task
 three_task = record {

@@ -75,7 +75,7 @@ module _ (S : List Db) (a : Agreed S) (w : World) (doc : (j : ℕ) → IsDoc (w 
 -- a merge may write
 merge_writes : (command : Command) → merges command ≡ true → may_write command ≡ true
 merge_writes (Ls access file group recursive flat) e = absurd (true≢false (sym e))
-merge_writes (Show access file entry clear all attachments names) e = absurd (true≢false (sym e))
+merge_writes (Show access file entry clear all attachments names totp) e = absurd (true≢false (sym e))
 merge_writes (Search access file term) e = absurd (true≢false (sym e))
 merge_writes (Add access file entry asked) e = refl
 merge_writes (Edit access file entry asked) e = refl

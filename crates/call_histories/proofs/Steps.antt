@@ -32,7 +32,7 @@ use Rattle.call_carrying.specs.Endings.{ReadsBack, change_of_task, settings_in}
 use Rattle.keepass_call.specs.Held.{IsTask}
 use Rattle.keepass_call.specs.Merges.{merges}
 use Rattle.keepass_call.specs.Outcome.{may_write_by}
-use Rattle.keepass_call.proofs.Pages.{no_page}
+use Rattle.keepass_call.proofs.Pages.{asks_command}
 use Rattle.call_histories.specs.Copies.{AreApart, CallSeen, Copies, CopyHolds, Disks, HoldsDoc, OpensCopies}
 use Rattle.call_histories.specs.Histories.{Did, Event, IsCallOn, IsDeed, IsEvent, WritesTask, call, copied, disks_after, done, made_by, put_files, with_bytes}
 use Rattle.call_histories.proofs.Held.{IsHeld, IsThat, IsWritten, changed, copies_opened, copy_opened, either, held_is_doc, kept, key_in, written}
@@ -53,7 +53,7 @@ Kind command = ((edits command ≡ true) × (merges command ≡ false)) ⊎ IsMe
 
 kind_of : (command : Command) → may_write command ≡ true → import_of command ≡ None → Kind command
 kind_of (Ls access file group recursive flat) w i = absurd (true≢false (sym w))
-kind_of (Show access file entry clear all attachments names) w i = absurd (true≢false (sym w))
+kind_of (Show access file entry clear all attachments names totp) w i = absurd (true≢false (sym w))
 kind_of (Search access file term) w i = absurd (true≢false (sym w))
 kind_of (Add access file entry asked) w i = inl (refl, refl)
 kind_of (Edit access file entry asked) w i = inl (refl, refl)
@@ -81,11 +81,11 @@ record Makes (t : BareDoc) (ss : List BareDoc) (command : Command) (doc : Option
 task_makes : (time : ℕ) (task : Task) (dice : List ℕ) (change : Change) → IsDoc task.opened.doc → Kind task.command
     → (change_of_task time task dice).answer ≡ Ok change → Makes task.opened.doc task.sources task.command change.doc
 task_makes time task dice change isd (inl e) h =
-    let g = commands_grow time task.command task.lines.more task.sources (settings_in task.opened.sealing) task.opened.doc dice change isd e.0 h in
+    let g = commands_grow time task.command task.lines.more task.lines.otp task.sources (settings_in task.opened.sealing) task.opened.doc dice change isd e.0 h in
     record { new = g.doc; is = inl g.is; by = inl (e.1, g.grows) }
 task_makes time task dice change isd (inr m) h =
-    let g = merges_merge time m.access m.file m.names m.from m.same task.lines.more task.sources (settings_in task.opened.sealing) task.opened.doc dice change
-    (subst (λ (command : Command). (change_of time command task.lines.more task.sources (settings_in task.opened.sealing) task.opened.doc dice).answer ≡ Ok change) (sym m.is) h) in
+    let g = merges_merge time m.access m.file m.names m.from m.same task.lines.more task.lines.otp task.sources (settings_in task.opened.sealing) task.opened.doc dice change
+    (subst (λ (command : Command). (change_of time command task.lines.more task.lines.otp task.sources (settings_in task.opened.sealing) task.opened.doc dice).answer ≡ Ok change) (sym m.is) h) in
     record { new = g.doc; is = g.is; by = inr (merges_so task.command m, g.merged) }
 
 -- ---- one event
@@ -209,7 +209,7 @@ module _ (copies : Copies) (apart : AreApart copies) (disks : Disks) (w : plans.
         let same : (wt : WritesTask c) → may_write wt.task.command ≡ true = λ wt. sym (ap may_write_by wt.is_task.is_command) ∙ ap may_write_by e ∙ writes in
         elim (either c.result 0) [
           | inl zero ↦
-              let a = on.is_call.authentic (no_page c.words command e) c.world on.told zero in
+              let a = on.is_call.authentic (asks_command c.words command e) c.world on.told zero in
               let wt : WritesTask c = record { task = a.task; is_task = a.is_task; change = a.change; makes = a.makes; reads_back = a.reads_back } in
               something (inl zero) wt (same wt)
           | inr more ↦

@@ -29,7 +29,7 @@ use Rattle.call_reading.specs.Opening.{HoldImportOrDatabases, HoldCommandDatabas
 -- The line after the source's is the password of the new file, if it is to have one.
 new_line : (command : Command) (import : ImportNeeds) → Some import ≡ import_of command → (needs_of command).has_line ≡ asks_password import.access
 new_line (Ls access file group recursive flat) import h = cc
-new_line (Show access file entry clear all attachments names) import h = cc
+new_line (Show access file entry clear all attachments names totp) import h = cc
 new_line (Search access file term) import h = cc
 new_line (Add access file entry asked) import h = cc
 new_line (Edit access file entry asked) import h = cc

@@ -4,9 +4,10 @@ ghost use Rattle.outside_core.specs.Files.{FileMap};
 ghost use Rattle.kdbx_frame.specs.Settings.{IsInOrder};
 ghost use Rattle.cli_answers.specs.Phases.{IsEarlyStop, IsWordsStop, Leaves, Returns, TellsStream};
 ghost use Rattle.cli_answers.specs.declared.answers.Refusal.{Refusal};
-ghost use Rattle.cli_lines.specs.Lines.{IsTextLine};
+ghost use Rattle.cli_lines.specs.Lines.{AreTextLines};
+ghost use Rattle.cli_profiles.specs.Profiles.{IsProfile};
 ghost use Rattle.cli_lines.specs.SeenLines.{lines_seen};
-ghost use Rattle.cli_words.specs.Needs.{files_named, needs_of, target_access};
+ghost use Rattle.cli_words.specs.Needs.{files_named, generated_by, needs_of, target_access};
 ghost use Rattle.cli_files.specs.SeenTask.{task_seen};
 ghost use Rattle.cli_words.specs.Words.{command_of};
 ghost use Rattle.call_reading.specs.Reading.{HasSomeFile, asked_by, left_of, task_of};
@@ -35,7 +36,9 @@ pub fn read_task<F: FileStore, S: Source>(
         ≡ Ok task.command) }
     ensures some_file { IfOk result (λ task. HasSomeFile (map string_bytes words.now) now
         (task_seen task)) }
-    ensures text { IfOk result (λ task. IsTextLine (lines_seen task.lines).more) }
+    ensures text { IfOk result (λ task. AreTextLines (lines_seen task.lines).more
+        (lines_seen task.lines).otp) }
+    ensures profile { IfOk result (λ task. IfSome (generated_by task.command) IsProfile) }
     ensures in_order { IfOk result (λ task. IfSome task.opened.sealing (λ s.
         IsInOrder s.settings)) }
     ensures sealed { IfOk result (λ task. is_some task.opened.sealing

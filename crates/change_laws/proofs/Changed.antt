@@ -1,5 +1,5 @@
 -- What a change that was not refused leaves.
-use Rattle.std.proofs.Common.{◌≡◌, ℕ, Bool, true, false, not, ◌&&◌, ◌⊎◌, inl, inr, List, Option, Some, None, Result, Ok, Err, codes, is_some, nat_lt, refl, sym, ap, ◌∙◌, true≢false}
+use Rattle.std.proofs.Common.{◌≡◌, ℕ, Bool, true, false, not, ◌&&◌, ◌⊎◌, inl, inr, List, Option, Some, None, Result, Ok, Err, codes, drop, is_some, nat_lt, refl, sym, ap, ◌∙◌, true≢false}
 use Rattle.std.specs.Prelude.{if◌then◌else◌}
 use Rattle.outside_core.specs.Results.{◌>>=◌}
 use Rattle.time_core.specs.Times.{last_stamp}
@@ -18,9 +18,13 @@ use Rattle.history_laws.specs.Current.{current_view}
 use Rattle.command_laws.proofs.Edits.{edit_grows_in_current}
 use Rattle.kdbx_frame.specs.declared.settings.Settings.{Settings}
 use Rattle.cli_answers.specs.declared.answers.Refusal.{Refusal}
-use Rattle.cli_answers.specs.Phases.{then_left, with_left}
+use Rattle.cli_answers.specs.Phases.{StreamAnswer, then_left, with_left}
+use Rattle.cli_codes.specs.Codes.{code_refusal}
+use Rattle.cli_generating.specs.Generated.{generated}
+use Rattle.cli_profiles.specs.declared.profiles.PasswordProfile.{PasswordProfile}
 use Rattle.cli_words.specs.declared.command.Command.{Command}
 use Rattle.cli_words.specs.declared.command.Command.TheVariants.{Ls, Show, Search, Add, Edit, Move, Remove, MakeGroup, RemoveGroup, Merge, Import, Export, Info}
+use Rattle.cli_words.specs.Needs.{generated_by}
 use Rattle.cli_writing.specs.Drawing.{next_bytes}
 use Rattle.cli_changes.specs.Entries.{AfterCommand, after_add_command, after_edit_command, entry_title, time_of, values_of}
 use Rattle.cli_changes.specs.Fails.{change_or_refusal}
@@ -28,7 +32,7 @@ use Rattle.cli_changes.specs.Ids.{new_id}
 use Rattle.cli_changes.specs.Nodes.{after_entry_move, after_group_move, after_mkdir, after_rm, after_rmdir, group_name, names_group}
 use Rattle.cli_changes.specs.Reports.{report}
 use Rattle.cli_merging.specs.Merging.{AfterMerge, after_merge, after_merged, changes_between, merged_or_refusal}
-use Rattle.cli_commands.specs.Commands.{Change, bin_id, change_with, drawn_id, makes_node, merged_change, new_document}
+use Rattle.cli_commands.specs.Commands.{Change, bin_id, change_by, change_with, drawn_id, makes_node, merged_change, new_document, password_of, some_password}
 use Rattle.change_laws.specs.Changes.{CommandsGrow, LeavesGrown, LeavesMerged, MergesMerge, edits}
 
 -- ---- results that are no refusals
@@ -72,6 +76,11 @@ made_so file now made doc_of text change h =
       doc = a.1.1 ∙ ap (λ (c : AfterCommand). Some c.doc) (sym (same_answer _ a.0 x.1.1));
     }
 
+-- what is not refused before it is looked for
+unchecked : (checked : Result (Unit {0}) Refusal) (r : Result AfterCommand Refusal) (change : Change) → new_document (checked >>= λ _. r) ≡ Ok change → new_document r ≡ Ok change
+unchecked (Ok done) r change h = h
+unchecked (Err refusal) r change h = cc h
+
 -- ---- commands
 
 bin_given : (id : NodeId) (b : Bool) → is_some (if b then Some id else None) ≡ b
@@ -91,43 +100,57 @@ module _ (time : ℕ) (file : List ℕ) (quiet : Bool) (id : NodeId) (d : BareDo
       let m = made_so file time (λ t. after_move_entry node group t d) (λ e. e) (λ _. report quiet (codes "moved entry ") (entry_title node d) (Some group)) change h in
       grown d change m.after m.doc (λ ise. move_entry_grows node group time d m.after isd ise m.is)
 
-leaves_grown : (time : ℕ) (command : Command) (line : Option (List ℕ)) (sources : List BareDoc) (settings : Option Settings) (id : NodeId) (d : BareDoc) (change : Change) → IsDoc d
-    → edits command ≡ true → change_with time command line sources settings id d ≡ Ok change → LeavesGrown d change
+leaves_grown : (time : ℕ) (command : Command) (line otp : Option (List ℕ)) (sources : List BareDoc) (settings : Option Settings) (id : NodeId) (d : BareDoc) (change : Change) → IsDoc d
+    → edits command ≡ true → change_with time command line otp sources settings id d ≡ Ok change → LeavesGrown d change
 unfolding after_add_command after_edit_command after_mkdir after_rm after_rmdir
-leaves_grown time (Ls access file group recursive flat) line sources settings id d change isd e h = absurd (true≢false (sym e))
-leaves_grown time (Show access file entry clear all attachments names) line sources settings id d change isd e h = absurd (true≢false (sym e))
-leaves_grown time (Search access file term) line sources settings id d change isd e h = absurd (true≢false (sym e))
-leaves_grown time (Add access file entry asked) line sources settings id d change isd e h =
-    let m = made_so file time (λ t. after_add entry id (values_of asked line) t d) (λ x. x) _ change h in
-    grown d change m.after m.doc (λ ise. add_grows entry id (values_of asked line) time d m.after isd ise m.is)
-leaves_grown time (Edit access file entry asked) line sources settings id d change isd e h =
-    let m = made_so file time (λ t. after_edit entry (values_of asked line) t d) (λ x. x) _ change h in
-    record { doc = m.after; is = m.doc; grows = λ ise. edit_grows_in_current entry (values_of asked line) time d m.after isd ise m.is }
-leaves_grown time (Move access file node group) line sources settings id d change isd e h = moved time file access.quiet id d isd change (names_group node) node group h
-leaves_grown time (Remove access file entry) line sources settings id d change isd e h =
+leaves_grown time (Ls access file group recursive flat) line otp sources settings id d change isd e h = absurd (true≢false (sym e))
+leaves_grown time (Show access file entry clear all attachments names totp) line otp sources settings id d change isd e h = absurd (true≢false (sym e))
+leaves_grown time (Search access file term) line otp sources settings id d change isd e h = absurd (true≢false (sym e))
+leaves_grown time (Add access file entry asked) line otp sources settings id d change isd e h =
+    let m = made_so file time (λ t. after_add entry id (values_of asked line None) t d) (λ x. x) _ change h in
+    grown d change m.after m.doc (λ ise. add_grows entry id (values_of asked line None) time d m.after isd ise m.is)
+leaves_grown time (Edit access file entry asked) line otp sources settings id d change isd e h =
+    let m = made_so file time (λ t. after_edit entry (values_of asked line otp) t d) (λ x. x) _ change (unchecked (code_refusal file otp) _ change h) in
+    record { doc = m.after; is = m.doc; grows = λ ise. edit_grows_in_current entry (values_of asked line otp) time d m.after isd ise m.is }
+leaves_grown time (Move access file node group) line otp sources settings id d change isd e h = moved time file access.quiet id d isd change (names_group node) node group h
+leaves_grown time (Remove access file entry) line otp sources settings id d change isd e h =
     let m = made_so file time (λ t. after_remove_entry entry (bin_id id d) t d) (λ (x : AfterRemoval). x.doc) _ change h in
     grown d change m.after.doc m.doc (λ ise. remove_entry_grows entry (bin_id id d) time d m.after isd ise (bin_given id (needs_bin d)) m.is)
-leaves_grown time (MakeGroup access file group) line sources settings id d change isd e h =
+leaves_grown time (MakeGroup access file group) line otp sources settings id d change isd e h =
     let m = made_so file time (λ t. after_make_group group id t d) (λ x. x) _ change h in
     grown d change m.after m.doc (λ ise. make_group_grows group id time d m.after isd ise m.is)
-leaves_grown time (RemoveGroup access file group) line sources settings id d change isd e h =
+leaves_grown time (RemoveGroup access file group) line otp sources settings id d change isd e h =
     let m = made_so file time (λ t. after_remove_group group (bin_id id d) t d) (λ (x : AfterRemoval). x.doc) _ change h in
     grown d change m.after.doc m.doc (λ ise. remove_group_grows group (bin_id id d) time d m.after isd ise (bin_given id (needs_bin d)) m.is)
-leaves_grown time (Merge access file names from same dry) line sources settings id d change isd e h = absurd (true≢false (sym e))
-leaves_grown time (Import access format source from file) line sources settings id d change isd e h = absurd (true≢false (sym e))
-leaves_grown time (Export access format file) line sources settings id d change isd e h = absurd (true≢false (sym e))
-leaves_grown time (Info access file) line sources settings id d change isd e h = absurd (true≢false (sym e))
+leaves_grown time (Merge access file names from same dry) line otp sources settings id d change isd e h = absurd (true≢false (sym e))
+leaves_grown time (Import access format source from file) line otp sources settings id d change isd e h = absurd (true≢false (sym e))
+leaves_grown time (Export access format file) line otp sources settings id d change isd e h = absurd (true≢false (sym e))
+leaves_grown time (Info access file) line otp sources settings id d change isd e h = absurd (true≢false (sym e))
 
 -- what is drawn for the id
-with_some_id : {A : Type 0} (b : Bool) (next : NodeId → Result A Refusal) (dice : List ℕ) (x : A) → (then_left (drawn_id b dice) (λ id left. with_left (next id) left)).answer ≡ Ok x
-    → (id : NodeId) × (next id ≡ Ok x)
-with_some_id true next dice x h = (new_id (next_bytes 16 dice), h)
-with_some_id false next dice x h = (nil_id, h)
+with_some_id : {A : Type 0} (b : Bool) (next : NodeId → List ℕ → StreamAnswer A) (dice : List ℕ) (x : A) → (then_left (drawn_id b dice) next).answer ≡ Ok x
+    → (id : NodeId) × ((left : List ℕ) × ((next id left).answer ≡ Ok x))
+with_some_id true next dice x h = (new_id (next_bytes 16 dice), (drop 16 dice, h))
+with_some_id false next dice x h = (nil_id, (dice, h))
+
+-- the password, which may be drawn
+with_some_password : {A : Type 0} (profile : Option PasswordProfile) (line : Option (List ℕ)) (made : Option (List ℕ) → Result A Refusal) (dice : List ℕ) (x : A)
+    → (then_left (password_of profile line dice) (λ password left. with_left (made password) left)).answer ≡ Ok x → (password : Option (List ℕ)) × (made password ≡ Ok x)
+with_some_password None line made dice x h = (line, h)
+with_some_password (Some profile) line made dice x h =
+    let taken = generated profile.alphabet profile.length dice in
+    of taken.answer taken.left h
+  where
+    of : (answer : Result (List ℕ) Refusal) (left : List ℕ) → (then_left (some_password (with_left answer left)) (λ password left. with_left (made password) left)).answer ≡ Ok x
+        → (password : Option (List ℕ)) × (made password ≡ Ok x)
+    of (Ok password) left h = (Some password, h)
+    of (Err refusal) left h = cc h
 
 pub commands_grow : CommandsGrow
-commands_grow time command line sources settings d dice change isd e h =
-    let w = with_some_id (makes_node command d) (λ id. change_with time command line sources settings id d) dice change h in
-    leaves_grown time command line sources settings w.0 d change isd e w.1
+commands_grow time command line otp sources settings d dice change isd e h =
+    let w = with_some_id (makes_node command d) (λ id. change_by time command line otp sources settings id d) dice change h in
+    let p = with_some_password (generated_by command) line (λ password. change_with time command password otp sources settings w.0 d) w.1.0 change w.1.1 in
+    leaves_grown time command p.0 otp sources settings w.0 d change isd e p.1
 
 -- ---- merges
 
@@ -151,5 +174,5 @@ module _ (file : List ℕ) (quiet : Bool) (names : List (List ℕ)) (t : BareDoc
   merged_by change (Err why) e h = cc h
 
 pub merges_merge : MergesMerge
-merges_merge time access file names from same line sources settings d dice change h =
+merges_merge time access file names from same line otp sources settings d dice change h =
     merged_by file access.quiet names d sources change (merge_result d sources) refl (ap merged_change (sym (after_is file access.quiet names d sources)) ∙ h)

@@ -14,7 +14,7 @@ use Rattle.cli_commands.specs.Commands.{Change, change_of}
 -- only read.
 abbrev pub edits : Command → Bool
 edits (Ls access file group recursive flat) = false
-edits (Show access file entry clear all attachments names) = false
+edits (Show access file entry clear all attachments names totp) = false
 edits (Search access file term) = false
 edits (Add access file entry asked) = true
 edits (Edit access file entry asked) = true
@@ -35,10 +35,10 @@ pub record LeavesGrown (d : BareDoc) (change : Change) : Type 0 where
 
 -- so does that of every command that changes its document
 abbrev pub CommandsGrow : Type 0
-CommandsGrow = (time : ℕ) (command : Command) (line : Option (List ℕ)) (sources : List BareDoc)
-    (settings : Option Settings) (d : BareDoc) (dice : List ℕ) (change : Change) → IsDoc d
-    → edits command ≡ true
-    → (change_of time command line sources settings d dice).answer ≡ Ok change
+CommandsGrow = (time : ℕ) (command : Command) (line otp : Option (List ℕ))
+    (sources : List BareDoc) (settings : Option Settings) (d : BareDoc) (dice : List ℕ)
+    (change : Change) → IsDoc d → edits command ≡ true
+    → (change_of time command line otp sources settings d dice).answer ≡ Ok change
     → LeavesGrown d change
 
 -- A change leaves the document that a target and its sources are merged into, and is to be written
@@ -51,8 +51,8 @@ pub record LeavesMerged (t : BareDoc) (ss : List BareDoc) (change : Change) : Ty
 -- so does that of a merge that is no dry run
 abbrev pub MergesMerge : Type 0
 MergesMerge = (time : ℕ) (access : Access) (file : List ℕ) (names : List (List ℕ)) (from : Access)
-    (same : Bool) (line : Option (List ℕ)) (sources : List BareDoc) (settings : Option Settings)
+    (same : Bool) (line otp : Option (List ℕ)) (sources : List BareDoc) (settings : Option Settings)
     (d : BareDoc) (dice : List ℕ) (change : Change)
-    → (change_of time (Merge access file names from same false) line sources settings d dice).answer
-    ≡ Ok change
+    → (change_of time (Merge access file names from same false) line otp sources settings d
+    dice).answer ≡ Ok change
     → LeavesMerged d sources change

@@ -1,7 +1,7 @@
 -- What statuses refusals have.
 use Rattle.std.proofs.Common.{◌≡◌, ◌≢◌, ℕ, refl, arith}
 use Rattle.cli_answers.specs.declared.answers.Reason.{Reason}
-use Rattle.cli_answers.specs.declared.answers.Reason.TheVariants.{WrongWords, EmptyTerm, NoSuchPath, NameTaken, AlreadyThere, RootFixed, IntoItself, IdTaken, NoAttribute, NoResult, FileExists, DamagedOrWrongKey, DamagedBlock, WrongKeyOrDamaged, WrongPassword, KeyFileHash, NotKdbx, NotPsafe, EndsEarly, BadHeaderField, BadDictionary, Form, MissingElement, BadValue, NilId, NilRecord, DuplicateId, BinaryRef, BadKeyFile, BadField, NotUtf8, NoTitleColumn, BadRow, LineForm, Version, UnknownId, StreamUnknown, Compressed, Variant, Clash, MoveCycle, NoSuchFile, TooLarge, Depth, TooDeep, TooMany, KdfLimit, IterLimit, StampLimit, LineLimit, TooMuch, OutOfMemory, InputEnded}
+use Rattle.cli_answers.specs.declared.answers.Reason.TheVariants.{WrongWords, EmptyTerm, NoSuchPath, NameTaken, AlreadyThere, RootFixed, IntoItself, IdTaken, NoAttribute, NoResult, FileExists, DamagedOrWrongKey, DamagedBlock, WrongKeyOrDamaged, WrongPassword, KeyFileHash, NotKdbx, NotPsafe, EndsEarly, BadHeaderField, BadDictionary, Form, MissingElement, BadValue, NilId, NilRecord, DuplicateId, BinaryRef, BadKeyFile, BadField, NotUtf8, NoTitleColumn, BadRow, LineForm, Version, UnknownId, StreamUnknown, Compressed, Variant, Clash, MoveCycle, NoSuchFile, TooLarge, Depth, TooDeep, TooMany, KdfLimit, IterLimit, StampLimit, LineLimit, TooMuch, NoOtp, OtpForm, OtpUnknown, OtpLimit, Spent, OutOfMemory, InputEnded}
 use Rattle.cli_answers.specs.Messages.{status_of}
 
 -- A refusal of status 7 is that a file is missing.
@@ -57,6 +57,11 @@ seven_missing IterLimit h = absurd (omega arith)
 seven_missing StampLimit h = absurd (omega arith)
 seven_missing LineLimit h = absurd (omega arith)
 seven_missing TooMuch h = absurd (omega arith)
+seven_missing NoOtp h = absurd (omega arith)
+seven_missing (OtpForm place) h = absurd (omega arith)
+seven_missing (OtpUnknown place) h = absurd (omega arith)
+seven_missing OtpLimit h = absurd (omega arith)
+seven_missing Spent h = absurd (omega arith)
 seven_missing OutOfMemory h = absurd (omega arith)
 seven_missing (InputEnded number) h = absurd (omega arith)
 
@@ -118,5 +123,10 @@ own IterLimit = record { zero = λ h. omega arith; ten = λ h. omega arith; elev
 own StampLimit = record { zero = λ h. omega arith; ten = λ h. omega arith; eleven = λ h. omega arith }
 own LineLimit = record { zero = λ h. omega arith; ten = λ h. omega arith; eleven = λ h. omega arith }
 own TooMuch = record { zero = λ h. omega arith; ten = λ h. omega arith; eleven = λ h. omega arith }
+own NoOtp = record { zero = λ h. omega arith; ten = λ h. omega arith; eleven = λ h. omega arith }
+own (OtpForm place) = record { zero = λ h. omega arith; ten = λ h. omega arith; eleven = λ h. omega arith }
+own (OtpUnknown place) = record { zero = λ h. omega arith; ten = λ h. omega arith; eleven = λ h. omega arith }
+own OtpLimit = record { zero = λ h. omega arith; ten = λ h. omega arith; eleven = λ h. omega arith }
+own Spent = record { zero = λ h. omega arith; ten = λ h. omega arith; eleven = λ h. omega arith }
 own OutOfMemory = record { zero = λ h. omega arith; ten = λ h. omega arith; eleven = λ h. omega arith }
 own (InputEnded number) = record { zero = λ h. omega arith; ten = λ h. omega arith; eleven = λ h. omega arith }

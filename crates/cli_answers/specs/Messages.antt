@@ -4,7 +4,7 @@ use Rattle.std.specs.Fmt.{decimal}
 use Rattle.hex.specs.Hex.{encode_lower}
 use Rattle.uuid.specs.Text.{hyphenated_text, lower}
 use Rattle.cli_answers.specs.declared.answers.Reason.{Reason}
-use Rattle.cli_answers.specs.declared.answers.Reason.TheVariants.{WrongWords, EmptyTerm, NoSuchPath, NameTaken, AlreadyThere, RootFixed, IntoItself, IdTaken, NoAttribute, NoResult, FileExists, DamagedOrWrongKey, DamagedBlock, WrongKeyOrDamaged, WrongPassword, KeyFileHash, NotKdbx, NotPsafe, EndsEarly, BadHeaderField, BadDictionary, Form, MissingElement, BadValue, NilId, NilRecord, DuplicateId, BinaryRef, BadKeyFile, BadField, NotUtf8, NoTitleColumn, BadRow, LineForm, Version, UnknownId, StreamUnknown, Compressed, Variant, Clash, MoveCycle, NoSuchFile, TooLarge, Depth, TooDeep, TooMany, KdfLimit, IterLimit, StampLimit, LineLimit, TooMuch, OutOfMemory, InputEnded}
+use Rattle.cli_answers.specs.declared.answers.Reason.TheVariants.{WrongWords, EmptyTerm, NoSuchPath, NameTaken, AlreadyThere, RootFixed, IntoItself, IdTaken, NoAttribute, NoResult, FileExists, DamagedOrWrongKey, DamagedBlock, WrongKeyOrDamaged, WrongPassword, KeyFileHash, NotKdbx, NotPsafe, EndsEarly, BadHeaderField, BadDictionary, Form, MissingElement, BadValue, NilId, NilRecord, DuplicateId, BinaryRef, BadKeyFile, BadField, NotUtf8, NoTitleColumn, BadRow, LineForm, Version, UnknownId, StreamUnknown, Compressed, Variant, Clash, MoveCycle, NoSuchFile, TooLarge, Depth, TooDeep, TooMany, KdfLimit, IterLimit, StampLimit, LineLimit, TooMuch, NoOtp, OtpForm, OtpUnknown, OtpLimit, Spent, OutOfMemory, InputEnded}
 use Rattle.cli_answers.specs.declared.answers.Refusal.{Refusal}
 use Rattle.cli_answers.specs.declared.answers.Stop.{Stop}
 use Rattle.cli_answers.specs.declared.answers.Stop.TheVariants.{Refused, FileFault, InputFault, NoMemory}
@@ -62,6 +62,11 @@ status_of IterLimit = 8
 status_of StampLimit = 8
 status_of LineLimit = 8
 status_of TooMuch = 8
+status_of NoOtp = 2
+status_of (OtpForm place) = 4
+status_of (OtpUnknown place) = 5
+status_of OtpLimit = 8
+status_of Spent = 8
 status_of OutOfMemory = 9
 status_of (InputEnded number) = 12
 
@@ -126,6 +131,11 @@ reason_text IterLimit = codes "limit passed"
 reason_text StampLimit = codes "limit passed"
 reason_text LineLimit = codes "limit passed"
 reason_text TooMuch = codes "limit passed"
+reason_text NoOtp = codes "no one-time code"
+reason_text (OtpForm place) = codes "bad one-time code at " ++ decimal place
+reason_text (OtpUnknown place) = codes "one-time code at " ++ decimal place
+reason_text OtpLimit = codes "limit passed"
+reason_text Spent = codes "limit passed"
 reason_text OutOfMemory = codes "out of memory"
 reason_text (InputEnded number) = codes "line " ++ decimal number ++ codes " missing"
 

@@ -118,6 +118,16 @@ pub enum Reason {
     LineLimit,
     /// What is shown would be too long with its references resolved.
     TooMuch,
+    /// The entry has neither the field `otp` nor the older `TOTP Seed`.
+    NoOtp,
+    /// What the entry, or a line, says of one-time codes is malformed at the place in its text.
+    OtpForm(usize),
+    /// It asks for a hash or an encoding that is not supported, at the place in its text.
+    OtpUnknown(usize),
+    /// Its period, its digits, its secret or the moment is outside the limits of codes.
+    OtpLimit,
+    /// Of the random bytes 128 one after the other were refused for one character of a password.
+    Spent,
     /// Memory ran out.
     OutOfMemory,
     /// The input ended before the line of this number, which is due.
@@ -212,6 +222,11 @@ pub fn status(reason: &Reason) -> u8
         Reason::StampLimit => 8,
         Reason::LineLimit => 8,
         Reason::TooMuch => 8,
+        Reason::NoOtp => 2,
+        Reason::OtpForm(_) => 4,
+        Reason::OtpUnknown(_) => 5,
+        Reason::OtpLimit => 8,
+        Reason::Spent => 8,
         Reason::OutOfMemory => 9,
         Reason::InputEnded(_) => 12,
     }
@@ -389,7 +404,12 @@ pub fn text_of_reason(alloc: Global, reason: &Reason) -> Result<String, AllocErr
         | Reason::IterLimit
         | Reason::StampLimit
         | Reason::LineLimit
-        | Reason::TooMuch => String::from_str(alloc, "limit passed"),
+        | Reason::TooMuch
+        | Reason::OtpLimit
+        | Reason::Spent => String::from_str(alloc, "limit passed"),
+        Reason::NoOtp => String::from_str(alloc, "no one-time code"),
+        Reason::OtpForm(at) => numbered(alloc, "bad one-time code at ", *at as u64),
+        Reason::OtpUnknown(at) => numbered(alloc, "one-time code at ", *at as u64),
         Reason::OutOfMemory => String::from_str(alloc, "out of memory"),
         Reason::InputEnded(number) => line_is(alloc, *number, " missing"),
     }

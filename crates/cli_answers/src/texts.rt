@@ -28,6 +28,9 @@ keepass show [OPTION..] DATABASE ENTRY
     -a NAME, --attributes NAME
         The value of this field alone is shown, a protected one too. May be
         given several times.
+    -t, --totp
+        The entry's one-time code is shown and nothing else, or after the values
+        of --attributes. Goes with neither --all nor --show-attachments.
 
 keepass search [OPTION..] DATABASE TERM
     Lists the paths of the entries that match all terms of TERM.
@@ -43,6 +46,22 @@ keepass add [OPTION..] DATABASE ENTRY
     -p, --password-prompt
         The entry's password is the line of standard input after the one of the
         database.
+    -g, --generate
+        The entry's password is generated, by the six options below. Does not go
+        with --password-prompt.
+    -L NUMBER, --length NUMBER
+        How many characters the password has: 1 to 4096, 32 where nothing is
+        said.
+    -l, --lower
+        Small letters are among its characters.
+    -U, --upper
+        Capital letters are among them.
+    -n, --numeric
+        Digits are among them.
+    -s, --special
+        Signs are among them: the 32 of ASCII.
+    -x CHARS, --exclude CHARS
+        None of these characters is among them.
 
 keepass edit [OPTION..] DATABASE ENTRY
     Gives an entry other values, and keeps what it was before in its history.
@@ -57,6 +76,25 @@ keepass edit [OPTION..] DATABASE ENTRY
     -p, --password-prompt
         The entry's password is the line of standard input after the one of the
         database.
+    -g, --generate
+        The entry's password is generated, by the six options below. Does not go
+        with --password-prompt.
+    -L NUMBER, --length NUMBER
+        How many characters the password has: 1 to 4096, 32 where nothing is
+        said.
+    -l, --lower
+        Small letters are among its characters.
+    -U, --upper
+        Capital letters are among them.
+    -n, --numeric
+        Digits are among them.
+    -s, --special
+        Signs are among them: the 32 of ASCII.
+    -x CHARS, --exclude CHARS
+        None of these characters is among them.
+    --otp
+        The entry's one-time code is a line of standard input, after all others:
+        an otpauth URI. An empty line takes it away.
 
 keepass mv [OPTION..] DATABASE NODE GROUP
     Moves an entry into a group, or a group where NODE ends with a slash.
@@ -108,14 +146,31 @@ keepass db-info [OPTION..] DATABASE
     Prints what the database is called, how it is protected, and how much is in
     it.
 
-Options of every command:
+keepass generate [OPTION..]
+    Prints a password that is chosen at random. It opens no database and reads
+    no line.
+    -L NUMBER, --length NUMBER
+        How many characters the password has: 1 to 4096, 32 where nothing is
+        said.
+    -l, --lower
+        Small letters are among its characters.
+    -U, --upper
+        Capital letters are among them.
+    -n, --numeric
+        Digits are among them.
+    -s, --special
+        Signs are among them: the 32 of ASCII.
+    -x CHARS, --exclude CHARS
+        None of these characters is among them.
+
+Options of every command but generate:
     --plain
         The database is a plain XML export, which has no password and no key
         file.
     -q, --quiet
         Nothing is reported.
 
-Options of every command but import:
+Options of every command but import, generate:
     -k FILE, --key-file FILE
         The database needs this key file besides its password.
     --no-password
@@ -129,18 +184,21 @@ keepass --version
 Exit status:
    0  Done.
    1  The words are no command, or a term of a search is empty.
-   2  Nothing has this path or this name, or it is there already, or what was
-      asked for is not allowed.
+   2  Nothing has this path or this name, or it is there already, or the entry
+      has no one-time code, or what was asked for is not allowed.
    3  The password or the key file is wrong, or the file was changed.
-   4  The file is malformed, or a line of the input is not UTF-8.
-   5  The file has a version, a cipher or a compression that is not supported.
+   4  The file or a one-time code is malformed, or a line of the input is not
+      UTF-8.
+   5  The file has a version, a cipher or a compression that is not supported,
+      or a one-time code is of an unknown kind.
    6  The databases cannot be merged.
    7  A file is missing, or could not be read or written.
    8  A limit was passed.
    9  Memory ran out.
   10  The output could not be written.
   11  The input could not be read, or no random bytes could be drawn.
-  12  A line is missing on standard input: a password's.
+  12  A line is missing on standard input: that of a password or of a one-time
+      code.
 "
 }
 

@@ -1,26 +1,38 @@
 -- The commands on a small database: the entries Bank and Mail and the group Work in the root. What is tried is what each
 -- command prints, on standard output or as the line of a refusal, and what it changes.
-use Rattle.std.proofs.Common.{◌≡◌, ℕ, List, [], ◌∷◌, None, Some, refl}
+use Rattle.std.proofs.Common.{◌≡◌, ℕ, List, [], ◌∷◌, ◌++◌, Option, None, Some, refl}
 use Rattle.std.specs.Prelude.{◌+◌, Err, Ok, Result, codes, false, option_map, replicate, true}
+use Rattle.std.specs.List.{slice_get}
+use Rattle.std.specs.Option.{option_and_then}
 use Rattle.time_core.specs.Times.{last_stamp}
+use Rattle.vault_model.specs.Bare.{BareField}
 use Rattle.vault_model.specs.Db.{NodeId}
 use Rattle.vault_model.specs.Empty.{empty_bare, new_group, new_protection}
 use Rattle.vault_model.specs.Shape.{EntryRecord}
 use Rattle.vault_model.specs.Tree.{BareDoc, beside, node, none}
 use Rattle.tree_core.specs.Finding.{entry_found, group_found, has_group_path}
 use Rattle.tree_core.specs.Changes.{entry_at}
-use Rattle.tree_core.specs.NewNodes.{GivenValues, new_entry, new_fields}
+use Rattle.tree_core.specs.NewNodes.{GivenValues, field, new_entry, new_fields}
 use Rattle.cli_answers.specs.Messages.{error_line, reason_text, refusal_of}
-use Rattle.cli_answers.specs.declared.answers.Reason.TheVariants.{IdTaken, IntoItself}
+use Rattle.cli_answers.specs.declared.answers.Reason.TheVariants.{IdTaken, IntoItself, OtpForm}
 use Rattle.cli_answers.specs.declared.answers.Refusal.{Refusal}
-use Rattle.cli_changes.specs.Entries.{AfterCommand}
+use Rattle.otp_core.specs.Reading.{base32, bytes32, equals_after, otp_of_label, otp_of_uri, parts_between, with_parameter, with_parameters, with_value, within_limits}
+use Rattle.cli_codes.specs.Codes.{code_refusal}
+use Rattle.cli_changes.specs.Entries.{AfterCommand, after_edit_command}
 use Rattle.cli_changes.specs.Nodes.{after_entry_move, after_group_move, after_mkdir, after_mv, after_rm, after_rmdir}
 
 abbrev id : ℕ → NodeId
 id n = replicate 16 n
 
 abbrev no_values : GivenValues
-no_values = record { title = None; user = None; password = None; url = None; notes = None }
+no_values = record {
+  title = None;
+  user = None;
+  password = None;
+  url = None;
+  notes = None;
+  otp = None;
+}
 
 abbrev doc : BareDoc
 doc = record (empty_bare (id 1) 0) {
@@ -153,3 +165,41 @@ past_calendar : printed_text (after_mv (codes "P") false (codes "None") (codes "
     ≡ codes "keepass: P: limit passed\n"
 unfolding after_entry_move
 past_calendar = refl
+
+-- ---- what an entry's one-time codes are made from: it is refused before the entry is looked for, hidden whatever it was, and taken away
+
+abbrev with_code : List ℕ → GivenValues
+with_code text = record no_values { otp = Some text }
+
+abbrev uri : List ℕ
+uri = codes "otpauth://totp/x?secret=GE"
+
+-- The entry Mail with a field `otp` that is shown.
+abbrev doc_shown : BareDoc
+doc_shown = record doc {
+  tree =
+      node (id 1) (new_group (codes "Root") 0)
+      ((id 3, new_entry (new_fields new_protection (codes "Mail") no_values ++ field (codes "otp") (codes "old") false ∷ []) 0) ∷ [])
+      none;
+}
+
+-- The document after an edit of what codes are made from.
+abbrev coded : List ℕ → BareDoc
+coded text = document_after (after_edit_command (codes "P") false (codes "Mail") (with_code text) 5 doc_shown) doc
+
+-- The last field of the entry Mail, after the five that every entry has.
+abbrev last_field : BareDoc → Option BareField
+last_field d = option_and_then (λ e. slice_get e.1.current.mark.content.fields 5) (entry_at (id 1) (id 3) d.tree)
+
+code_refused : after_edit_command (codes "P") false (codes "Nothing") (with_code (codes "GE")) 5 doc
+    ≡ Err (refusal_of (OtpForm 0) (codes "P"))
+unfolding after_edit_command code_refusal otp_of_uri
+code_refused = refl
+
+code_hidden : last_field (coded uri) ≡ Some (field (codes "otp") uri true)
+unfolding after_edit_command code_refusal otp_of_uri otp_of_label parts_between with_parameters with_parameter with_value base32 bytes32 within_limits equals_after entry_found
+code_hidden = refl
+
+code_taken_away : last_field (coded []) ≡ None
+unfolding after_edit_command code_refusal entry_found
+code_taken_away = refl

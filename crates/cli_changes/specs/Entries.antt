@@ -15,6 +15,7 @@ use Rattle.tree_core.specs.declared.fails.TreeFail.TheVariants.{StampLimit}
 use Rattle.cli_answers.specs.Phases.{Stops}
 use Rattle.cli_answers.specs.declared.answers.Refusal.{Refusal}
 use Rattle.cli_answers.specs.declared.answers.Stop.{Stop}
+use Rattle.cli_codes.specs.Codes.{code_refusal}
 use Rattle.cli_words.specs.declared.command.Asked.{Asked}
 use Rattle.cli_changes.specs.Fails.{change_or_refusal}
 use Rattle.cli_changes.specs.Texts.{report}
@@ -24,14 +25,16 @@ pub record AfterCommand : Type 0 where
   pub text : List ℕ
   pub doc : BareDoc
 
--- The values that an entry is to have; its password is a line of the input.
-abbrev pub values_of : Asked → Option (List ℕ) → GivenValues
-values_of asked password = record {
+-- The values that an entry is to have, with its password and what its one-time codes are made from,
+-- where they are given.
+abbrev pub values_of : Asked → (password otp : Option (List ℕ)) → GivenValues
+values_of asked password otp = record {
   title = asked.title;
   user = asked.user;
   password = password;
   url = asked.url;
   notes = asked.notes;
+  otp = otp;
 }
 
 -- A moment as a time of the calendar, which ends with the year 9999.
@@ -71,11 +74,12 @@ edited_title given path d = unwrap_or given (entry_title path d)
 abbrev pub with_edited_at : List ℕ → GivenValues → ℕ → BareDoc → Result BareDoc TreeFail
 with_edited_at path values now d = time_of now >>= λ time. after_edit path values time d
 
--- What `edit` makes of the document of a file: an entry with other values. It reports the title that
--- the entry has then.
+-- What `edit` makes of the document of a file: an entry with other values. A text that no one-time
+-- codes are made from is refused before anything else. It reports the title that the entry has then.
 unfoldable pub after_edit_command : List ℕ → Bool → List ℕ → GivenValues → ℕ → BareDoc
     → Result AfterCommand Refusal
 after_edit_command file quiet path values now d = do
+  _ ← code_refusal file values.otp
   new ← change_or_refusal file (with_edited_at path values now d)
   Ok (record {
     text = report quiet (codes "edited") (edited_title values.title path d);

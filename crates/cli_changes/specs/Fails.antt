@@ -1,5 +1,5 @@
 -- The answers of commands that change no document.
-use Rattle.std.specs.Prelude.{◌≡◌, ℕ, List, Result, Ok, Err}
+use Rattle.std.specs.Prelude.{ℕ, List, Result, Ok, Err}
 use Rattle.cli_answers.specs.Messages.{Refuses, refusal_of}
 use Rattle.cli_answers.specs.Phases.{IsMemoryStop}
 use Rattle.cli_answers.specs.declared.answers.Reason.{Reason}

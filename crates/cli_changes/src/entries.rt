@@ -1,5 +1,5 @@
 //! `add` and `edit` on a document.
-ghost use Rattle.std.specs.Prelude.{◌≡◌, IfErr, IfSome, MatchResult, Err, Ok, true};
+ghost use Rattle.std.specs.Prelude.{◌≡◌, IfErr, IfSome, MatchResult, Err, None, Ok, true};
 ghost use Rattle.std.specs.Str.{is_utf8};
 ghost use Rattle.vault_model.specs.SeenDoc.{doc_seen};
 ghost use Rattle.tree_core.specs.After.{Changes};
@@ -11,6 +11,7 @@ ghost use Rattle.cli_changes.specs.Entries.{CommandChanges, after_add_command, a
 use crate::fails::unchanged;
 use crate::texts::report;
 use cli_answers::Stop;
+use cli_codes::check_code;
 use cli_words::Asked;
 use outside_core::Text;
 use secret_core::Secret;
@@ -30,6 +31,8 @@ pub struct Given<'a> {
     pub quiet: bool,
     /// The entry's password, in UTF-8, where one is given.
     pub password: Option<&'a [u8]>,
+    /// What the entry's one-time codes are made from, in UTF-8, where an edit gives it.
+    pub otp: Option<&'a [u8]>,
     /// The moment, in seconds since the year 1.
     pub now: u64,
 }
@@ -45,10 +48,11 @@ fn text_in(text: &Option<Text>) -> Option<&str>
 }
 
 // The values that an entry is to have.
-fn values_of<'a>(asked: &'a Asked, password: Option<&'a [u8]>) -> Values<'a>
+fn values_of<'a>(asked: &'a Asked, password: Option<&'a [u8]>, otp: Option<&'a [u8]>) -> Values<'a>
     ensures values { nodes.given_values result
-        ≡ spec.values_of asked.now (nodes.lent_value password.entry) }
+        ≡ spec.values_of asked.now (nodes.lent_value password.entry) (nodes.lent_value otp.entry) }
     ensures password { result.password ≡ password.entry }
+    ensures otp { result.otp ≡ otp.entry }
 {
     Values {
         title: text_in(&asked.title),
@@ -56,6 +60,7 @@ fn values_of<'a>(asked: &'a Asked, password: Option<&'a [u8]>) -> Values<'a>
         password,
         url: text_in(&asked.url),
         notes: text_in(&asked.notes),
+        otp,
     }
 }
 
@@ -95,7 +100,8 @@ fn edit_at(
     values: &Values<'_>,
     now: u64,
 ) -> Result<(), TreeFail>
-    requires { IfSome values.now.password (λ password. is_utf8 password.now ≡ true) }
+    requires password { IfSome values.now.password (λ password. is_utf8 password.now ≡ true) }
+    requires otp { IfSome values.now.otp (λ otp. is_utf8 otp.now ≡ true) }
     ensures { Changes (spec.with_edited_at path.now (nodes.given_values values.now) now
         (doc_seen doc.old)) result (doc_seen doc.old) (doc_seen doc.new) }
 {
@@ -106,22 +112,22 @@ fn edit_at(
 /// What `add` makes of a document: an entry more, of this path and this id. A refusal changes
 /// nothing.
 #[tactic(auto, unfolding(crate::specs::Entries::after_add_command))]
-pub fn add_entry(
+pub fn add_entry<'a>(
     alloc: Global,
     doc: &mut Doc,
     path: &str,
     id: Uuid,
-    asked: &Asked,
-    given: Given<'_>,
+    asked: &'a Asked,
+    given: Given<'a>,
 ) -> Result<Secret, Stop>
     requires { IfSome given.password (λ password. is_utf8 password.now ≡ true) }
     ensures told { CommandChanges result (after_add_command given.entry.file.now given.entry.quiet
-        path.now id (spec.values_of asked.now (nodes.lent_value given.entry.password))
+        path.now id (spec.values_of asked.now (nodes.lent_value given.entry.password) None)
         given.entry.now (doc_seen doc.old)) (doc_seen doc.old) (doc_seen doc.new) }
     ensures cause { IfErr result IsPlainStop }
 {
     let text = report(alloc, given.quiet, b"added", name_after(path).as_bytes())?;
-    let values = values_of(asked, given.password);
+    let values = values_of(asked, given.password, None);
     match add_at(alloc, doc, path, id, &values, given.now) {
         Ok(()) => Ok(text),
         Err(fail) => {
@@ -158,8 +164,8 @@ fn edited_title<'a>(doc: &'a Doc, path: &str, given: Option<&'a str>) -> &'a [u8
     }
 }
 
-/// What `edit` makes of a document: the entry that a path names has other values. A refusal changes
-/// nothing.
+/// What `edit` makes of a document: the entry that a path names has other values. A text that no
+/// one-time codes are made from is refused first. A refusal changes nothing.
 #[tactic(auto, unfolding(crate::specs::Entries::after_edit_command))]
 pub fn edit_entry(
     alloc: Global,
@@ -168,13 +174,16 @@ pub fn edit_entry(
     asked: &Asked,
     given: Given<'_>,
 ) -> Result<Secret, Stop>
-    requires { IfSome given.password (λ password. is_utf8 password.now ≡ true) }
+    requires password { IfSome given.password (λ password. is_utf8 password.now ≡ true) }
+    requires otp { IfSome given.otp (λ otp. is_utf8 otp.now ≡ true) }
     ensures told { CommandChanges result (after_edit_command given.entry.file.now given.entry.quiet
-        path.now (spec.values_of asked.now (nodes.lent_value given.entry.password))
-        given.entry.now (doc_seen doc.old)) (doc_seen doc.old) (doc_seen doc.new) }
+        path.now (spec.values_of asked.now (nodes.lent_value given.entry.password)
+        (nodes.lent_value given.entry.otp)) given.entry.now (doc_seen doc.old)) (doc_seen doc.old)
+        (doc_seen doc.new) }
     ensures cause { IfErr result IsPlainStop }
 {
-    let values = values_of(asked, given.password);
+    check_code(alloc, given.file, given.otp)?;
+    let values = values_of(asked, given.password, given.otp);
     let text = report(
         alloc,
         given.quiet,

@@ -1,32 +1,36 @@
 -- What commands make of a document.
-use Rattle.std.proofs.Common.{◌≡◌, ℕ, List, length, refl, sym, ◌∙◌, ap, subst, Bool, true, false, Option, Some, None, Result, Ok, Err}
+use Rattle.std.proofs.Common.{◌||◌, ◌+◌, ◌++◌, [], drop, option_map, ◌≡◌, ℕ, List, length, refl, sym, ◌∙◌, ap, subst, Bool, true, false, Option, Some, None, Result, Ok, Err}
 use Rattle.std.specs.Prelude.{IfErr, IfOk, IfSome, is_some, if◌then◌else◌}
 use Rattle.std.specs.Borrow.{Bor}
 use Rattle.std.specs.Str.{is_utf8}
 use Rattle.outside_core.specs.Streams.{LosesPrefix}
-use Rattle.vault_model.specs.Db.{NodeId}
+use Rattle.std.proofs.lemmas.List.{drop-drop, drop_at}
+use Rattle.vault_model.specs.Db.{NodeId, nil_id}
+use Rattle.cli_profiles.specs.Profiles.{IsProfile}
+use Rattle.cli_profiles.specs.declared.profiles.PasswordProfile.{PasswordProfile}
+use Rattle.cli_words.specs.Needs.{generated_by}
 use Rattle.vault_model.specs.Tree.{BareDoc, Tree}
 use Rattle.tree_core.specs.After.{needs_bin}
 use Rattle.tree_core.specs.NewNodes.{lent_value}
 use Rattle.cli_answers.specs.declared.answers.Refusal.{Refusal}
 use Rattle.cli_answers.specs.declared.answers.Stop.{Stop}
 use Rattle.cli_answers.specs.declared.answers.Stop.TheVariants.{Refused, FileFault, InputFault, NoMemory}
-use Rattle.cli_answers.specs.Phases.{IsLeft, IsPlainStop, IsStreamStop, Returns, ReturnsAskedStream, StreamAnswer, TellsStream, after_left, then_left, with_left}
+use Rattle.cli_answers.specs.Phases.{IsLeft, IsPlainStop, IsStreamStop, RefusesAskedStream, RefusesStream, Returns, ReturnsAskedStream, StreamAnswer, TellsStream, after_left, then_left, with_left}
 use Rattle.cli_changes.specs.Ids.{new_id}
-use Rattle.cli_writing.proofs.Drawn.{next_alone}
+use Rattle.cli_writing.proofs.Drawn.{next_first}
 use Rattle.cli_lines.specs.Lines.{IsTextLine}
 use Rattle.cli_words.specs.declared.command.Command.{Command}
 use Rattle.cli_words.specs.declared.command.Command.TheVariants.{Ls, Show, Search, Add, Edit, Move, Remove, MakeGroup, RemoveGroup, Merge, Import, Export, Info}
 use Rattle.cli_commands.specs.declared.output.Change as declared
-use Rattle.cli_commands.specs.Commands.{Change, bin_id, change_of, change_with, drawn_id, draws_id, listing_of, makes_node, may_write, merged_change, printed_text}
+use Rattle.cli_commands.specs.Commands.{Change, bin_id, change_by, change_of, change_with, drawn_id, draws_change, draws_id, password_of, some_password, listing_of, makes_node, may_write, merged_change, printed_text}
 use Rattle.cli_printing.specs.Exporting.{exported}
 use Rattle.cli_printing.specs.Info.{info_shown}
 use Rattle.cli_printing.specs.Listing.{tree_listed}
 use Rattle.cli_merging.proofs.DryRuns.{dry_none}
 use Rattle.cli_merging.specs.Merging.{AfterMerge, after_merge}
-use Rattle.cli_showing.specs.Showing.{entries_shown, entry_shown}
+use Rattle.cli_showing.specs.Showing.{code_shown, entries_shown, entry_shown}
 use Rattle.kdbx_frame.specs.declared.settings.Settings.{Settings}
-use Rattle.cli_commands.specs.SeenChange.{change_seen}
+use Rattle.cli_commands.specs.SeenChange.{IsDrawnBySome, change_seen}
 
 -- A line that is lent.
 pub lent_text : (lent : Option (Bor (List ℕ))) → IsTextLine (lent_value lent) → IfSome lent (λ line. is_utf8 line.now ≡ true)
@@ -49,10 +53,14 @@ pub loses_none : (before : Option (List ℕ)) → LosesPrefix before before
 loses_none None = (0, refl)
 loses_none (Some rest) = (0, refl)
 
+pub loses_both : (old mid new : Option (List ℕ)) → LosesPrefix old mid → LosesPrefix mid new → LosesPrefix old new
+loses_both None mid new h g = (0, g.1 ∙ ap (option_map (drop g.0)) h.1)
+loses_both (Some x) mid new h g = (h.0 + g.0, g.1 ∙ ap (option_map (drop g.0)) h.1 ∙ ap Some (drop-drop g.0 h.0 x))
+
 -- A command that makes a node draws an id.
 makes_drawn : (command : Command) (doc : BareDoc) → draws_id command ≡ false → makes_node command doc ≡ false
 makes_drawn (Ls access file group recursive flat) doc e = refl
-makes_drawn (Show access file entry clear all attachments names) doc e = refl
+makes_drawn (Show access file entry clear all attachments names totp) doc e = refl
 makes_drawn (Search access file term) doc e = refl
 makes_drawn (Add access file entry asked) doc e = e
 makes_drawn (Edit access file entry asked) doc e = refl
@@ -65,20 +73,34 @@ makes_drawn (Import access format source from file) doc e = refl
 makes_drawn (Export access format file) doc e = refl
 makes_drawn (Info access file) doc e = refl
 
-pub none_made : (makes : Bool) (command : Command) (doc : BareDoc) → makes ≡ makes_node command doc → draws_id command ≡ false → makes ≡ false
-none_made makes command doc e h = e ∙ makes_drawn command doc h
+neither : (a b : Bool) → (a || b) ≡ false → (a ≡ false) × (b ≡ false)
+neither false false e = (refl, refl)
+neither false true e = cc
+neither true b e = cc
+
+pub none_made : (makes : Bool) (command : Command) (doc : BareDoc) → makes ≡ makes_node command doc → draws_change command ≡ false → makes ≡ false
+none_made makes command doc e h = e ∙ makes_drawn command doc (neither (draws_id command) (is_some (generated_by command)) h).0
+
+pub none_generated : (command : Command) → draws_change command ≡ false → is_some (generated_by command) ≡ false
+none_generated command h = (neither (draws_id command) (is_some (generated_by command)) h).1
 
 pub tells_made : (makes : Bool) (command : Command) (doc : BareDoc) (dice : Option (List ℕ)) (d : List ℕ) → makes ≡ makes_node command doc
-    → TellsStream (draws_id command) dice d → TellsStream makes dice d
+    → TellsStream (draws_change command) dice d → TellsStream makes dice d
 tells_made makes command doc (Some x) d e t = t
 tells_made makes command doc None d e t = none_made makes command doc e t
 
--- What a command makes with the id that was drawn.
-made_with : (F : NodeId → Result Change Refusal) (taken : StreamAnswer NodeId) (id : NodeId) → taken.answer ≡ Ok id
-    → then_left taken (λ id left. with_left (F id) left) ≡ with_left (F id) taken.left
-made_with F taken id e = ap (λ (a : Result NodeId Refusal). after_left a taken.left (λ id left. with_left (F id) left)) e
+-- What is left of dice after an id is drawn is asked for a password.
+pub tells_generated : (command : Command) (before mid : Option (List ℕ)) (d left : List ℕ) → TellsStream (draws_change command) before d
+    → IsLeft before mid left → TellsStream (is_some (generated_by command)) mid left
+tells_generated command (Some x) mid d left t is = subst (λ (m : Option (List ℕ)). TellsStream (is_some (generated_by command)) m left) (sym is) refl
+tells_generated command None mid d left t is = subst (λ (m : Option (List ℕ)). TellsStream (is_some (generated_by command)) m left) (sym is) (none_generated command t)
 
-returns_with : (result : Result declared.Change Stop) (defined : Result Change Refusal) (new : BareDoc) (before now : Option (List ℕ)) (left : List ℕ)
+-- What is left after two draws.
+left_after : (before mid now : Option (List ℕ)) (left rest : List ℕ) → IsLeft before mid left → IsLeft mid now rest → IsLeft before now rest
+left_after (Some l) mid now left rest p q = q ∙ ap (option_map (λ (l : List ℕ). rest)) p
+left_after None mid now left rest p q = q ∙ ap (option_map (λ (l : List ℕ). rest)) p
+
+pub returns_with : (result : Result declared.Change Stop) (defined : Result Change Refusal) (new : BareDoc) (before now : Option (List ℕ)) (left : List ℕ)
     → IsLeft before now left → Returns (λ change. change_seen change new) result defined
     → ReturnsAskedStream (λ change. change_seen change new) result before now (with_left defined left)
 returns_with (Ok change) defined new before now left l h = (h, l)
@@ -87,21 +109,87 @@ returns_with (Err (FileFault name)) defined new before now left l h = tt
 returns_with (Err InputFault) defined new before now left l h = tt
 returns_with (Err NoMemory) defined new before now left l h = tt
 
--- A command gave this with an id that was drawn, or stopped.
-pub returns_drawn : (result : Result declared.Change Stop) (F : NodeId → Result Change Refusal) (taken : StreamAnswer NodeId) (id : NodeId) (new : BareDoc) (before now : Option (List ℕ))
-    → taken.answer ≡ Ok id → IsLeft before now taken.left → Returns (λ change. change_seen change new) result (F id)
-    → ReturnsAskedStream (λ change. change_seen change new) result before now (then_left taken (λ id left. with_left (F id) left))
-returns_drawn result F taken id new before now e l h =
-    subst (λ (a : StreamAnswer Change). ReturnsAskedStream (λ change. change_seen change new) result before now a) (sym (made_with F taken id e))
-    (returns_with result (F id) new before now taken.left l h)
+-- Dice that nothing is asked of are as they were.
+pub left_alone : (asked : Bool) (before : Option (List ℕ)) (d : List ℕ) → TellsStream asked before d → IsLeft before before d
+left_alone asked (Some left) d t = ap Some t
+left_alone asked None d t = refl
+
+later : (result : Result declared.Change Stop) (new : BareDoc) (before mid now : Option (List ℕ)) (left : List ℕ) (taken : StreamAnswer Change)
+    → IsLeft before mid left → ReturnsAskedStream (λ change. change_seen change new) result mid now taken
+    → ReturnsAskedStream (λ change. change_seen change new) result before now taken
+later (Ok change) new before mid now left taken l h = (h.0, left_after before mid now left taken.left l h.1)
+later (Err (Refused refusal)) new before mid now left taken l h = (h.0, left_after before mid now left taken.left l h.1)
+later (Err (FileFault name)) new before mid now left taken l h = tt
+later (Err InputFault) new before mid now left taken l h = tt
+later (Err NoMemory) new before mid now left taken l h = tt
+
+-- What a command gives after an id was drawn.
+pub returns_drawn : (result : Result declared.Change Stop) (next : NodeId → List ℕ → StreamAnswer Change) (taken : StreamAnswer NodeId) (id : NodeId) (new : BareDoc)
+    (before mid now : Option (List ℕ)) → taken.answer ≡ Ok id → IsLeft before mid taken.left
+    → ReturnsAskedStream (λ change. change_seen change new) result mid now (next id taken.left)
+    → ReturnsAskedStream (λ change. change_seen change new) result before now (then_left taken next)
+returns_drawn result next taken id new before mid now e l h =
+    subst (λ (a : StreamAnswer Change). ReturnsAskedStream (λ change. change_seen change new) result before now a)
+    (sym (ap (λ (a : Result NodeId Refusal). after_left a taken.left next) e))
+    (later result new before mid now taken.left (next id taken.left) l h)
 
 -- It does over some dice.
-pub some_drawn : (result : Result declared.Change Stop) (F : NodeId → Result Change Refusal) (makes : Bool) (id : NodeId) (new : BareDoc)
-    → ((d : List ℕ) × ((drawn_id makes d).answer ≡ Ok id)) → Returns (λ change. change_seen change new) result (F id)
-    → IfOk result (λ change. (d : List ℕ) × ((then_left (drawn_id makes d) (λ id left. with_left (F id) left)).answer ≡ Ok (change_seen change new)))
-some_drawn (Ok change) F makes id new some h =
-    (some.0, ap (λ (a : StreamAnswer Change). a.answer) (made_with F (drawn_id makes some.0) id some.1) ∙ h)
-some_drawn (Err stop) F makes id new some h = tt
+pub some_drawn : (result : Result declared.Change Stop) (next : NodeId → List ℕ → StreamAnswer Change) (makes : Bool) (id : NodeId) (new : BareDoc)
+    → IsDrawnBySome makes id → IfOk result (λ change. (d : List ℕ) × ((next id d).answer ≡ Ok (change_seen change new)))
+    → IfOk result (λ change. (d : List ℕ) × ((then_left (drawn_id makes d) next).answer ≡ Ok (change_seen change new)))
+some_drawn (Ok change) next makes id new some h =
+    (some.bytes ++ h.0, ap (λ (a : StreamAnswer NodeId). (then_left a next).answer) (some.draws h.0) ∙ h.1)
+some_drawn (Err stop) next makes id new some h = tt
+
+-- ---- a password
+
+-- A command gave this with a password that was generated.
+pub returns_generated : (result : Result declared.Change Stop) (F : Option (List ℕ) → Result Change Refusal) (taken : StreamAnswer (List ℕ)) (password : List ℕ) (new : BareDoc)
+    (before now : Option (List ℕ)) → taken.answer ≡ Ok password → IsLeft before now taken.left → Returns (λ change. change_seen change new) result (F (Some password))
+    → ReturnsAskedStream (λ change. change_seen change new) result before now (then_left (some_password taken) (λ password left. with_left (F password) left))
+returns_generated result F taken password new before now e l h =
+    subst (λ (a : Result (List ℕ) Refusal). ReturnsAskedStream (λ change. change_seen change new) result before now
+    (then_left (some_password (with_left a taken.left)) (λ password left. with_left (F password) left))) (sym e)
+    (returns_with result (F (Some password)) new before now taken.left l h)
+
+pub some_generated : (result : Result declared.Change Stop) (F : Option (List ℕ) → Result Change Refusal) (take : List ℕ → StreamAnswer (List ℕ)) (password : List ℕ) (new : BareDoc)
+    → ((d : List ℕ) × ((take d).answer ≡ Ok password)) → Returns (λ change. change_seen change new) result (F (Some password))
+    → IfOk result (λ change. (d : List ℕ) × ((then_left (some_password (take d)) (λ password left. with_left (F password) left)).answer ≡ Ok (change_seen change new)))
+some_generated (Ok change) F take password new some h = (
+  some.0,
+  ap (λ (a : Result (List ℕ) Refusal). (then_left (some_password (with_left a (take some.0).left)) (λ password left. with_left (F password) left)).answer) some.1 ∙ h,
+)
+some_generated (Err stop) F take password new some h = tt
+
+pub some_plain : (result : Result declared.Change Stop) (defined : Result Change Refusal) (new : BareDoc)
+    → Returns (λ change. change_seen change new) result defined
+    → IfOk result (λ change. (d : List ℕ) × ((with_left defined d).answer ≡ Ok (change_seen change new)))
+some_plain (Ok change) defined new h = ([], h)
+some_plain (Err stop) defined new h = tt
+
+-- Dice of which a password is asked report what is left.
+pub told_generated : (asked : Bool) (before : Option (List ℕ)) (d : List ℕ) → asked ≡ true → TellsStream asked before d → before ≡ Some d
+told_generated asked (Some left) d e t = ap Some t
+told_generated asked None d e t = let same : true ≡ false = sym e ∙ t in cc
+
+pub left_so : (before now : Option (List ℕ)) (d left : List ℕ) → before ≡ Some d → now ≡ Some left → IsLeft before now left
+left_so before now d left e h = h ∙ sym (ap (option_map (λ (l : List ℕ). left)) e)
+
+-- The dice were refused.
+pub password_stops : (stop : Stop) (before now : Option (List ℕ)) (d : List ℕ) (taken : StreamAnswer (List ℕ)) (next : Option (List ℕ) → List ℕ → StreamAnswer Change)
+    → before ≡ Some d → RefusesStream stop now taken → RefusesAskedStream stop before now (then_left (some_password taken) next)
+password_stops (Refused refusal) before now d taken next e h =
+    subst (λ (a : Result (List ℕ) Refusal). RefusesAskedStream (Refused refusal) before now (then_left (some_password (with_left a taken.left)) next)) (sym h.0)
+    (refl, left_so before now d taken.left e h.1)
+password_stops (FileFault name) before now d taken next e h = tt
+password_stops InputFault before now d taken next e h = tt
+password_stops NoMemory before now d taken next e h = tt
+
+-- A profile that is there.
+pub profile_fits : (profile : Option PasswordProfile) (given : PasswordProfile) → profile ≡ Some given → IfSome profile IsProfile → IsProfile given
+profile_fits profile given e h = subst (λ (p : Option PasswordProfile). IfSome p IsProfile) e h
+
+-- ---- causes
 
 pub stream_stop : (result : Result declared.Change Stop) (faults faults' : ℕ) → IfErr result IsPlainStop → IfErr result (IsStreamStop faults faults')
 stream_stop (Ok change) faults faults' h = tt
@@ -110,12 +198,20 @@ stream_stop (Err (FileFault name)) faults faults' h = absurd h
 stream_stop (Err InputFault) faults faults' h = absurd h
 stream_stop (Err NoMemory) faults faults' h = tt
 
--- Bytes that were drawn make the id that is drawn of themselves.
-pub id_drawn : (is_made : Bool) (drawn id : List ℕ) → is_made ≡ true → length drawn ≡ 16 → id ≡ new_id drawn → (drawn_id is_made drawn).answer ≡ Ok id
-id_drawn true drawn id m l e =
-    ap (λ (b : List ℕ). (with_left {A = NodeId} (Ok (new_id b)) drawn).answer) (sym (next_alone 16 drawn l))
-    ∙ ap (λ (i : NodeId). (with_left {A = NodeId} (Ok i) drawn).answer) (sym e)
+-- Bytes that were drawn make the id that is drawn of themselves, and what is after them is left.
+pub id_drawn : (is_made : Bool) (drawn id : List ℕ) → is_made ≡ true → length drawn ≡ 16 → id ≡ new_id drawn → IsDrawnBySome is_made id
+id_drawn true drawn id m l e = record {
+  bytes = drawn;
+  draws = λ rest.
+      ap (λ (b : List ℕ). with_left {A = NodeId} (Ok (new_id b)) (drop 16 (drawn ++ rest))) (next_first 16 drawn rest l)
+      ∙ ap (λ (i : NodeId). with_left {A = NodeId} (Ok i) (drop 16 (drawn ++ rest))) (sym e)
+      ∙ ap (λ (left : List ℕ). with_left {A = NodeId} (Ok id) left) (drop_at drawn rest 16 l);
+}
 id_drawn false drawn id m l e = cc
+
+pub none_drawn : (is_made : Bool) → is_made ≡ false → IsDrawnBySome is_made nil_id
+none_drawn false e = record { bytes = []; draws = λ rest. refl }
+none_drawn true e = cc
 
 -- ---- what writes nothing
 
@@ -132,32 +228,36 @@ merged_none (Ok after) h = h
 merged_none (Err refusal) h = tt
 
 -- A command that may write nothing makes no document.
-none_with : (time : ℕ) (command : Command) (line : Option (List ℕ)) (sources : List BareDoc) (settings : Option Settings) (id : NodeId) (doc : BareDoc)
-    → may_write command ≡ false → IfOk (change_with time command line sources settings id doc) (λ change. change.doc ≡ None)
-none_with time (Ls access file group recursive flat) line sources settings id doc e = listed_none file recursive flat (tree_listed group doc)
-none_with time (Show access file entry clear all attachments names) line sources settings id doc e =
-    printed_none (entry_shown file clear all attachments names entry doc)
-none_with time (Search access file term) line sources settings id doc e = printed_none (entries_shown file term doc)
-none_with time (Add access file entry asked) line sources settings id doc e = cc
-none_with time (Edit access file entry asked) line sources settings id doc e = cc
-none_with time (Move access file node group) line sources settings id doc e = cc
-none_with time (Remove access file entry) line sources settings id doc e = cc
-none_with time (MakeGroup access file group) line sources settings id doc e = cc
-none_with time (RemoveGroup access file group) line sources settings id doc e = cc
-none_with time (Merge access file names from same false) line sources settings id doc e = cc
-none_with time (Merge access file names from same true) line sources settings id doc e =
+none_with : (time : ℕ) (command : Command) (line otp : Option (List ℕ)) (sources : List BareDoc) (settings : Option Settings) (id : NodeId) (doc : BareDoc)
+    → may_write command ≡ false → IfOk (change_with time command line otp sources settings id doc) (λ change. change.doc ≡ None)
+none_with time (Ls access file group recursive flat) line otp sources settings id doc e = listed_none file recursive flat (tree_listed group doc)
+none_with time (Show access file entry clear all attachments names totp) line otp sources settings id doc e =
+    printed_none (if totp then code_shown file names entry time doc else entry_shown file clear all attachments names entry doc)
+none_with time (Search access file term) line otp sources settings id doc e = printed_none (entries_shown file term doc)
+none_with time (Add access file entry asked) line otp sources settings id doc e = cc
+none_with time (Edit access file entry asked) line otp sources settings id doc e = cc
+none_with time (Move access file node group) line otp sources settings id doc e = cc
+none_with time (Remove access file entry) line otp sources settings id doc e = cc
+none_with time (MakeGroup access file group) line otp sources settings id doc e = cc
+none_with time (RemoveGroup access file group) line otp sources settings id doc e = cc
+none_with time (Merge access file names from same false) line otp sources settings id doc e = cc
+none_with time (Merge access file names from same true) line otp sources settings id doc e =
     merged_none (after_merge file access.quiet true names doc sources) (dry_none file access.quiet names doc sources)
-none_with time (Import access format source from file) line sources settings id doc e = cc
-none_with time (Export access format file) line sources settings id doc e = printed_none (exported file format doc)
-none_with time (Info access file) line sources settings id doc e = printed_none (Ok (info_shown settings doc))
+none_with time (Import access format source from file) line otp sources settings id doc e = cc
+none_with time (Export access format file) line otp sources settings id doc e = printed_none (exported file format doc)
+none_with time (Info access file) line otp sources settings id doc e = printed_none (Ok (info_shown settings doc))
 
-none_after : (F : NodeId → Result Change Refusal) → ((id : NodeId) → IfOk (F id) (λ change. change.doc ≡ None)) → (answer : Result NodeId Refusal) (left : List ℕ)
-    → IfOk (after_left answer left (λ id left. with_left (F id) left)).answer (λ change. change.doc ≡ None)
-none_after F none (Ok id) left = none id
-none_after F none (Err refusal) left = tt
+none_after : {A : Type 0} (next : A → List ℕ → StreamAnswer Change) → ((a : A) (left : List ℕ) → IfOk (next a left).answer (λ change. change.doc ≡ None))
+    → (answer : Result A Refusal) (left : List ℕ) → IfOk (after_left answer left next).answer (λ change. change.doc ≡ None)
+none_after next none (Ok a) left = none a left
+none_after next none (Err refusal) left = tt
 
-pub none_changed : (time : ℕ) (command : Command) (line : Option (List ℕ)) (sources : List BareDoc) (settings : Option Settings) (doc : BareDoc) (dice : List ℕ)
-    → may_write command ≡ false → IfOk (change_of time command line sources settings doc dice).answer (λ change. change.doc ≡ None)
-none_changed time command line sources settings doc dice e =
-    none_after (λ id. change_with time command line sources settings id doc) (λ id. none_with time command line sources settings id doc e)
+pub none_changed : (time : ℕ) (command : Command) (line otp : Option (List ℕ)) (sources : List BareDoc) (settings : Option Settings) (doc : BareDoc) (dice : List ℕ)
+    → may_write command ≡ false → IfOk (change_of time command line otp sources settings doc dice).answer (λ change. change.doc ≡ None)
+none_changed time command line otp sources settings doc dice e =
+    none_after (λ id. change_by time command line otp sources settings id doc)
+    (λ id left.
+    let password = password_of (generated_by command) line left in
+    none_after (λ p rest. with_left (change_with time command p otp sources settings id doc) rest)
+    (λ p rest. none_with time command p otp sources settings id doc e) password.answer password.left)
     (drawn_id (makes_node command doc) dice).answer (drawn_id (makes_node command doc) dice).left

@@ -1,5 +1,5 @@
 -- What each command makes of its database.
-use Rattle.std.specs.Prelude.{ℕ, Bool, true, false, not, if◌then◌else◌, List, [], codes, Option, None, Some, Result, Ok, Err}
+use Rattle.std.specs.Prelude.{ℕ, Bool, true, false, not, ◌||◌, if◌then◌else◌, is_some, List, [], codes, Option, None, Some, Result, Ok, Err}
 use Rattle.kdbx_frame.specs.declared.settings.Settings.{Settings}
 use Rattle.vault_model.specs.Db.{NodeId, nil_id}
 use Rattle.vault_model.specs.Tree.{BareDoc, Tree}
@@ -10,8 +10,12 @@ use Rattle.cli_answers.specs.Messages.{refusal_of}
 use Rattle.cli_answers.specs.Phases.{StreamAnswer, then_left, with_left}
 use Rattle.cli_words.specs.declared.command.Command.{Command}
 use Rattle.cli_words.specs.declared.command.Command.TheVariants.{Ls, Show, Search, Add, Edit, Move, Remove, MakeGroup, RemoveGroup, Merge, Import, Export, Info}
+use Rattle.outside_core.specs.Results.{◌>>=◌}
+use Rattle.cli_profiles.specs.declared.profiles.PasswordProfile.{PasswordProfile}
+use Rattle.cli_generating.specs.Generated.{generated}
+use Rattle.cli_words.specs.Needs.{generated_by}
 use Rattle.cli_printing.specs.Listing.{group_lines, tree_listed}
-use Rattle.cli_showing.specs.Showing.{entries_shown, entry_shown}
+use Rattle.cli_showing.specs.Showing.{code_shown, entries_shown, entry_shown}
 use Rattle.cli_printing.specs.Exporting.{exported}
 use Rattle.cli_printing.specs.Info.{info_shown}
 use Rattle.cli_changes.specs.Entries.{AfterCommand, after_add_command, after_edit_command, values_of}
@@ -30,7 +34,7 @@ pub record Change : Type 0 where
 -- document is another after it, and the others wherever they are carried out.
 abbrev pub may_write : Command → Bool
 may_write (Ls access file group recursive flat) = false
-may_write (Show access file entry clear all attachments names) = false
+may_write (Show access file entry clear all attachments names totp) = false
 may_write (Search access file term) = false
 may_write (Add access file entry asked) = true
 may_write (Edit access file entry asked) = true
@@ -46,7 +50,7 @@ may_write (Info access file) = false
 -- A command may make a node, whose id is drawn: an entry, a group, or the bin of a removal.
 abbrev pub draws_id : Command → Bool
 draws_id (Ls access file group recursive flat) = false
-draws_id (Show access file entry clear all attachments names) = false
+draws_id (Show access file entry clear all attachments names totp) = false
 draws_id (Search access file term) = false
 draws_id (Add access file entry asked) = true
 draws_id (Edit access file entry asked) = false
@@ -62,7 +66,7 @@ draws_id (Info access file) = false
 -- A command makes a node in this document; a removal does where it needs a bin.
 abbrev pub makes_node : Command → BareDoc → Bool
 makes_node (Ls access file group recursive flat) doc = false
-makes_node (Show access file entry clear all attachments names) doc = false
+makes_node (Show access file entry clear all attachments names totp) doc = false
 makes_node (Search access file term) doc = false
 makes_node (Add access file entry asked) doc = true
 makes_node (Edit access file entry asked) doc = false
@@ -105,36 +109,38 @@ imported_text false = codes "Successfully imported database.\n"
 abbrev pub bin_id : NodeId → BareDoc → Option NodeId
 bin_id id doc = if needs_bin doc then Some id else None
 
--- What each command makes of its document at a moment, with the line that it asked for, the
--- documents of its sources, and the settings of its database's file, which a plain document lacks;
--- a node that it makes has this id.
-abbrev pub change_with : ℕ → Command → Option (List ℕ) → List BareDoc → Option Settings → NodeId
-    → BareDoc → Result Change Refusal
-change_with time (Ls access file group recursive flat) line sources settings id doc =
+-- What each command makes of its document at a moment, with the password and the text of a one-time
+-- code that are given, the documents of its sources, and the settings of its database's file, which
+-- a plain document lacks; a node that it makes has this id.
+abbrev pub change_with : ℕ → Command → (line otp : Option (List ℕ)) → List BareDoc
+    → Option Settings → NodeId → BareDoc → Result Change Refusal
+change_with time (Ls access file group recursive flat) line otp sources settings id doc =
     listing_of file recursive flat (tree_listed group doc)
-change_with time (Show access file entry clear all attachments names) line sources settings id doc =
-    printed_text (entry_shown file clear all attachments names entry doc)
-change_with time (Search access file term) line sources settings id doc =
+change_with time (Show access file entry clear all attachments names totp) line otp sources settings
+    id doc =
+    printed_text (if totp then code_shown file names entry time doc
+    else entry_shown file clear all attachments names entry doc)
+change_with time (Search access file term) line otp sources settings id doc =
     printed_text (entries_shown file term doc)
-change_with time (Add access file entry asked) line sources settings id doc = new_document
-    (after_add_command file access.quiet entry id (values_of asked line) time doc)
-change_with time (Edit access file entry asked) line sources settings id doc = new_document
-    (after_edit_command file access.quiet entry (values_of asked line) time doc)
-change_with time (Move access file node group) line sources settings id doc = new_document
+change_with time (Add access file entry asked) line otp sources settings id doc = new_document
+    (after_add_command file access.quiet entry id (values_of asked line None) time doc)
+change_with time (Edit access file entry asked) line otp sources settings id doc = new_document
+    (after_edit_command file access.quiet entry (values_of asked line otp) time doc)
+change_with time (Move access file node group) line otp sources settings id doc = new_document
     (after_mv file access.quiet node group time doc)
-change_with time (Remove access file entry) line sources settings id doc = new_document
+change_with time (Remove access file entry) line otp sources settings id doc = new_document
     (after_rm file access.quiet entry (bin_id id doc) time doc)
-change_with time (MakeGroup access file group) line sources settings id doc = new_document
+change_with time (MakeGroup access file group) line otp sources settings id doc = new_document
     (after_mkdir file access.quiet group id time doc)
-change_with time (RemoveGroup access file group) line sources settings id doc = new_document
+change_with time (RemoveGroup access file group) line otp sources settings id doc = new_document
     (after_rmdir file access.quiet group (bin_id id doc) time doc)
-change_with time (Merge access file names from same dry) line sources settings id doc =
+change_with time (Merge access file names from same dry) line otp sources settings id doc =
     merged_change (after_merge file access.quiet dry names doc sources)
-change_with time (Import access format source from file) line sources settings id doc =
+change_with time (Import access format source from file) line otp sources settings id doc =
     Ok (record { text = imported_text access.quiet; doc = Some doc })
-change_with time (Export access format file) line sources settings id doc =
+change_with time (Export access format file) line otp sources settings id doc =
     printed_text (exported file format doc)
-change_with time (Info access file) line sources settings id doc =
+change_with time (Info access file) line otp sources settings id doc =
     printed_text (Ok (info_shown settings doc))
 
 -- The id of a node that is made: 16 bytes are drawn, which make it. Where none is made, nothing is
@@ -144,10 +150,37 @@ drawn_id true dice =
     then_left (draw_of 16 dice) (λ drawn left. with_left (Ok (new_id drawn)) left)
 drawn_id false dice = with_left (Ok nil_id) dice
 
--- What each command makes of its document at a moment, with the line that it asked for, the
+-- A password that was generated.
+abbrev pub some_password : StreamAnswer (List ℕ) → StreamAnswer (Option (List ℕ))
+some_password taken = record {
+  answer = taken.answer >>= λ password. Ok (Some password);
+  left = taken.left;
+}
+
+-- The password of an entry: the one that the dice choose, where it is to be generated, and else the
+-- line that was asked for.
+abbrev pub password_of : Option PasswordProfile → Option (List ℕ) → List ℕ
+    → StreamAnswer (Option (List ℕ))
+password_of (Some profile) line dice =
+    some_password (generated profile.alphabet profile.length dice)
+password_of None line dice = with_left (Ok line) dice
+
+-- What a command makes of its document once the id of its node is drawn: the password is generated
+-- next, where it is to be.
+abbrev pub change_by : ℕ → Command → (line otp : Option (List ℕ)) → List BareDoc
+    → Option Settings → NodeId → BareDoc → List ℕ → StreamAnswer Change
+change_by time command line otp sources settings id doc dice =
+    then_left (password_of (generated_by command) line dice) (λ password left.
+    with_left (change_with time command password otp sources settings id doc) left)
+
+-- What each command makes of its document at a moment, with the lines that it asked for, the
 -- documents of its sources and the settings of its database's file, over the dice.
-abbrev pub change_of : ℕ → Command → Option (List ℕ) → List BareDoc → Option Settings → BareDoc
-    → List ℕ → StreamAnswer Change
-change_of time command line sources settings doc dice =
-    then_left (drawn_id (makes_node command doc) dice) (λ id left.
-    with_left (change_with time command line sources settings id doc) left)
+abbrev pub change_of : ℕ → Command → (line otp : Option (List ℕ)) → List BareDoc
+    → Option Settings → BareDoc → List ℕ → StreamAnswer Change
+change_of time command line otp sources settings doc dice =
+    then_left (drawn_id (makes_node command doc) dice)
+    (λ id. change_by time command line otp sources settings id doc)
+
+-- A command draws before its file is written: an id, or a password.
+abbrev pub draws_change : Command → Bool
+draws_change command = draws_id command || is_some (generated_by command)

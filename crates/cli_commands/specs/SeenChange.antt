@@ -1,5 +1,5 @@
 -- What is seen of a command's change in memory.
-use Rattle.std.specs.Prelude.{ℕ, Bool, true, false, List, Option, None, Some, Result, Ok, Err, option_map}
+use Rattle.std.specs.Prelude.{◌≡◌, ◌++◌, ℕ, Bool, true, false, List, Option, None, Some, Result, Ok, Err, option_map}
 use Rattle.std.specs.Borrow.{Bor}
 use Rattle.kdbx_frame.specs.declared.settings.Settings.{Settings}
 use Rattle.secret_core.specs.Secret.{SecretBuffer}
@@ -9,7 +9,9 @@ use Rattle.cli_commands.specs.declared.output.Change as declared
 use Rattle.cli_commands.specs.declared.output.Output.{Output}
 use Rattle.cli_commands.specs.declared.output.Output.TheVariants.{Listing, Report}
 use Rattle.cli_merging.specs.declared.merging.MergeReport.{MergeReport}
-use Rattle.cli_commands.specs.Commands.{Change}
+use Rattle.vault_model.specs.Db.{NodeId}
+use Rattle.cli_answers.specs.Phases.{with_left}
+use Rattle.cli_commands.specs.Commands.{Change, drawn_id}
 
 -- The text that a command prints.
 abbrev pub output_text : Output → List ℕ
@@ -45,3 +47,8 @@ change_printed (Err stop) = Err stop
 -- The settings of a file that are lent, if it has any.
 abbrev pub lent_settings : Option (Bor Settings) → Option Settings
 lent_settings settings = option_map (λ s. s.now) settings
+
+-- Some bytes before any others draw this id, and leave the others.
+pub record IsDrawnBySome (is_made : Bool) (id : NodeId) : Type 0 where
+  pub bytes : List ℕ
+  pub draws : (rest : List ℕ) → drawn_id is_made (bytes ++ rest) ≡ with_left (Ok id) rest

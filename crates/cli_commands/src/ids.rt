@@ -5,6 +5,7 @@ ghost use Rattle.outside_core.specs.Streams.{LosesPrefix};
 ghost use Rattle.vault_model.specs.SeenDoc.{doc_seen};
 ghost use Rattle.cli_answers.specs.Phases.{IsLeft, TellsStream};
 ghost use Rattle.cli_commands.specs.Commands as spec;
+ghost use Rattle.cli_commands.specs.SeenChange.{IsDrawnBySome};
 
 use cli_changes::new_id;
 use cli_words::Command;
@@ -40,8 +41,7 @@ pub(crate) fn draw_if<D: Dice>(dice: &mut D, is_made: bool) -> Result<Uuid, Dice
     ensures told { (d : List ℕ) → TellsStream is_made (D.stream dice.old) d
         → IfOk result (λ id. ((spec.drawn_id is_made d).answer ≡ Ok id)
         × IsLeft (D.stream dice.old) (D.stream dice.new) (spec.drawn_id is_made d).left) }
-    ensures some_dice { IfOk result (λ id. (d : List ℕ)
-        × ((spec.drawn_id is_made d).answer ≡ Ok id)) }
+    ensures some_dice { IfOk result (λ id. IsDrawnBySome is_made id) }
     ensures undrawn { is_made ≡ false → D.stream dice.new ≡ D.stream dice.old }
     ensures stream { LosesPrefix (D.stream dice.old) (D.stream dice.new) }
     ensures cause { IfErr result (λ _. Increased (D.faults dice.old) (D.faults dice.new)) }

@@ -1,15 +1,17 @@
 //! Carrying a command out on its document.
-ghost use Rattle.std.specs.Prelude.{◌≡◌, ◌≤◌, ℕ, List, Ok, Some, IfErr, IfOk, false, map};
+ghost use Rattle.std.specs.Prelude.{◌≡◌, ◌≤◌, ℕ, List, Ok, Some, IfErr, IfOk, IfSome, false, is_some, map, true};
 ghost use Rattle.outside_core.specs.Streams.{LosesPrefix};
 ghost use Rattle.vault_model.specs.SeenDoc.{doc_seen};
 ghost use Rattle.vault_model.specs.Tree.{BareDoc};
 ghost use Rattle.tree_core.specs.NewNodes.{lent_value};
 ghost use Rattle.cli_answers.specs.Phases.{IsPlainStop, IsStreamStop, Returns, ReturnsAskedStream, TellsStream};
-ghost use Rattle.cli_lines.specs.Lines.{IsTextLine};
-ghost use Rattle.cli_words.specs.Needs.{needs_of};
+ghost use Rattle.std.specs.Str.{is_utf8};
+ghost use Rattle.cli_lines.specs.Lines.{AreTextLines, IsTextLine};
+ghost use Rattle.cli_profiles.specs.Profiles.{IsProfile};
+ghost use Rattle.cli_words.specs.Needs.{generated_by, needs_of};
 ghost use Rattle.cli_printing.specs.Listing.{tree_listed};
 ghost use Rattle.cli_commands.specs.Commands as spec;
-ghost use Rattle.cli_commands.specs.Commands.{change_of, change_with, draws_id, imported_text, listing_of};
+ghost use Rattle.cli_commands.specs.Commands.{change_of, change_with, draws_change, imported_text, listing_of};
 ghost use Rattle.cli_commands.specs.SeenChange.{change_seen, lent_settings};
 ghost use Rattle.cli_printing.specs.Info.{info_shown};
 
@@ -19,9 +21,10 @@ use cli_answers::{Reason, Stop, refused};
 use cli_changes::{
     Given, add_entry, edit_entry, make_group_of, move_node, remove_entry_of, remove_group_of,
 };
+use cli_generating::choose_password;
 use cli_merging::{MergeGiven, merge_into};
 use cli_printing::{Manner, add_group, export, group_listed, info};
-use cli_showing::{ShowGiven, search_entries, show_entry};
+use cli_showing::{CodeGiven, ShowGiven, search_entries, show_code, show_entry};
 use cli_words::Command;
 use kdbx_frame::Settings;
 use outside_core::{Bytes, Dice, NoMemory, Text};
@@ -81,8 +84,10 @@ fn list(
 /// What a command works with, beside its document.
 #[derive(Clone, Copy)]
 pub struct CommandInput<'a> {
-    /// The line that it asked for.
+    /// The line that it asked for, or the password that was generated.
     pub line: Option<&'a [u8]>,
+    /// The text of a one-time code that it asked for.
+    pub otp: Option<&'a [u8]>,
     /// The documents of its sources.
     pub sources: &'a [Doc],
     /// The settings of its database's file; a plain document has none.
@@ -96,6 +101,7 @@ fn given_of<'a>(command: &'a Command, input: CommandInput<'a>) -> Given<'a>
     ensures file { result.file.now ≡ (needs_of command.now).file }
     ensures quiet { result.quiet ≡ (needs_of command.now).access.quiet }
     ensures password { result.password ≡ input.entry.line }
+    ensures otp { result.otp ≡ input.entry.otp }
     ensures now { result.now ≡ input.entry.now }
 {
     let needs = cli_words::needs_of(command);
@@ -103,6 +109,7 @@ fn given_of<'a>(command: &'a Command, input: CommandInput<'a>) -> Given<'a>
         file: needs.file.as_str(),
         quiet: needs.access.quiet,
         password: input.line,
+        otp: input.otp,
         now: input.now,
     }
 }
@@ -136,6 +143,15 @@ fn show_given<'a>(
         attachments,
         names,
     }
+}
+
+// What `show -t` is given.
+fn code_given<'a>(file: &'a str, names: &'a [Text], now: u64) -> CodeGiven<'a>
+    ensures file { result.file ≡ file.entry }
+    ensures names { result.names ≡ names.entry }
+    ensures now { result.now ≡ now }
+{
+    CodeGiven { file, names, now }
 }
 
 // What a database is, of its document and the settings of its file.
@@ -189,11 +205,11 @@ fn change_document<'a>(
     id: Uuid,
     doc: &mut Doc,
 ) -> Result<Change, Stop>
-    requires { IsTextLine (lent_value input.line) }
+    requires { AreTextLines (lent_value input.line) (lent_value input.otp) }
     ensures told { Returns (λ change. change_seen change (doc_seen doc.new)) result
         (change_with input.entry.now command.now (lent_value input.entry.line)
-        (map doc_seen input.entry.sources.now) (lent_settings input.entry.settings) id
-        (doc_seen doc.old)) }
+        (lent_value input.entry.otp) (map doc_seen input.entry.sources.now)
+        (lent_settings input.entry.settings) id (doc_seen doc.old)) }
     ensures unwritten { spec.may_write command.now ≡ false
         → IfOk result (λ change. change.is_written ≡ false) }
     ensures unchanged { IfErr result (λ _. doc_seen doc.new ≡ doc_seen doc.old) }
@@ -213,10 +229,17 @@ fn change_document<'a>(
             all,
             attachments,
             names,
+            totp,
             ..
         } => {
-            let given = show_given(given.file, *clear, *all, *attachments, names.as_slice());
-            printed(show_entry(alloc, doc, entry.as_str(), given))
+            let names = names.as_slice();
+            if *totp {
+                let given = code_given(given.file, names, given.now);
+                printed(show_code(alloc, doc, entry.as_str(), given))
+            } else {
+                let given = show_given(given.file, *clear, *all, *attachments, names);
+                printed(show_entry(alloc, doc, entry.as_str(), given))
+            }
         }
         Command::Search { term, .. } => {
             printed(search_entries(alloc, doc, term.as_str(), given.file))
@@ -251,6 +274,94 @@ fn change_document<'a>(
     }
 }
 
+// What a command works with, with another line.
+fn with_line<'a>(input: CommandInput<'a>, line: &'a [u8]) -> CommandInput<'a>
+    ensures line { lent_value result.line ≡ Some line.now }
+    ensures otp { result.otp ≡ input.entry.otp }
+    ensures sources { result.sources ≡ input.entry.sources }
+    ensures settings { result.settings ≡ input.entry.settings }
+    ensures now { result.now ≡ input.entry.now }
+{
+    CommandInput {
+        line: Some(line),
+        otp: input.otp,
+        sources: input.sources,
+        settings: input.settings,
+        now: input.now,
+    }
+}
+
+// Carries a command out on its document with this password in the place of a line.
+fn change_with_password(
+    alloc: Global,
+    command: &Command,
+    input: CommandInput<'_>,
+    password: &Secret,
+    id: Uuid,
+    doc: &mut Doc,
+) -> Result<Change, Stop>
+    requires password { is_utf8 password.now.bytes ≡ true }
+    requires otp { IsTextLine (lent_value input.otp) }
+    ensures told { Returns (λ change. change_seen change (doc_seen doc.new)) result
+        (change_with input.entry.now command.now (Some password.now.bytes)
+        (lent_value input.entry.otp) (map doc_seen input.entry.sources.now)
+        (lent_settings input.entry.settings) id (doc_seen doc.old)) }
+    ensures unwritten { spec.may_write command.now ≡ false
+        → IfOk result (λ change. change.is_written ≡ false) }
+    ensures unchanged { IfErr result (λ _. doc_seen doc.new ≡ doc_seen doc.old) }
+    ensures cause { IfErr result IsPlainStop }
+{
+    let input = with_line(input, password.lend(0, password.len()));
+    change_document(alloc, command, input, id, doc)
+}
+
+// Carries a command out on its document, once the id of its node is drawn: its password is generated
+// first, where it is to be.
+fn change_by<D: Dice>(
+    alloc: Global,
+    dice: &mut D,
+    command: &Command,
+    input: CommandInput<'_>,
+    id: Uuid,
+    doc: &mut Doc,
+) -> Result<Change, Stop>
+    requires text { AreTextLines (lent_value input.line) (lent_value input.otp) }
+    requires profile { IfSome (generated_by command.now) IsProfile }
+    ensures told { (d : List ℕ)
+        → TellsStream (is_some (generated_by command.now)) (D.stream dice.old) d
+        → ReturnsAskedStream (λ change. change_seen change (doc_seen doc.new)) result
+        (D.stream dice.old) (D.stream dice.new)
+        (spec.change_by input.entry.now command.now (lent_value input.entry.line)
+        (lent_value input.entry.otp) (map doc_seen input.entry.sources.now)
+        (lent_settings input.entry.settings) id (doc_seen doc.old) d) }
+    ensures some_dice { IfOk result (λ change. (d : List ℕ)
+        × ((spec.change_by input.entry.now command.now (lent_value input.entry.line)
+        (lent_value input.entry.otp) (map doc_seen input.entry.sources.now)
+        (lent_settings input.entry.settings) id (doc_seen doc.old) d).answer
+        ≡ Ok (change_seen change (doc_seen doc.new)))) }
+    ensures unwritten { spec.may_write command.now ≡ false
+        → IfOk result (λ change. change.is_written ≡ false) }
+    ensures unchanged { IfErr result (λ _. doc_seen doc.new ≡ doc_seen doc.old) }
+    ensures undrawn { is_some (generated_by command.now) ≡ false
+        → D.stream dice.new ≡ D.stream dice.old }
+    ensures stream { LosesPrefix (D.stream dice.old) (D.stream dice.new) }
+    ensures cause { IfErr result (IsStreamStop (D.faults dice.old) (D.faults dice.new)) }
+    ensures faults { D.faults dice.old ≤ D.faults dice.new }
+{
+    let Some(profile) = cli_words::generated_by(command) else {
+        return change_document(alloc, command, input, id, doc);
+    };
+    let alphabet = profile.alphabet.as_str().as_bytes();
+    match choose_password(alloc, dice, alphabet, profile.length) {
+        Ok(password) => {
+            let change = change_with_password(alloc, command, input, &password, id, doc);
+            drop(password);
+            change
+        }
+        Err(stop) => Err(stop),
+    }
+}
+
 /// Carries a command out on its document, with what it works with. The document is changed in
 /// place; a refusal changes nothing.
 pub fn perform<'a, D: Dice>(
@@ -260,28 +371,30 @@ pub fn perform<'a, D: Dice>(
     input: CommandInput<'a>,
     doc: &mut Doc,
 ) -> Result<Change, Stop>
-    requires { IsTextLine (lent_value input.line) }
-    ensures told { (d : List ℕ) → TellsStream (draws_id command.now) (D.stream dice.old) d
+    requires text { AreTextLines (lent_value input.line) (lent_value input.otp) }
+    requires profile { IfSome (generated_by command.now) IsProfile }
+    ensures told { (d : List ℕ) → TellsStream (draws_change command.now) (D.stream dice.old) d
         → ReturnsAskedStream (λ change. change_seen change (doc_seen doc.new)) result
         (D.stream dice.old) (D.stream dice.new)
         (change_of input.entry.now command.now (lent_value input.entry.line)
-        (map doc_seen input.entry.sources.now) (lent_settings input.entry.settings)
-        (doc_seen doc.old) d) }
+        (lent_value input.entry.otp) (map doc_seen input.entry.sources.now)
+        (lent_settings input.entry.settings) (doc_seen doc.old) d) }
     ensures some_dice { IfOk result (λ change. (d : List ℕ)
         × ((change_of input.entry.now command.now (lent_value input.entry.line)
-        (map doc_seen input.entry.sources.now) (lent_settings input.entry.settings)
-        (doc_seen doc.old) d).answer
+        (lent_value input.entry.otp) (map doc_seen input.entry.sources.now)
+        (lent_settings input.entry.settings) (doc_seen doc.old) d).answer
         ≡ Ok (change_seen change (doc_seen doc.new)))) }
     ensures unwritten { spec.may_write command.now ≡ false
         → IfOk result (λ change. change.is_written ≡ false) }
     ensures unchanged { IfErr result (λ _. doc_seen doc.new ≡ doc_seen doc.old) }
-    ensures undrawn { draws_id command.now ≡ false → D.stream dice.new ≡ D.stream dice.old }
+    ensures undrawn { draws_change command.now ≡ false
+        → D.stream dice.new ≡ D.stream dice.old }
     ensures stream { LosesPrefix (D.stream dice.old) (D.stream dice.new) }
     ensures cause { IfErr result (IsStreamStop (D.faults dice.old) (D.faults dice.new)) }
     ensures faults { D.faults dice.old ≤ D.faults dice.new }
 {
     match draw_if(dice, makes_node(command, doc)) {
-        Ok(id) => change_document(alloc, command, input, id, doc),
+        Ok(id) => change_by(alloc, dice, command, input, id, doc),
         Err(_) => Err(Stop::InputFault),
     }
 }

@@ -1,6 +1,6 @@
 -- What a call is to do: its command, the lines that this asked for, and the databases that were
 -- opened.
-use Rattle.std.specs.Prelude.{◌&&◌, Bool, true, false, not, List, Result, Ok, Err}
+use Rattle.std.specs.Prelude.{◌&&◌, ◌||◌, is_some, Bool, true, false, not, List, Result, Ok, Err}
 use Rattle.vault_model.specs.Tree.{BareDoc}
 use Rattle.cli_answers.specs.declared.answers.Refusal.{Refusal}
 use Rattle.cli_words.specs.declared.command.Command.{Command}
@@ -29,13 +29,14 @@ task_with command lines databases = record {
   sources = databases.sources;
 }
 
--- A command draws: for the id of a node that it may make, and for a sealed file.
+-- A command draws: for the id of a node that it may make, for a password that is generated, and for
+-- a sealed file.
 abbrev pub draws : Command → Bool
 draws (Ls access file group recursive flat) = false
-draws (Show access file entry clear all attachments names) = false
+draws (Show access file entry clear all attachments names totp) = false
 draws (Search access file term) = false
 draws (Add access file entry asked) = true
-draws (Edit access file entry asked) = not access.plain
+draws (Edit access file entry asked) = not access.plain || is_some asked.generated
 draws (Move access file node group) = not access.plain
 draws (Remove access file entry) = true
 draws (MakeGroup access file group) = true

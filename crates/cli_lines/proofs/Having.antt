@@ -4,9 +4,9 @@ use Rattle.std.specs.Prelude.{is_some}
 use Rattle.std.proofs.lemmas.List.{map-append}
 use Rattle.outside_core.specs.Results.{◌>>=◌}
 use Rattle.cli_answers.specs.declared.answers.Refusal.{Refusal}
-use Rattle.cli_answers.specs.Phases.{StreamAnswer, after_left}
+use Rattle.cli_answers.specs.Phases.{StreamAnswer, after_left, with_left}
 use Rattle.cli_words.specs.Needs.{Needs, asks_password, asks_passwords_from}
-use Rattle.cli_lines.specs.Lines.{HasLines, Lines, after_password, after_passwords, line_if, line_of, lines_from, lines_of, number_after, number_from, number_of_more}
+use Rattle.cli_lines.specs.Lines.{HasLines, LastLines, Lines, after_more, last_lines, lines_with, number_of_otp, after_password, after_passwords, line_if, line_of, lines_from, lines_of, number_after, number_from, number_of_more}
 
 ok_is : {A : Type 0} (a b : A) → ◌≡◌ {A = Result A Refusal} (Ok a) (Ok b) → a ≡ b
 ok_is a b h = cc
@@ -50,14 +50,16 @@ lines_have needs input lines h =
     let p = after_given first.answer first.left (after_password needs) lines h in
     let sources = lines_from (asks_passwords_from needs) needs.sources (number_from needs) [] first.left in
     let s = after_given sources.answer sources.left (after_passwords needs p.0) lines p.1.1 in
-    let last = line_if needs.has_line (number_of_more needs) sources.left in
-    let m = after_given last.answer last.left (λ more end. record {
-      answer = Ok (record { password = p.0; sources = s.0; more = more });
-      left = end;
-    }) lines s.1.1 in
-    subst (HasLines needs) (ok_is (record { password = p.0; sources = s.0; more = m.0 }) lines m.1.1)
+    let last = last_lines needs sources.left in
+    let l = after_given last.answer last.left (λ last end. with_left (Ok (lines_with p.0 s.0 last)) end) lines s.1.1 in
+    let line = line_if needs.has_line (number_of_more needs) sources.left in
+    let m = after_given line.answer line.left (after_more needs) l.0 l.1.0 in
+    let code = line_if needs.has_otp (number_of_otp needs) line.left in
+    let o = after_given code.answer code.left (λ otp end. with_left (Ok (record { more = m.0; otp = otp })) end) l.0 m.1.1 in
+    subst (HasLines needs) (ok_is (lines_with p.0 s.0 l.0) lines l.1.1)
     (record {
       has_password = line_has (asks_password needs.access) 1 input p.0 p.1.0;
       have_passwords = sources_have (asks_passwords_from needs) needs.sources (number_from needs) [] first.left s.0 s.1.0;
-      has_more = line_has needs.has_line (number_of_more needs) sources.left m.0 m.1.0;
+      has_more = ap (λ (l : LastLines). is_some l.more) (sym (ok_is (record { more = m.0; otp = o.0 }) l.0 o.1.1)) ∙ line_has needs.has_line (number_of_more needs) sources.left m.0 m.1.0;
+      has_otp = ap (λ (l : LastLines). is_some l.otp) (sym (ok_is (record { more = m.0; otp = o.0 }) l.0 o.1.1)) ∙ line_has needs.has_otp (number_of_otp needs) line.left o.0 o.1.0;
     })

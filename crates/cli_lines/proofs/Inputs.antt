@@ -8,7 +8,7 @@ use Rattle.cli_answers.specs.declared.answers.Stop.TheVariants.{Refused, FileFau
 use Rattle.outside_core.specs.Results.{◌>>=◌}
 use Rattle.cli_answers.specs.Phases.{StreamAnswer, IsLeft, IsStreamStop, RefusesAskedStream, RefusesStream, ReturnsAskedStream, TellsStream, then_left, with_left}
 use Rattle.cli_words.specs.Needs.{Needs}
-use Rattle.cli_lines.specs.Lines.{Lines, after_passwords, line_if, line_of, number_of_more}
+use Rattle.cli_lines.specs.Lines.{LastLines, Lines, after_more, after_passwords, last_lines, line_if, line_of, lines_with, number_of_otp}
 
 -- An input that is not read.
 pub left_alone : (asked : Bool) (before : Option (List ℕ)) (input : List ℕ) → TellsStream asked before input → IsLeft before before input
@@ -90,16 +90,24 @@ later_returns seen (Ok x) before mid now taken a next p is h =
     (h.0, left_after before mid now taken.left (next a taken.left).left is h.1)
 later_returns seen (Err stop) before mid now taken a next p is h = second_stops stop before mid now taken a next p is h
 
--- The line after all passwords was read.
-pub last_line : (needs : Needs) (password : Option (List ℕ)) (sources : List (Option (List ℕ))) (before now : Option (List ℕ)) (input : List ℕ) (more : Option (List ℕ))
-    → (line_if needs.has_line (number_of_more needs) input).answer ≡ Ok more
-    → IsLeft before now (line_if needs.has_line (number_of_more needs) input).left
-    → ((after_passwords needs password sources input).answer ≡ Ok (record { password = password; sources = sources; more = more }))
+-- The text of a one-time code was read, after the line before it.
+pub otp_given : (needs : Needs) (more : Option (List ℕ)) (before now : Option (List ℕ)) (input : List ℕ) (otp : Option (List ℕ))
+    → (line_if needs.has_otp (number_of_otp needs) input).answer ≡ Ok otp
+    → IsLeft before now (line_if needs.has_otp (number_of_otp needs) input).left
+    → ((after_more needs more input).answer ≡ Ok (record { more = more; otp = otp })) × IsLeft before now (after_more needs more input).left
+otp_given needs more before now input otp p is =
+    subst (λ (t : StreamAnswer LastLines). (t.answer ≡ Ok (record { more = more; otp = otp })) × IsLeft before now t.left)
+    (sym (first_gave (line_if needs.has_otp (number_of_otp needs) input) otp
+    (λ o end. with_left (Ok (record { more = more; otp = o })) end) p)) (refl, is)
+
+-- The lines after all passwords were read.
+pub lines_given : (needs : Needs) (password : Option (List ℕ)) (sources : List (Option (List ℕ))) (before now : Option (List ℕ)) (input : List ℕ) (last : LastLines)
+    → (last_lines needs input).answer ≡ Ok last → IsLeft before now (last_lines needs input).left
+    → ((after_passwords needs password sources input).answer ≡ Ok (lines_with password sources last))
     × IsLeft before now (after_passwords needs password sources input).left
-last_line needs password sources before now input more p is =
-    subst (λ (t : StreamAnswer Lines). (t.answer ≡ Ok (record { password = password; sources = sources; more = more })) × IsLeft before now t.left)
-    (sym (first_gave (line_if needs.has_line (number_of_more needs) input) more
-    (λ m end. with_left (Ok (record { password = password; sources = sources; more = m })) end) p)) (refl, is)
+lines_given needs password sources before now input last p is =
+    subst (λ (t : StreamAnswer Lines). (t.answer ≡ Ok (lines_with password sources last)) × IsLeft before now t.left)
+    (sym (first_gave (last_lines needs input) last (λ l end. with_left (Ok (lines_with password sources l)) end) p)) (refl, is)
 
 -- ---- causes
 

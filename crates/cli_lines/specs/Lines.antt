@@ -84,12 +84,28 @@ lines_from due (name ∷ names) number read input =
     then_left (line_if due number input) (λ line left.
     lines_from due names (number_after due number) (read ++ line ∷ []) left)
 
+-- The lines after all passwords, each where it is due: the one that the command asks for, and the
+-- text of a one-time code.
+pub record LastLines : Type 0 where
+  pub more : Option (List ℕ)
+  pub otp : Option (List ℕ)
+
 -- The lines of a call, each where it is due: the password of the database, those of its sources one
--- after another, and the line that the command asks for after them.
+-- after another, the line that the command asks for after them, and the text of a one-time code.
 pub record Lines : Type 0 where
   pub password : Option (List ℕ)
   pub sources : List (Option (List ℕ))
   pub more : Option (List ℕ)
+  pub otp : Option (List ℕ)
+
+-- The lines of databases, with the lines after them.
+abbrev pub lines_with : Option (List ℕ) → List (Option (List ℕ)) → LastLines → Lines
+lines_with password sources last = record {
+  password = password;
+  sources = sources;
+  more = last.more;
+  otp = last.otp;
+}
 
 -- The number of the line after the password of the database, if there is one.
 abbrev pub number_from : Needs → ℕ
@@ -100,14 +116,29 @@ abbrev pub number_of_more : Needs → ℕ
 number_of_more needs =
     number_after_all (asks_passwords_from needs) needs.sources (number_from needs)
 
--- The line after all passwords, where it is due, and with it all lines.
+-- The number of the line after that one.
+abbrev pub number_of_otp : Needs → ℕ
+number_of_otp needs = number_after needs.has_line (number_of_more needs)
+
+-- The text of a one-time code after this line, where it is due.
+abbrev pub after_more : Needs → Option (List ℕ) → List ℕ → StreamAnswer LastLines
+after_more needs more input =
+    then_left (line_if needs.has_otp (number_of_otp needs) input) (λ otp end.
+    with_left (Ok (record { more = more; otp = otp })) end)
+
+-- The lines after all passwords, each where it is due.
+abbrev pub last_lines : Needs → List ℕ → StreamAnswer LastLines
+last_lines needs input =
+    then_left (line_if needs.has_line (number_of_more needs) input) (after_more needs)
+
+-- The lines after all passwords, and with them all lines.
 abbrev pub after_passwords : Needs → Option (List ℕ) → List (Option (List ℕ)) → List ℕ
     → StreamAnswer Lines
 after_passwords needs password sources input =
-    then_left (line_if needs.has_line (number_of_more needs) input) (λ more end.
-    with_left (Ok (record { password = password; sources = sources; more = more })) end)
+    then_left (last_lines needs input) (λ last end.
+    with_left (Ok (lines_with password sources last)) end)
 
--- The passwords of the sources, and then the line after them.
+-- The passwords of the sources, and then the lines after them.
 abbrev pub after_password : Needs → Option (List ℕ) → List ℕ → StreamAnswer Lines
 after_password needs password input =
     then_left (lines_from (asks_passwords_from needs) needs.sources (number_from needs) [] input)
@@ -126,11 +157,17 @@ pub record HasLines (needs : Needs) (lines : Lines) : Type 0 where
   pub have_passwords : map is_some lines.sources
       ≡ map (λ name. asks_passwords_from needs) needs.sources
   pub has_more : is_some lines.more ≡ needs.has_line
+  pub has_otp : is_some lines.otp ≡ needs.has_otp
 
 -- A line is in UTF-8, if there is one.
 abbrev pub IsTextLine : Option (List ℕ) → Type 0
 IsTextLine None = Unit {0}
 IsTextLine (Some line) = is_utf8 line ≡ true
+
+-- The lines after all passwords are in UTF-8, if they are there.
+pub record AreTextLines (line text : Option (List ℕ)) : Type 0 where
+  pub more : IsTextLine line
+  pub otp : IsTextLine text
 
 -- A database that is no plain document has a password or a key file.
 abbrev pub CanOpen : Access → Option (List ℕ) → Type 0

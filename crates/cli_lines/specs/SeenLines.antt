@@ -2,7 +2,8 @@
 use Rattle.std.specs.Prelude.{ℕ, List, Option, map, option_map}
 use Rattle.secret_core.specs.Secret.{SecretBuffer}
 use Rattle.cli_lines.specs.declared.lines.Lines as declared
-use Rattle.cli_lines.specs.Lines.{Lines}
+use Rattle.cli_lines.specs.declared.lines.LastLines as last
+use Rattle.cli_lines.specs.Lines.{LastLines, Lines}
 
 -- The bytes of a line, if there is one.
 abbrev pub line_seen : Option SecretBuffer → Option (List ℕ)
@@ -14,4 +15,9 @@ lines_seen lines = record {
   password = line_seen lines.password;
   sources = map line_seen lines.sources;
   more = line_seen lines.more;
+  otp = line_seen lines.otp;
 }
+
+-- The bytes of the lines after all passwords.
+abbrev pub last_seen : last.LastLines → LastLines
+last_seen lines = record { more = line_seen lines.more; otp = line_seen lines.otp }

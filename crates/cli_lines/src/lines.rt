@@ -4,8 +4,8 @@ ghost use Rattle.std.specs.Str.{is_utf8};
 ghost use Rattle.outside_core.specs.Counts.{HasCause};
 ghost use Rattle.cli_lines.specs.Cutting.{ComesNext, Cuts, Ends, IsPushed, Puts, cut, weight};
 ghost use Rattle.cli_lines.specs.Lines as spec;
-ghost use Rattle.cli_lines.specs.Lines.{HasLines, IsTextLine, after_password, after_passwords, line_from, line_if, line_of, lines_from, lines_of, number_of_more};
-ghost use Rattle.cli_lines.specs.SeenLines.{line_seen, lines_seen};
+ghost use Rattle.cli_lines.specs.Lines.{AreTextLines, HasLines, IsTextLine, after_password, after_passwords, last_lines, line_from, line_if, line_of, lines_from, lines_of, number_of_more};
+ghost use Rattle.cli_lines.specs.SeenLines.{last_seen, line_seen, lines_seen};
 ghost use Rattle.cli_words.specs.Needs as words;
 ghost use Rattle.cli_words.specs.Needs.{asks_line, asks_passwords_from};
 ghost use Rattle.cli_words.specs.SeenNeeds.{needs_seen};
@@ -269,6 +269,17 @@ pub struct Lines {
     pub sources: List<Option<Secret>>,
     /// The line that a command asks for after them.
     pub more: Option<Secret>,
+    /// The text of a one-time code, which a command asks for after that.
+    pub otp: Option<Secret>,
+}
+
+/// The lines after all passwords, each where it is due.
+#[derive(Drop)]
+struct LastLines {
+    /// The line that a command asks for.
+    more: Option<Secret>,
+    /// The text of a one-time code.
+    otp: Option<Secret>,
 }
 
 // The passwords of the sources of a database, and the number of the line after them. The first of
@@ -306,7 +317,39 @@ fn number_from(asks: bool) -> u64
     if asks { 2 } else { 1 }
 }
 
-// Reads the line after all passwords, where it is due: all lines are there then.
+// Reads the lines after all passwords, of which the first has this number.
+fn read_last<S: Source>(
+    alloc: Global,
+    input: &mut S,
+    needs: Needs<'_>,
+    number: u64,
+) -> Result<LastLines, Stop>
+    requires { number ≡ number_of_more (needs_seen needs) }
+    ensures told { (i : List ℕ)
+        → TellsStream (needs.entry.has_line || needs.entry.has_otp) (S.left input.old) i
+        → ReturnsAskedStream last_seen result (S.left input.old) (S.left input.new)
+        (last_lines (needs_seen needs.entry) i) }
+    ensures more { IfOk result (λ last. is_some (line_seen last.more) ≡ needs.entry.has_line) }
+    ensures otp { IfOk result (λ last. is_some (line_seen last.otp) ≡ needs.entry.has_otp) }
+    ensures text { IfOk result (λ last. AreTextLines (line_seen last.more) (line_seen last.otp)) }
+    ensures cause { IfErr result (IsStreamStop (S.faults input.old) (S.faults input.new)) }
+    ensures faults { S.faults input.old ≤ S.faults input.new }
+{
+    let more = read_if(alloc, input, needs.has_line, number)?;
+    let Ok(next) = number_after(needs.has_line, number) else {
+        drop(more);
+        return Err(Stop::NoMemory);
+    };
+    match read_if(alloc, input, needs.has_otp, next) {
+        Ok(otp) => Ok(LastLines { more, otp }),
+        Err(stop) => {
+            drop(more);
+            Err(stop)
+        }
+    }
+}
+
+// Reads the lines after all passwords: all lines are there then.
 fn read_more<S: Source>(
     alloc: Global,
     input: &mut S,
@@ -319,19 +362,22 @@ fn read_more<S: Source>(
     requires password { is_some (line_seen password) ≡ words.asks_password needs.access.now }
     requires passwords { map is_some (map line_seen sources)
         ≡ map (λ name. asks_passwords_from (needs_seen needs)) needs.sources.now }
-    ensures told { (i : List ℕ) → TellsStream needs.entry.has_line (S.left input.old) i
+    ensures told { (i : List ℕ)
+        → TellsStream (needs.entry.has_line || needs.entry.has_otp) (S.left input.old) i
         → ReturnsAskedStream lines_seen result (S.left input.old) (S.left input.new)
         (after_passwords (needs_seen needs.entry) (line_seen password) (map line_seen sources) i) }
     ensures given { IfOk result (λ lines. HasLines (needs_seen needs.entry) (lines_seen lines)) }
-    ensures text { IfOk result (λ lines. IsTextLine (lines_seen lines).more) }
+    ensures text { IfOk result (λ lines. AreTextLines (lines_seen lines).more
+        (lines_seen lines).otp) }
     ensures cause { IfErr result (IsStreamStop (S.faults input.old) (S.faults input.new)) }
     ensures faults { S.faults input.old ≤ S.faults input.new }
 {
-    match read_if(alloc, input, needs.has_line, number) {
-        Ok(more) => Ok(Lines {
+    match read_last(alloc, input, needs, number) {
+        Ok(last) => Ok(Lines {
             password,
             sources,
-            more,
+            more: last.more,
+            otp: last.otp,
         }),
         Err(stop) => {
             drop(password);
@@ -352,12 +398,13 @@ fn read_after<S: Source>(
     requires number { number ≡ spec.number_from (needs_seen needs) }
     requires password { is_some (line_seen password) ≡ words.asks_password needs.access.now }
     ensures told { (i : List ℕ)
-        → TellsStream (asks_passwords_from (needs_seen needs.entry) || needs.entry.has_line)
-        (S.left input.old) i
+        → TellsStream (asks_passwords_from (needs_seen needs.entry)
+        || (needs.entry.has_line || needs.entry.has_otp)) (S.left input.old) i
         → ReturnsAskedStream lines_seen result (S.left input.old) (S.left input.new)
         (after_password (needs_seen needs.entry) (line_seen password) i) }
     ensures given { IfOk result (λ lines. HasLines (needs_seen needs.entry) (lines_seen lines)) }
-    ensures text { IfOk result (λ lines. IsTextLine (lines_seen lines).more) }
+    ensures text { IfOk result (λ lines. AreTextLines (lines_seen lines).more
+        (lines_seen lines).otp) }
     ensures cause { IfErr result (IsStreamStop (S.faults input.old) (S.faults input.new)) }
     ensures faults { S.faults input.old ≤ S.faults input.new }
 {
@@ -378,7 +425,8 @@ pub fn read_lines<S: Source>(alloc: Global, input: &mut S, needs: Needs<'_>) -> 
         (S.left input.old) i → ReturnsAskedStream lines_seen result (S.left input.old)
         (S.left input.new) (lines_of (needs_seen needs.entry) i) }
     ensures given { IfOk result (λ lines. HasLines (needs_seen needs.entry) (lines_seen lines)) }
-    ensures text { IfOk result (λ lines. IsTextLine (lines_seen lines).more) }
+    ensures text { IfOk result (λ lines. AreTextLines (lines_seen lines).more
+        (lines_seen lines).otp) }
     ensures cause { IfErr result (IsStreamStop (S.faults input.old) (S.faults input.new)) }
     ensures faults { S.faults input.old ≤ S.faults input.new }
 {

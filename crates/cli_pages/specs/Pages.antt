@@ -3,7 +3,7 @@
 use Rattle.std.specs.Prelude.{ℕ, Bool, false, ◌||◌, if◌then◌else◌, is_some, List, [], ◌∷◌, codes, Option, None, Some}
 use Rattle.std.specs.Str.{bytes_eq}
 use Rattle.cli_answers.specs.Pages as alone
-use Rattle.cli_pages.specs.Causes.{cause_of}
+use Rattle.cli_causes.specs.Causes.{cause_of}
 use Rattle.cli_pages.specs.Texts.{cause_line}
 
 -- The word that asks why those after it are no command.
@@ -15,7 +15,8 @@ abbrev pub is_page : List (List ℕ) → Bool
 is_page [] = false
 is_page (word ∷ words) = asks_why word || is_some (alone.page_of (word ∷ words))
 
--- Why words are no command and no page: nothing where they are one, and else a line.
+-- Why words are no command, no page and ask for no password: nothing where they do one of these, and
+-- else a line.
 abbrev pub why : List (List ℕ) → List ℕ
 why words = if is_page words then [] else cause_line (cause_of words)
 

@@ -1,15 +1,15 @@
 -- The line that says why words are no command.
-use Rattle.std.specs.Prelude.{ℕ, Bool, not, ◌&&◌, ◌||◌, ◌==◌, ◌*◌, nat_eq, nat_lt, if◌then◌else◌, is_some, length, map, List, [], ◌∷◌, ◌++◌, codes, Option, None, Some}
+use Rattle.std.specs.Prelude.{ℕ, Bool, false, not, ◌&&◌, ◌||◌, ◌==◌, ◌*◌, nat_eq, nat_lt, if◌then◌else◌, is_some, length, map, List, [], ◌∷◌, ◌++◌, codes, Option, None, Some}
 use Rattle.std.specs.List.{find}
 use Rattle.std.specs.Str.{chars}
 use Rattle.strsim.specs.Edits.{levenshtein_row}
 use Rattle.cli_saying.specs.declared.names.CommandName.{CommandName}
 use Rattle.cli_saying.specs.declared.names.CommandName.TheVariants as name
 use Rattle.cli_saying.specs.declared.forms.CommandOption.{CommandOption}
-use Rattle.cli_saying.specs.declared.forms.CommandOption.TheVariants.{Recursive, Flat, Quiet, Plain, NoPassword, KeyFile, Title, User, Url, Notes, EntryPassword, SameCredentials, DryRun, KeyFileFrom, NoPasswordFrom, Clear, All, Attachments, Format, Attribute, SetPassword, SetKeyFile}
+use Rattle.cli_saying.specs.declared.forms.CommandOption.TheVariants.{Recursive, Flat, Quiet, Plain, NoPassword, KeyFile, Title, User, Url, Notes, EntryPassword, SameCredentials, DryRun, KeyFileFrom, NoPasswordFrom, Clear, All, Attachments, Format, Attribute, SetPassword, SetKeyFile, Totp, Generate, Length, Lower, Upper, Numeric, Special, Exclude, Otp}
 use Rattle.cli_saying.specs.Options.{form_of, name_option}
-use Rattle.cli_pages.specs.declared.cause.Cause.{Cause}
-use Rattle.cli_pages.specs.declared.cause.Cause.TheVariants.{NoCommand, OptionFirst, UnknownCommand, UnknownOption, UnknownLetter, UnknownWord, TakesNoValue, OptionTwice, LetterTwice, FlagsTwice, JoinedValue, NoValue, OptionAsValue, FewPositions, ExtraPosition, ManySources, NotWithPlain, NotWithSame, NoKeyFile, NoKeyFileFrom, NoNewKey, UnknownImportFormat, UnknownExportFormat}
+use Rattle.cli_causes.specs.declared.cause.Cause.{Cause}
+use Rattle.cli_causes.specs.declared.cause.Cause.TheVariants.{NoCommand, OptionFirst, UnknownCommand, UnknownOption, UnknownLetter, UnknownWord, TakesNoValue, LetterTakesNoValue, OptionTwice, FlagsTwice, JoinedValue, NoValue, OptionAsValue, FewPositions, ExtraPosition, ManySources, NotWithPlain, NotWithSame, NotTogether, NoKeyFile, NoKeyFileFrom, NoNewKey, UnknownImportFormat, UnknownExportFormat, NeedsGenerate, UnknownLength, NoCharacters}
 
 -- ---- commands and options
 
@@ -28,6 +28,7 @@ command_text name.Merge = codes "merge"
 command_text name.Import = codes "import"
 command_text name.Export = codes "export"
 command_text name.Info = codes "db-info"
+command_text name.Generate = codes "generate"
 
 -- The positions of a command by their names.
 abbrev pub positions_text : CommandName → List ℕ
@@ -44,19 +45,22 @@ positions_text name.Merge = codes "TARGET SOURCE..."
 positions_text name.Import = codes "SOURCE DATABASE"
 positions_text name.Export = codes "DATABASE"
 positions_text name.Info = codes "DATABASE"
+positions_text name.Generate = codes "only options"
 
 -- The commands.
 abbrev pub commands : List CommandName
 commands =
     name.Ls ∷ name.Show ∷ name.Search ∷ name.Add ∷ name.Edit ∷ name.Move ∷ name.Remove
-    ∷ name.MakeGroup ∷ name.RemoveGroup ∷ name.Merge ∷ name.Import ∷ name.Export ∷ name.Info ∷ []
+    ∷ name.MakeGroup ∷ name.RemoveGroup ∷ name.Merge ∷ name.Import ∷ name.Export ∷ name.Info
+    ∷ name.Generate ∷ []
 
 -- The options, whichever command takes them.
 abbrev pub options : List CommandOption
 options =
     Recursive ∷ Flat ∷ Quiet ∷ Plain ∷ NoPassword ∷ KeyFile ∷ Title ∷ User ∷ Url ∷ Notes
     ∷ EntryPassword ∷ SameCredentials ∷ DryRun ∷ KeyFileFrom ∷ NoPasswordFrom ∷ Clear ∷ All
-    ∷ Attachments ∷ Format ∷ Attribute ∷ SetPassword ∷ SetKeyFile ∷ []
+    ∷ Attachments ∷ Format ∷ Attribute ∷ SetPassword ∷ SetKeyFile ∷ Totp ∷ Generate ∷ Length
+    ∷ Lower ∷ Upper ∷ Numeric ∷ Special ∷ Exclude ∷ Otp ∷ []
 
 -- The long name of an option.
 abbrev pub option_text : CommandOption → List ℕ
@@ -72,9 +76,20 @@ distance word name = levenshtein_row nat_eq (chars word) (chars name) (length (c
 abbrev pub is_short : ℕ → List ℕ → Bool
 is_short far name = not (nat_lt 2 far) && not (nat_lt (length name) (far * 2))
 
+-- Two texts begin with the same byte.
+abbrev pub begin_alike : List ℕ → List ℕ → Bool
+begin_alike (b ∷ bs) (c ∷ cs) = b == c
+begin_alike word name = false
+
+-- A name is near a word at this distance: a short one, and where that is more than one, the two
+-- begin alike.
+abbrev pub is_near_at : ℕ → List ℕ → List ℕ → Bool
+is_near_at far word name =
+    is_short far name && (not (nat_lt 1 far) || begin_alike word name)
+
 -- A name is near a word.
 abbrev pub is_near : List ℕ → List ℕ → Bool
-is_near word name = is_short (distance word name) name
+is_near word name = is_near_at (distance word name) word name
 
 -- Words between two texts.
 abbrev pub around : (before word after : List ℕ) → List ℕ
@@ -153,6 +168,19 @@ about_option option text = around (codes "'--") (option_text option) text
 abbrev pub about_letter : ℕ → List ℕ → List ℕ
 about_letter letter text = codes "'-" ++ letter ∷ [] ++ text
 
+-- Two options that do not go together.
+abbrev pub not_together : CommandOption → CommandOption → List ℕ
+not_together option other = about_option option (codes "' does not go with '--")
+    ++ around [] (option_text other) (codes "'")
+
+-- What does not go together beside what opens databases, and what is said of generated passwords.
+abbrev pub profile_text : Cause → List ℕ
+profile_text (NotTogether option other) = not_together option other
+profile_text (NeedsGenerate option) = about_option option (codes "' needs '--generate'")
+profile_text (UnknownLength text) = around (codes "unknown length '") text (codes "': 1 to 4096")
+profile_text NoCharacters = codes "no characters are left: --exclude has all of them"
+profile_text cause = codes "nothing to change: give -t, -u, --url, --notes, -p, -g or --otp"
+
 -- What all words lack together, or what does not go together.
 abbrev pub whole_text : Cause → List ℕ
 whole_text ManySources = codes "a merge has at most 16 sources: merge the others in a second call"
@@ -168,13 +196,13 @@ whole_text (UnknownImportFormat name) = around (codes "unknown format '") name
     (codes "': xml or psafe3 or csv")
 whole_text (UnknownExportFormat name) = around (codes "unknown format '") name
     (codes "': xml or csv")
-whole_text cause = codes "nothing to change: give -t, -u, --url, --notes or -p"
+whole_text cause = profile_text cause
 
 -- What is said of an option by its name or its letter.
 abbrev pub option_line : Cause → List ℕ
 option_line (TakesNoValue option) = about_option option (codes "' takes no value")
-option_line (OptionTwice option) = about_option option (codes "' is there twice")
-option_line (LetterTwice letter) = about_letter letter (codes "' is there twice")
+option_line (LetterTakesNoValue letter) = about_letter letter (codes "' takes no value")
+option_line (OptionTwice option) = about_option option (codes "' is given twice")
 option_line (JoinedValue letter) =
     about_letter letter (codes "' has a value and needs its own hyphen")
 option_line (UnknownOption command name) = unknown_option command name
@@ -188,7 +216,7 @@ cause_text NoCommand = codes "no command; keepass --help lists them"
 cause_text (OptionFirst word) = around (codes "a command comes first, before '") word
     (codes "'; keepass --help lists them")
 cause_text (UnknownCommand word) = unknown_command word
-cause_text (FlagsTwice word) = around (codes "a flag of '") word (codes "' is there twice")
+cause_text (FlagsTwice word) = around (codes "a flag of '") word (codes "' is given twice")
 cause_text (NoValue word) = around (codes "'") word (codes "' needs a value")
 cause_text (OptionAsValue word) = option_as_value word
 cause_text (FewPositions command) = few_positions command
@@ -201,7 +229,7 @@ cause_text cause = option_line cause
 abbrev pub shown_byte : ℕ → ℕ
 shown_byte byte = if nat_lt byte 32 || byte == 127 then 63 else byte
 
--- The line that says why words are no command; nothing where they are one.
+-- The line that says why words are no command; nothing where there is no cause.
 abbrev pub cause_line : Option Cause → List ℕ
 cause_line None = []
 cause_line (Some cause) = map shown_byte (cause_text cause) ++ codes "\n"

@@ -2,14 +2,9 @@
 //! command.
 #![tactic(auto)]
 
-mod cause;
-mod causes;
 pub mod laws;
 mod lines;
 mod near;
 mod pages;
-mod whole;
 
-pub use cause::Cause;
-pub use causes::cause_of;
 pub use pages::page_of;

@@ -2,8 +2,8 @@
 ghost use Rattle.std.specs.Prelude.{◌≡◌, ◌++◌, ◌∷◌, [], IfOk, OnOk, Some, codes, map};
 ghost use Rattle.cli_pages.specs.Texts as spec;
 
-use crate::cause::Cause;
 use crate::near::{command_text, near_command, near_option, option_text};
+use cli_causes::Cause;
 use cli_saying::{CommandName, CommandOption};
 use outside_core::{Bytes, NoMemory};
 use std::alloc::Global;
@@ -23,6 +23,7 @@ fn positions_text(command: CommandName) -> &'static str
         CommandName::Merge => "TARGET SOURCE...",
         CommandName::Import => "SOURCE DATABASE",
         CommandName::Export | CommandName::Info => "DATABASE",
+        CommandName::Generate => "only options",
     }
 }
 
@@ -161,6 +162,34 @@ fn add_letter(text: &mut Bytes, letter: u8, about: &str) -> Result<(), NoMemory>
     text.add(about.as_bytes())
 }
 
+// Adds that two options do not go together.
+fn add_not_together(
+    text: &mut Bytes,
+    option: CommandOption,
+    other: CommandOption,
+) -> Result<(), NoMemory>
+    ensures { OnOk result (text.new ≡ text.old ++ spec.not_together option other) }
+{
+    add_about(text, option, "' does not go with '--")?;
+    add_around(text, "", option_text(other), "'")
+}
+
+// Adds what does not go together beside what opens databases, and what is said of generated
+// passwords.
+fn add_profile(text: &mut Bytes, cause: &Cause) -> Result<(), NoMemory>
+    ensures { OnOk result (text.new ≡ text.old ++ spec.profile_text cause.now) }
+{
+    match cause {
+        Cause::NotTogether(option, other) => add_not_together(text, *option, *other),
+        Cause::NeedsGenerate(option) => add_about(text, *option, "' needs '--generate'"),
+        Cause::UnknownLength(length) => {
+            add_around(text, "unknown length '", length.as_str(), "': 1 to 4096")
+        }
+        Cause::NoCharacters => text.add(b"no characters are left: --exclude has all of them"),
+        _ => text.add(b"nothing to change: give -t, -u, --url, --notes, -p, -g or --otp"),
+    }
+}
+
 // Adds what all words lack together, or what does not go together.
 fn add_whole(text: &mut Bytes, cause: &Cause) -> Result<(), NoMemory>
     ensures { OnOk result (text.new ≡ text.old ++ spec.whole_text cause.now) }
@@ -195,7 +224,7 @@ fn add_whole(text: &mut Bytes, cause: &Cause) -> Result<(), NoMemory>
         Cause::UnknownExportFormat(name) => {
             add_around(text, "unknown format '", name.as_str(), "': xml or csv")
         }
-        _ => text.add(b"nothing to change: give -t, -u, --url, --notes or -p"),
+        _ => add_profile(text, cause),
     }
 }
 
@@ -205,8 +234,8 @@ fn add_by_name(alloc: Global, text: &mut Bytes, cause: &Cause) -> Result<(), NoM
 {
     match cause {
         Cause::TakesNoValue(option) => add_about(text, *option, "' takes no value"),
-        Cause::OptionTwice(option) => add_about(text, *option, "' is there twice"),
-        Cause::LetterTwice(letter) => add_letter(text, *letter, "' is there twice"),
+        Cause::LetterTakesNoValue(letter) => add_letter(text, *letter, "' takes no value"),
+        Cause::OptionTwice(option) => add_about(text, *option, "' is given twice"),
         Cause::JoinedValue(letter) => {
             add_letter(text, *letter, "' has a value and needs its own hyphen")
         }
@@ -231,7 +260,7 @@ fn add_cause(alloc: Global, text: &mut Bytes, cause: &Cause) -> Result<(), NoMem
         }
         Cause::UnknownCommand(word) => add_unknown_command(alloc, text, word.as_str()),
         Cause::FlagsTwice(word) => {
-            add_around(text, "a flag of '", word.as_str(), "' is there twice")
+            add_around(text, "a flag of '", word.as_str(), "' is given twice")
         }
         Cause::NoValue(word) => add_around(text, "'", word.as_str(), "' needs a value"),
         Cause::OptionAsValue(word) => add_option_as_value(text, word.as_str()),
@@ -274,7 +303,7 @@ fn add_line(alloc: Global, line: &mut Bytes, cause: &Cause) -> Result<(), NoMemo
     line.add(b"\n")
 }
 
-/// The line that says why words are no command; nothing where they are one.
+/// The line that says why words are no command; nothing where there is no cause.
 pub(crate) fn cause_line(alloc: Global, cause: Option<Cause>) -> Result<Bytes, NoMemory>
     ensures { IfOk result (λ line. line ≡ spec.cause_line cause) }
 {

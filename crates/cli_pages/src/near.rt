@@ -9,7 +9,7 @@ use std::alloc::Global;
 use strsim::levenshtein;
 
 /// The commands.
-const COMMANDS: [CommandName; 13] = [
+const COMMANDS: [CommandName; 14] = [
     CommandName::Ls,
     CommandName::Show,
     CommandName::Search,
@@ -23,10 +23,11 @@ const COMMANDS: [CommandName; 13] = [
     CommandName::Import,
     CommandName::Export,
     CommandName::Info,
+    CommandName::Generate,
 ];
 
 /// The options, whichever command takes them.
-const OPTIONS: [CommandOption; 22] = [
+const OPTIONS: [CommandOption; 31] = [
     CommandOption::Recursive,
     CommandOption::Flat,
     CommandOption::Quiet,
@@ -49,6 +50,15 @@ const OPTIONS: [CommandOption; 22] = [
     CommandOption::Attribute,
     CommandOption::SetPassword,
     CommandOption::SetKeyFile,
+    CommandOption::Totp,
+    CommandOption::Generate,
+    CommandOption::Length,
+    CommandOption::Lower,
+    CommandOption::Upper,
+    CommandOption::Numeric,
+    CommandOption::Special,
+    CommandOption::Exclude,
+    CommandOption::Otp,
 ];
 
 /// The name of a command.
@@ -69,6 +79,7 @@ pub(crate) fn command_text(command: CommandName) -> &'static str
         CommandName::Import => "import",
         CommandName::Export => "export",
         CommandName::Info => "db-info",
+        CommandName::Generate => "generate",
     }
 }
 
@@ -100,6 +111,15 @@ pub(crate) fn option_text(option: CommandOption) -> &'static str
         CommandOption::SetPassword => "set-password",
         CommandOption::SetKeyFile => "set-key-file",
         CommandOption::ImportFormat => "format",
+        CommandOption::Totp => "totp",
+        CommandOption::Generate => "generate",
+        CommandOption::Length => "length",
+        CommandOption::Lower => "lower",
+        CommandOption::Upper => "upper",
+        CommandOption::Numeric => "numeric",
+        CommandOption::Special => "special",
+        CommandOption::Exclude => "exclude",
+        CommandOption::Otp => "otp",
     }
 }
 
@@ -110,12 +130,29 @@ fn is_short(far: usize, name: &str) -> bool
     far <= 2 && far * 2 <= name.len()
 }
 
+// Reports whether two texts begin with the same byte.
+fn begin_alike(word: &str, name: &str) -> bool
+    ensures { result ≡ spec.begin_alike word.now name.now }
+{
+    match (word.as_bytes(), name.as_bytes()) {
+        ([b, ..], [c, ..]) => *b == *c,
+        _ => false,
+    }
+}
+
+// Reports whether a name is near a word at this distance.
+fn is_near_at(far: usize, word: &str, name: &str) -> bool
+    ensures { result ≡ spec.is_near_at far word.now name.now }
+{
+    is_short(far, name) && (far <= 1 || begin_alike(word, name))
+}
+
 // Reports whether a name is near a word.
 fn is_near(alloc: Global, word: &str, name: &str) -> Result<bool, NoMemory>
     ensures { IfOk result (λ near. near ≡ spec.is_near word.now name.now) }
 {
     match levenshtein(alloc, word, name) {
-        Ok(far) => Ok(is_short(far, name)),
+        Ok(far) => Ok(is_near_at(far, word, name)),
         Err(_none) => Err(NoMemory),
     }
 }

@@ -2,9 +2,9 @@
 ghost use Rattle.std.specs.Prelude.{◌≡◌, IfErr, IfOk, IsSome, map, string_bytes};
 ghost use Rattle.cli_pages.specs.Pages as spec;
 
-use crate::causes::cause_of;
 use crate::lines::cause_line;
 use cli_answers::page_of as page_alone;
+use cli_causes::cause_of;
 use outside_core::{Bytes, NoMemory};
 use std::alloc::Global;
 
@@ -25,7 +25,7 @@ fn is_page(words: &[String]) -> bool
     }
 }
 
-// Why words are no command and no page.
+// Why words are no command, no page and ask for no password.
 fn why(alloc: Global, words: &[String]) -> Result<Bytes, NoMemory>
     ensures { IfOk result (λ page. page ≡ spec.why (map string_bytes words.now)) }
 {
@@ -50,7 +50,7 @@ fn copy_of(alloc: Global, page: &str) -> Result<Bytes, NoMemory>
 }
 
 /// The page that the words ask for: why the words after `--why` are no command, nothing where they
-/// are one; and the help or the version where one word alone asks for it. Memory runs out only
+/// are one or ask for a page or a password; and the help or the version where one word alone asks for it. Memory runs out only
 /// where they ask for a page.
 pub fn page_of(alloc: Global, words: &[String]) -> Result<Option<Bytes>, NoMemory>
     ensures page { IfOk result (λ page. page ≡ spec.page_of (map string_bytes words.now)) }

@@ -5,7 +5,7 @@ use Rattle.std.specs.Option.{option_and_then}
 use Rattle.std.proofs.lemmas.Bool.Decides.{Decides-eqb}
 use Rattle.cli_saying.specs.declared.names.CommandName.{CommandName}
 use Rattle.cli_saying.specs.declared.forms.CommandOption.{CommandOption}
-use Rattle.cli_saying.specs.declared.forms.CommandOption.TheVariants.{Recursive, Flat, Quiet, Plain, NoPassword, KeyFile, Title, User, Url, Notes, EntryPassword, SameCredentials, DryRun, KeyFileFrom, NoPasswordFrom, Clear, All, Attachments, Format, Attribute, SetPassword, SetKeyFile, ImportFormat}
+use Rattle.cli_saying.specs.declared.forms.CommandOption.TheVariants.{Recursive, Flat, Quiet, Plain, NoPassword, KeyFile, Title, User, Url, Notes, EntryPassword, SameCredentials, DryRun, KeyFileFrom, NoPasswordFrom, Clear, All, Attachments, Format, Attribute, SetPassword, SetKeyFile, ImportFormat, Totp, Generate, Length, Lower, Upper, Numeric, Special, Exclude, Otp}
 use Rattle.cli_saying.specs.Laws.{IsFlagWord, are_flag_letters, is_flag, is_flag_letter, lack_end}
 use Rattle.cli_saying.specs.Options.{form_of, has_value, letter_option, name_option}
 use Rattle.cli_saying.proofs.Letters.{no_dash}
@@ -65,6 +65,15 @@ name_whole Attribute = λ c s. refl
 name_whole SetPassword = λ c s. refl
 name_whole SetKeyFile = λ c s. refl
 name_whole ImportFormat = λ c s. refl
+name_whole Totp = λ c s. refl
+name_whole Generate = λ c s. refl
+name_whole Length = λ c s. refl
+name_whole Lower = λ c s. refl
+name_whole Upper = λ c s. refl
+name_whole Numeric = λ c s. refl
+name_whole Special = λ c s. refl
+name_whole Exclude = λ c s. refl
+name_whole Otp = λ c s. refl
 
 -- The word of a name.
 name_says : (command : CommandName) (name : List ℕ) → is_flag (name_option command name) ≡ true

@@ -5,8 +5,8 @@ use Rattle.std.proofs.lemmas.Bool.Decides.{Decides-eqb}
 use Rattle.cli_saying.specs.declared.names.CommandName.{CommandName}
 use Rattle.cli_saying.specs.declared.names.CommandName.TheVariants as name
 use Rattle.cli_saying.specs.declared.forms.CommandOption.{CommandOption}
-use Rattle.cli_saying.specs.declared.forms.CommandOption.TheVariants.{Recursive, Flat, Quiet, Plain, NoPassword, KeyFile, Title, User, Url, Notes, EntryPassword, SameCredentials, DryRun, KeyFileFrom, NoPasswordFrom, Clear, All, Attachments, Format, Attribute, SetPassword, SetKeyFile, ImportFormat}
-use Rattle.cli_saying.specs.Options.{form_of, has_letter, is_letter, letter_option, options_of, with_letter}
+use Rattle.cli_saying.specs.declared.forms.CommandOption.TheVariants.{Recursive, Flat, Quiet, Plain, NoPassword, KeyFile, Title, User, Url, Notes, EntryPassword, SameCredentials, DryRun, KeyFileFrom, NoPasswordFrom, Clear, All, Attachments, Format, Attribute, SetPassword, SetKeyFile, ImportFormat, Totp, Generate, Length, Lower, Upper, Numeric, Special, Exclude, Otp}
+use Rattle.cli_saying.specs.Options.{form_of, has_letter, is_letter, letter_option, with_letter}
 
 -- A letter is one of ASCII, where there is one.
 abbrev IsLow : Option ℕ → Type 0
@@ -36,6 +36,15 @@ low Attribute = omega arith
 low SetPassword = omega arith
 low SetKeyFile = tt
 low ImportFormat = tt
+low Totp = omega arith
+low Generate = omega arith
+low Length = omega arith
+low Lower = omega arith
+low Upper = omega arith
+low Numeric = omega arith
+low Special = omega arith
+low Exclude = omega arith
+low Otp = tt
 
 low_letter : (own : Option ℕ) (letter : ℕ) → IsLow own → is_letter own letter ≡ true → letter < 128
 low_letter None letter h e = absurd (let no : false ≡ true → ⊥ = λ p. cc p in no e)
@@ -50,10 +59,6 @@ found_low letter (option ∷ options) = by (has_letter option letter) refl (foun
         → IfSome (cond b (Some option) (with_letter letter options)) (λ option. letter < 128)
     by true e h = low_letter (form_of option).letter letter (low option) e
     by false e h = h
-
--- The letter of an option is one of ASCII.
-pub ascii_letter : (command : CommandName) (letter : ℕ) → IfSome (letter_option command letter) (λ option. letter < 128)
-ascii_letter command letter = found_low letter (options_of command)
 
 -- The sign `-` is the letter of no option.
 pub no_dash : (command : CommandName) → letter_option command 45 ≡ None
@@ -70,3 +75,4 @@ no_dash name.Merge = refl
 no_dash name.Import = refl
 no_dash name.Export = refl
 no_dash name.Info = refl
+no_dash name.Generate = refl

@@ -5,7 +5,7 @@ use Rattle.std.proofs.lemmas.Bool.Decides.{Decides-eqb}
 use Rattle.std.proofs.lemmas.List.{append_assoc}
 use Rattle.cli_saying.specs.declared.names.CommandName.{CommandName}
 use Rattle.cli_saying.specs.declared.forms.CommandOption.{CommandOption}
-use Rattle.cli_saying.specs.declared.forms.CommandOption.TheVariants.{Recursive, Flat, Quiet, Plain, NoPassword, KeyFile, Title, User, Url, Notes, EntryPassword, SameCredentials, DryRun, KeyFileFrom, NoPasswordFrom, Clear, All, Attachments, Format, Attribute, SetPassword, SetKeyFile, ImportFormat}
+use Rattle.cli_saying.specs.declared.forms.CommandOption.TheVariants.{Recursive, Flat, Quiet, Plain, NoPassword, KeyFile, Title, User, Url, Notes, EntryPassword, SameCredentials, DryRun, KeyFileFrom, NoPasswordFrom, Clear, All, Attachments, Format, Attribute, SetPassword, SetKeyFile, ImportFormat, Totp, Generate, Length, Lower, Upper, Numeric, Special, Exclude, Otp}
 use Rattle.cli_saying.specs.Options.{form_of, has_value, letter_option, name_option}
 use Rattle.cli_saying.proofs.Letters.{no_dash}
 use Rattle.cli_saying.proofs.Named.{named}
@@ -44,6 +44,15 @@ name_valued Attribute = λ c s v. refl
 name_valued SetPassword = λ c s v. refl
 name_valued SetKeyFile = λ c s v. refl
 name_valued ImportFormat = λ c s v. refl
+name_valued Totp = λ c s v. refl
+name_valued Generate = λ c s v. refl
+name_valued Length = λ c s v. refl
+name_valued Lower = λ c s v. refl
+name_valued Upper = λ c s v. refl
+name_valued Numeric = λ c s v. refl
+name_valued Special = λ c s v. refl
+name_valued Exclude = λ c s v. refl
+name_valued Otp = λ c s v. refl
 
 -- The letter of an option is not `-`.
 no_sign : (command : CommandName) (letter : ℕ) (option : CommandOption) → letter_option command letter ≡ Some option → (letter == 45) ≡ false

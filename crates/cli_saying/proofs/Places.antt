@@ -1,7 +1,7 @@
 -- The places of options.
 use Rattle.std.proofs.Common.{◌≡◌, ◌∙◌, ap, sym, refl, ℕ, true, [], ◌∷◌, get_or}
 use Rattle.cli_saying.specs.declared.forms.CommandOption.{CommandOption}
-use Rattle.cli_saying.specs.declared.forms.CommandOption.TheVariants.{Recursive, Flat, Quiet, Plain, NoPassword, KeyFile, Title, User, Url, Notes, EntryPassword, SameCredentials, DryRun, KeyFileFrom, NoPasswordFrom, Clear, All, Attachments, Format, Attribute, SetPassword, SetKeyFile, ImportFormat}
+use Rattle.cli_saying.specs.declared.forms.CommandOption.TheVariants.{Recursive, Flat, Quiet, Plain, NoPassword, KeyFile, Title, User, Url, Notes, EntryPassword, SameCredentials, DryRun, KeyFileFrom, NoPasswordFrom, Clear, All, Attachments, Format, Attribute, SetPassword, SetKeyFile, ImportFormat, Totp, Generate, Length, Lower, Upper, Numeric, Special, Exclude, Otp}
 use Rattle.cli_saying.specs.Options.{is_repeatable, place_of}
 
 -- The option at a place.
@@ -9,7 +9,8 @@ abbrev option_at : ℕ → CommandOption
 option_at place = get_or
     (Recursive ∷ Flat ∷ Quiet ∷ Plain ∷ NoPassword ∷ KeyFile ∷ Title ∷ User ∷ Url ∷ Notes ∷ EntryPassword ∷ SameCredentials
     ∷ DryRun ∷ KeyFileFrom ∷ NoPasswordFrom ∷ Clear ∷ All ∷ Attachments ∷ Format ∷ Attribute ∷ SetPassword
-    ∷ SetKeyFile ∷ ImportFormat ∷ []) place Recursive
+    ∷ SetKeyFile ∷ ImportFormat ∷ Totp ∷ Generate ∷ Length ∷ Lower ∷ Upper ∷ Numeric
+    ∷ Special ∷ Exclude ∷ Otp ∷ []) place Recursive
 
 back : (option : CommandOption) → option_at (place_of option) ≡ option
 back Recursive = refl
@@ -35,6 +36,15 @@ back Attribute = refl
 back SetPassword = refl
 back SetKeyFile = refl
 back ImportFormat = refl
+back Totp = refl
+back Generate = refl
+back Length = refl
+back Lower = refl
+back Upper = refl
+back Numeric = refl
+back Special = refl
+back Exclude = refl
+back Otp = refl
 
 -- Options at one place are one option.
 pub same_option : (f g : CommandOption) → place_of f ≡ place_of g → f ≡ g
@@ -64,6 +74,15 @@ last Attribute h = refl
 last SetPassword h = cc
 last SetKeyFile h = cc
 last ImportFormat h = cc
+last Totp h = cc
+last Generate h = cc
+last Length h = cc
+last Lower h = cc
+last Upper h = cc
+last Numeric h = cc
+last Special h = cc
+last Exclude h = cc
+last Otp h = cc
 
 -- Only one option may occur more than once.
 pub one_repeatable : (f g : CommandOption) → is_repeatable f ≡ true → is_repeatable g ≡ true → place_of f ≡ place_of g

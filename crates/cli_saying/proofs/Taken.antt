@@ -13,10 +13,10 @@ use Rattle.cli_saying.specs.Taken.{IsFound, TakesLetter, TakesName}
 -- Each option is found, command by command.
 found_each : (command : CommandName) → AllByRecursion (IsFound command) (options_of command)
 found_each name.Ls = ((refl, refl), ((refl, refl), ((refl, refl), ((refl, tt), ((refl, tt), ((refl, refl), tt))))))
-found_each name.Show = ((refl, refl), ((refl, tt), ((refl, tt), ((refl, refl), ((refl, refl), ((refl, tt), ((refl, tt), ((refl, refl), tt))))))))
+found_each name.Show = ((refl, refl), ((refl, tt), ((refl, tt), ((refl, refl), ((refl, refl), ((refl, refl), ((refl, tt), ((refl, tt), ((refl, refl), tt)))))))))
 found_each name.Search = ((refl, refl), ((refl, tt), ((refl, tt), ((refl, refl), tt))))
-found_each name.Add = ((refl, refl), ((refl, tt), ((refl, tt), ((refl, refl), ((refl, refl), ((refl, tt), ((refl, tt), ((refl, refl), tt))))))))
-found_each name.Edit = ((refl, refl), ((refl, refl), ((refl, tt), ((refl, tt), ((refl, refl), ((refl, refl), ((refl, tt), ((refl, tt), ((refl, refl), tt)))))))))
+found_each name.Add = ((refl, refl), ((refl, tt), ((refl, tt), ((refl, refl), ((refl, refl), ((refl, refl), ((refl, refl), ((refl, refl), ((refl, refl), ((refl, refl), ((refl, refl), ((refl, refl), ((refl, tt), ((refl, tt), ((refl, refl), tt)))))))))))))))
+found_each name.Edit = ((refl, refl), ((refl, refl), ((refl, tt), ((refl, tt), ((refl, refl), ((refl, refl), ((refl, refl), ((refl, refl), ((refl, refl), ((refl, refl), ((refl, refl), ((refl, refl), ((refl, tt), ((refl, refl), ((refl, tt), ((refl, tt), ((refl, refl), tt)))))))))))))))))
 found_each name.Move = ((refl, refl), ((refl, tt), ((refl, tt), ((refl, refl), tt))))
 found_each name.Remove = ((refl, refl), ((refl, tt), ((refl, tt), ((refl, refl), tt))))
 found_each name.MakeGroup = ((refl, refl), ((refl, tt), ((refl, tt), ((refl, refl), tt))))
@@ -25,6 +25,7 @@ found_each name.Merge = ((refl, refl), ((refl, refl), ((refl, tt), ((refl, tt), 
 found_each name.Import = ((refl, refl), ((refl, tt), ((refl, tt), ((refl, refl), ((refl, tt), tt)))))
 found_each name.Export = ((refl, refl), ((refl, refl), ((refl, tt), ((refl, tt), ((refl, refl), tt)))))
 found_each name.Info = ((refl, refl), ((refl, tt), ((refl, tt), ((refl, refl), tt))))
+found_each name.Generate = ((refl, refl), ((refl, refl), ((refl, refl), ((refl, refl), ((refl, refl), ((refl, refl), tt))))))
 
 -- Each option is found.
 pub found : (command : CommandName) → All (IsFound command) (options_of command)

@@ -5,7 +5,7 @@ use Rattle.std.specs.Str.{bytes_eq}
 use Rattle.cli_saying.specs.declared.names.CommandName.{CommandName}
 use Rattle.cli_saying.specs.declared.names.CommandName.TheVariants as name
 use Rattle.cli_saying.specs.declared.forms.CommandOption.{CommandOption}
-use Rattle.cli_saying.specs.declared.forms.CommandOption.TheVariants.{Recursive, Flat, Quiet, Plain, NoPassword, KeyFile, Title, User, Url, Notes, EntryPassword, SameCredentials, DryRun, KeyFileFrom, NoPasswordFrom, Clear, All, Attachments, Format, Attribute, SetPassword, SetKeyFile, ImportFormat}
+use Rattle.cli_saying.specs.declared.forms.CommandOption.TheVariants.{Recursive, Flat, Quiet, Plain, NoPassword, KeyFile, Title, User, Url, Notes, EntryPassword, SameCredentials, DryRun, KeyFileFrom, NoPasswordFrom, Clear, All, Attachments, Format, Attribute, SetPassword, SetKeyFile, ImportFormat, Totp, Generate, Length, Lower, Upper, Numeric, Special, Exclude, Otp}
 
 -- ---- commands
 
@@ -25,7 +25,8 @@ command_named word =
     else (if bytes_eq word (codes "import") then Some name.Import
     else (if bytes_eq word (codes "export") then Some name.Export
     else (if bytes_eq word (codes "db-info") then Some name.Info
-    else None))))))))))))
+    else (if bytes_eq word (codes "generate") then Some name.Generate
+    else None)))))))))))))
 
 -- ---- how options are written
 
@@ -94,6 +95,15 @@ form_of Attribute = repeatable (codes "attributes") (the (codes "a"))
 form_of SetPassword = flag (codes "set-password") (the (codes "p"))
 form_of SetKeyFile = valued (codes "set-key-file") None
 form_of ImportFormat = valued (codes "format") None
+form_of Totp = flag (codes "totp") (the (codes "t"))
+form_of Generate = flag (codes "generate") (the (codes "g"))
+form_of Length = valued (codes "length") (the (codes "L"))
+form_of Lower = flag (codes "lower") (the (codes "l"))
+form_of Upper = flag (codes "upper") (the (codes "U"))
+form_of Numeric = flag (codes "numeric") (the (codes "n"))
+form_of Special = flag (codes "special") (the (codes "s"))
+form_of Exclude = valued (codes "exclude") (the (codes "x"))
+form_of Otp = flag (codes "otp") None
 
 -- Whether an option has a value; the others are flags.
 abbrev pub has_value : CommandOption → Bool
@@ -128,16 +138,27 @@ place_of Attribute = 19
 place_of SetPassword = 20
 place_of SetKeyFile = 21
 place_of ImportFormat = 22
+place_of Totp = 23
+place_of Generate = 24
+place_of Length = 25
+place_of Lower = 26
+place_of Upper = 27
+place_of Numeric = 28
+place_of Special = 29
+place_of Exclude = 30
+place_of Otp = 31
 
 -- ---- which options each command takes
 
 -- The options that a command takes beside those that others take too.
 abbrev pub own_options : CommandName → List CommandOption
 own_options name.Ls = Recursive ∷ Flat ∷ []
-own_options name.Show = Clear ∷ All ∷ Attachments ∷ Attribute ∷ []
+own_options name.Show = Clear ∷ All ∷ Attachments ∷ Attribute ∷ Totp ∷ []
 own_options name.Search = []
-own_options name.Add = User ∷ Url ∷ Notes ∷ EntryPassword ∷ []
-own_options name.Edit = Title ∷ User ∷ Url ∷ Notes ∷ EntryPassword ∷ []
+own_options name.Add = User ∷ Url ∷ Notes ∷ EntryPassword
+    ∷ Generate ∷ Length ∷ Lower ∷ Upper ∷ Numeric ∷ Special ∷ Exclude ∷ []
+own_options name.Edit = Title ∷ User ∷ Url ∷ Notes ∷ EntryPassword
+    ∷ Generate ∷ Length ∷ Lower ∷ Upper ∷ Numeric ∷ Special ∷ Exclude ∷ Otp ∷ []
 own_options name.Move = []
 own_options name.Remove = []
 own_options name.MakeGroup = []
@@ -146,11 +167,13 @@ own_options name.Merge = SameCredentials ∷ DryRun ∷ KeyFileFrom ∷ NoPasswo
 own_options name.Import = SetPassword ∷ SetKeyFile ∷ ImportFormat ∷ []
 own_options name.Export = Format ∷ []
 own_options name.Info = []
+own_options name.Generate = Length ∷ Lower ∷ Upper ∷ Numeric ∷ Special ∷ Exclude ∷ []
 
--- The options that a command shares with others: all take those of what is printed and of plain
--- documents, and all but `import`, which makes its database, those of what opens a database.
+-- The options that a command shares with others: what has a database takes those of what is printed
+-- and of plain documents, and all but `import`, which makes its database, those of what opens one.
 abbrev pub shared_options : CommandName → List CommandOption
 shared_options name.Import = Quiet ∷ Plain ∷ []
+shared_options name.Generate = []
 shared_options command = Quiet ∷ Plain ∷ NoPassword ∷ KeyFile ∷ []
 
 -- All options that a command takes.

@@ -52,10 +52,28 @@ pub enum CommandOption {
     SetKeyFile,
     /// `--format FORMAT` of an import
     ImportFormat,
+    /// `--totp`, `-t`
+    Totp,
+    /// `--generate`, `-g`
+    Generate,
+    /// `--length NUMBER`, `-L NUMBER`
+    Length,
+    /// `--lower`, `-l`
+    Lower,
+    /// `--upper`, `-U`
+    Upper,
+    /// `--numeric`, `-n`
+    Numeric,
+    /// `--special`, `-s`
+    Special,
+    /// `--exclude CHARS`, `-x CHARS`
+    Exclude,
+    /// `--otp`
+    Otp,
 }
 
 /// How many options there are.
-pub const OPTIONS: usize = 23;
+pub const OPTIONS: usize = 32;
 
 /// How an option is written.
 #[derive(Clone, Copy)]
@@ -134,6 +152,15 @@ pub(crate) fn form_of(option: CommandOption) -> OptionForm
         CommandOption::SetPassword => flag("set-password", Some(b'p')),
         CommandOption::SetKeyFile => valued("set-key-file", None),
         CommandOption::ImportFormat => valued("format", None),
+        CommandOption::Totp => flag("totp", Some(b't')),
+        CommandOption::Generate => flag("generate", Some(b'g')),
+        CommandOption::Length => valued("length", Some(b'L')),
+        CommandOption::Lower => flag("lower", Some(b'l')),
+        CommandOption::Upper => flag("upper", Some(b'U')),
+        CommandOption::Numeric => flag("numeric", Some(b'n')),
+        CommandOption::Special => flag("special", Some(b's')),
+        CommandOption::Exclude => valued("exclude", Some(b'x')),
+        CommandOption::Otp => flag("otp", None),
     }
 }
 
@@ -154,7 +181,7 @@ pub fn is_repeatable(option: CommandOption) -> bool
 /// The place of an option among all of them.
 pub fn place_of(option: CommandOption) -> usize
     ensures is { result ≡ spec.place_of option }
-    ensures most { result < 23 }
+    ensures most { result < 32 }
 {
     match option {
         CommandOption::Recursive => 0,
@@ -180,5 +207,14 @@ pub fn place_of(option: CommandOption) -> usize
         CommandOption::SetPassword => 20,
         CommandOption::SetKeyFile => 21,
         CommandOption::ImportFormat => 22,
+        CommandOption::Totp => 23,
+        CommandOption::Generate => 24,
+        CommandOption::Length => 25,
+        CommandOption::Lower => 26,
+        CommandOption::Upper => 27,
+        CommandOption::Numeric => 28,
+        CommandOption::Special => 29,
+        CommandOption::Exclude => 30,
+        CommandOption::Otp => 31,
     }
 }

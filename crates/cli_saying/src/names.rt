@@ -31,6 +31,8 @@ pub enum CommandName {
     Export,
     /// `db-info`
     Info,
+    /// `generate`
+    Generate,
 }
 
 /// The command of a name.
@@ -51,6 +53,7 @@ pub fn command_named(name: &str) -> Option<CommandName>
         "import" => Some(CommandName::Import),
         "export" => Some(CommandName::Export),
         "db-info" => Some(CommandName::Info),
+        "generate" => Some(CommandName::Generate),
         _ => None,
     }
 }

@@ -17,6 +17,7 @@ fn own_options(command: CommandName) -> &'static [CommandOption]
                 CommandOption::All,
                 CommandOption::Attachments,
                 CommandOption::Attribute,
+                CommandOption::Totp,
             ]
         }
         CommandName::Add => {
@@ -25,6 +26,13 @@ fn own_options(command: CommandName) -> &'static [CommandOption]
                 CommandOption::Url,
                 CommandOption::Notes,
                 CommandOption::EntryPassword,
+                CommandOption::Generate,
+                CommandOption::Length,
+                CommandOption::Lower,
+                CommandOption::Upper,
+                CommandOption::Numeric,
+                CommandOption::Special,
+                CommandOption::Exclude,
             ]
         }
         CommandName::Edit => {
@@ -34,6 +42,14 @@ fn own_options(command: CommandName) -> &'static [CommandOption]
                 CommandOption::Url,
                 CommandOption::Notes,
                 CommandOption::EntryPassword,
+                CommandOption::Generate,
+                CommandOption::Length,
+                CommandOption::Lower,
+                CommandOption::Upper,
+                CommandOption::Numeric,
+                CommandOption::Special,
+                CommandOption::Exclude,
+                CommandOption::Otp,
             ]
         }
         CommandName::Merge => {
@@ -52,17 +68,28 @@ fn own_options(command: CommandName) -> &'static [CommandOption]
             ]
         }
         CommandName::Export => &[CommandOption::Format],
+        CommandName::Generate => {
+            &[
+                CommandOption::Length,
+                CommandOption::Lower,
+                CommandOption::Upper,
+                CommandOption::Numeric,
+                CommandOption::Special,
+                CommandOption::Exclude,
+            ]
+        }
         _ => &[],
     }
 }
 
-// The options that a command shares with others: all take those of what is printed and of plain
-// documents, and all but `import`, which makes its database, those of what opens a database.
+// The options that a command shares with others: what has a database takes those of what is printed
+// and of plain documents, and all but `import`, which makes its database, those of what opens one.
 fn shared_options(command: CommandName) -> &'static [CommandOption]
     ensures { result.now ≡ spec.shared_options command }
 {
     match command {
         CommandName::Import => &[CommandOption::Quiet, CommandOption::Plain],
+        CommandName::Generate => &[],
         _ => {
             &[
                 CommandOption::Quiet,
@@ -109,7 +136,7 @@ fn with_name(name: &str, options: &[CommandOption]) -> Option<CommandOption>
 }
 
 /// The option of a command that has this letter.
-#[tactic(auto, using(crate::proofs::Letters::ascii_letter, crate::proofs::Found::letter_found))]
+#[tactic(auto, using(crate::proofs::Found::letter_found))]
 pub fn letter_option(command: CommandName, letter: u8) -> Option<CommandOption>
     ensures is { result ≡ spec.letter_option command letter }
     ensures ascii { IfSome result (λ option. letter < 128) }

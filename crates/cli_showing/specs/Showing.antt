@@ -18,6 +18,7 @@ use Rattle.find_core.specs.Search.{entries_found}
 use Rattle.cli_answers.specs.Messages.{refusal_of}
 use Rattle.cli_answers.specs.declared.answers.Reason.TheVariants.{NoAttribute, NoResult, NoSuchPath}
 use Rattle.cli_answers.specs.declared.answers.Refusal.{Refusal}
+use Rattle.cli_codes.specs.Codes.{code_line, code_or_refusal}
 use Rattle.cli_showing.specs.Paths.{paths_found}
 use Rattle.cli_showing.specs.Refusals.{found_or_refusal}
 
@@ -152,6 +153,23 @@ entry_shown file clear all attachments names path doc = do
   entry ← entry_or_refusal file (entry_named path doc)
   _ ← refuse_missing file (find (is_missing (fields_of entry.1)) names)
   found_or_refusal file (entry_text doc clear all attachments names entry)
+
+-- ---- `show -t`
+
+-- A text after which the line of an entry's one-time code is put, or the refusal.
+abbrev pub with_code : List ℕ → List BareField → ℕ → List ℕ → Result (List ℕ) Refusal
+with_code file fields now text =
+    code_or_refusal file (code_line fields now) >>= λ line. Ok (text ++ line)
+
+-- What `show -t` prints of the document of a file at a moment, or why it refuses: the values of the
+-- fields that are named, each on a line, and then the line of the entry's one-time code.
+unfoldable pub code_shown : List ℕ → List (List ℕ) → List ℕ → ℕ → BareDoc
+    → Result (List ℕ) Refusal
+code_shown file names path now doc = do
+  entry ← entry_or_refusal file (entry_named path doc)
+  _ ← refuse_missing file (find (is_missing (fields_of entry.1)) names)
+  text ← found_or_refusal file (with_names doc (fields_of entry.1) names [])
+  with_code file (fields_of entry.1) now text
 
 -- ---- `search`
 

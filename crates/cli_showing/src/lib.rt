@@ -2,6 +2,7 @@
 #![tactic(auto)]
 
 mod attachments;
+mod coding;
 mod paths;
 mod refusals;
 mod searching;
@@ -9,5 +10,6 @@ mod showing;
 mod texts;
 mod values;
 
+pub use coding::{CodeGiven, show_code};
 pub use searching::search_entries;
 pub use showing::{ShowGiven, show_entry};

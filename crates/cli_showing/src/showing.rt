@@ -39,8 +39,8 @@ pub struct ShowGiven<'a> {
     pub names: &'a [Text],
 }
 
-// The entry that a path names.
-fn entry_named<'a>(doc: &'a Doc, path: &str) -> Option<&'a Entry>
+/// The entry that a path names.
+pub(crate) fn entry_named<'a>(doc: &'a Doc, path: &str) -> Option<&'a Entry>
     ensures { option_map (λ entry. entry_row entry.now) result
         ≡ entry_sought path.now (doc_seen doc.now) }
 {

@@ -1,10 +1,10 @@
 -- Words of calls, and which commands they are.
 use Rattle.std.proofs.Common.{◌≡◌, refl, [], ◌∷◌, codes, true, false, Some, None}
 use Rattle.cli_words.specs.declared.command.Access.{Access}
-use Rattle.cli_words.specs.declared.command.Command.TheVariants.{Ls, Show, Merge, Import, Export}
+use Rattle.cli_words.specs.declared.command.Command.TheVariants.{Ls, Show, Edit, Merge, Import, Export}
 use Rattle.cli_words.specs.declared.command.ExportFormat.TheVariants.{Csv}
 use Rattle.cli_words.specs.declared.command.ImportFormat.TheVariants as import_format
-use Rattle.cli_words.specs.Words.{command_in}
+use Rattle.cli_words.specs.Words.{command_in, profile_of}
 
 -- A database is opened by its password alone.
 abbrev by_password : Access
@@ -12,11 +12,11 @@ by_password = record { plain = false; quiet = false; key_file = None; no_passwor
 
 -- Names of fields are kept in their order, and `-s` of `show` is a flag of its own.
 fields_in_order : command_in (codes "show" ∷ codes "-s" ∷ codes "-a" ∷ codes "UserName" ∷ codes "-a=Pass" ∷ codes "--all" ∷ codes "F" ∷ codes "E" ∷ [])
-    ≡ Some (Show by_password (codes "F") (codes "E") true true false (codes "UserName" ∷ codes "Pass" ∷ []))
+    ≡ Some (Show by_password (codes "F") (codes "E") true true false (codes "UserName" ∷ codes "Pass" ∷ []) false)
 fields_in_order = refl
 
 joined_name : command_in (codes "show" ∷ codes "-aTitle" ∷ codes "F" ∷ codes "E" ∷ [])
-    ≡ Some (Show by_password (codes "F") (codes "E") false false false (codes "Title" ∷ []))
+    ≡ Some (Show by_password (codes "F") (codes "E") false false false (codes "Title" ∷ []) false)
 joined_name = refl
 
 -- `-f` of `export` has a value, and `-f` of `ls` has none.
@@ -54,3 +54,45 @@ key_file_of_others = refl
 
 format_without_letter : command_in (codes "import" ∷ codes "-p" ∷ codes "-f" ∷ codes "csv" ∷ codes "S" ∷ codes "F" ∷ []) ≡ None
 format_without_letter = refl
+
+-- A one-time code beside fields that are named, and not beside all fields.
+code_shown : command_in (codes "show" ∷ codes "-t" ∷ codes "-a" ∷ codes "UserName" ∷ codes "F" ∷ codes "E" ∷ [])
+    ≡ Some (Show by_password (codes "F") (codes "E") false false false (codes "UserName" ∷ []) true)
+code_shown = refl
+
+code_and_all : command_in (codes "show" ∷ codes "-t" ∷ codes "--all" ∷ codes "F" ∷ codes "E" ∷ []) ≡ None
+code_and_all = refl
+
+-- A password of digits without the first two.
+digits_left : profile_of (codes "generate" ∷ codes "-n" ∷ codes "-L" ∷ codes "0012" ∷ codes "--exclude=10x" ∷ [])
+    ≡ Some (record { length = 12; alphabet = codes "23456789" })
+digits_left = refl
+
+letters_and_digits : profile_of (codes "generate" ∷ [])
+    ≡ Some (record { length = 32; alphabet = codes "abcdefghijklmnopqrstuvwxyzABCDEFGHIJKLMNOPQRSTUVWXYZ0123456789" })
+letters_and_digits = refl
+
+nothing_left : profile_of (codes "generate" ∷ codes "-n" ∷ codes "-x" ∷ codes "9876543210" ∷ []) ≡ None
+nothing_left = refl
+
+too_long : profile_of (codes "generate" ∷ codes "-L" ∷ codes "4097" ∷ []) ≡ None
+too_long = refl
+
+-- A password is generated, or is a line, and its options are said only where it is generated.
+generated_and_typed : command_in (codes "add" ∷ codes "-g" ∷ codes "-p" ∷ codes "F" ∷ codes "E" ∷ []) ≡ None
+generated_and_typed = refl
+
+length_alone : command_in (codes "edit" ∷ codes "-L" ∷ codes "8" ∷ codes "-p" ∷ codes "F" ∷ codes "E" ∷ []) ≡ None
+length_alone = refl
+
+code_given : command_in (codes "edit" ∷ codes "--otp" ∷ codes "-gn" ∷ codes "F" ∷ codes "E" ∷ [])
+    ≡ Some (Edit by_password (codes "F") (codes "E") (record {
+      title = None;
+      user = None;
+      url = None;
+      notes = None;
+      password = false;
+      generated = Some (record { length = 32; alphabet = codes "0123456789" });
+      otp = true;
+    }))
+code_given = refl

@@ -1,23 +1,32 @@
--- A command opens its database with a key, unless that is a plain document.
+-- A command opens its database with a key, unless that is a plain document, and generates no
+-- password that cannot be chosen.
 use Rattle.std.proofs.Common.{◌≡◌, refl, subst, ℕ, List, [], ◌∷◌, length, Bool, true, false, Option, Some, None}
 use Rattle.std.specs.Prelude.{IfSome, not, ◌&&◌, ◌||◌, if◌then◌else◌}
-use Rattle.std.specs.Option.{option_and_then}
+use Rattle.std.specs.Option.{option_and_then, option_map}
+use Rattle.cli_profiles.specs.Generating.{generated_in}
+use Rattle.cli_profiles.specs.Profiles.{IsProfile}
+use Rattle.cli_profiles.specs.declared.profiles.PasswordProfile.{PasswordProfile}
+use Rattle.cli_profiles.proofs.Alphabets.{asked_profile, generated_profile}
 use Rattle.cli_words.specs.declared.command.Access.{Access}
+use Rattle.cli_words.specs.declared.command.Asked.{Asked}
 use Rattle.cli_words.specs.declared.command.Command.{Command}
+use Rattle.cli_words.specs.declared.command.Command.TheVariants.{Add, Edit}
 use Rattle.cli_saying.specs.declared.names.CommandName.{CommandName}
 use Rattle.cli_saying.specs.declared.names.CommandName.TheVariants as name
 use Rattle.cli_saying.specs.declared.forms.CommandOption.TheVariants as option
-use Rattle.cli_words.specs.Needs.{HasKey, HasKeys, asks_password, needs_of, target_access, without_sources}
+use Rattle.cli_words.specs.Needs.{HasKey, HasKeys, asks_password, generated_by, needs_of, target_access, without_sources}
 use Rattle.cli_saying.specs.Options.{command_named}
 use Rattle.cli_words.specs.declared.command.ExportFormat.{ExportFormat}
 use Rattle.cli_words.specs.declared.command.ImportFormat.{ImportFormat}
 use Rattle.cli_saying.specs.Credentials.{is_fit, is_fit_from, is_fit_new, is_whole}
 use Rattle.cli_saying.specs.Said.{Said, is_due, is_given, nothing_said, text_of, with_words}
-use Rattle.cli_words.specs.Words.{access_from, access_new, access_of, access_source, add_at, command_at, command_by, command_in, command_saying, edit_at, export_as, export_at, format_asked, has_change, import_as, import_at, import_format_asked, import_from, info_at, is_mergeable, list_at, make_group_at, merge_at, merge_of, move_at, remove_at, remove_group_at, search_at, show_at}
+use Rattle.cli_words.specs.Words.{access_from, access_new, access_of, access_source, add_at, asked_of, asked_with, command_at, command_by, command_in, command_saying, edit_at, edit_of, export_as, export_at, format_asked, has_change, import_as, import_at, import_format_asked, import_from, info_at, is_fit_show, is_mergeable, list_at, make_group_at, merge_at, merge_of, move_at, profile_at, profile_by, profile_of, profile_saying, remove_at, remove_group_at, search_at, show_at}
 
--- What a command opens has keys, and so has what it shows or writes.
+-- What a command opens has keys, and so has what it shows or writes; and a password that it
+-- generates can be chosen.
 abbrev IsKeyed : Command → Type 0
-IsKeyed command = HasKeys (needs_of command) × HasKey (target_access command)
+IsKeyed command =
+    HasKeys (needs_of command) × HasKey (target_access command) × IfSome (generated_by command) IsProfile
 
 -- The command, if there is one, has keys.
 abbrev IfKey : Option Command → Type 0
@@ -74,8 +83,8 @@ opened access h file has_line = record { target = h; sources = h; same = λ e. r
 
 -- The same of what is said.
 alone : (said : Said) → AreKeys said → (file : List ℕ) (has_line : Bool)
-    → HasKeys (without_sources (access_of said) file has_line) × HasKey (access_of said)
-alone said h file has_line = (opened (access_of said) h.target file has_line, h.target)
+    → HasKeys (without_sources (access_of said) file has_line) × HasKey (access_of said) × Unit {0}
+alone said h file has_line = (opened (access_of said) h.target file has_line, h.target, tt)
 
 -- A command, if a test is met.
 if_key : (b : Bool) (r : Option Command) → IfKey r → IfKey (if b then r else None)
@@ -98,7 +107,7 @@ move_key said h a b c (d ∷ rest) = tt
 merge_key : (said : Said) → AreKeys said → (positions : List (List ℕ)) → IfKey (merge_at said positions)
 merge_key said h [] = tt
 merge_key said h (file ∷ sources) =
-    if_key (is_mergeable (length sources)) (Some (merge_of said file sources)) (record { target = h.target; sources = h.from; same = h.same }, h.target)
+    if_key (is_mergeable (length sources)) (Some (merge_of said file sources)) (record { target = h.target; sources = h.from; same = h.same }, h.target, tt)
 
 export_key : (said : Said) → AreKeys said → (file : List ℕ) (format : Option ExportFormat) → IfKey (export_as said file format)
 export_key said h file None = tt
@@ -124,18 +133,38 @@ import_key said source file (Some format) = by (is_fit_new said) refl
     by true e = (
       opened (access_source said format) (source_key said format) source (asks_password (access_new said)),
       λ p n. new_key (is_given option.Plain said) (is_given option.SetPassword said) (is_given option.SetKeyFile said) e p n,
+      tt,
     )
+
+-- A command by the values that an entry is to have.
+asked_key : (F : Asked → Command) → ((asked : Asked) → IfSome asked.generated IsProfile → IsKeyed (F asked)) → (said : Said)
+    → IfKey (option_map F (asked_of said))
+asked_key F h said = by (generated_in said) (generated_profile said)
+  where
+    by : (generated : Option (Option PasswordProfile)) → IfSome generated (λ profile. IfSome profile IsProfile)
+        → IfKey (option_map F (option_map (asked_with said) generated))
+    by None g = tt
+    by (Some generated) g = h (asked_with said generated) g
+
+add_key : (said : Said) → AreKeys said → (file entry : List ℕ) → IfKey (add_at said (file ∷ entry ∷ []))
+add_key said h file entry =
+    asked_key (Add (access_of said) file entry)
+    (λ asked generated. (opened (access_of said) h.target file asked.password, h.target, generated)) said
+
+edit_key : (said : Said) → AreKeys said → (file entry : List ℕ) → IfKey (edit_of said file entry)
+edit_key said h file entry =
+    asked_key (Edit (access_of said) file entry)
+    (λ asked generated. (record { target = h.target; sources = h.target; same = λ e. refl }, h.target, generated)) said
 
 command_key : (command : CommandName) (said : Said) → AreKeys said → (positions : List (List ℕ)) → IfKey (command_at command said positions)
 command_key name.Ls said h =
     by_positions (list_at said) tt (λ a. alone said h a false) (λ a b. alone said h a false) (λ a b c r. tt)
-command_key name.Show said h = by_positions (show_at said) tt (λ a. tt) (λ a b. alone said h a false) (λ a b c r. tt)
+command_key name.Show said h =
+    by_positions (show_at said) tt (λ a. tt) (λ a b. if_key (is_fit_show said) _ (alone said h a false)) (λ a b c r. tt)
 command_key name.Search said h = by_positions (search_at said) tt (λ a. tt) (λ a b. alone said h a false) (λ a b c r. tt)
-command_key name.Add said h =
-    by_positions (add_at said) tt (λ a. tt) (λ a b. alone said h a (is_given option.EntryPassword said)) (λ a b c r. tt)
+command_key name.Add said h = by_positions (add_at said) tt (λ a. tt) (add_key said h) (λ a b c r. tt)
 command_key name.Edit said h =
-    by_positions (edit_at said) tt (λ a. tt)
-    (λ a b. if_key (has_change said) _ (alone said h a (is_given option.EntryPassword said))) (λ a b c r. tt)
+    by_positions (edit_at said) tt (λ a. tt) (λ a b. if_key (has_change said) _ (edit_key said h a b)) (λ a b c r. tt)
 command_key name.Move said h = by_positions (move_at said) tt (λ a. tt) (λ a b. tt) (move_key said h)
 command_key name.Remove said h = by_positions (remove_at said) tt (λ a. tt) (λ a b. alone said h a false) (λ a b c r. tt)
 command_key name.MakeGroup said h = by_positions (make_group_at said) tt (λ a. tt) (λ a b. alone said h a false) (λ a b c r. tt)
@@ -147,6 +176,7 @@ command_key name.Import said h =
 command_key name.Export said h =
     by_positions (export_at said) tt (λ a. export_key said h a (format_asked (text_of option.Format said))) (λ a b. tt) (λ a b c r. tt)
 command_key name.Info said h = by_positions (info_at said) tt (λ a. alone said h a false) (λ a b. tt) (λ a b c r. tt)
+command_key name.Generate said h = λ positions. tt
 
 saying_key : (command : CommandName) (said : Said) → IfKey (command_saying command said)
 saying_key command said = by (is_whole said) refl
@@ -174,3 +204,33 @@ has_key words command h = (subst IfKey h (words_key words)).0
 -- What it shows or writes has a key too.
 pub has_target_key : (words : List (List ℕ)) (command : Command) → command_in words ≡ Some command → HasKey (target_access command)
 has_target_key words command h = (subst IfKey h (words_key words)).1
+
+-- A password that it generates can be chosen.
+pub has_profile : (words : List (List ℕ)) (command : Command) → command_in words ≡ Some command → IfSome (generated_by command) IsProfile
+has_profile words command h = (subst IfKey h (words_key words)).2
+
+-- A profile that is asked for is one.
+profile_here : (command : CommandName) (said : Said) (positions : List (List ℕ)) → IfSome (profile_at command said positions) IsProfile
+profile_here name.Generate said [] = asked_profile said
+profile_here name.Generate said (a ∷ positions) = tt
+profile_here command said positions = tt
+
+profile_said : (command : CommandName) (said : Said) → IfSome (profile_saying command said) IsProfile
+profile_said command said = by (is_whole said)
+  where
+    by : (b : Bool) → IfSome (if b then profile_at command said said.positions else None) IsProfile
+    by true = profile_here command said said.positions
+    by false = tt
+
+-- A step more.
+then_profile : {A : Type 0} (F : A → Option PasswordProfile) → ((a : A) → IfSome (F a) IsProfile) → (o : Option A)
+    → IfSome (option_and_then F o) IsProfile
+then_profile F h None = tt
+then_profile F h (Some a) = h a
+
+pub profile_in_order : (words : List (List ℕ)) → IfSome (profile_of words) IsProfile
+profile_in_order [] = tt
+profile_in_order (word ∷ words) =
+    then_profile (profile_by words)
+    (λ command. then_profile (profile_saying command) (profile_said command) (with_words command words nothing_said))
+    (command_named word)

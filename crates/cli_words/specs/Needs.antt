@@ -1,14 +1,15 @@
 -- What a command asks for.
 use Rattle.std.specs.Prelude.{◌≡◌, ℕ, Bool, false, true, IsSome, ◌&&◌, ◌||◌, not, List, [], ◌∷◌, ◌++◌, Option, None, Some, Result, Ok, Err}
 use Rattle.cli_answers.specs.declared.answers.Refusal.{Refusal}
+use Rattle.cli_profiles.specs.declared.profiles.PasswordProfile.{PasswordProfile}
 use Rattle.cli_words.specs.declared.command.Access.{Access}
 use Rattle.cli_words.specs.declared.command.Command.{Command}
 use Rattle.cli_words.specs.declared.command.Command.TheVariants.{Ls, Show, Search, Add, Edit, Move, Remove, MakeGroup, RemoveGroup, Merge, Import, Export, Info}
 use Rattle.cli_words.specs.declared.command.ImportFormat.{ImportFormat}
 
 -- What a command asks for: the file of its database and how it is opened; the files of its sources,
--- how each is opened, and whether each has the password of the database; and whether a line of the
--- input is due after those that open databases.
+-- how each is opened, and whether each has the password of the database; whether a line of the input
+-- is due after those that open databases; and whether one more, a one-time code, is due after it.
 pub record Needs : Type 0 where
   pub access : Access
   pub file : List ℕ
@@ -16,6 +17,7 @@ pub record Needs : Type 0 where
   pub same : Bool
   pub sources : List (List ℕ)
   pub has_line : Bool
+  pub has_otp : Bool
 
 -- What a command asks for that has no sources.
 abbrev pub without_sources : Access → List ℕ → Bool → Needs
@@ -26,6 +28,7 @@ without_sources access file has_line = record {
   same = false;
   sources = [];
   has_line = has_line;
+  has_otp = false;
 }
 
 -- A database asks for a line: its password, unless it is a plain document or has none.
@@ -36,10 +39,12 @@ asks_password access = not (access.plain || access.no_password)
 -- the source's is the password of the new database.
 abbrev pub needs_of : Command → Needs
 needs_of (Ls access file group recursive flat) = without_sources access file false
-needs_of (Show access file entry clear all attachments names) = without_sources access file false
+needs_of (Show access file entry clear all attachments names totp) =
+    without_sources access file false
 needs_of (Search access file term) = without_sources access file false
 needs_of (Add access file entry asked) = without_sources access file asked.password
-needs_of (Edit access file entry asked) = without_sources access file asked.password
+needs_of (Edit access file entry asked) =
+    record (without_sources access file asked.password) { has_otp = asked.otp }
 needs_of (Move access file node group) = without_sources access file false
 needs_of (Remove access file entry) = without_sources access file false
 needs_of (MakeGroup access file group) = without_sources access file false
@@ -51,11 +56,18 @@ needs_of (Merge access file sources from same dry) = record {
   same = same;
   sources = sources;
   has_line = false;
+  has_otp = false;
 }
 needs_of (Import access format source from file) =
     without_sources from source (asks_password access)
 needs_of (Export access format file) = without_sources access file false
 needs_of (Info access file) = without_sources access file false
+
+-- How the password of an entry is generated, where a command asks for that.
+abbrev pub generated_by : Command → Option PasswordProfile
+generated_by (Add access file entry asked) = asked.generated
+generated_by (Edit access file entry asked) = asked.generated
+generated_by command = None
 
 -- What an import asks for beside what its source is opened by: the format and the file of the
 -- source, and the file of the new database and how that is opened afterwards.
@@ -113,7 +125,8 @@ pub record HasKeys (needs : Needs) : Type 0 where
 -- A line is asked for: by the database, by each of its sources, or after them.
 abbrev pub asks_line : Needs → Bool
 asks_line needs =
-    asks_password needs.access || (asks_passwords_from needs || needs.has_line)
+    asks_password needs.access
+    || (asks_passwords_from needs || (needs.has_line || needs.has_otp))
 
 -- The key file, where one is named.
 abbrev pub key_files : Option (List ℕ) → List (List ℕ)

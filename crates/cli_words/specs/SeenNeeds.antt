@@ -13,6 +13,7 @@ needs_seen needs = record {
   same = needs.same;
   sources = needs.sources.now;
   has_line = needs.has_line;
+  has_otp = needs.has_otp;
 }
 
 -- what an import asks for without the loans

@@ -1,9 +1,12 @@
 -- Which command the words of a call are.
-use Rattle.std.specs.Prelude.{ℕ, Bool, true, false, not, ◌&&◌, ◌||◌, ◌==◌, nat_lt, if◌then◌else◌, length, List, [], ◌∷◌, codes, Option, None, Some, Result, Ok, Err, option_and_then}
+use Rattle.std.specs.Prelude.{ℕ, Bool, true, false, not, ◌&&◌, ◌||◌, ◌==◌, nat_lt, if◌then◌else◌, length, List, [], ◌∷◌, codes, Option, None, Some, Result, Ok, Err, option_and_then, option_map}
 use Rattle.std.specs.Str.{bytes_eq}
 use Rattle.cli_answers.specs.declared.answers.Reason.TheVariants.{WrongWords}
 use Rattle.cli_answers.specs.declared.answers.Refusal.{Refusal}
 use Rattle.cli_answers.specs.Messages.{refusal_of}
+use Rattle.cli_profiles.specs.Generating.{generated_in}
+use Rattle.cli_profiles.specs.Profiles.{profile_in}
+use Rattle.cli_profiles.specs.declared.profiles.PasswordProfile.{PasswordProfile}
 use Rattle.cli_words.specs.declared.command.Access.{Access}
 use Rattle.cli_words.specs.declared.command.Asked.{Asked}
 use Rattle.cli_words.specs.declared.command.Command.{Command}
@@ -48,21 +51,28 @@ access_new said = record {
   no_password = not (is_given option.Plain said || is_given option.SetPassword said);
 }
 
--- The values that an entry is to have.
-abbrev pub asked_of : Said → Asked
-asked_of said = record {
+-- The values that an entry is to have, with its password generated so, where it is.
+abbrev pub asked_with : Said → Option PasswordProfile → Asked
+asked_with said generated = record {
   title = text_of option.Title said;
   user = text_of option.User said;
   url = text_of option.Url said;
   notes = text_of option.Notes said;
   password = is_given option.EntryPassword said;
+  generated = generated;
+  otp = is_given option.Otp said;
 }
+
+-- The values that an entry is to have, if what is said of its password fits together.
+abbrev pub asked_of : Said → Option Asked
+asked_of said = option_map (asked_with said) (generated_in said)
 
 -- At least one value of an entry is given.
 abbrev pub has_change : Said → Bool
 has_change said =
     is_given option.Title said || is_given option.User said || is_given option.Url said
     || is_given option.Notes said || is_given option.EntryPassword said
+    || is_given option.Generate said || is_given option.Otp said
 
 -- The format of a name.
 abbrev pub format_named : List ℕ → Option ExportFormat
@@ -115,11 +125,21 @@ list_at said (file ∷ []) = Some (list_of said file None)
 list_at said (file ∷ group ∷ []) = Some (list_of said file (Some group))
 list_at said positions = None
 
+-- A one-time code is shown alone or beside fields that are named.
+abbrev pub is_fit_show : Said → Bool
+is_fit_show said = not (is_given option.Totp said
+    && (is_given option.All said || is_given option.Attachments said))
+
+-- What is shown of a file's entry.
+abbrev pub show_of : Said → List ℕ → List ℕ → Command
+show_of said file entry =
+    Show (access_of said) file entry (is_given option.Clear said) (is_given option.All said)
+    (is_given option.Attachments said) said.names (is_given option.Totp said)
+
 -- `show DATABASE ENTRY`
 abbrev pub show_at : Said → List (List ℕ) → Option Command
-show_at said (file ∷ entry ∷ []) = Some (Show (access_of said) file entry
-    (is_given option.Clear said) (is_given option.All said) (is_given option.Attachments said)
-    said.names)
+show_at said (file ∷ entry ∷ []) =
+    if is_fit_show said then Some (show_of said file entry) else None
 show_at said positions = None
 
 -- `search DATABASE TERM`
@@ -129,17 +149,16 @@ search_at said positions = None
 
 -- `add DATABASE ENTRY`
 abbrev pub add_at : Said → List (List ℕ) → Option Command
-add_at said (file ∷ entry ∷ []) = Some (Add (access_of said) file entry (asked_of said))
+add_at said (file ∷ entry ∷ []) = option_map (Add (access_of said) file entry) (asked_of said)
 add_at said positions = None
 
 -- The change of a file's entry.
-abbrev pub edit_of : Said → List ℕ → List ℕ → Command
-edit_of said file entry = Edit (access_of said) file entry (asked_of said)
+abbrev pub edit_of : Said → List ℕ → List ℕ → Option Command
+edit_of said file entry = option_map (Edit (access_of said) file entry) (asked_of said)
 
 -- `edit DATABASE ENTRY`, if a value is given
 abbrev pub edit_at : Said → List (List ℕ) → Option Command
-edit_at said (file ∷ entry ∷ []) =
-    if has_change said then Some (edit_of said file entry) else None
+edit_at said (file ∷ entry ∷ []) = if has_change said then edit_of said file entry else None
 edit_at said positions = None
 
 -- `mv DATABASE NODE GROUP`
@@ -210,6 +229,10 @@ abbrev pub info_at : Said → List (List ℕ) → Option Command
 info_at said (file ∷ []) = Some (Info (access_of said) file)
 info_at said positions = None
 
+-- `generate` has no database, and is none of the commands that have one: see `profile_of`.
+abbrev pub no_command_at : Said → List (List ℕ) → Option Command
+no_command_at said positions = None
+
 -- The command of this name with these positions, if it takes so many.
 abbrev pub command_at : CommandName → Said → List (List ℕ) → Option Command
 command_at name.Ls = list_at
@@ -225,6 +248,7 @@ command_at name.Merge = merge_at
 command_at name.Import = import_at
 command_at name.Export = export_at
 command_at name.Info = info_at
+command_at name.Generate = no_command_at
 
 -- The command of this name whose other words say this.
 abbrev pub command_saying : CommandName → Said → Option Command
@@ -250,3 +274,24 @@ or_wrong_words None = Err (refusal_of WrongWords (codes "words"))
 -- The command that the words are.
 abbrev pub command_of : List (List ℕ) → Result Command Refusal
 command_of words = or_wrong_words (command_in words)
+
+-- The profile that `generate` asks for, which has no positions; other commands ask for none.
+abbrev pub profile_at : CommandName → Said → List (List ℕ) → Option PasswordProfile
+profile_at name.Generate said [] = profile_in said
+profile_at command said positions = None
+
+-- The profile that the command of this name asks for whose other words say this.
+abbrev pub profile_saying : CommandName → Said → Option PasswordProfile
+profile_saying command said =
+    if is_whole said then profile_at command said said.positions else None
+
+-- The profile that the command of this name asks for with these words after it.
+abbrev pub profile_by : List (List ℕ) → CommandName → Option PasswordProfile
+profile_by words command =
+    option_and_then (profile_saying command) (with_words command words nothing_said)
+
+-- How the password is generated that the words ask for: `generate`, and then its options in any
+-- order.
+abbrev pub profile_of : List (List ℕ) → Option PasswordProfile
+profile_of [] = None
+profile_of (word ∷ words) = option_and_then (profile_by words) (command_named word)

@@ -1,5 +1,6 @@
 //! What the program can be asked to do.
 
+use cli_profiles::PasswordProfile;
 use outside_core::{List, Text};
 
 /// How a database is opened.
@@ -28,6 +29,10 @@ pub struct Asked {
     pub notes: Option<Text>,
     /// Whether its password is a line of the input.
     pub password: bool,
+    /// How its password is generated, where it is.
+    pub generated: Option<PasswordProfile>,
+    /// Whether its one-time code is a line of the input.
+    pub otp: bool,
 }
 
 /// The format that a database is written in for another program.
@@ -82,6 +87,8 @@ pub enum Command {
         attachments: bool,
         /// The names of the fields that alone are shown, where any is named.
         names: List<Text>,
+        /// Whether its one-time code is shown.
+        totp: bool,
     },
     /// Lists the entries of a database that match the terms of a search.
     Search {

@@ -1,13 +1,17 @@
 //! The command that words are.
-ghost use Rattle.std.specs.Prelude.{◌≡◌, IfErr, IfOk, map, string_bytes};
+ghost use Rattle.std.specs.Prelude.{◌≡◌, IfErr, IfOk, IfSome, map, string_bytes};
 ghost use Rattle.cli_answers.specs.Phases.{IsWordsStop, Returns};
-ghost use Rattle.cli_words.specs.Needs.{HasKey, HasKeys, needs_of, target_access};
+ghost use Rattle.cli_profiles.specs.Profiles.{IsProfile};
+ghost use Rattle.cli_words.specs.Needs.{HasKey, HasKeys, generated_by, needs_of, target_access};
+ghost use Rattle.cli_saying.specs.declared.forms.CommandOption.TheVariants as option;
+ghost use Rattle.cli_saying.specs.Said.{text_of};
 ghost use Rattle.cli_saying.specs.SaidWords.{Gives, said_seen, text_seen};
 ghost use Rattle.cli_words.specs.Words as spec;
 ghost use Rattle.cli_words.specs.Words.{command_of};
 
 use crate::command::{Access, Asked, Command, ExportFormat, ImportFormat};
 use cli_answers::{Reason, Stop, refused};
+use cli_profiles::generated_in;
 use cli_saying::{
     CommandName, CommandOption, SaidWords, WordsFail, add_words, command_named, copies_of, copy_of,
     empty_state, is_fit_new, is_given, is_whole, no_texts, text_of,
@@ -18,8 +22,8 @@ use std::alloc::Global;
 /// The most sources of a merge.
 const SOURCES: usize = 16;
 
-// Reports whether at least one value of an entry is given.
-fn has_change(said: &SaidWords<'_, '_>) -> bool
+/// Reports whether at least one value of an entry is given.
+pub fn has_change(said: &SaidWords<'_, '_>) -> bool
     ensures { result ≡ spec.has_change (said_seen said.now) }
 {
     is_given(said, CommandOption::Title)
@@ -27,6 +31,8 @@ fn has_change(said: &SaidWords<'_, '_>) -> bool
         || is_given(said, CommandOption::Url)
         || is_given(said, CommandOption::Notes)
         || is_given(said, CommandOption::EntryPassword)
+        || is_given(said, CommandOption::Generate)
+        || is_given(said, CommandOption::Otp)
 }
 
 // How a database is opened.
@@ -81,9 +87,21 @@ fn access_source(said: &SaidWords<'_, '_>, format: ImportFormat) -> Access
     }
 }
 
-// The values that an entry is to have.
-fn asked_of(alloc: Global, said: &SaidWords<'_, '_>) -> Result<Asked, NoMemory>
-    ensures { IfOk result (λ asked. asked ≡ spec.asked_of (said_seen said.now)) }
+// The texts that an entry is to have.
+#[derive(Drop)]
+struct AskedTexts {
+    title: Option<Text>,
+    user: Option<Text>,
+    url: Option<Text>,
+    notes: Option<Text>,
+}
+
+// The texts that an entry is to have.
+fn asked_texts(alloc: Global, said: &SaidWords<'_, '_>) -> Result<AskedTexts, NoMemory>
+    ensures title { IfOk result (λ t. t.title ≡ text_of option.Title (said_seen said.now)) }
+    ensures user { IfOk result (λ t. t.user ≡ text_of option.User (said_seen said.now)) }
+    ensures url { IfOk result (λ t. t.url ≡ text_of option.Url (said_seen said.now)) }
+    ensures notes { IfOk result (λ t. t.notes ≡ text_of option.Notes (said_seen said.now)) }
 {
     let title = copy_of(alloc, text_of(said, CommandOption::Title))?;
     let user = match copy_of(alloc, text_of(said, CommandOption::User)) {
@@ -102,17 +120,38 @@ fn asked_of(alloc: Global, said: &SaidWords<'_, '_>) -> Result<Asked, NoMemory>
         }
     };
     match copy_of(alloc, text_of(said, CommandOption::Notes)) {
-        Ok(notes) => Ok(Asked {
+        Ok(notes) => Ok(AskedTexts {
             title,
             user,
             url,
             notes,
-            password: is_given(said, CommandOption::EntryPassword),
         }),
         Err(fail) => {
             drop(title);
             drop(user);
             drop(url);
+            Err(fail)
+        }
+    }
+}
+
+// The values that an entry is to have.
+fn asked_of(alloc: Global, said: &SaidWords<'_, '_>) -> Result<Asked, WordsFail>
+    ensures { Gives (λ asked. asked) result (spec.asked_of (said_seen said.now)) }
+{
+    let texts = asked_texts(alloc, said)?;
+    match generated_in(alloc, said) {
+        Ok(generated) => Ok(Asked {
+            title: texts.title,
+            user: texts.user,
+            url: texts.url,
+            notes: texts.notes,
+            password: is_given(said, CommandOption::EntryPassword),
+            generated,
+            otp: is_given(said, CommandOption::Otp),
+        }),
+        Err(fail) => {
+            drop(texts);
             Err(fail)
         }
     }
@@ -264,14 +303,24 @@ fn list_at(alloc: Global, said: &SaidWords<'_, '_>) -> Result<Command, WordsFail
     }
 }
 
-// The command `show` at these positions.
-fn show_at(alloc: Global, said: &SaidWords<'_, '_>) -> Result<Command, WordsFail>
-    ensures { Gives (λ command. command) result
-        (spec.show_at (said_seen said.now) said.now.positions.now) }
+// Reports whether what is to be shown goes together.
+fn is_fit_show(said: &SaidWords<'_, '_>) -> bool
+    ensures { result ≡ spec.is_fit_show (said_seen said.now) }
 {
-    let [file, entry] = said.positions else {
-        return Err(WordsFail::Wrong);
-    };
+    !(is_given(said, CommandOption::Totp)
+        && (is_given(said, CommandOption::All) || is_given(said, CommandOption::Attachments)))
+}
+
+// The command `show` of a file's entry.
+fn show_of(
+    alloc: Global,
+    said: &SaidWords<'_, '_>,
+    file: &Text,
+    entry: &Text,
+) -> Result<Command, NoMemory>
+    ensures { IfOk result (λ command. command
+        ≡ spec.show_of (said_seen said.now) file.now entry.now) }
+{
     let both = base_and_path(alloc, said, file, entry)?;
     match copies_of(alloc, said.names) {
         Ok(names) => Ok(Command::Show {
@@ -282,11 +331,23 @@ fn show_at(alloc: Global, said: &SaidWords<'_, '_>) -> Result<Command, WordsFail
             all: is_given(said, CommandOption::All),
             attachments: is_given(said, CommandOption::Attachments),
             names,
+            totp: is_given(said, CommandOption::Totp),
         }),
         Err(fail) => {
             drop(both);
-            Err(WordsFail::from(fail))
+            Err(fail)
         }
+    }
+}
+
+// The command `show` at these positions.
+fn show_at(alloc: Global, said: &SaidWords<'_, '_>) -> Result<Command, WordsFail>
+    ensures { Gives (λ command. command) result
+        (spec.show_at (said_seen said.now) said.now.positions.now) }
+{
+    match said.positions {
+        [file, entry] if is_fit_show(said) => Ok(show_of(alloc, said, file, entry)?),
+        _ => Err(WordsFail::Wrong),
     }
 }
 
@@ -324,7 +385,7 @@ fn add_at(alloc: Global, said: &SaidWords<'_, '_>) -> Result<Command, WordsFail>
         }),
         Err(fail) => {
             drop(both);
-            Err(WordsFail::from(fail))
+            Err(fail)
         }
     }
 }
@@ -335,9 +396,9 @@ fn edit_of(
     said: &SaidWords<'_, '_>,
     file: &Text,
     entry: &Text,
-) -> Result<Command, NoMemory>
-    ensures { IfOk result (λ command. command
-        ≡ spec.edit_of (said_seen said.now) file.now entry.now) }
+) -> Result<Command, WordsFail>
+    ensures { Gives (λ command. command) result
+        (spec.edit_of (said_seen said.now) file.now entry.now) }
 {
     let both = base_and_path(alloc, said, file, entry)?;
     match asked_of(alloc, said) {
@@ -360,7 +421,7 @@ fn edit_at(alloc: Global, said: &SaidWords<'_, '_>) -> Result<Command, WordsFail
         (spec.edit_at (said_seen said.now) said.now.positions.now) }
 {
     match said.positions {
-        [file, entry] if has_change(said) => { Ok(edit_of(alloc, said, file, entry)?) }
+        [file, entry] if has_change(said) => edit_of(alloc, said, file, entry),
         _ => Err(WordsFail::Wrong),
     }
 }
@@ -585,6 +646,7 @@ fn command_at(
         CommandName::Import => import_at(alloc, said),
         CommandName::Export => export_at(alloc, said),
         CommandName::Info => info_at(alloc, said),
+        CommandName::Generate => Err(WordsFail::Wrong),
     }
 }
 
@@ -645,6 +707,7 @@ pub fn read_words(alloc: Global, words: &[String]) -> Result<Command, Stop>
     ensures told { Returns (λ command. command) result (command_of (map string_bytes words.now)) }
     ensures has_key { IfOk result (λ command. HasKeys (needs_of command)) }
     ensures has_target_key { IfOk result (λ command. HasKey (target_access command)) }
+    ensures has_profile { IfOk result (λ command. IfSome (generated_by command) IsProfile) }
     ensures cause { IfErr result IsWordsStop }
 {
     match command_in(alloc, words) {

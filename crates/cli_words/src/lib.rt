@@ -5,10 +5,12 @@ mod command;
 mod commands;
 pub mod laws;
 mod needs;
+mod profiles;
 
 pub use command::{Access, Asked, Command, ExportFormat, ImportFormat};
-pub use commands::read_words;
+pub use commands::{has_change, read_words};
 pub use needs::{
-    ImportNeeds, Needs, asks_password, asks_passwords_from, import_of, needs_of, target_access,
-    target_of,
+    ImportNeeds, Needs, asks_password, asks_passwords_from, generated_by, import_of, needs_of,
+    target_access, target_of,
 };
+pub use profiles::read_profile;

@@ -1,13 +1,15 @@
 //! What a command asks for.
 ghost use Rattle.std.specs.Prelude.{◌≡◌};
+ghost use Rattle.std.specs.Option.{option_copied};
 ghost use Rattle.cli_words.specs.Needs as spec;
 ghost use Rattle.cli_words.specs.SeenNeeds.{import_seen, imports_seen, needs_seen};
 
 use crate::command::{Access, Command, ImportFormat};
+use cli_profiles::PasswordProfile;
 use outside_core::Text;
 
 /// What a command asks for: the file of its database and how it is opened, the files of its sources
-/// and how each is opened, and whether a line of the input is due after those that open them.
+/// and how each is opened, and which lines of the input are due after those that open them.
 #[derive(Clone, Copy)]
 pub struct Needs<'a> {
     /// How the database is opened.
@@ -22,6 +24,8 @@ pub struct Needs<'a> {
     pub sources: &'a [Text],
     /// Whether a line is due after those that open databases.
     pub has_line: bool,
+    /// Whether one more, a one-time code, is due after it.
+    pub has_otp: bool,
 }
 
 // What a command asks for that has no sources.
@@ -35,6 +39,7 @@ fn without_sources<'a>(access: &'a Access, file: &'a Text, has_line: bool) -> Ne
         same: false,
         sources: &[],
         has_line,
+        has_otp: false,
     }
 }
 
@@ -57,7 +62,15 @@ pub fn needs_of(command: &Command) -> Needs<'_>
             file,
             asked,
             ..
-        } => without_sources(access, file, asked.password),
+        } => Needs {
+            access,
+            file,
+            from: access,
+            same: false,
+            sources: &[],
+            has_line: asked.password,
+            has_otp: asked.otp,
+        },
         Command::Move { access, file, .. } => without_sources(access, file, false),
         Command::Remove { access, file, .. } => without_sources(access, file, false),
         Command::MakeGroup { access, file, .. } => without_sources(access, file, false),
@@ -76,6 +89,7 @@ pub fn needs_of(command: &Command) -> Needs<'_>
             same: *same,
             sources: sources.as_slice(),
             has_line: false,
+            has_otp: false,
         },
         Command::Import {
             access,
@@ -85,6 +99,17 @@ pub fn needs_of(command: &Command) -> Needs<'_>
         } => without_sources(from, source, asks_password(access)),
         Command::Export { access, file, .. } => without_sources(access, file, false),
         Command::Info { access, file, .. } => without_sources(access, file, false),
+    }
+}
+
+/// How the password of an entry is generated, where a command asks for that.
+pub fn generated_by(command: &Command) -> Option<&PasswordProfile>
+    ensures { option_copied result ≡ spec.generated_by command.now }
+{
+    match command {
+        Command::Add { asked, .. } => asked.generated.as_ref(),
+        Command::Edit { asked, .. } => asked.generated.as_ref(),
+        _ => None,
     }
 }
 

@@ -33,3 +33,10 @@ loses gone before (Some rest) e = (
 pub next_alone : (n : ℕ) (bytes : List ℕ) → length bytes ≡ n → bytes ≡ next_bytes n bytes
 unfolding next_bytes
 next_alone n bytes l = sym (take-append-le n bytes (replicate n 0) (omega (arith, l)) ∙ take_all n bytes (omega (arith, l)))
+
+-- Bytes are the next ones of themselves and others after them.
+pub next_first : (n : ℕ) (bytes rest : List ℕ) → length bytes ≡ n → next_bytes n (bytes ++ rest) ≡ bytes
+unfolding next_bytes
+next_first n bytes rest l =
+    take-append-le n (bytes ++ rest) (replicate n 0) (omega (arith, l, length-append bytes rest))
+    ∙ take-append-le n bytes rest (omega (arith, l)) ∙ take_all n bytes (omega (arith, l))

@@ -13,17 +13,19 @@ use Rattle.tree_core.specs.After.{after_add, after_edit, after_make_group, after
 use Rattle.condition_laws.proofs.Succeeds.{add_succeeds, edit_succeeds, make_group_succeeds, move_entry_succeeds, move_group_succeeds, remove_entry_succeeds, remove_group_succeeds}
 use Rattle.agreed_laws.specs.Merges.{AreDocs}
 use Rattle.content_condition_laws.proofs.Merging.{merge_succeeds}
-use Rattle.content_condition_laws.proofs.Printing.{export_succeeds, search_succeeds, show_succeeds}
+use Rattle.content_condition_laws.proofs.Printing.{export_succeeds, search_succeeds, show_code_succeeds, show_succeeds}
 use Rattle.document_merge.specs.Merging.{merge_result}
 use Rattle.merge_changes.specs.Equality.{same_doc}
 use Rattle.kdbx_frame.specs.declared.settings.Settings.{Settings}
 use Rattle.kdbx_frame.specs.declared.sealings.Sealing.{Sealing}
 use Rattle.kdbx_seal.specs.Made.{made_file}
 use Rattle.cli_answers.specs.declared.answers.Refusal.{Refusal}
-use Rattle.cli_answers.specs.Phases.{after_left, then_left, with_left}
+use Rattle.cli_answers.specs.Phases.{StreamAnswer, after_left, then_left, with_left}
+use Rattle.cli_codes.specs.Codes.{code_refusal}
+use Rattle.cli_showing.specs.Showing.{code_shown, entry_shown}
 use Rattle.cli_words.specs.declared.command.Command.{Command}
 use Rattle.cli_words.specs.declared.command.Command.TheVariants.{Ls, Show, Search, Add, Edit, Move, Remove, MakeGroup, RemoveGroup, Merge, Import, Export, Info}
-use Rattle.cli_words.specs.Needs.{import_of, target_of}
+use Rattle.cli_words.specs.Needs.{generated_by, import_of, target_of}
 use Rattle.cli_printing.specs.Listing.{tree_listed}
 use Rattle.cli_writing.specs.Writing.{file_or_refusal}
 use Rattle.cli_sealing.specs.Draws.{after_draws, draws_of}
@@ -31,11 +33,11 @@ use Rattle.cli_sealing.specs.Sealing.{file_by, file_unless, settings_for}
 use Rattle.cli_changes.specs.Entries.{AfterCommand, after_add_command, after_edit_command, time_of, values_of, with_edited_at, with_entry_at}
 use Rattle.cli_changes.specs.Fails.{change_or_refusal}
 use Rattle.cli_changes.specs.Nodes.{after_entry_move, after_group_move, after_mkdir, after_rm, after_rmdir, names_group, with_entry_moved_at, with_group_at, with_group_moved_at, without_entry_at, without_group_at}
-use Rattle.cli_commands.specs.Commands.{bin_id, change_with, drawn_id, listing_of, makes_node, merged_change, new_document, printed_text}
+use Rattle.cli_commands.specs.Commands.{Change, bin_id, change_by, change_with, drawn_id, listing_of, makes_node, merged_change, new_document, password_of, printed_text}
 use Rattle.cli_merging.specs.Merging.{after_merge, after_merged, changes_between, merged_or_refusal}
 use Rattle.call_carrying.specs.Endings.{carried_out, change_of_task, ended_with, ending_with, settings_in}
 use Rattle.keepass_call.proofs.TaskDocs.{task_docs}
-use Rattle.completeness_laws.specs.Conditions.{Answers, CanChange, CanMove, CommandsSucceed, ConditionsSuffice, FitsFile, id_for}
+use Rattle.completeness_laws.specs.Conditions.{Answers, CanChange, CanMove, CanShowEntry, CommandsSucceed, ConditionsSuffice, FitsFile, id_for}
 
 -- ---- commands that change the tree
 
@@ -80,9 +82,9 @@ module _ (time : ℕ) (within : time ≤ last_stamp) (file : List ℕ) (quiet : 
   listing_gives recursive flat None tree is = cc is
   listing_gives recursive flat (Some t) tree is = sure _
 
-gives_answers : (time : ℕ) (command : Command) (line : Option (List ℕ)) (sources : List BareDoc) (settings : Option Settings) (id : NodeId) (d : BareDoc) → Gives (change_with time command line sources settings id d)
-    → Answers time command line sources settings id d
-gives_answers time command line sources settings id d gives = record { change = gives.0; is = gives.1 }
+gives_answers : (time : ℕ) (command : Command) (line otp : Option (List ℕ)) (sources : List BareDoc) (settings : Option Settings) (id : NodeId) (d : BareDoc) → Gives (change_with time command line otp sources settings id d)
+    → Answers time command line otp sources settings id d
+gives_answers time command line otp sources settings id d gives = record { change = gives.0; is = gives.1 }
 
 -- what a command prints that writes nothing
 prints : (r : Result (List ℕ) Refusal) → Gives r → Gives (printed_text r)
@@ -94,46 +96,57 @@ unfolding after_merge
 merges file quiet dry names d sources gives =
     gives_so _ _ (ap (λ r. merged_change (merged_or_refusal file r >>= λ new. Ok (after_merged file quiet dry names d (not (same_doc d new)) new (changes_between d sources new)))) gives.1) (sure _)
 
+-- what `show` prints
+entry_gives : (file : List ℕ) (attachments totp : Bool) (path : List ℕ) (clear all : Bool) (names : List (List ℕ)) (now : ℕ) (d : BareDoc) → CanShowEntry totp path clear all names now d
+    → Gives (if totp then code_shown file names path now d else entry_shown file clear all attachments names path d)
+entry_gives file attachments true path clear all names now d can = show_code_succeeds file path names now d can
+entry_gives file attachments false path clear all names now d can = show_succeeds file path clear all attachments names d can
+
+-- what is not refused before it is looked for
+checked : (r : Result (Unit {0}) Refusal) (next : Result AfterCommand Refusal) → r ≡ Ok tt → Gives (new_document next) → Gives (new_document (r >>= λ _. next))
+checked r next is gives = (gives.0, ap (λ r. new_document (r >>= λ _. next)) is ∙ gives.1)
+
 pub commands_succeed : CommandsSucceed
 unfolding after_add_command after_edit_command after_mkdir after_rm after_rmdir
-commands_succeed time (Ls access file group recursive flat) line sources settings id d within docs can =
-    gives_answers time (Ls access file group recursive flat) line sources settings id d (listing_gives time within file access.quiet id d (docs d (inl refl)) recursive flat (tree_listed group d) can.0 can.1)
-commands_succeed time (Show access file entry clear all attachments names) line sources settings id d within docs can =
-    gives_answers time (Show access file entry clear all attachments names) line sources settings id d (prints _ (show_succeeds file entry clear all attachments names d can))
-commands_succeed time (Search access file term) line sources settings id d within docs can =
-    gives_answers time (Search access file term) line sources settings id d (prints _ (search_succeeds file term d can))
-commands_succeed time (Add access file entry asked) line sources settings id d within docs can =
-    gives_answers time (Add access file entry asked) line sources settings id d (reported (change_or_refusal file (with_entry_at entry id (values_of asked line) time d)) _
-    (at_moment file time (λ t. after_add entry id (values_of asked line) t d) within (add_succeeds entry id (values_of asked line) time d can)) (λ new. sure _))
-commands_succeed time (Edit access file entry asked) line sources settings id d within docs can =
-    gives_answers time (Edit access file entry asked) line sources settings id d (reported (change_or_refusal file (with_edited_at entry (values_of asked line) time d)) _
-    (at_moment file time (λ t. after_edit entry (values_of asked line) t d) within (edit_succeeds entry (values_of asked line) time d (docs d (inl refl)) can)) (λ new. sure _))
-commands_succeed time (Move access file node group) line sources settings id d within docs can =
-    gives_answers time (Move access file node group) line sources settings id d (move_gives time within file access.quiet id d (docs d (inl refl)) (names_group node) node group can)
-commands_succeed time (Remove access file entry) line sources settings id d within docs can =
-    gives_answers time (Remove access file entry) line sources settings id d (reported (change_or_refusal file (without_entry_at entry (bin_id id d) time d)) _
+commands_succeed time (Ls access file group recursive flat) line otp sources settings id d within docs can =
+    gives_answers time (Ls access file group recursive flat) line otp sources settings id d (listing_gives time within file access.quiet id d (docs d (inl refl)) recursive flat (tree_listed group d) can.0 can.1)
+commands_succeed time (Show access file entry clear all attachments names totp) line otp sources settings id d within docs can =
+    gives_answers time (Show access file entry clear all attachments names totp) line otp sources settings id d (prints _ (entry_gives file attachments totp entry clear all names time d can))
+commands_succeed time (Search access file term) line otp sources settings id d within docs can =
+    gives_answers time (Search access file term) line otp sources settings id d (prints _ (search_succeeds file term d can))
+commands_succeed time (Add access file entry asked) line otp sources settings id d within docs can =
+    gives_answers time (Add access file entry asked) line otp sources settings id d (reported (change_or_refusal file (with_entry_at entry id (values_of asked line None) time d)) _
+    (at_moment file time (λ t. after_add entry id (values_of asked line None) t d) within (add_succeeds entry id (values_of asked line None) time d can)) (λ new. sure _))
+commands_succeed time (Edit access file entry asked) line otp sources settings id d within docs can =
+    gives_answers time (Edit access file entry asked) line otp sources settings id d (checked (code_refusal file otp) _ can.code
+    (reported (change_or_refusal file (with_edited_at entry (values_of asked line otp) time d)) _
+    (at_moment file time (λ t. after_edit entry (values_of asked line otp) t d) within (edit_succeeds entry (values_of asked line otp) time d (docs d (inl refl)) can.entry)) (λ new. sure _)))
+commands_succeed time (Move access file node group) line otp sources settings id d within docs can =
+    gives_answers time (Move access file node group) line otp sources settings id d (move_gives time within file access.quiet id d (docs d (inl refl)) (names_group node) node group can)
+commands_succeed time (Remove access file entry) line otp sources settings id d within docs can =
+    gives_answers time (Remove access file entry) line otp sources settings id d (reported (change_or_refusal file (without_entry_at entry (bin_id id d) time d)) _
     (at_moment file time (λ t. after_remove_entry entry (bin_id id d) t d) within (remove_entry_succeeds entry (bin_id id d) time d (docs d (inl refl)) can)) (λ after. sure _))
-commands_succeed time (MakeGroup access file group) line sources settings id d within docs can =
-    gives_answers time (MakeGroup access file group) line sources settings id d (reported (change_or_refusal file (with_group_at group id time d)) _
+commands_succeed time (MakeGroup access file group) line otp sources settings id d within docs can =
+    gives_answers time (MakeGroup access file group) line otp sources settings id d (reported (change_or_refusal file (with_group_at group id time d)) _
     (at_moment file time (λ t. after_make_group group id t d) within (make_group_succeeds group id time d can)) (λ new. sure _))
-commands_succeed time (RemoveGroup access file group) line sources settings id d within docs can =
-    gives_answers time (RemoveGroup access file group) line sources settings id d (reported (change_or_refusal file (without_group_at group (bin_id id d) time d)) _
+commands_succeed time (RemoveGroup access file group) line otp sources settings id d within docs can =
+    gives_answers time (RemoveGroup access file group) line otp sources settings id d (reported (change_or_refusal file (without_group_at group (bin_id id d) time d)) _
     (at_moment file time (λ t. after_remove_group group (bin_id id d) t d) within
     (remove_group_succeeds group (bin_id id d) time d (bin_given time within file access.quiet id d (docs d (inl refl)) (needs_bin d)) can)) (λ after. sure _))
-commands_succeed time (Merge access file names from same dry) line sources settings id d within docs can =
-    gives_answers time (Merge access file names from same dry) line sources settings id d (merges file access.quiet dry names d sources (merge_succeeds d sources docs can))
-commands_succeed time (Import access format source from file) line sources settings id d within docs can =
-    gives_answers time (Import access format source from file) line sources settings id d (sure _)
-commands_succeed time (Export access format file) line sources settings id d within docs can =
-    gives_answers time (Export access format file) line sources settings id d (prints _ (export_succeeds file format d can))
-commands_succeed time (Info access file) line sources settings id d within docs can =
-    gives_answers time (Info access file) line sources settings id d (sure _)
+commands_succeed time (Merge access file names from same dry) line otp sources settings id d within docs can =
+    gives_answers time (Merge access file names from same dry) line otp sources settings id d (merges file access.quiet dry names d sources (merge_succeeds d sources docs can))
+commands_succeed time (Import access format source from file) line otp sources settings id d within docs can =
+    gives_answers time (Import access format source from file) line otp sources settings id d (sure _)
+commands_succeed time (Export access format file) line otp sources settings id d within docs can =
+    gives_answers time (Export access format file) line otp sources settings id d (prints _ (export_succeeds file format d can))
+commands_succeed time (Info access file) line otp sources settings id d within docs can =
+    gives_answers time (Info access file) line otp sources settings id d (sure _)
 
 -- ---- calls
 
-id_answer : {A : Type 0} (b : Bool) (next : NodeId → Result A Refusal) (dice : List ℕ) → (then_left (drawn_id b dice) (λ id left. with_left (next id) left)).answer ≡ next (id_for b dice)
-id_answer true next dice = refl
-id_answer false next dice = refl
+id_drawn : {A : Type 0} (b : Bool) (next : NodeId → List ℕ → StreamAnswer A) (dice : List ℕ) → then_left (drawn_id b dice) next ≡ next (id_for b dice) (drawn_id b dice).left
+id_drawn true next dice = refl
+id_drawn false next dice = refl
 
 -- what is written where a document fits its file
 written_gives : (name text : List ℕ) (sealing : Option Sealing) (d : BareDoc) (dice : List ℕ) → FitsFile sealing d dice → Gives (ended_with name sealing text (Some d) dice).answer
@@ -151,22 +164,22 @@ ended_gives name text sealing None dice fits = sure _
 ended_gives name text sealing (Some d) dice fits = written_gives name text sealing d dice (fits d refl)
 
 -- the commands that open their database have a document; an import does not ask for it
-answers : (time : ℕ) (command : Command) (line : Option (List ℕ)) (sources : List BareDoc) (settings : Option Settings) (id : NodeId) (d : BareDoc) → time ≤ last_stamp → (import_of command ≡ None → AreDocs (d ∷ sources))
-    → CanChange time command line sources settings id d → Answers time command line sources settings id d
-answers time (Import access format source from file) line sources settings id d within isd can =
-    gives_answers time (Import access format source from file) line sources settings id d (sure _)
-answers time (Ls access file group recursive flat) line sources settings id d within isd can = commands_succeed time (Ls access file group recursive flat) line sources settings id d within (isd refl) can
-answers time (Show access file entry clear all attachments names) line sources settings id d within isd can = commands_succeed time (Show access file entry clear all attachments names) line sources settings id d within (isd refl) can
-answers time (Search access file term) line sources settings id d within isd can = commands_succeed time (Search access file term) line sources settings id d within (isd refl) can
-answers time (Add access file entry asked) line sources settings id d within isd can = commands_succeed time (Add access file entry asked) line sources settings id d within (isd refl) can
-answers time (Edit access file entry asked) line sources settings id d within isd can = commands_succeed time (Edit access file entry asked) line sources settings id d within (isd refl) can
-answers time (Move access file node group) line sources settings id d within isd can = commands_succeed time (Move access file node group) line sources settings id d within (isd refl) can
-answers time (Remove access file entry) line sources settings id d within isd can = commands_succeed time (Remove access file entry) line sources settings id d within (isd refl) can
-answers time (MakeGroup access file group) line sources settings id d within isd can = commands_succeed time (MakeGroup access file group) line sources settings id d within (isd refl) can
-answers time (RemoveGroup access file group) line sources settings id d within isd can = commands_succeed time (RemoveGroup access file group) line sources settings id d within (isd refl) can
-answers time (Merge access file names from same dry) line sources settings id d within isd can = commands_succeed time (Merge access file names from same dry) line sources settings id d within (isd refl) can
-answers time (Export access format file) line sources settings id d within isd can = commands_succeed time (Export access format file) line sources settings id d within (isd refl) can
-answers time (Info access file) line sources settings id d within isd can = commands_succeed time (Info access file) line sources settings id d within (isd refl) can
+answers : (time : ℕ) (command : Command) (line otp : Option (List ℕ)) (sources : List BareDoc) (settings : Option Settings) (id : NodeId) (d : BareDoc) → time ≤ last_stamp → (import_of command ≡ None → AreDocs (d ∷ sources))
+    → CanChange time command line otp sources settings id d → Answers time command line otp sources settings id d
+answers time (Import access format source from file) line otp sources settings id d within isd can =
+    gives_answers time (Import access format source from file) line otp sources settings id d (sure _)
+answers time (Ls access file group recursive flat) line otp sources settings id d within isd can = commands_succeed time (Ls access file group recursive flat) line otp sources settings id d within (isd refl) can
+answers time (Show access file entry clear all attachments names totp) line otp sources settings id d within isd can = commands_succeed time (Show access file entry clear all attachments names totp) line otp sources settings id d within (isd refl) can
+answers time (Search access file term) line otp sources settings id d within isd can = commands_succeed time (Search access file term) line otp sources settings id d within (isd refl) can
+answers time (Add access file entry asked) line otp sources settings id d within isd can = commands_succeed time (Add access file entry asked) line otp sources settings id d within (isd refl) can
+answers time (Edit access file entry asked) line otp sources settings id d within isd can = commands_succeed time (Edit access file entry asked) line otp sources settings id d within (isd refl) can
+answers time (Move access file node group) line otp sources settings id d within isd can = commands_succeed time (Move access file node group) line otp sources settings id d within (isd refl) can
+answers time (Remove access file entry) line otp sources settings id d within isd can = commands_succeed time (Remove access file entry) line otp sources settings id d within (isd refl) can
+answers time (MakeGroup access file group) line otp sources settings id d within isd can = commands_succeed time (MakeGroup access file group) line otp sources settings id d within (isd refl) can
+answers time (RemoveGroup access file group) line otp sources settings id d within isd can = commands_succeed time (RemoveGroup access file group) line otp sources settings id d within (isd refl) can
+answers time (Merge access file names from same dry) line otp sources settings id d within isd can = commands_succeed time (Merge access file names from same dry) line otp sources settings id d within (isd refl) can
+answers time (Export access format file) line otp sources settings id d within isd can = commands_succeed time (Export access format file) line otp sources settings id d within (isd refl) can
+answers time (Info access file) line otp sources settings id d within isd can = commands_succeed time (Info access file) line otp sources settings id d within (isd refl) can
 
 pub conditions_suffice : ConditionsSuffice
 unfolding carried_out
@@ -174,10 +187,12 @@ conditions_suffice words time world can =
     let task = can.task in
     let settings = settings_in task.opened.sealing in
     let made = makes_node task.command task.opened.doc in
-    let a = answers time task.command task.lines.more task.sources settings (id_for made world.dice) task.opened.doc can.in_calendar
+    let a = answers time task.command can.password task.lines.otp task.sources settings (id_for made world.dice) task.opened.doc can.in_calendar
     (λ none. task_docs words time world task none can.is_task) can.can in
     let is : (change_of_task time task world.dice).answer ≡ Ok a.change =
-    id_answer made (λ id. change_with time task.command task.lines.more task.sources settings id task.opened.doc) world.dice ∙ a.is in
+    ap (λ (t : StreamAnswer Change). t.answer) (id_drawn made (λ id. change_by time task.command task.lines.more task.lines.otp task.sources settings id task.opened.doc) world.dice)
+    ∙ ap (λ r. (after_left r (password_of (generated_by task.command) task.lines.more (drawn_id made world.dice).left).left (λ password left.
+    with_left (change_with time task.command password task.lines.otp task.sources settings (id_for made world.dice) task.opened.doc) left)).answer) can.chosen ∙ a.is in
     let left = (change_of_task time task world.dice).left in
     let e = ended_gives (target_of task.command) a.change.text task.opened.sealing a.change.doc left (λ d writes. can.fits a.change d is writes) in
     record {

@@ -8,20 +8,22 @@ use Rattle.vault_model.specs.Tree.{BareDoc, Tree}
 use Rattle.tree_core.specs.Finding.{without_slashes}
 use Rattle.condition_laws.specs.Conditions.{CanAdd, CanEdit, CanMakeGroup, CanMoveEntry, CanMoveGroup, CanRemoveEntry, CanRemoveGroup}
 use Rattle.agreed_laws.specs.Merges.{AreDocs}
-use Rattle.content_condition_laws.specs.Conditions.{CanBeMerged, CanExport, CanSearch, CanShow}
+use Rattle.content_condition_laws.specs.Conditions.{CanBeMerged, CanExport, CanSearch, CanShow, CanShowCode}
 use Rattle.doc_write.specs.Written.{write_outcome}
 use Rattle.kdbx_frame.specs.declared.settings.Settings.{Settings}
 use Rattle.kdbx_frame.specs.declared.sealings.Sealing.{Sealing}
 use Rattle.kdbx_seal.specs.Answers.{size_refusal}
 use Rattle.cli_words.specs.declared.command.Command.{Command}
 use Rattle.cli_words.specs.declared.command.Command.TheVariants.{Ls, Show, Search, Add, Edit, Move, Remove, MakeGroup, RemoveGroup, Merge, Import, Export, Info}
+use Rattle.cli_words.specs.Needs.{generated_by}
+use Rattle.cli_codes.specs.Codes.{code_refusal}
 use Rattle.cli_printing.specs.Listing.{tree_listed}
 use Rattle.cli_writing.specs.Drawing.{next_bytes}
 use Rattle.cli_sealing.specs.Draws.{draws_of}
 use Rattle.cli_sealing.specs.Sealing.{settings_for}
 use Rattle.cli_changes.specs.Ids.{new_id}
 use Rattle.cli_changes.specs.Nodes.{names_group}
-use Rattle.cli_commands.specs.Commands.{Change, bin_id, change_with, makes_node}
+use Rattle.cli_commands.specs.Commands.{Change, bin_id, change_with, drawn_id, makes_node, password_of}
 use Rattle.cli_files.specs.Tasks.{Task}
 use Rattle.call_carrying.specs.Endings.{Ending, change_of_task, settings_in}
 use Rattle.keepass_call.specs.Held.{IsCarried, IsTask}
@@ -34,42 +36,57 @@ abbrev pub CanMove : Bool → (path goal : List ℕ) → ℕ → BareDoc → Typ
 CanMove true path goal now d = CanMoveGroup path goal now d
 CanMove false path goal now d = CanMoveEntry path goal now d
 
+-- An entry can be shown, or its one-time code where that is asked for.
+abbrev pub CanShowEntry : (totp : Bool) → List ℕ → (clear all : Bool) → List (List ℕ) → ℕ → BareDoc
+    → Type 0
+CanShowEntry true path clear all names now d = CanShowCode path names now d
+CanShowEntry false path clear all names now d = CanShow path clear all names d
+
+-- An entry can be edited, and the text that its codes are to be made from, if one is given, is not
+-- refused.
+pub record CanEditWith (file : List ℕ) (otp : Option (List ℕ)) (path : List ℕ) (now : ℕ)
+    (d : BareDoc) : Type 0 where
+  pub code : code_refusal file otp ≡ Ok tt
+  pub entry : CanEdit path now d
+
 -- What a command makes of a document is defined, and no refusal.
-pub record Answers (time : ℕ) (command : Command) (line : Option (List ℕ)) (sources : List BareDoc)
-    (settings : Option Settings) (id : NodeId) (d : BareDoc) : Type 0 where
+pub record Answers (time : ℕ) (command : Command) (line otp : Option (List ℕ))
+    (sources : List BareDoc) (settings : Option Settings) (id : NodeId) (d : BareDoc) : Type 0 where
   pub change : Change
-  pub is : change_with time command line sources settings id d ≡ Ok change
+  pub is : change_with time command line otp sources settings id d ≡ Ok change
 
 -- The condition of each command on its document; a node that it makes has this id.
-abbrev pub CanChange : ℕ → Command → Option (List ℕ) → List BareDoc → Option Settings → NodeId
-    → BareDoc → Type 0
-CanChange time (Ls access file group recursive flat) line sources settings id d =
+abbrev pub CanChange : ℕ → Command → (line otp : Option (List ℕ)) → List BareDoc
+    → Option Settings → NodeId → BareDoc → Type 0
+CanChange time (Ls access file group recursive flat) line otp sources settings id d =
     (tree : Tree) × (tree_listed group d ≡ Some tree)
-CanChange time (Show access file entry clear all attachments names) line sources settings id d =
-    CanShow entry clear all names d
-CanChange time (Search access file term) line sources settings id d = CanSearch term d
-CanChange time (Add access file entry asked) line sources settings id d = CanAdd entry id d
-CanChange time (Edit access file entry asked) line sources settings id d = CanEdit entry time d
-CanChange time (Move access file node group) line sources settings id d =
+CanChange time (Show access file entry clear all attachments names totp) line otp sources settings
+    id d = CanShowEntry totp entry clear all names time d
+CanChange time (Search access file term) line otp sources settings id d = CanSearch term d
+CanChange time (Add access file entry asked) line otp sources settings id d = CanAdd entry id d
+CanChange time (Edit access file entry asked) line otp sources settings id d =
+    CanEditWith file otp entry time d
+CanChange time (Move access file node group) line otp sources settings id d =
     CanMove (names_group node) node group time d
-CanChange time (Remove access file entry) line sources settings id d =
+CanChange time (Remove access file entry) line otp sources settings id d =
     CanRemoveEntry entry (bin_id id d) time d
-CanChange time (MakeGroup access file group) line sources settings id d =
+CanChange time (MakeGroup access file group) line otp sources settings id d =
     CanMakeGroup (without_slashes group) id d
-CanChange time (RemoveGroup access file group) line sources settings id d =
+CanChange time (RemoveGroup access file group) line otp sources settings id d =
     CanRemoveGroup group (bin_id id d) time d
-CanChange time (Merge access file names from same dry) line sources settings id d =
+CanChange time (Merge access file names from same dry) line otp sources settings id d =
     CanBeMerged d sources
-CanChange time (Import access format source from file) line sources settings id d = Unit {0}
-CanChange time (Export access format file) line sources settings id d = CanExport format d
-CanChange time (Info access file) line sources settings id d = Unit {0}
+CanChange time (Import access format source from file) line otp sources settings id d = Unit {0}
+CanChange time (Export access format file) line otp sources settings id d = CanExport format d
+CanChange time (Info access file) line otp sources settings id d = Unit {0}
 
 -- Under its condition a command is not refused on a document, at a moment of the calendar.
 abbrev pub CommandsSucceed : Type 0
-CommandsSucceed = (time : ℕ) (command : Command) (line : Option (List ℕ)) (sources : List BareDoc)
-    (settings : Option Settings) (id : NodeId) (d : BareDoc) → time ≤ last_stamp
-    → AreDocs (d ∷ sources) → CanChange time command line sources settings id d
-    → Answers time command line sources settings id d
+CommandsSucceed = (time : ℕ) (command : Command) (line otp : Option (List ℕ))
+    (sources : List BareDoc) (settings : Option Settings) (id : NodeId) (d : BareDoc)
+    → time ≤ last_stamp → AreDocs (d ∷ sources)
+    → CanChange time command line otp sources settings id d
+    → Answers time command line otp sources settings id d
 
 -- ---- the call
 
@@ -87,12 +104,16 @@ FitsFile (Some sealing) d dice = size_refusal (settings_for sealing.settings d)
     (draws_of (settings_for sealing.settings d) dice) d ≡ None
 
 -- The words are a task, whose lines and files are there and hold its databases; the moment is in
--- the calendar; the condition of the command holds; and a document that is written fits its file.
+-- the calendar; where a password is to be generated, the dice choose one; the condition of the
+-- command holds; and a document that is written fits its file.
 pub record CanBeCarried (words : List (List ℕ)) (time : ℕ) (world : World) : Type 0 where
   pub task : Task
   pub is_task : IsTask words time world task
   pub in_calendar : time ≤ last_stamp
-  pub can : CanChange time task.command task.lines.more task.sources
+  pub password : Option (List ℕ)
+  pub chosen : (password_of (generated_by task.command) task.lines.more
+      (drawn_id (makes_node task.command task.opened.doc) world.dice).left).answer ≡ Ok password
+  pub can : CanChange time task.command password task.lines.otp task.sources
       (settings_in task.opened.sealing)
       (id_for (makes_node task.command task.opened.doc) world.dice) task.opened.doc
   pub fits : (change : Change) (d : BareDoc)

@@ -1,5 +1,5 @@
 -- `show`, `search` and `export` print under their conditions.
-use Rattle.std.proofs.Common.{◌≡◌, ◌≢◌, ◌≤◌, ◌&&◌, ◌||◌, not, ℕ, Bool, true, false, cond, inl, inr, List, [], ◌∷◌, ◌++◌, None, Some, Result, Ok, Err, IsOk, bytes_eq, codes, length, map, nat_lt, refl, sym, ap, ◌∙◌, arith}
+use Rattle.std.proofs.Common.{◌≡◌, ◌≢◌, ◌≤◌, ◌-◌, ◌&&◌, ◌||◌, not, ℕ, Bool, true, false, cond, inl, inr, List, [], ◌∷◌, ◌++◌, None, Some, Result, Ok, Err, IsOk, bytes_eq, codes, length, map, nat_lt, refl, sym, ap, ◌∙◌, arith}
 use Rattle.std.specs.Prelude.{if◌then◌else◌, ◌==◌}
 use Rattle.std.specs.List.{filter, find, list_any}
 use Rattle.std.proofs.lemmas.Bool.{ltb-true, ne_eqb}
@@ -28,9 +28,12 @@ use Rattle.find_references.proofs.Limits.{within_limits}
 use Rattle.find_core.specs.Search.{entries_found}
 use Rattle.cli_words.specs.declared.command.ExportFormat.TheVariants.{Csv, Xml}
 use Rattle.cli_printing.specs.Exporting.{text_or_refusal}
+use Rattle.otp_core.specs.declared.fails.OtpFail.TheVariants.{OtpLimit}
+use Rattle.otp_core.specs.Reading.{BareOtp, otp_of_entry}
+use Rattle.cli_codes.specs.Codes.{EPOCH, code_line, code_or_refusal, line_of, unix_of}
 use Rattle.cli_showing.specs.Refusals.{found_or_refusal}
-use Rattle.cli_showing.specs.Showing.{entries_shown, entry_or_refusal, entry_shown, entry_text, field_of, is_missing, others_shown, paths_or_refusal, refuse_missing, value_shown, values_shown, with_fields, with_fields_shown, with_key, with_keys, with_names, with_value, with_value_of}
-use Rattle.content_condition_laws.specs.Conditions.{CanResolve, ExportSucceeds, SearchSucceeds, ShowSucceeds, is_printed, terms_in}
+use Rattle.cli_showing.specs.Showing.{code_shown, entries_shown, entry_or_refusal, entry_shown, entry_text, field_of, is_missing, others_shown, paths_or_refusal, refuse_missing, value_shown, values_shown, with_code, with_fields, with_fields_shown, with_key, with_keys, with_names, with_value, with_value_of}
+use Rattle.content_condition_laws.specs.Conditions.{CanResolve, ExportSucceeds, SearchSucceeds, ShowCodeSucceeds, ShowSucceeds, is_printed, terms_in}
 
 -- ---- steps that are not refused
 
@@ -155,6 +158,34 @@ show_succeeds file path clear all attachments names d can =
           ∙ ap (found_or_refusal file) shown.1,
     )
 
+-- ---- show -t
+
+-- a number that is no greater than another
+within : (most n : ℕ) → n ≤ most → nat_lt most n ≡ false
+within most n less = is_false (nat_lt most n) (λ p. let over = ltb-true most n p in omega (arith, over, less))
+
+code_gives : (fields : List BareField) (now : ℕ) (otp : BareOtp) → otp_of_entry fields ≡ Ok otp → EPOCH ≤ now → Gives (code_line fields now)
+unfolding code_line
+code_gives fields now otp says since = (
+  line_of otp (now - EPOCH),
+  ap (λ r. r >>= λ otp. (unix_of now >>= λ unix. Ok (line_of otp unix))) says
+      ∙ ap (λ b. (if b then Err (OtpLimit now) else Ok (now - EPOCH)) >>= λ unix. Ok (line_of otp unix)) (within now EPOCH since),
+)
+
+pub show_code_succeeds : ShowCodeSucceeds
+unfolding code_shown
+show_code_succeeds file path names now d can =
+    let fields = fields_of can.held.entry.1 in
+    let named = named_give d false false fields names can.values in
+    let line = code_gives fields now can.otp can.says can.since in (
+      named.0 ++ line.0,
+      ap (λ r. entry_or_refusal file r >>= λ entry. refuse_missing file (find (is_missing (fields_of entry.1)) names) >>= λ checked.
+          (found_or_refusal file (with_names d (fields_of entry.1) names []) >>= λ text. with_code file (fields_of entry.1) now text)) can.named
+          ∙ ap (λ o. refuse_missing file o >>= λ checked. (found_or_refusal file (with_names d fields names []) >>= λ text. with_code file fields now text)) (none_missing fields names can.there)
+          ∙ ap (λ r. found_or_refusal file r >>= λ text. with_code file fields now text) named.1
+          ∙ ap (λ r. code_or_refusal file r >>= λ line. Ok (named.0 ++ line)) line.1,
+    )
+
 -- ---- search
 
 abbrev term_in : PlacedTerm → Term
@@ -191,9 +222,6 @@ search_succeeds file words d can =
     )
 
 -- ---- export
-
-within : (most n : ℕ) → n ≤ most → nat_lt most n ≡ false
-within most n less = is_false (nat_lt most n) (λ p. let over = ltb-true most n p in omega (arith, over, less))
 
 pub export_succeeds : ExportSucceeds
 export_succeeds file Xml d can = (

@@ -22,7 +22,9 @@ use Rattle.find_core.specs.Search.{entries_found}
 use Rattle.cli_words.specs.declared.command.ExportFormat.{ExportFormat}
 use Rattle.cli_words.specs.declared.command.ExportFormat.TheVariants.{Csv, Xml}
 use Rattle.cli_printing.specs.Exporting.{exported}
-use Rattle.cli_showing.specs.Showing.{entries_shown, entry_shown, is_missing}
+use Rattle.otp_core.specs.Reading.{BareOtp, otp_of_entry}
+use Rattle.cli_codes.specs.Codes.{EPOCH}
+use Rattle.cli_showing.specs.Showing.{code_shown, entries_shown, entry_shown, is_missing}
 
 -- ---- show
 
@@ -54,6 +56,28 @@ abbrev pub ShowSucceeds : Type 0
 ShowSucceeds = (file path : List ℕ) (clear all attachments : Bool) (names : List (List ℕ))
     (d : BareDoc) → CanShow path clear all names d
     → (text : List ℕ) × (entry_shown file clear all attachments names path d ≡ Ok text)
+
+-- ---- show -t
+
+-- The path names an entry. It has the fields that are named, the value of each can be resolved, and
+-- its fields say what its codes are made from. The moment is in 1970 or later.
+pub record CanShowCode (path : List ℕ) (names : List (List ℕ)) (now : ℕ) (d : BareDoc) : Type 0
+  where
+    pub held : Holding
+    pub named : entry_named path d ≡ Ok held
+    pub there : (name : List ℕ) → IsIn name names
+        → is_missing (fields_of held.entry.1) name ≡ false
+    pub values : (f : BareField) → IsIn f (fields_of held.entry.1)
+        → list_any (λ name. bytes_eq name f.key) names ≡ true → CanResolve d f.value
+    pub otp : BareOtp
+    pub says : otp_of_entry (fields_of held.entry.1) ≡ Ok otp
+    pub since : EPOCH ≤ now
+
+-- Where the code of an entry can be shown, `show -t` gives a text.
+abbrev pub ShowCodeSucceeds : Type 0
+ShowCodeSucceeds = (file path : List ℕ) (names : List (List ℕ)) (now : ℕ) (d : BareDoc)
+    → CanShowCode path names now d
+    → (text : List ℕ) × (code_shown file names path now d ≡ Ok text)
 
 -- ---- search
 

@@ -1,5 +1,5 @@
 -- What commands on entries leave as it is.
-use Rattle.std.proofs.Common.{◌≡◌, ◌≤◌, ◌<◌, ◌||◌, ◌&&◌, ℕ, Bool, true, false, not, inl, inr, List, Some, Ok, refl, sym, ap, subst, ◌∙◌, max, nat_lt, ◌+◌, arith}
+use Rattle.std.proofs.Common.{◌≡◌, ◌≤◌, ◌<◌, ◌||◌, ◌&&◌, ℕ, Bool, true, false, inl, inr, List, Some, Ok, refl, sym, ap, subst, ◌∙◌, max, nat_lt, ◌+◌, arith}
 use Rattle.std.specs.FinMap.{find}
 use Rattle.std.specs.List.{list_all}
 use Rattle.std.specs.Option.{option_and_then}
@@ -32,7 +32,7 @@ use Rattle.growth_laws.proofs.Stays.{entry_is}
 use Rattle.growth_laws.proofs.Steps.{change_root, own_row, root_same, take_root}
 use Rattle.frame_laws.specs.Frame.{no_node, only, either}
 use Rattle.frame_laws.specs.Entries.{EditFrames, EditsEntry, EntryMoves, MoveEntryFrames}
-use Rattle.frame_laws.proofs.Fields.{drops, fields_flags, fields_given, fields_others}
+use Rattle.frame_laws.proofs.Fields.{drops, fields_flags, fields_given, fields_gone, fields_hidden, fields_others}
 use Rattle.frame_laws.proofs.Finds.{SameRows, change_same, lists_found, own_lists, own_lists_row, put_lists, put_same, row_now, row_was, same_at, same_but, same_more, same_then, take_lists, take_same}
 
 -- ---- an entry that a path names
@@ -92,13 +92,16 @@ edit_frames path values now d e isd ise h =
         let e : BareDoc = record d { tree = changed_at held.group (changed_entry u k) d.tree } in
         let keeps = change_root u k f.group in
         let row = row_now held.group (changed_entry u k) d.tree f.group f.there keeps entry_rows entry_rows_all entries_rows (u, k x) (change_entry_row u k held.entry f.group f.own) in
+        let old = row_was held.group (changed_entry u k) d.tree f.group f.there keeps entry_rows entry_rows_all entries_rows (u, x) (own_row u held.entry f.group f.own) in
+        let rises_before = rising u x d isd old in
+        let rises_after = rising u (k x) e ise row in
         let cut = drops d.meta.settings.value.history_items d.meta.settings.value.history_size (rising_versions x) in
         record {
           entry = u;
           named = named;
           before = x;
           after = k x;
-          was = entry_is d isd u x (row_was held.group (changed_entry u k) d.tree f.group f.there keeps entry_rows entry_rows_all entries_rows (u, x) (own_row u held.entry f.group f.own));
+          was = entry_is d isd u x old;
           is = entry_is e ise u (k x) row;
           edited = record {
             placed = refl;
@@ -110,7 +113,9 @@ edit_frames path values now d e isd ise h =
             content = refl;
             given = fields_given d.meta.settings.value.protect values x.current.mark.content.fields;
             others = fields_others d.meta.settings.value.protect values x.current.mark.content.fields;
-            flags = fields_flags d.meta.settings.value.protect values x.current.mark.content.fields (rising u (k x) e ise row);
+            gone = fields_gone d.meta.settings.value.protect values x.current.mark.content.fields rises_before rises_after;
+            flags = fields_flags d.meta.settings.value.protect values x.current.mark.content.fields rises_before rises_after;
+            hidden = fields_hidden d.meta.settings.value.protect values x.current.mark.content.fields rises_before rises_after;
             dropped = cut.dropped;
             history = cut.is;
           };

@@ -1,6 +1,6 @@
 -- Tombstones by their ids where some come to them.
 use Rattle.std.proofs.Common.{◌≡◌, Bool, true, false, cond, inl, inr, List, [], ◌∷◌, None, Some, map, ℕ, refl, sym, ap, ◌∙◌, not}
-use Rattle.std.specs.FinMap.{find, get, get-from_entries}
+use Rattle.std.specs.FinMap.{find, get-from_entries}
 use Rattle.std.specs.List.{list_all}
 use Rattle.std.specs.Ordering.{is_lt}
 use Rattle.vault_model.specs.declared.nodes.Tombstone.{Tombstone}

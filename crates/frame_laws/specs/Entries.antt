@@ -1,5 +1,5 @@
 -- What each command changes, and that all else is as before.
-use Rattle.std.specs.Prelude.{◌≡◌, ◌≤◌, ◌<◌, ℕ, Bool, false, cond, List, ◌++◌, Option, None, Some, Ok, codes, find}
+use Rattle.std.specs.Prelude.{◌≡◌, ◌≤◌, ◌<◌, ◌&&◌, ℕ, Bool, true, false, cond, List, [], ◌∷◌, ◌++◌, Option, None, Some, Ok, codes, find, is_some}
 use Rattle.std.specs.Ordering.{eq_by_cmp}
 use Rattle.vault_model.specs.Bare.{BareField}
 use Rattle.vault_model.specs.Db.{NodeId}
@@ -33,7 +33,17 @@ given_value v key =
     (cond (is_key key (codes "UserName")) v.user
     (cond (is_key key (codes "Password")) v.password
     (cond (is_key key (codes "URL")) v.url
-    (cond (is_key key (codes "Notes")) v.notes None))))
+    (cond (is_key key (codes "Notes")) v.notes
+    (cond (is_key key (codes "otp")) v.otp None)))))
+
+-- An empty text for the field `otp` takes it away.
+abbrev pub is_taken_away : List ℕ → List ℕ → Bool
+is_taken_away key [] = is_key key (codes "otp")
+is_taken_away key (b ∷ bs) = false
+
+-- Whether a key is that of the field `otp` and something is given for it.
+abbrev pub is_given_otp : GivenValues → List ℕ → Bool
+is_given_otp v key = is_key key (codes "otp") && is_some v.otp
 
 -- A field has this value.
 pub record HasValue (key value : List ℕ) (fields : List BareField) : Type 0 where
@@ -65,16 +75,23 @@ pub record IsEditedEntry (values : GivenValues) (now : ℕ) (before after : Entr
   pub content : after.current.mark.content ≡ record before.current.mark.content {
     fields = after.current.mark.content.fields;
   }
-  -- each field that is given has its value, and the others are as before
+  -- each field that is given has its value, but for `otp` where it is taken away, which is gone,
+  -- and the others are as before
   pub given : (key value : List ℕ) → given_value values key ≡ Some value
-      → HasValue key value after.current.mark.content.fields
+      → is_taken_away key value ≡ false → HasValue key value after.current.mark.content.fields
+  pub gone : (key value : List ℕ) → given_value values key ≡ Some value
+      → is_taken_away key value ≡ true → field_of key after.current.mark.content.fields ≡ None
   pub others : (key : List ℕ) → given_value values key ≡ None
       → field_of key after.current.mark.content.fields
       ≡ field_of key before.current.mark.content.fields
-  -- a field that was there is marked hidden or not as it was
+  -- a field that was there is marked hidden or not as it was, but for `otp` where it is given,
+  -- which is hidden
   pub flags : (key : List ℕ) (old : BareField)
       → field_of key before.current.mark.content.fields ≡ Some old
+      → is_given_otp values key ≡ false
       → HasFlag key old.hidden after.current.mark.content.fields
+  pub hidden : (text : List ℕ) → values.otp ≡ Some text → is_taken_away (codes "otp") text ≡ false
+      → HasFlag (codes "otp") true after.current.mark.content.fields
   -- its history are the versions that it had, but for the oldest ones that its limits drop
   pub dropped : List BareVersion
   pub history : rising_versions before ≡ dropped ++ after.history

@@ -10,7 +10,14 @@ use Rattle.merge_core.specs.Example.{as_it_was, edited, home}
 
 -- no value is given
 abbrev pub no_values : GivenValues
-no_values = record { title = None; user = None; password = None; url = None; notes = None }
+no_values = record {
+  title = None;
+  user = None;
+  password = None;
+  url = None;
+  notes = None;
+  otp = None;
+}
 
 -- the database with a bin that has to be made
 abbrev pub without_bin : BareDoc

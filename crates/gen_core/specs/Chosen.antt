@@ -67,6 +67,12 @@ IsChosen alphabet length (Err (Spent k)) stream rest =
 IsChosen alphabet length (Err Failed) stream rest = Unit {0}
 IsChosen alphabet length (Err NoMemory) stream rest = Unit {0}
 
+-- Some stream chooses this text, whatever the dice report.
+pub record ChosenBySome (alphabet : List ℕ) (length : ℕ) (text : List ℕ) : Type 0 where
+  pub stream : List ℕ
+  pub rest : List ℕ
+  pub chooses : choose alphabet length [] stream ≡ chosen text rest
+
 -- A text that was made where it is, as the answer of its maker.
 abbrev pub ok_then : {E : Type 0} → Result (Unit {0}) E → SecretBuffer → Result SecretBuffer E
 ok_then (Ok done) text = Ok text

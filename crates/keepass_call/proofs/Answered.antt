@@ -10,7 +10,8 @@ use Rattle.cli_answers.specs.Phases.{IsCaused, IsCommandStop, IsEarlyStop, IsLef
 use Rattle.cli_files.proofs.FileStops.{rose_before}
 use Rattle.cli_lines.proofs.Inputs.{left_alone}
 use Rattle.cli_words.specs.Needs.{ImportNeeds, Needs, database_files, file_made, files_by, files_named, files_of, import_of, key_files, needs_of, source_files, target_of}
-use Rattle.cli_words.specs.Words.{command_of}
+use Rattle.cli_profiles.specs.declared.profiles.PasswordProfile.{PasswordProfile}
+use Rattle.cli_words.specs.Words.{command_of, profile_of}
 use Rattle.cli_words.specs.declared.command.Command.{Command}
 use Rattle.cli_writing.specs.Writing.{IsSame, KeepsDraft, KeepsFiles, Store}
 use Rattle.cli_commands.specs.declared.output.Output.{Output}
@@ -19,8 +20,8 @@ use Rattle.cli_commands.specs.Commands.{may_write}
 use Rattle.cli_files.proofs.HeldKeys.{in_turn}
 use Rattle.call_carrying.specs.Endings.{Ending, Ends, EndsRefused, IsOfDice, IsOfSomeDice, carried_out}
 use Rattle.cli_pages.specs.Pages.{page_of}
-use Rattle.keepass_call.specs.Outcome.{IsOfSomeFile, IsOfTask, World, answer_of, command_answer, may_write_by, page_or_answer}
-use Rattle.keepass_call.proofs.Pages.{no_page}
+use Rattle.keepass_call.specs.Outcome.{AsksCommand, IsOfSomeFile, IsOfTask, World, answer_of, command_answer, draws_with, may_write_by, page_or_answer, password_or_command}
+use Rattle.keepass_call.proofs.Pages.{asks_command}
 use Rattle.cli_commands.specs.SeenChange.{output_text}
 use Rattle.cli_files.specs.Tasks.{Task, draws, draws_by}
 use Rattle.call_reading.specs.Reading.{HasSomeFile, task_of}
@@ -42,23 +43,29 @@ command_refused : (words : List (List ℕ)) (time : ℕ) (world : World) (refusa
 unfolding command_answer
 command_refused words time world refusal h = ap (λ (r : Result Task Refusal). then_left (with_left r world.dice) (carried_out time)) h
 
--- Words that ask for no page give what they give as a command.
-pub as_command : (words : List (List ℕ)) (time : ℕ) (world : World) → page_of words ≡ None → answer_of words time world ≡ command_answer words time world
-as_command words time world none = ap (λ (p : Option (List ℕ)). page_or_answer p words time world) none
+-- Words that ask for no page give the password that they ask for, or what they give as a command.
+pub unpaged : (words : List (List ℕ)) (time : ℕ) (world : World) → page_of words ≡ None
+    → answer_of words time world ≡ password_or_command (profile_of words) words time world
+unpaged words time world none = ap (λ (p : Option (List ℕ)). page_or_answer p words time world) none
+
+-- Words that are to be a command give what they give as one.
+pub as_command : (words : List (List ℕ)) (time : ℕ) (world : World) → AsksCommand words → answer_of words time world ≡ command_answer words time world
+as_command words time world none =
+    unpaged words time world none.no_page ∙ ap (λ (p : Option PasswordProfile). password_or_command p words time world) none.no_password
 
 pub ends_as : (words : List (List ℕ)) (time : ℕ) (world : World) (result : Result Output Stop) (before now : Store) (dice dice' : Option (List ℕ)) → page_of words ≡ None
-    → Ends result (command_answer words time world) before now dice dice' → Ends result (answer_of words time world) before now dice dice'
+    → Ends result (password_or_command (profile_of words) words time world) before now dice dice' → Ends result (answer_of words time world) before now dice dice'
 ends_as words time world result before now dice dice' none h =
-    subst (λ (a : StreamAnswer Ending). Ends result a before now dice dice') (sym (as_command words time world none)) h
+    subst (λ (a : StreamAnswer Ending). Ends result a before now dice dice') (sym (unpaged words time world none)) h
 
-task_no_page : (words : List (List ℕ)) (time : ℕ) (world : World) (task : Task) → task_of words time world.input world.files ≡ Ok task → page_of words ≡ None
+task_asks : (words : List (List ℕ)) (time : ℕ) (world : World) (task : Task) → task_of words time world.input world.files ≡ Ok task → AsksCommand words
 unfolding task_of
-task_no_page words time world task h = let c = in_turn (command_of words) _ task h in no_page words c.0 c.1.0
+task_asks words time world task h = let c = in_turn (command_of words) _ task h in asks_command words c.0 c.1.0
 
 -- What words result in whose task is this.
 pub answer_is : (words : List (List ℕ)) (time : ℕ) (world : World) (task : Task) → task_of words time world.input world.files ≡ Ok task
     → answer_of words time world ≡ carried_out time task world.dice
-answer_is words time world task h = as_command words time world (task_no_page words time world task h) ∙ command_is words time world task h
+answer_is words time world task h = as_command words time world (task_asks words time world task h) ∙ command_is words time world task h
 
 -- The task was carried out, or stopped.
 pub comes_to : (words : List (List ℕ)) (time : ℕ) (world : World) (task : Task) (result : Result Output Stop) (before mid now : Store) (dice dice' : Option (List ℕ))
@@ -134,6 +141,20 @@ pub prints_some : (words : List (List ℕ)) (time : ℕ) (task : Task) (result :
 prints_some words time task (Ok output) before mid now f s h =
     record { task = task; has_file = f; of_dice = subst (λ (m : Store). IsOfSomeDice time task (output_text output) m now) (same_store before mid s) h }
 prints_some words time task (Err stop) before mid now f s h = tt
+
+-- ---- words that are to be a command
+
+pub command_told : (profile : Option PasswordProfile) (words : List (List ℕ)) (time : ℕ) (world : World) (result : Result Output Stop) (before now : Store) (dice dice' : Option (List ℕ))
+    → profile ≡ None → Ends result (command_answer words time world) before now dice dice' → Ends result (password_or_command profile words time world) before now dice dice'
+command_told profile words time world result before now dice dice' none h =
+    subst (λ (p : Option PasswordProfile). Ends result (password_or_command p words time world) before now dice dice') (sym none) h
+
+pub command_draws : (profile : Option PasswordProfile) (words : Result Command Refusal) (dice : Option (List ℕ)) (d : List ℕ) → profile ≡ None
+    → TellsStream (draws_with profile words) dice d → TellsStream (draws_by words) dice d
+command_draws profile words dice d none t = subst (λ (p : Option PasswordProfile). TellsStream (draws_with p words) dice d) none t
+
+pub command_undrawn : (profile : Option PasswordProfile) (words : Result Command Refusal) → profile ≡ None → draws_with profile words ≡ false → draws_by words ≡ false
+command_undrawn profile words none h = subst (λ (p : Option PasswordProfile). draws_with p words ≡ false) none h
 
 -- ---- causes
 

@@ -20,13 +20,14 @@ use Rattle.cli_words.specs.declared.command.Command.{Command}
 use Rattle.call_carrying.specs.Endings.{Ending, Ends, EndsSo, ending_without}
 use Rattle.keepass_call.specs.Held.{IsAuthentic, IsComplete}
 use Rattle.cli_pages.specs.Pages.{page_of}
-use Rattle.keepass_call.specs.Outcome.{Counts, Gains, IsAsSaid, IsCut, IsOfSomeFile, IsOfTask, IsRefused, IsSafe, IsUsage, NoFaults, Outcome, Seen, Tells, WhereTold, World, answer_of, ended, may_write_by, outcome, page_or_answer}
-use Rattle.cli_words.specs.Words.{command_of}
+use Rattle.keepass_call.specs.Outcome.{AsksCommand, Counts, Gains, IsAsSaid, IsCut, IsOfSomeFile, IsOfTask, IsRefused, IsSafe, IsUsage, NoFaults, Outcome, Seen, Tells, WhereTold, World, answer_of, draws_with, draws_words, ended, may_write_by, outcome, page_or_answer}
+use Rattle.cli_profiles.specs.declared.profiles.PasswordProfile.{PasswordProfile}
+use Rattle.cli_words.specs.Words.{command_of, profile_of}
 use Rattle.cli_files.specs.Tasks.{draws_by}
 use Rattle.call_reading.specs.Reading.{asked_by, left_behind, left_of}
 use Rattle.keepass_call.specs.Telling.{IsPrinted, IsTold, PrintsPage, TellsLine, TellsOneLine, memory_line}
 use Rattle.keepass_call.proofs.Answered.{answer_is, same_store}
-use Rattle.keepass_call.proofs.HeldTasks.{is_given, is_task}
+use Rattle.keepass_call.proofs.HeldTasks.{is_gained, is_task}
 use Rattle.keepass_call.proofs.MergeCalls.{merges_agreed, merges_nothing}
 use Rattle.keepass_call.proofs.Pages.{no_page}
 use Rattle.keepass_call.proofs.Ranges.{status_range}
@@ -56,11 +57,11 @@ pub record Printed (words : List (List ℕ)) (time : ℕ) (printed : List ℕ) (
   pub left : WhereTold words before (λ w. IsLeft before.left now.left (left_of words w.input))
   pub wrote : IsPrinted printed result before.written now.written before.errors now.errors counts.out counts'.out
   pub draft : KeepsDraft before.store now.store
-  pub held : page_of words ≡ None → WhereTold words before (λ w. IsOfTask words time w printed before.store now.store)
+  pub held : AsksCommand words → WhereTold words before (λ w. IsOfTask words time w printed before.store now.store)
   pub unwritten : may_write_by (command_of words) ≡ false → IsSame before.store now.store
-  pub undrawn : draws_by (command_of words) ≡ false → now.stream ≡ before.stream
+  pub undrawn : draws_words words ≡ false → now.stream ≡ before.stream
   pub stream : LosesPrefix before.stream now.stream
-  pub some_file : page_of words ≡ None → IsOfSomeFile words time printed before.store now.store
+  pub some_file : AsksCommand words → IsOfSomeFile words time printed before.store now.store
   pub page : (text : List ℕ) → page_of words ≡ Some text → PrintsPage text result before now counts counts'
 
 -- The outcome of words that end so.
@@ -154,7 +155,7 @@ module _ (words : List (List ℕ)) (time : ℕ) (printed : List ℕ) (result : �
   complete w t ending carried calm =
       elim p.wrote.0 [ inl whole ↦ inl whole.0 | inr part ↦ elim part.0 [ inl nine ↦ inr nine | inr ten ↦ absurd (calm.out ten.1) ] ]
 
-  authentic : page_of words ≡ None → WhereTold words before (λ w. result ≡ 0 → IsAuthentic words time w before now)
+  authentic : AsksCommand words → WhereTold words before (λ w. result ≡ 0 → IsAuthentic words time w before now)
   authentic none w t zero =
       let g = p.gives w t in
       let h = p.held none w t in
@@ -171,7 +172,7 @@ module _ (words : List (List ℕ)) (time : ℕ) (printed : List ℕ) (result : �
       }
 
   -- Words that are no command print nothing.
-  usage : (refusal : Refusal) → command_of words ≡ Err refusal → page_of words ≡ None → IsUsage result before now
+  usage : (refusal : Refusal) → command_of words ≡ Err refusal → AsksCommand words → IsUsage result before now
   usage refusal wrong none = absurd (not_both (command_of words) refusal _ wrong (p.some_file none).has_file.is_command)
 
   pub printed_call : IsCall words time result before now counts counts'
@@ -227,16 +228,16 @@ page_call words time page result before written errors counts counts' e wrote =
               text = refl;
               store = record { files = refl; draft_name = refl; draft_bytes = refl };
             },
-            left_alone (draws_by (command_of words)) before.stream w.dice t.dice,
+            left_alone (draws_words words) before.stream w.dice t.dice,
           );
       left = λ w t. page_left words page before.left w.input e t.input;
       wrote = wrote;
       draft = inr (refl, refl);
-      held = λ none. absurd (no_none page (page_of words) e none);
+      held = λ none. absurd (no_none page (page_of words) e none.no_page);
       unwritten = λ r. record { files = refl; draft_name = refl; draft_bytes = refl };
       undrawn = λ r. refl;
       stream = loses_none before.stream;
-      some_file = λ none. absurd (no_none page (page_of words) e none);
+      some_file = λ none. absurd (no_none page (page_of words) e none.no_page);
       page = λ text is. record {
         text = subst (λ (x : List ℕ). IsPrinted x result before.written written before.errors errors counts.out counts'.out) (some_is page text (sym e ∙ is)) wrote;
         untouched = refl;
@@ -266,14 +267,14 @@ pub record Stopped (words : List (List ℕ)) (time : ℕ) (stop : Stop) (result 
   pub written : now.written ≡ before.written
   pub draft : KeepsDraft before.store now.store
   pub unwritten : may_write_by (command_of words) ≡ false → IsSame before.store now.store
-  pub undrawn : draws_by (command_of words) ≡ false → now.stream ≡ before.stream
+  pub undrawn : draws_words words ≡ false → now.stream ≡ before.stream
   pub stream : LosesPrefix before.stream now.stream
   pub caused : IsCaused (files_named (command_of words)) counts.files counts'.files counts.absences counts'.absences counts.input counts'.input
       counts.dice counts'.dice stop
   pub told : IsTold stop result before.errors now.errors counts.err counts'.err
   pub no_page : page_of words ≡ None
   pub unread : (refusal : Refusal) → command_of words ≡ Err refusal → now.left ≡ before.left
-  pub wrong : (refusal : Refusal) → command_of words ≡ Err refusal → IsWordsStop stop
+  pub wrong : (refusal : Refusal) → command_of words ≡ Err refusal → profile_of words ≡ None → IsWordsStop stop
 
 -- All but standard error is as before.
 untouched : (before now : Seen) → now.written ≡ before.written → now.store ≡ before.store → now.left ≡ before.left → now.stream ≡ before.stream
@@ -415,7 +416,7 @@ module _ (words : List (List ℕ)) (time result : ℕ) (before now : Seen) (coun
   stopped_complete : (stop : Stop) → Stopped words time stop result before now counts counts'
       → WhereTold words before (λ w. IsComplete words time w result counts counts')
   stopped_complete (Refused refusal) s w t ending carried calm =
-      let e = sym (s.gives w t).0.is ∙ is_given words time w ending carried in cc
+      let e = sym (s.gives w t).0.is ∙ is_gained words time w ending carried in cc
   stopped_complete (FileFault name) s w t ending carried calm = absurd (calm.files s.caused.0)
   stopped_complete InputFault s w t ending carried calm = absurd (elim s.caused [ inl i ↦ calm.input i | inr d ↦ calm.dice d ])
   stopped_complete NoMemory s w t ending carried calm = elim (starved s.told) [ inl nine ↦ inr nine | inr ten ↦ absurd (calm.err ten.1) ]
@@ -428,11 +429,12 @@ module _ (words : List (List ℕ)) (time result : ℕ) (before now : Seen) (coun
   usage_status InputFault s w = absurd w
   usage_status NoMemory s w = elim (starved s.told) [ inl nine ↦ inr (inl nine) | inr ten ↦ inr (inr ten.0) ]
 
-  stopped_usage : (stop : Stop) → Stopped words time stop result before now counts counts' → (refusal : Refusal) → command_of words ≡ Err refusal → IsUsage result before now
-  stopped_usage stop s refusal wrong = record {
-    status = usage_status stop s (s.wrong refusal wrong);
+  stopped_usage : (stop : Stop) → Stopped words time stop result before now counts counts' → (refusal : Refusal) → command_of words ≡ Err refusal → profile_of words ≡ None
+      → IsUsage result before now
+  stopped_usage stop s refusal wrong none = record {
+    status = usage_status stop s (s.wrong refusal wrong none);
     untouched = untouched before now s.written (same_store before.store now.store (s.unwritten (ap may_write_by wrong))) (s.unread refusal wrong)
-        (s.undrawn (ap draws_by wrong));
+        (s.undrawn (ap (λ (p : Option PasswordProfile). draws_with p (command_of words)) none ∙ ap draws_by wrong));
   }
 
   pub stopped_call : (stop : Stop) → Stopped words time stop result before now counts counts' → IsCall words time result before now counts counts'
@@ -451,7 +453,7 @@ module _ (words : List (List ℕ)) (time result : ℕ) (before now : Seen) (coun
     reads_only = s.unwritten;
     draws_nothing = s.undrawn;
     page = λ text is. absurd (no_none text (page_of words) is s.no_page);
-    usage = λ refusal wrong none. stopped_usage stop s refusal wrong;
+    usage = λ refusal wrong none. stopped_usage stop s refusal wrong none.no_password;
     as_said = stopped_said stop s;
     refused = stopped_refused stop s;
     cut = λ w t when. record { text = no_front before.written now.written (outcome words time w).text s.written; store = inl s.kept };

@@ -53,11 +53,11 @@ use Rattle.cli_commands.specs.Commands.{Change, merged_change}
 use Rattle.call_carrying.specs.Endings.{Ending, HoldsNew, ReadsBack, carried_out, change_of_task, ended_with, ending_with, new_file}
 use Rattle.keepass_call.specs.Held.{IsAuthentic, IsTask}
 use Rattle.keepass_call.specs.Merges.{HoldsDatabase, HoldsUnder, IsUntouched, MergesAgreed, MergesNothing, MergesParts, TargetHolds, merges, unmodified_text}
-use Rattle.keepass_call.specs.Outcome.{Counts, Gains, IsAsSaid, IsRefused, Seen, Tells, World, answer_of, ended, outcome}
+use Rattle.keepass_call.specs.Outcome.{AsksCommand, Counts, Gains, IsAsSaid, IsRefused, Seen, Tells, World, answer_of, draws_words, ended, outcome}
 use Rattle.cli_files.specs.Tasks.{Task, draws_by}
 use Rattle.keepass_call.proofs.Answered.{answer_is}
 use Rattle.keepass_call.proofs.HeldTasks.{task_given}
-use Rattle.keepass_call.proofs.Pages.{no_page}
+use Rattle.keepass_call.proofs.Pages.{asks_command}
 use Rattle.keepass_call.proofs.TaskDocs.{task_docs}
 
 -- ---- answers that are of another status than 6
@@ -219,7 +219,7 @@ record MergeWords (command : Command) : Type 0 where
 
 merge_words : (command : Command) → merges command ≡ true → MergeWords command
 merge_words (Ls access file group recursive flat) e = absurd (true≢false (sym e))
-merge_words (Show access file entry clear all attachments names) e = absurd (true≢false (sym e))
+merge_words (Show access file entry clear all attachments names totp) e = absurd (true≢false (sym e))
 merge_words (Search access file term) e = absurd (true≢false (sym e))
 merge_words (Add access file entry asked) e = absurd (true≢false (sym e))
 merge_words (Edit access file entry asked) e = absurd (true≢false (sym e))
@@ -254,11 +254,11 @@ report_same false same file names old new changes e = ap (λ b. merge_report fal
 
 module _ (words : List (List ℕ)) (time result : ℕ) (before now : Seen) (counts counts' : Counts) (world : World) (told : Tells words before world)
     (refused : IsRefused (files_named (command_of words)) (outcome words time world) result before now counts counts')
-    (authentic : page_of words ≡ None → result ≡ 0 → IsAuthentic words time world before now)
+    (authentic : AsksCommand words → result ≡ 0 → IsAuthentic words time world before now)
     (said : result ≡ 0 → IsAsSaid (outcome words time world) result before now) where
   carried : (task : Task) → IsTask words time world task → result ≡ 0 → Carried time world before now task
   carried task is zero =
-      let a = authentic (no_page words task.command is.is_command) zero in
+      let a = authentic (asks_command words task.command is.is_command) zero in
       let same = ok_is a.task task (sym (task_given words time world a.task a.is_task) ∙ task_given words time world task is) in
       subst (Carried time world before now) same (record { change = a.change; makes = a.makes; text = a.text; reads_back = a.reads_back })
 
@@ -333,7 +333,7 @@ module _ (words : List (List ℕ)) (time result : ℕ) (before now : Seen) (coun
           record {
             text = subst (Gains before.written now.written) (sym m.text ∙ report_same access.quiet (same_doc t m.new) file names t m.new (changes_between t sources m.new) equal) c.text;
             store = subst (λ (d : Option BareDoc). ReadsBack file opened.sealing d before.store now.store) no_doc c.reads_back;
-            dice = none_gone (draws_by (command_of words)) world.dice before.stream now.stream told.dice
+            dice = none_gone (draws_words words) world.dice before.stream now.stream told.dice
                 (subst (IsLeft before.stream now.stream) (ended_dice _ (answer_of words time world).answer _ ∙ left) (said zero).stream);
           }
 

@@ -1,4 +1,4 @@
--- Words that ask for a page are no command.
+-- Words that ask for a page or for a password are no command, and words that ask for a password ask for no page.
 use Rattle.std.proofs.Common.{◌≡◌, ℕ, Bool, true, false, List, [], ◌∷◌, codes, bytes_eq, Option, Some, None, Result, Ok, Err, inl, inr, refl, subst}
 use Rattle.std.specs.Prelude.{◌⊎◌, if◌then◌else◌}
 use Rattle.std.proofs.lemmas.Slice.Eq.{bytes_eq-Decides}
@@ -7,8 +7,16 @@ use Rattle.cli_answers.specs.declared.answers.Reason.TheVariants.{WrongWords}
 use Rattle.cli_answers.specs.declared.answers.Refusal.{Refusal}
 use Rattle.cli_answers.specs.Pages as alone
 use Rattle.cli_pages.specs.Pages.{asks_why, page_of, why}
-use Rattle.cli_words.specs.Words.{command_of}
+use Rattle.std.specs.Prelude.{option_and_then}
+use Rattle.cli_profiles.specs.declared.profiles.PasswordProfile.{PasswordProfile}
+use Rattle.cli_saying.specs.Credentials.{is_whole}
+use Rattle.cli_saying.specs.Options.{command_named}
+use Rattle.cli_saying.specs.Said.{Said, nothing_said, with_words}
+use Rattle.cli_saying.specs.declared.names.CommandName.{CommandName}
+use Rattle.cli_saying.specs.declared.names.CommandName.TheVariants as n
+use Rattle.cli_words.specs.Words.{command_at, command_by, command_in, command_of, command_saying, or_wrong_words, profile_at, profile_by, profile_of, profile_saying}
 use Rattle.cli_words.specs.declared.command.Command.{Command}
+use Rattle.keepass_call.specs.Outcome.{AsksCommand}
 
 one_of : (first second : Bool) (one other page : List ℕ) → (if first then Some one else (if second then Some other else None)) ≡ Some page
     → (first ≡ true) ⊎ (second ≡ true)
@@ -55,3 +63,91 @@ no_page words command c = by (page_of words) refl
     by : (page : Option (List ℕ)) → page_of words ≡ page → page_of words ≡ None
     by None e = e
     by (Some page) e = absurd (paged words page command e c)
+
+-- ---- words that ask for a password
+
+-- What a name gives that is no `generate`, or is it.
+no_profile : (name : CommandName) (words : List (List ℕ)) (profile : PasswordProfile) (command : Command)
+    → profile_by words name ≡ Some profile → command_by words name ≡ Some command → ⊥
+no_profile name words profile command h c = by (with_words name words nothing_said) h c
+  where
+    at : (said : Said) (whole : Bool) (name : CommandName) (positions : List (List ℕ)) → (if whole then profile_at name said positions else None) ≡ Some profile
+        → (if whole then command_at name said positions else None) ≡ Some command → ⊥
+    at said false name positions h c = cc h
+    at said true n.Generate positions h c = cc c
+    at said true n.Ls positions h c = cc h
+    at said true n.Show positions h c = cc h
+    at said true n.Search positions h c = cc h
+    at said true n.Add positions h c = cc h
+    at said true n.Edit positions h c = cc h
+    at said true n.Move positions h c = cc h
+    at said true n.Remove positions h c = cc h
+    at said true n.MakeGroup positions h c = cc h
+    at said true n.RemoveGroup positions h c = cc h
+    at said true n.Merge positions h c = cc h
+    at said true n.Import positions h c = cc h
+    at said true n.Export positions h c = cc h
+    at said true n.Info positions h c = cc h
+
+    by : (said : Option Said) → option_and_then (profile_saying name) said ≡ Some profile → option_and_then (command_saying name) said ≡ Some command → ⊥
+    by None h c = cc h
+    by (Some said) h c = at said (is_whole said) name said.positions h c
+
+is_command : (made : Option Command) (command : Command) → or_wrong_words made ≡ Ok command → made ≡ Some command
+is_command None command c = cc c
+is_command (Some made) command c = cc c
+
+neither_both : (words : List (List ℕ)) (profile : PasswordProfile) (command : Command) → profile_of words ≡ Some profile → command_of words ≡ Ok command → ⊥
+neither_both [] profile command h c = cc h
+neither_both (word ∷ words) profile command h c = by (command_named word) h (is_command (command_in (word ∷ words)) command c)
+  where
+    by : (name : Option CommandName) → option_and_then (profile_by words) name ≡ Some profile → option_and_then (command_by words) name ≡ Some command → ⊥
+    by None h c = cc h
+    by (Some name) h c = no_profile name words profile command h c
+
+-- A command asks for no password.
+pub no_password : (words : List (List ℕ)) (command : Command) → command_of words ≡ Ok command → profile_of words ≡ None
+no_password words command c = by (profile_of words) refl
+  where
+    by : (profile : Option PasswordProfile) → profile_of words ≡ profile → profile_of words ≡ None
+    by None e = e
+    by (Some profile) e = absurd (neither_both words profile command e c)
+
+-- And asks for no page.
+pub asks_command : (words : List (List ℕ)) (command : Command) → command_of words ≡ Ok command → AsksCommand words
+asks_command words command c = record { no_page = no_page words command c; no_password = no_password words command c }
+
+-- Words that ask for a password are no command.
+pub password_words : (words : List (List ℕ)) (profile : PasswordProfile) → profile_of words ≡ Some profile → (refusal : Refusal) × (command_of words ≡ Err refusal)
+password_words words profile h = by (command_of words) refl
+  where
+    by : (read : Result Command Refusal) → command_of words ≡ read → (refusal : Refusal) × (command_of words ≡ Err refusal)
+    by (Err refusal) e = (refusal, e)
+    by (Ok command) e = absurd (neither_both words profile command h e)
+
+no_some : (profile : PasswordProfile) → ◌≡◌ {A = Option PasswordProfile} None (Some profile) → ⊥
+no_some profile h = cc h
+
+alone_profiled : (words : List (List ℕ)) (page : List ℕ) (profile : PasswordProfile) → alone.page_of words ≡ Some page → profile_of words ≡ Some profile → ⊥
+alone_profiled [] page profile h c = cc h
+alone_profiled (word ∷ other ∷ words) page profile h c = cc h
+alone_profiled (word ∷ []) page profile h c =
+    elim (page_word word page h) [
+      | inl is ↦ no_some profile (subst (λ (w : List ℕ). profile_of (w ∷ []) ≡ Some profile) is c)
+      | inr is ↦ no_some profile (subst (λ (w : List ℕ). profile_of (w ∷ []) ≡ Some profile) is c)
+    ]
+
+profiled : (words : List (List ℕ)) (page : List ℕ) (profile : PasswordProfile) → page_of words ≡ Some page → profile_of words ≡ Some profile → ⊥
+profiled [] page profile h c = cc h
+profiled (word ∷ words) page profile h c =
+    elim (which (asks_why word) (why words) page (alone.page_of (word ∷ words)) h) [
+      | inl is ↦ no_some profile (subst (λ (w : List ℕ). profile_of (w ∷ words) ≡ Some profile) ((bytes_eq-Decides word (codes "--why")).0 is) c)
+      | inr is ↦ alone_profiled (word ∷ words) page profile is c
+    ]
+
+pub password_no_page : (words : List (List ℕ)) (profile : PasswordProfile) → profile_of words ≡ Some profile → page_of words ≡ None
+password_no_page words profile c = by (page_of words) refl
+  where
+    by : (page : Option (List ℕ)) → page_of words ≡ page → page_of words ≡ None
+    by None e = e
+    by (Some page) e = absurd (profiled words page profile e c)

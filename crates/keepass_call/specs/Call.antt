@@ -1,15 +1,14 @@
 -- What the program promises of each call.
-use Rattle.std.specs.Prelude.{◌≡◌, ◌≢◌, ◌≤◌, ◌⊎◌, ℕ, List, None, Some, Err, false}
+use Rattle.std.specs.Prelude.{◌≡◌, ◌≢◌, ◌≤◌, ◌⊎◌, ℕ, List, Some, Err, false}
 use Rattle.cli_answers.specs.declared.answers.Refusal.{Refusal}
 use Rattle.cli_words.specs.Needs.{files_named}
 use Rattle.keepass_call.specs.Held.{IsAuthentic, IsComplete}
 use Rattle.keepass_call.specs.Merges.{MergesAgreed, MergesNothing}
-use Rattle.keepass_call.specs.Outcome.{Counts, IsAsSaid, IsCut, IsRefused, IsSafe, IsUsage, NoFaults, PrintsOfSomeFile, Seen, WhereTold, may_write_by, outcome}
+use Rattle.keepass_call.specs.Outcome.{AsksCommand, Counts, IsAsSaid, IsCut, IsRefused, IsSafe, IsUsage, NoFaults, PrintsOfSomeFile, Seen, WhereTold, draws_words, may_write_by, outcome}
 use Rattle.keepass_call.specs.Telling.{PrintsPage, TellsOneLine}
 use Rattle.cli_pages.specs.Pages.{page_of}
 use Rattle.cli_words.specs.Words.{command_of}
 use Rattle.cli_writing.specs.Writing.{IsSame}
-use Rattle.cli_files.specs.Tasks.{draws_by}
 
 -- A call with these words at a moment, its status, what is seen before and after it, and the counts
 -- before and after.
@@ -19,15 +18,16 @@ pub record IsCall (words : List (List ℕ)) (time result : ℕ) (before now : Se
   pub range : result ≤ 12
   -- Reported or not: statuses have their causes, and a refusal changes no file.
   pub safe : IsSafe result before now counts counts'
-  -- Reported or not: words that are no command that may write change no file, and words that are no
-  -- command that draws draw nothing.
+  -- Reported or not: words that are no command that may write change no file, and words that ask for
+  -- no password and are no command that draws draw nothing.
   pub reads_only : may_write_by (command_of words) ≡ false → IsSame before.store now.store
-  pub draws_nothing : draws_by (command_of words) ≡ false → now.stream ≡ before.stream
+  pub draws_nothing : draws_words words ≡ false → now.stream ≡ before.stream
   -- Reported or not: words that ask for a page print it, and touch nothing else.
   pub page : (text : List ℕ) → page_of words ≡ Some text
       → PrintsPage text result before now counts counts'
-  -- Reported or not: words that are no command and ask for no page touch nothing but standard error.
-  pub usage : (refusal : Refusal) → command_of words ≡ Err refusal → page_of words ≡ None
+  -- Reported or not: words that are no command and ask for no page and no password touch nothing but
+  -- standard error.
+  pub usage : (refusal : Refusal) → command_of words ≡ Err refusal → AsksCommand words
       → IsUsage result before now
   -- Where the status is 0, or nothing failed and memory did not run out, all is as the outcome of
   -- the words says.
@@ -44,10 +44,10 @@ pub record IsCall (words : List (List ℕ)) (time result : ℕ) (before now : Se
   -- Whatever the status, standard error gains a prefix of one line and nothing else.
   pub one_line : WhereTold words before (λ world. TellsOneLine (files_named (command_of words))
       (outcome words time world) before now counts counts')
-  -- Where the words ask for no page, what is printed at status 0 is made of documents that the
+  -- Where the words are to be a command, what is printed at status 0 is made of documents that the
   -- files hold under the lines and the key files that were given, and a file that was written holds
   -- the document that was made of them, under the same key as before or that of an import.
-  pub authentic : page_of words ≡ None → WhereTold words before (λ world. result ≡ 0
+  pub authentic : AsksCommand words → WhereTold words before (λ world. result ≡ 0
       → IsAuthentic words time world before now)
   -- A merge of copies that are parts of an agreed set is never refused because ids clash or moves
   -- make a cycle, and at status 0 the target holds the join of all of them.
@@ -59,7 +59,7 @@ pub record IsCall (words : List (List ℕ)) (time result : ℕ) (before now : Se
   -- What can be carried out is.
   pub complete : WhereTold words before (λ world. IsComplete words time world result counts
       counts')
-  -- Reported or not: where the words ask for no page, what is printed at status 0 is made of
+  -- Reported or not: where the words are to be a command, what is printed at status 0 is made of
   -- documents that some files hold, and a file that was written holds the document that was made of
   -- them.
-  pub some_file : page_of words ≡ None → result ≡ 0 → PrintsOfSomeFile words time before now
+  pub some_file : AsksCommand words → result ≡ 0 → PrintsOfSomeFile words time before now

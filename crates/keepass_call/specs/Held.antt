@@ -1,13 +1,14 @@
 -- What a call that was carried out rests on: files that hold what was used of them, speaking of all
 -- their bytes.
-use Rattle.std.specs.Prelude.{◌≡◌, ℕ, List, ◌⊎◌, Ok}
+use Rattle.std.specs.Prelude.{◌≡◌, ℕ, List, ◌⊎◌, Ok, Some}
 use Rattle.cli_words.specs.Needs.{needs_of, target_of}
-use Rattle.cli_words.specs.Words.{command_of}
+use Rattle.cli_profiles.specs.declared.profiles.PasswordProfile.{PasswordProfile}
+use Rattle.cli_words.specs.Words.{command_of, profile_of}
 use Rattle.cli_lines.specs.Lines.{lines_of}
 use Rattle.call_reading.specs.Opening.{HoldCommandDatabases}
 use Rattle.cli_commands.specs.Commands.{Change}
 use Rattle.call_carrying.specs.Endings.{Ending, ReadsBack, Stores, carried_out, change_of_task}
-use Rattle.keepass_call.specs.Outcome.{Counts, Gains, NoFaults, Seen, World}
+use Rattle.keepass_call.specs.Outcome.{Counts, Gains, NoFaults, Seen, World, password_answer}
 use Rattle.cli_files.specs.Tasks.{Task, databases_in}
 
 -- The words are the task's command, its lines are those that are due, and the files hold its
@@ -41,9 +42,15 @@ pub record IsAuthentic (words : List (List ℕ)) (time : ℕ) (world : World) (b
   pub ends : (carried_out time task world.dice).answer ≡ Ok ending
   pub file : Stores ending.file before.store now.store
 
--- Where the words can be carried out and no count of faults rose, the status is 0, or memory ran
--- out.
+-- The words ask for a password, and the dice choose one.
+pub record IsGenerated (words : List (List ℕ)) (world : World) (ending : Ending) : Type 0 where
+  pub profile : PasswordProfile
+  pub asks : profile_of words ≡ Some profile
+  pub gives : (password_answer profile world.dice).answer ≡ Ok ending
+
+-- Where the words can be carried out, or ask for a password that the dice choose, and no count of
+-- faults rose, the status is 0, or memory ran out.
 abbrev pub IsComplete : List (List ℕ) → ℕ → World → ℕ → Counts → Counts → Type 0
 IsComplete words time world result before now =
-    (ending : Ending) → IsCarried words time world ending → NoFaults before now → (result ≡ 0)
-    ⊎ (result ≡ 9)
+    (ending : Ending) → IsCarried words time world ending ⊎ IsGenerated words world ending
+    → NoFaults before now → (result ≡ 0) ⊎ (result ≡ 9)

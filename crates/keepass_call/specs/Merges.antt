@@ -24,7 +24,7 @@ use Rattle.cli_files.specs.Tasks.{Task}
 -- A command is a merge, and no dry run.
 abbrev pub merges : Command → Bool
 merges (Ls access file group recursive flat) = false
-merges (Show access file entry clear all attachments names) = false
+merges (Show access file entry clear all attachments names totp) = false
 merges (Search access file term) = false
 merges (Add access file entry asked) = false
 merges (Edit access file entry asked) = false

@@ -1,5 +1,5 @@
 -- What a call results in: its phases one after another, and all that is seen of it.
-use Rattle.std.specs.Prelude.{◌≡◌, ◌≢◌, ℕ, Bool, false, List, [], ◌++◌, Contains, Option, None, Some, option_map, ◌⊎◌, Result, Ok, Err, codes, if◌then◌else◌}
+use Rattle.std.specs.Prelude.{◌≡◌, ◌≢◌, ℕ, Bool, true, false, List, [], ◌++◌, Contains, Option, None, Some, option_map, ◌⊎◌, Result, Ok, Err, codes, if◌then◌else◌}
 use Rattle.outside_core.specs.Counts.{Increased}
 use Rattle.outside_core.specs.Files.{FileMap}
 use Rattle.outside_core.specs.Streams.{GainsPrefix, LosesPrefix}
@@ -10,7 +10,9 @@ use Rattle.cli_writing.specs.Writing.{KeepsDraft, KeepsFiles, NewFile, Store, st
 use Rattle.cli_commands.specs.Commands.{may_write}
 use Rattle.cli_pages.specs.Pages.{page_of}
 use Rattle.cli_words.specs.Needs.{target_of}
-use Rattle.cli_words.specs.Words.{command_of}
+use Rattle.cli_words.specs.Words.{command_of, profile_of}
+use Rattle.cli_profiles.specs.declared.profiles.PasswordProfile.{PasswordProfile}
+use Rattle.cli_generating.specs.Generated.{generated}
 use Rattle.cli_words.specs.declared.command.Command.{Command}
 use Rattle.cli_files.specs.Tasks.{Task, draws_by}
 use Rattle.call_reading.specs.Reading.{HasSomeFile, asked_by, left_of, task_of}
@@ -32,10 +34,42 @@ command_answer words time world =
     then_left (with_left (task_of words time world.input world.files) world.dice)
     (carried_out time)
 
--- What a call gives: the page that its words ask for, or else what they give as a command.
+-- What a generated password ends a call with: it is printed on a line.
+abbrev pub printed_password : List ℕ → Ending
+printed_password password = ending_without (password ++ codes "\n")
+
+-- The password that the dice choose by a profile, as a call ends with it.
+unfoldable pub password_answer : PasswordProfile → List ℕ → StreamAnswer Ending
+password_answer profile dice =
+    then_left (generated profile.alphabet profile.length dice) (λ password left.
+    with_left (Ok (printed_password password)) left)
+
+-- What words give that ask for no page: the password that they ask for, or else what they give as a
+-- command.
+abbrev pub password_or_command : Option PasswordProfile → List (List ℕ) → ℕ → World
+    → StreamAnswer Ending
+password_or_command (Some profile) words time world = password_answer profile world.dice
+password_or_command None words time world = command_answer words time world
+
+-- What a call gives: the page that its words ask for, or else the password, or what they give as a
+-- command.
 abbrev pub page_or_answer : Option (List ℕ) → List (List ℕ) → ℕ → World → StreamAnswer Ending
 page_or_answer (Some page) words time world = with_left (Ok (ending_without page)) world.dice
-page_or_answer None words time world = command_answer words time world
+page_or_answer None words time world = password_or_command (profile_of words) words time world
+
+-- The words ask for no page and for no password: they are to be a command.
+pub record AsksCommand (words : List (List ℕ)) : Type 0 where
+  pub no_page : page_of words ≡ None
+  pub no_password : profile_of words ≡ None
+
+-- Words that ask for a password draw, and so does a command that draws.
+abbrev pub draws_with : Option PasswordProfile → Result Command Refusal → Bool
+draws_with (Some profile) command = true
+draws_with None command = draws_by command
+
+-- Whether words draw.
+abbrev pub draws_words : List (List ℕ) → Bool
+draws_words words = draws_with (profile_of words) (command_of words)
 
 -- What these words give at a moment over a world.
 abbrev pub answer_of : List (List ℕ) → ℕ → World → StreamAnswer Ending
@@ -125,11 +159,11 @@ abbrev pub Gains : Option (List ℕ) → Option (List ℕ) → List ℕ → Type
 Gains before now text = now ≡ option_map (λ w. w ++ text) before
 
 -- The outside reports this world: the files; what is left of the input, where the words ask for a
--- line; and the dice, where the words are a command that draws.
+-- line; and the dice, where the words draw.
 pub record Tells (words : List (List ℕ)) (before : Seen) (world : World) : Type 0 where
   pub files : before.store.files ≡ Some world.files
   pub input : TellsStream (asked_by (command_of words)) before.left world.input
-  pub dice : TellsStream (draws_by (command_of words)) before.stream world.dice
+  pub dice : TellsStream (draws_words words) before.stream world.dice
 
 -- This holds of the world that the outside reports, if it reports one.
 abbrev pub WhereTold : List (List ℕ) → Seen → (World → Type 0) → Type 0
@@ -196,7 +230,7 @@ pub record IsSafe (result : ℕ) (before now : Seen) (counts counts' : Counts) :
   pub draft : KeepsDraft before.store now.store
   pub stream : LosesPrefix before.stream now.stream
 
--- A call of words that are no command: the status is that of wrong words, or memory ran out or the
+-- A call of words that are no command, ask for no page and for no password: the status is that of wrong words, or memory ran out or the
 -- output failed, and nothing but standard error is touched: nothing is printed, read or drawn.
 pub record IsUsage (result : ℕ) (before now : Seen) : Type 0 where
   pub status : (result ≡ 1) ⊎ (result ≡ 9) ⊎ (result ≡ 10)

@@ -1,16 +1,17 @@
 //! The one call of the program: from its words, and the objects of the outside, to its status.
-ghost use Rattle.std.specs.Prelude.{◌≡◌, ℕ, List, Some, Err, IfErr, IfOk, OnErr, false, map, string_bytes};
+ghost use Rattle.std.specs.Prelude.{◌≡◌, ◌++◌, ℕ, List, None, Some, Err, IfErr, IfOk, OnErr, codes, false, map, string_bytes};
 ghost use Rattle.outside_core.specs.Streams.{GainsPrefix, LosesPrefix};
 ghost use Rattle.cli_answers.specs.Messages.{error_line, reason_text, status_of};
-ghost use Rattle.cli_answers.specs.Phases.{IsCaused, IsWordsStop, Leaves, TellsStream};
+ghost use Rattle.cli_answers.specs.Phases.{IsCaused, IsMemoryStop, IsStreamStop, IsWordsStop, Leaves, TellsStream};
 ghost use Rattle.cli_answers.specs.declared.answers.Refusal.{Refusal};
 ghost use Rattle.cli_words.specs.Needs.{files_named};
-ghost use Rattle.cli_writing.specs.Writing.{IsSame, KeepsDraft, KeepsFiles, store};
+ghost use Rattle.cli_writing.specs.Writing.{IsSame, KeepsDraft, KeepsFiles, Store, store};
 ghost use Rattle.keepass_call.specs.Call.{IsCall};
 ghost use Rattle.call_carrying.specs.Endings.{Ends};
-ghost use Rattle.keepass_call.specs.Outcome.{IsOfSomeFile, IsOfTask, World, command_answer, counts, may_write_by, seen};
+ghost use Rattle.keepass_call.specs.Outcome.{IsOfSomeFile, IsOfTask, World, command_answer, counts, draws_words, may_write_by, password_answer, password_or_command, seen};
 ghost use Rattle.cli_commands.specs.SeenChange.{output_text};
-ghost use Rattle.cli_words.specs.Words.{command_of};
+ghost use Rattle.cli_words.specs.Words.{command_of, profile_of};
+ghost use Rattle.cli_profiles.specs.Profiles.{IsProfile};
 ghost use Rattle.cli_files.specs.Tasks.{draws_by};
 ghost use Rattle.call_reading.specs.Reading.{asked_by, left_of};
 ghost use Rattle.keepass_call.specs.Telling.{IsPrinted, IsTold, IsUnwritten, TellsLine};
@@ -19,8 +20,12 @@ use call_carrying::carry_out;
 use call_reading::read_task;
 use cli_answers::{Reason, Stop, line, status, text_of_reason};
 use cli_commands::{Output, lend_text};
+use cli_generating::choose_password;
 use cli_pages::page_of;
+use cli_profiles::PasswordProfile;
+use cli_words::read_profile;
 use outside_core::{Bytes, Dice, FileStore, NoMemory, Sink, SinkFail, Source, write_all};
+use secret_core::Secret;
 use std::alloc::Global;
 
 /// The status of a call at which the store failed.
@@ -93,6 +98,108 @@ fn answer<F: FileStore, S: Source, D: Dice>(
 {
     let task = read_task(alloc, words, files, input, now)?;
     carry_out(alloc, files, dice, task, now)
+}
+
+// The text that prints a password.
+fn password_output(alloc: Global, password: Secret) -> Result<Output, Stop>
+    ensures told { IfOk result (λ output. output_text output ≡ password.bytes ++ codes "\n") }
+    ensures cause { IfErr result IsMemoryStop }
+{
+    let length = password.len();
+    let Some(room) = length.checked_add(1) else {
+        drop(password);
+        return Err(Stop::NoMemory);
+    };
+    let Ok(mut line) = Secret::with_room(alloc, room) else {
+        drop(password);
+        return Err(Stop::NoMemory);
+    };
+    line.extend(password.lend(0, length));
+    line.push(b'\n');
+    drop(password);
+    Ok(Output::Report(line))
+}
+
+// The password that words ask for, chosen by the dice.
+fn password<D: Dice>(alloc: Global, dice: &mut D, profile: PasswordProfile) -> Result<Output, Stop>
+    requires { IsProfile profile }
+    ensures told { (d : List ℕ) (s : Store) → D.stream dice.old ≡ Some d
+        → Ends result (password_answer profile d) s s (D.stream dice.old) (D.stream dice.new) }
+    ensures stream { LosesPrefix (D.stream dice.old) (D.stream dice.new) }
+    ensures cause { IfErr result (IsStreamStop (D.faults dice.old) (D.faults dice.new)) }
+{
+    let alphabet = profile.alphabet.as_str().as_bytes();
+    let chosen = choose_password(alloc, dice, alphabet, profile.length);
+    drop(profile);
+    match chosen {
+        Ok(password) => password_output(alloc, password),
+        Err(stop) => Err(stop),
+    }
+}
+
+// What words give that ask for no page: the password that they ask for, or what they give as a
+// command.
+fn answer_words<F: FileStore, S: Source, D: Dice>(
+    alloc: Global,
+    words: &[String],
+    files: &mut F,
+    input: &mut S,
+    dice: &mut D,
+    now: u64,
+) -> Result<Output, Stop>
+    ensures told { (world : World) → F.files files.old ≡ Some world.files
+        → TellsStream (asked_by (command_of (map string_bytes words.now))) (S.left input.old)
+        world.input
+        → TellsStream (draws_words (map string_bytes words.now)) (D.stream dice.old) world.dice
+        → Ends result (password_or_command (profile_of (map string_bytes words.now))
+        (map string_bytes words.now) now world)
+        (store (F.files files.old) (F.draft_name files.old) (F.draft_bytes files.old))
+        (store (F.files files.new) (F.draft_name files.new) (F.draft_bytes files.new))
+        (D.stream dice.old) (D.stream dice.new) }
+    ensures held { profile_of (map string_bytes words.now) ≡ None
+        → (world : World) → F.files files.old ≡ Some world.files
+        → TellsStream (asked_by (command_of (map string_bytes words.now))) (S.left input.old)
+        world.input
+        → TellsStream (draws_words (map string_bytes words.now)) (D.stream dice.old) world.dice
+        → IfOk result (λ output. IsOfTask (map string_bytes words.now) now world
+        (output_text output)
+        (store (F.files files.old) (F.draft_name files.old) (F.draft_bytes files.old))
+        (store (F.files files.new) (F.draft_name files.new) (F.draft_bytes files.new))) }
+    ensures some_file { profile_of (map string_bytes words.now) ≡ None
+        → IfOk result (λ output. IsOfSomeFile (map string_bytes words.now) now
+        (output_text output)
+        (store (F.files files.old) (F.draft_name files.old) (F.draft_bytes files.old))
+        (store (F.files files.new) (F.draft_name files.new) (F.draft_bytes files.new))) }
+    ensures left { (i : List ℕ)
+        → TellsStream (asked_by (command_of (map string_bytes words.now))) (S.left input.old) i
+        → Leaves result (S.left input.old) (S.left input.new)
+        (left_of (map string_bytes words.now) i) }
+    ensures unread { (refusal : Refusal) → command_of (map string_bytes words.now) ≡ Err refusal
+        → S.left input.new ≡ S.left input.old }
+    ensures wrong { (refusal : Refusal) → command_of (map string_bytes words.now) ≡ Err refusal
+        → profile_of (map string_bytes words.now) ≡ None → IfErr result IsWordsStop }
+    ensures kept { OnErr result (KeepsFiles
+        (store (F.files files.old) (F.draft_name files.old) (F.draft_bytes files.old))
+        (store (F.files files.new) (F.draft_name files.new) (F.draft_bytes files.new))) }
+    ensures draft { KeepsDraft
+        (store (F.files files.old) (F.draft_name files.old) (F.draft_bytes files.old))
+        (store (F.files files.new) (F.draft_name files.new) (F.draft_bytes files.new)) }
+    ensures unwritten { may_write_by (command_of (map string_bytes words.now)) ≡ false → IsSame
+        (store (F.files files.old) (F.draft_name files.old) (F.draft_bytes files.old))
+        (store (F.files files.new) (F.draft_name files.new) (F.draft_bytes files.new)) }
+    ensures undrawn { draws_words (map string_bytes words.now) ≡ false
+        → D.stream dice.new ≡ D.stream dice.old }
+    ensures stream { LosesPrefix (D.stream dice.old) (D.stream dice.new) }
+    ensures cause { IfErr result (IsCaused
+        (files_named (command_of (map string_bytes words.now))) (F.faults files.old)
+        (F.faults files.new) (F.absences files.old) (F.absences files.new) (S.faults input.old)
+        (S.faults input.new) (D.faults dice.old) (D.faults dice.new)) }
+{
+    match read_profile(alloc, words) {
+        Ok(Some(profile)) => password(alloc, dice, profile),
+        Ok(None) => answer(alloc, words, files, input, dice, now),
+        Err(_none) => Err(Stop::NoMemory),
+    }
 }
 
 // The status of a call whose text or line was not written.
@@ -190,9 +297,9 @@ fn tell<E: Sink>(alloc: Global, err: &mut E, stop: Stop) -> u8
 /// each by itself, or sealed under the composite key of its line of input and its key file. A
 /// refusal changes no file, and what was printed where an object fails is a prefix of the outcome's
 /// text. Standard error gains a prefix of one line at most: the outcome's, or that of what failed.
-/// Words that ask for a page print it, and touch nothing else. Words that are no command that may
-/// write change no file and draw nothing. Words that can be
-/// carried out give status 0 where nothing fails. Copies of one database that are parts of an
+/// Words that ask for a page print it, and touch nothing else; words that ask for a password print
+/// one that the dice choose, and touch no file and no input. Words that are no command that may write
+/// change no file. Words that can be carried out give status 0 where nothing fails. Copies of one database that are parts of an
 /// agreed set are merged into the join of all of them, and what the target has already changes
 /// nothing.
 pub fn keepass<F: FileStore, S: Source, O: Sink, E: Sink, D: Dice>(
@@ -217,7 +324,7 @@ pub fn keepass<F: FileStore, S: Source, O: Sink, E: Sink, D: Dice>(
 {
     match page_of(alloc, words) {
         Ok(Some(page)) => print_page(out, err, page),
-        Ok(None) => match answer(alloc, words, files, input, dice, now) {
+        Ok(None) => match answer_words(alloc, words, files, input, dice, now) {
             Ok(output) => print(out, err, lend_text(&output)),
             Err(stop) => tell(alloc, err, stop),
         },

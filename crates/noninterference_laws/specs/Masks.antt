@@ -119,7 +119,7 @@ mask_change p (Err refusal) = Err refusal
 -- The commands that look at no value but titles: `ls`, `db-info`, `mv`, `rm`, `mkdir` and `rmdir`.
 abbrev pub reads_no_value : Command → Bool
 reads_no_value (Ls access file group recursive flat) = true
-reads_no_value (Show access file entry clear all attachments names) = false
+reads_no_value (Show access file entry clear all attachments names totp) = false
 reads_no_value (Search access file term) = false
 reads_no_value (Add access file entry asked) = false
 reads_no_value (Edit access file entry asked) = false
@@ -136,10 +136,10 @@ reads_no_value (Info access file) = true
 -- what is hidden.
 abbrev pub CommandsAreBlind : Type 0
 CommandsAreBlind = (d e : BareDoc) → LookAlike is_secret d e → (command : Command)
-    → reads_no_value command ≡ true → (time : ℕ) (line : Option (List ℕ)) (sources : List BareDoc)
-    (settings : Option Settings) (id : NodeId)
-    → mask_change is_secret (change_with time command line sources settings id d)
-    ≡ mask_change is_secret (change_with time command line sources settings id e)
+    → reads_no_value command ≡ true → (time : ℕ) (line otp : Option (List ℕ))
+    (sources : List BareDoc) (settings : Option Settings) (id : NodeId)
+    → mask_change is_secret (change_with time command line otp sources settings id d)
+    ≡ mask_change is_secret (change_with time command line otp sources settings id e)
 
 -- Such a command makes a node, whose id is drawn, of the one document where it does of the other.
 abbrev pub DrawsAreBlind : Type 0

@@ -16,7 +16,9 @@ use Rattle.cli_answers.specs.Phases.{StreamAnswer, after_left, then_left, with_l
 use Rattle.cli_words.specs.declared.command.Access.{Access}
 use Rattle.cli_words.specs.declared.command.Command.{Command}
 use Rattle.cli_words.specs.Needs.{ImportNeeds, Needs, database_files, file_made, files_by, files_named, files_of, import_of, key_files, needs_of, source_files, target_of}
-use Rattle.cli_words.specs.Words.{command_of}
+use Rattle.cli_words.specs.Words.{command_of, profile_of}
+use Rattle.cli_profiles.specs.declared.profiles.PasswordProfile.{PasswordProfile}
+use Rattle.cli_generating.specs.Generated.{generated}
 use Rattle.cli_lines.specs.Lines.{Lines, lines_of}
 use Rattle.cli_writing.specs.Writing.{NewFile, file_or_refusal, plain_file}
 use Rattle.cli_files.specs.Files.{Opened, key_in, key_of, of_file}
@@ -36,7 +38,7 @@ use Rattle.kdbx_seal.specs.Made.{made_file}
 use Rattle.kdbx_seal.specs.declared.fail.SealFail.{SealFail}
 use Rattle.cli_sealing.specs.Draws.{draws_of}
 use Rattle.cli_sealing.specs.Sealing.{file_by, file_unless, sealed_file, settings_for}
-use Rattle.keepass_call.specs.Outcome.{World, answer_of, command_answer, ended, outcome, page_or_answer}
+use Rattle.keepass_call.specs.Outcome.{World, answer_of, command_answer, ended, outcome, page_or_answer, password_answer, password_or_command, printed_password}
 use Rattle.call_reading.specs.Reading.{left_of}
 use Rattle.keepass_call.proofs.HeldTasks.{is_task}
 use Rattle.outcome_laws.specs.Named.{AgreeOn, OnlyNamedFilesCount, OnlyNamedIsWritten, PagesNeedNoFile, with_files}
@@ -131,11 +133,16 @@ module _ (F G : FileMap) where
 
 -- ---- the outcome
 
+command_answers_same : (words : List (List ℕ)) (time : ℕ) (world : World) (files : FileMap) → AgreeOn (files_named (command_of words)) world.files files → (profile : Option PasswordProfile)
+    → password_or_command profile words time world ≡ password_or_command profile words time (with_files world files)
+unfolding command_answer
+command_answers_same words time world files agree (Some profile) = refl
+command_answers_same words time world files agree None = ap (λ r. then_left (with_left r world.dice) (carried_out time)) (task_same world.files files words time world.input agree)
+
 answer_same : (words : List (List ℕ)) (time : ℕ) (world : World) (files : FileMap) → AgreeOn (files_named (command_of words)) world.files files → (page : Option (List ℕ))
     → page_or_answer page words time world ≡ page_or_answer page words time (with_files world files)
-unfolding command_answer
 answer_same words time world files agree (Some page) = refl
-answer_same words time world files agree None = ap (λ r. then_left (with_left r world.dice) (carried_out time)) (task_same world.files files words time world.input agree)
+answer_same words time world files agree None = command_answers_same words time world files agree (profile_of words)
 
 pub only_named_files_count : OnlyNamedFilesCount
 only_named_files_count words time world files agree =
@@ -197,11 +204,20 @@ ended_file : (left : List ℕ) (answer : Result Ending Refusal) (dice : List ℕ
 ended_file left (Ok ending) dice = refl
 ended_file left (Err refusal) dice = refl
 
-named_in : (words : List (List ℕ)) (time : ℕ) (world : World) (file : NewFile) → (page : Option (List ℕ)) → file_in (page_or_answer page words time world).answer ≡ Some file
-    → IsIn file.name (files_named (command_of words))
+-- a password is written to no file
+password_file : (profile : PasswordProfile) (dice : List ℕ) → file_in (password_answer profile dice).answer ≡ None
+unfolding password_answer
+password_file profile dice = of (generated profile.alphabet profile.length dice).answer (generated profile.alphabet profile.length dice).left
+  where
+    of : (answer : Result (List ℕ) Refusal) (left : List ℕ) → file_in (after_left answer left (λ password left. with_left (Ok (printed_password password)) left)).answer ≡ None
+    of (Ok password) left = refl
+    of (Err refusal) left = refl
+
+named_by : (words : List (List ℕ)) (time : ℕ) (world : World) (file : NewFile) → (profile : Option PasswordProfile)
+    → file_in (password_or_command profile words time world).answer ≡ Some file → IsIn file.name (files_named (command_of words))
 unfolding command_answer
-named_in words time world file (Some page) has = never file has
-named_in words time world file None has = of (task_of words time world.input world.files) refl has
+named_by words time world file (Some profile) has = never file (sym (password_file profile world.dice) ∙ has)
+named_by words time world file None has = of (task_of words time world.input world.files) refl has
   where
     of : (t : Result Task Refusal) → task_of words time world.input world.files ≡ t → file_in (after_left t world.dice (carried_out time)).answer ≡ Some file → IsIn file.name (files_named (command_of words))
     of (Err refusal) is h = never file h
@@ -210,6 +226,11 @@ named_in words time world file None has = of (task_of words time world.input wor
         let name : file.name ≡ target_of task.command = ap (name_in (target_of task.command)) (sym h) ∙ carried_name time task world.dice in
         subst (λ (c : Result Command Refusal). IsIn file.name (files_named c)) (sym command)
         (subst (λ (n : List ℕ). IsIn n (files_named (Ok task.command))) (sym name) (target_named (import_of task.command) (needs_of task.command)))
+
+named_in : (words : List (List ℕ)) (time : ℕ) (world : World) (file : NewFile) → (page : Option (List ℕ)) → file_in (page_or_answer page words time world).answer ≡ Some file
+    → IsIn file.name (files_named (command_of words))
+named_in words time world file (Some page) has = never file has
+named_in words time world file None has = named_by words time world file (profile_of words) has
 
 pub only_named_is_written : OnlyNamedIsWritten
 only_named_is_written words time world file is =

@@ -1,7 +1,7 @@
 -- No byte of the dice is drawn twice.
 use Rattle.std.proofs.Common.{◌≡◌, ◌≤◌, ◌+◌, ℕ, Bool, true, false, List, [], ◌∷◌, ◌++◌, length, drop, Option, None, Some, Result, Ok, Err, refl, sym, ap, ◌∙◌, arith, append_assoc, append-nil, length-append}
 use Rattle.std.specs.List.{concat}
-use Rattle.vault_model.specs.Db.{NodeId}
+use Rattle.vault_model.specs.Db.{NodeId, nil_id}
 use Rattle.vault_model.specs.Tree.{BareDoc}
 use Rattle.kdbx_frame.specs.declared.settings.Settings.{Settings}
 use Rattle.kdbx_frame.specs.declared.sealings.Sealing.{Sealing}
@@ -10,26 +10,33 @@ use Rattle.kdbx_seal.specs.Made.{made_file}
 use Rattle.kdbx_seal.specs.declared.fail.SealFail.{SealFail}
 use Rattle.cli_answers.specs.declared.answers.Refusal.{Refusal}
 use Rattle.cli_answers.specs.Phases.{StreamAnswer, after_left, then_left, with_left}
-use Rattle.cli_words.specs.Needs.{target_of}
+use Rattle.cli_changes.specs.Ids.{new_id}
+use Rattle.cli_profiles.specs.declared.profiles.PasswordProfile.{PasswordProfile}
+use Rattle.cli_words.specs.Needs.{generated_by, target_of}
 use Rattle.cli_writing.specs.Drawing.{next_bytes}
 use Rattle.cli_writing.specs.Writing.{NewFile, plain_file}
 use Rattle.cli_sealing.specs.Draws.{after_draws, draws_of}
 use Rattle.cli_sealing.specs.Sealing.{file_by, file_unless, sealed_file, settings_for}
-use Rattle.cli_commands.specs.Commands.{Change, change_with, drawn_id, makes_node}
+use Rattle.cli_commands.specs.Commands.{Change, change_by, change_with, drawn_id, makes_node, password_of}
 use Rattle.cli_files.specs.Tasks.{Task}
 use Rattle.call_carrying.specs.Endings.{Ending, carried_out, change_of_task, ended_with, ending_with, settings_in}
-use Rattle.randomness_laws.specs.Pieces.{CallsDrawOnce, DrawsFewBytes, FilesAreOfPieces, IdsAreOfPieces, TasksDrawOnce, all_left, all_pieces, change_pieces, id_pieces, sealing_pieces, task_pieces, written_pieces}
+use Rattle.randomness_laws.specs.Pieces.{CallsDrawOnce, DrawsFewBytes, FilesAreOfPieces, IdsAreOfPieces, PasswordsAreOfPieces, TasksDrawOnce, after_id, all_left, all_pieces, change_pieces, id_pieces, password_most, password_pieces, sealing_pieces, task_pieces, written_pieces}
+use Rattle.randomness_laws.proofs.Choices.{made_with, password_cut, password_left, password_len}
 use Rattle.randomness_laws.proofs.Cuts.{concat_append, cut_is, cut_len, lens, lens_most, next_is, next_len, pieces_cut}
 
 -- ---- an id
 
-abbrev after_id : Bool → List ℕ → List ℕ
-after_id true dice = drop 16 dice
-after_id false dice = dice
+abbrev id_in : Bool → List ℕ → NodeId
+id_in true dice = new_id (next_bytes 16 dice)
+id_in false dice = nil_id
 
-id_left : {A : Type 0} (b : Bool) (next : NodeId → Result A Refusal) (dice : List ℕ) → (then_left (drawn_id b dice) (λ id left. with_left (next id) left)).left ≡ after_id b dice
-id_left true next dice = refl
-id_left false next dice = refl
+id_is : {A : Type 0} (b : Bool) (next : NodeId → List ℕ → StreamAnswer A) (dice : List ℕ) → then_left (drawn_id b dice) next ≡ next (id_in b dice) (after_id b dice)
+id_is true next dice = refl
+id_is false next dice = refl
+
+id_drawn : (b : Bool) (dice : List ℕ) → (drawn_id b dice).answer ≡ Ok (id_in b dice)
+id_drawn true dice = refl
+id_drawn false dice = refl
 
 id_cut : (b : Bool) (dice : List ℕ) → length (concat (id_pieces b dice)) ≤ length dice → dice ≡ concat (id_pieces b dice) ++ after_id b dice
 id_cut true dice most =
@@ -98,26 +105,63 @@ module _ (time : ℕ) (task : Task) (dice : List ℕ) where
   abbrev ids : List (List ℕ)
   ids = id_pieces makes dice
 
+  abbrev after : List ℕ
+  after = after_id makes dice
+
+  abbrev profile : Option PasswordProfile
+  profile = generated_by task.command
+
+  abbrev chosen : List (List ℕ)
+  chosen = password_pieces profile after
+
   abbrev rest : List (List ℕ)
   rest = change_pieces task.opened.sealing taken.answer taken.left
 
-  taken_left : taken.left ≡ after_id makes dice
-  taken_left = id_left makes (λ id. change_with time task.command task.lines.more task.sources (settings_in task.opened.sealing) id task.opened.doc) dice
+  -- what the command makes with the id that is drawn
+  abbrev made : Option (List ℕ) → Result Change Refusal
+  made password = change_with time task.command password task.lines.otp task.sources (settings_in task.opened.sealing) (id_in makes dice) task.opened.doc
 
-  both_len : length (concat (task_pieces time task dice)) ≡ length (concat ids) + length (concat rest)
-  both_len = ap length (concat_append ids rest) ∙ length-append (concat ids) (concat rest)
+  pub taken_is : taken ≡ then_left (password_of profile task.lines.more after) (λ password left. with_left (made password) left)
+  taken_is = id_is makes (λ id. change_by time task.command task.lines.more task.lines.otp task.sources (settings_in task.opened.sealing) id task.opened.doc) dice
+
+  taken_left : taken.left ≡ (password_of profile task.lines.more after).left
+  taken_left = ap (λ (t : StreamAnswer Change). t.left) taken_is ∙ password_left profile task.lines.more made after
+
+  -- the password and what comes after it
+  later_len : length (concat (chosen ++ rest)) ≡ length (concat chosen) + length (concat rest)
+  later_len = ap length (concat_append chosen rest) ∙ length-append (concat chosen) (concat rest)
+
+  all_len : length (concat (task_pieces time task dice)) ≡ length (concat ids) + length (concat (chosen ++ rest))
+  all_len = ap length (concat_append ids (chosen ++ rest)) ∙ length-append (concat ids) (concat (chosen ++ rest))
+
+  password_is : after ≡ concat chosen ++ taken.left
+  password_is = password_cut profile task.lines.more after ∙ ap (λ xs. concat chosen ++ xs) (sym taken_left)
+
+  later_cut : length (concat rest) ≤ length taken.left → after ≡ concat (chosen ++ rest) ++ (carried_out time task dice).left
+  unfolding carried_out
+  later_cut most =
+      password_is ∙ ap (λ xs. concat chosen ++ xs) (change_cut (target_of task.command) task.opened.sealing taken.answer taken.left most)
+      ∙ sym (append_assoc (concat chosen) (concat rest) (carried_out time task dice).left) ∙ ap (λ xs. xs ++ (carried_out time task dice).left) (sym (concat_append chosen rest))
 
   task_cut : length (concat (task_pieces time task dice)) ≤ length dice → dice ≡ concat (task_pieces time task dice) ++ (carried_out time task dice).left
-  unfolding carried_out
   task_cut most =
-      let both = both_len in
-      let id = id_cut makes dice (omega (arith, both, most)) ∙ ap (λ xs. concat ids ++ xs) (sym taken_left) in
-      let len = ap length id ∙ length-append (concat ids) taken.left in
-      id ∙ ap (λ xs. concat ids ++ xs) (change_cut (target_of task.command) task.opened.sealing taken.answer taken.left (omega (arith, both, len, most)))
-      ∙ sym (append_assoc (concat ids) (concat rest) (carried_out time task dice).left) ∙ ap (λ xs. xs ++ (carried_out time task dice).left) (sym (concat_append ids rest))
+      let all = all_len in
+      let later = later_len in
+      let id = id_cut makes dice (omega (arith, all, most)) in
+      let first = ap length id ∙ length-append (concat ids) after in
+      let second = ap length password_is ∙ length-append (concat chosen) taken.left in
+      id ∙ ap (λ xs. concat ids ++ xs) (later_cut (omega (arith, all, later, first, second, most)))
+      ∙ sym (append_assoc (concat ids) (concat (chosen ++ rest)) (carried_out time task dice).left)
+      ∙ ap (λ xs. xs ++ (carried_out time task dice).left) (sym (concat_append ids (chosen ++ rest)))
 
-  task_len : length (concat (task_pieces time task dice)) ≤ 192
-  task_len = let both = both_len in let id = id_len makes dice in let file = change_len task.opened.sealing taken.answer taken.left in omega (arith, both, id, file)
+  task_len : length (concat (task_pieces time task dice)) ≤ 192 + password_most profile
+  task_len =
+      let all = all_len in
+      let later = later_len in
+      let id = id_len makes dice in
+      let password = password_len profile after in
+      let file = change_len task.opened.sealing taken.answer taken.left in
+      omega (arith, all, later, id, password, file)
 
 pub tasks_draw_once : TasksDrawOnce
 tasks_draw_once time task dice most = task_cut time task dice most
@@ -140,7 +184,15 @@ calls_draw_once (c ∷ cs) dice most =
 
 pub ids_are_of_pieces : IdsAreOfPieces
 ids_are_of_pieces time task dice makes =
-    ap (λ b. (then_left (drawn_id b dice) (λ id left. with_left (change_with time task.command task.lines.more task.sources (settings_in task.opened.sealing) id task.opened.doc) left)).answer) makes
+    ap (λ b. then_left (drawn_id b dice) (λ id. change_by time task.command task.lines.more task.lines.otp task.sources (settings_in task.opened.sealing) id task.opened.doc)) makes
+
+pub passwords_are_of_pieces : PasswordsAreOfPieces
+passwords_are_of_pieces time task profile dice change is h =
+    let b = makes_node task.command task.opened.doc in
+    let so = ap (λ (t : StreamAnswer Change). t.answer) (sym (taken_is time task dice)) ∙ h in
+    let m = made_with profile task.lines.more (made time task dice) (after_id b dice) change
+    (ap (λ p. (then_left (password_of p task.lines.more (after_id b dice)) (λ password left. with_left (made time task dice password) left)).answer) (sym is) ∙ so) in
+    record { id = id_in b dice; drawn = id_drawn b dice; password = m.password; chooses = m.chooses; makes = m.makes }
 
 abbrev bytes_in : Option NewFile → List ℕ
 bytes_in None = []
@@ -170,6 +222,7 @@ files_are_of_pieces time task dice sealing change doc ending bytes sealed makes 
     record {
       draws = draws_of s left;
       made = made_so name change.text (size_refusal s (draws_of s left) doc) (made_file s (draws_of s left) sealing.composite doc) bytes (after_draws s left) ending (sym so ∙ ends) has;
-      pieces = ap (λ ps. id_pieces (makes_node task.command task.opened.doc) dice ++ ps)
+      pieces = ap (λ ps. id_pieces (makes_node task.command task.opened.doc) dice
+          ++ (password_pieces (generated_by task.command) (after_id (makes_node task.command task.opened.doc) dice) ++ ps))
           (ap (λ a. change_pieces task.opened.sealing a left) makes ∙ (λ i. written_pieces (sealed i) (writes i) left));
     }

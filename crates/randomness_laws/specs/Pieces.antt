@@ -1,6 +1,8 @@
 -- What a command draws, piece by piece, and the laws that no byte of the dice is in two pieces.
-use Rattle.std.specs.Prelude.{◌≡◌, ◌≤◌, ℕ, Bool, true, false, List, [], ◌∷◌, ◌++◌, length, take, Option, None, Some, Result, Ok, Err}
+use Rattle.std.specs.Prelude.{◌≡◌, ◌≤◌, ◌+◌, ◌-◌, ◌*◌, ℕ, Bool, true, false, List, [], ◌∷◌, ◌++◌, drop, length, take, Option, None, Some, Result, Ok, Err}
 use Rattle.std.specs.List.{concat}
+use Rattle.gen_core.specs.Chosen.{choose, chosen, tries}
+use Rattle.vault_model.specs.Db.{NodeId}
 use Rattle.vault_model.specs.Tree.{BareDoc}
 use Rattle.kdbx_frame.specs.declared.settings.Settings.{Settings}
 use Rattle.kdbx_frame.specs.declared.sealings.Sealing.{Sealing}
@@ -9,12 +11,14 @@ use Rattle.kdbx_writing.specs.declared.draws.Draws.{Draws}
 use Rattle.kdbx_writing.specs.Draws.{start_len, stream_len}
 use Rattle.kdbx_seal.specs.Made.{made_file}
 use Rattle.cli_answers.specs.declared.answers.Refusal.{Refusal}
-use Rattle.cli_words.specs.Needs.{target_of}
+use Rattle.cli_generating.specs.Generated.{generated}
+use Rattle.cli_profiles.specs.declared.profiles.PasswordProfile.{PasswordProfile}
+use Rattle.cli_words.specs.Needs.{generated_by, target_of}
 use Rattle.cli_writing.specs.Drawing.{next_bytes}
 use Rattle.cli_sealing.specs.Draws.{draws_of}
 use Rattle.cli_sealing.specs.Sealing.{settings_for}
 use Rattle.cli_changes.specs.Ids.{new_id}
-use Rattle.cli_commands.specs.Commands.{Change, change_with, makes_node}
+use Rattle.cli_commands.specs.Commands.{Change, change_by, change_with, drawn_id, makes_node}
 use Rattle.cli_files.specs.Tasks.{Task}
 use Rattle.call_carrying.specs.Endings.{Ending, carried_out, change_of_task, settings_in}
 
@@ -24,6 +28,25 @@ use Rattle.call_carrying.specs.Endings.{Ending, carried_out, change_of_task, set
 abbrev pub id_pieces : Bool → List ℕ → List (List ℕ)
 id_pieces true dice = next_bytes 16 dice ∷ []
 id_pieces false dice = []
+
+-- What is left of the dice after the id of a new node, where a command makes one.
+abbrev pub after_id : Bool → List ℕ → List ℕ
+after_id makes dice = (drawn_id makes dice).left
+
+-- The bytes that a password is chosen by: those before what the choice leaves.
+abbrev pub password_piece : PasswordProfile → List ℕ → List ℕ
+password_piece profile dice =
+    take (length dice - length (generated profile.alphabet profile.length dice).left) dice
+
+-- The piece that a password is chosen by, where a command generates one.
+abbrev pub password_pieces : Option PasswordProfile → List ℕ → List (List ℕ)
+password_pieces (Some profile) dice = password_piece profile dice ∷ []
+password_pieces None dice = []
+
+-- The most bytes that a password is chosen by: so many for each of its characters.
+abbrev pub password_most : Option PasswordProfile → ℕ
+password_most (Some profile) = tries * profile.length
+password_most None = 0
 
 -- The pieces that a file is sealed with: the seed or the salt of its key derivation, its master
 -- seed, its IV, the key of its inner stream, and the bytes that its content begins with in version
@@ -54,8 +77,10 @@ change_pieces sealing (Err refusal) dice = []
 abbrev pub task_pieces : ℕ → Task → List ℕ → List (List ℕ)
 task_pieces time task dice =
     id_pieces (makes_node task.command task.opened.doc) dice
+    ++ (password_pieces (generated_by task.command)
+    (after_id (makes_node task.command task.opened.doc) dice)
     ++ change_pieces task.opened.sealing (change_of_task time task dice).answer
-    (change_of_task time task dice).left
+    (change_of_task time task dice).left)
 
 -- ---- many calls
 
@@ -94,9 +119,28 @@ CallsDrawOnce = (calls : List Call) (dice : List ℕ)
 abbrev pub IdsAreOfPieces : Type 0
 IdsAreOfPieces = (time : ℕ) (task : Task) (dice : List ℕ)
     → makes_node task.command task.opened.doc ≡ true
-    → (change_of_task time task dice).answer
-    ≡ change_with time task.command task.lines.more task.sources (settings_in task.opened.sealing)
-    (new_id (next_bytes 16 dice)) task.opened.doc
+    → change_of_task time task dice
+    ≡ change_by time task.command task.lines.more task.lines.otp task.sources
+    (settings_in task.opened.sealing) (new_id (next_bytes 16 dice)) task.opened.doc (drop 16 dice)
+
+-- A change is made with a password that its piece chooses, to its last byte.
+pub record IsOfPassword (time : ℕ) (task : Task) (profile : PasswordProfile) (dice : List ℕ)
+    (change : Change) : Type 0 where
+  pub id : NodeId
+  pub drawn : (drawn_id (makes_node task.command task.opened.doc) dice).answer ≡ Ok id
+  pub password : List ℕ
+  pub chooses : choose profile.alphabet profile.length []
+      (password_piece profile (after_id (makes_node task.command task.opened.doc) dice))
+      ≡ chosen password []
+  pub makes : change_with time task.command (Some password) task.lines.otp task.sources
+      (settings_in task.opened.sealing) id task.opened.doc ≡ Ok change
+
+-- So is that of each command that generates a password.
+abbrev pub PasswordsAreOfPieces : Type 0
+PasswordsAreOfPieces = (time : ℕ) (task : Task) (profile : PasswordProfile) (dice : List ℕ)
+    (change : Change) → generated_by task.command ≡ Some profile
+    → (change_of_task time task dice).answer ≡ Ok change
+    → IsOfPassword time task profile dice change
 
 -- The file that a task writes is sealed with its pieces: it is the file of draws that are these
 -- pieces.
@@ -106,7 +150,9 @@ pub record IsOfPieces (time : ℕ) (task : Task) (dice : List ℕ) (sealing : Se
   pub made : bytes ≡ made_file (settings_for sealing.settings doc) draws sealing.composite doc
   pub pieces : task_pieces time task dice
       ≡ id_pieces (makes_node task.command task.opened.doc) dice
-      ++ file_pieces (settings_for sealing.settings doc) draws
+      ++ (password_pieces (generated_by task.command)
+      (after_id (makes_node task.command task.opened.doc) dice)
+      ++ file_pieces (settings_for sealing.settings doc) draws)
 
 -- A file that a call seals is made of the pieces that were drawn for it.
 abbrev pub FilesAreOfPieces : Type 0
@@ -117,7 +163,9 @@ FilesAreOfPieces = (time : ℕ) (task : Task) (dice : List ℕ) (sealing : Seali
     → ending.file ≡ Some (record { name = target_of task.command; bytes = bytes })
     → IsOfPieces time task dice sealing doc bytes
 
--- Dice of 192 bytes are long enough for every task.
+-- Dice of 192 bytes are long enough for every task that generates no password, and where one is
+-- generated, so are dice that are longer by as many bytes as it is chosen by at most.
 abbrev pub DrawsFewBytes : Type 0
 DrawsFewBytes = (time : ℕ) (task : Task) (dice : List ℕ)
-    → length (concat (task_pieces time task dice)) ≤ 192
+    → length (concat (task_pieces time task dice))
+    ≤ 192 + password_most (generated_by task.command)

@@ -1,7 +1,8 @@
 -- New entries and groups, and entries with other values.
-use Rattle.std.specs.Prelude.{ℕ, Bool, true, false, List, [], ◌∷◌, codes, Option, None, Some}
+use Rattle.std.specs.Prelude.{ℕ, Bool, true, false, cond, List, [], ◌∷◌, codes, Option, None, Some}
 use Rattle.std.specs.Borrow.{Bor}
 use Rattle.std.specs.Option.{option_map, unwrap_or}
+use Rattle.std.specs.Str.{bytes_eq}
 use Rattle.vault_model.specs.declared.contents.Tri.TheVariants.{No}
 use Rattle.vault_model.specs.declared.metas.Protection.{Protection}
 use Rattle.vault_model.specs.Bare.{BareContent, BareField}
@@ -20,6 +21,8 @@ pub record GivenValues : Type 0 where
   pub password : Option (List ℕ)
   pub url : Option (List ℕ)
   pub notes : Option (List ℕ)
+  -- what a one-time code is made from; where empty, it is taken away
+  pub otp : Option (List ℕ)
 
 -- a value that is lent
 abbrev pub lent_value : Option (Bor (List ℕ)) → Option (List ℕ)
@@ -33,6 +36,7 @@ given_values v = record {
   password = lent_value v.password;
   url = lent_value v.url;
   notes = lent_value v.notes;
+  otp = lent_value v.otp;
 }
 
 -- ---- a new entry
@@ -41,7 +45,8 @@ given_values v = record {
 abbrev pub field : List ℕ → List ℕ → Bool → BareField
 field key value hidden = record { key = key; value = value; hidden = hidden }
 
--- the five fields of every new entry, by rising key; a value that is not given is empty
+-- the five fields of every new entry, by rising key; a value that is not given is empty, and what a
+-- one-time code is made from is passed over
 abbrev pub new_fields : Protection → List ℕ → GivenValues → List BareField
 new_fields p title v =
     field (codes "Notes") (unwrap_or v.notes []) p.notes
@@ -94,12 +99,29 @@ abbrev pub with_given : List ℕ → Bool → Option (List ℕ) → List BareFie
 with_given key hidden None fields = fields
 with_given key hidden (Some value) fields = with_value key hidden value fields
 
--- fields with all values that are given
-abbrev pub edited_fields : Protection → GivenValues → List BareField → List BareField
-edited_fields p v fields =
+-- fields with those values that are given of the five that every new entry has
+abbrev pub with_values : Protection → GivenValues → List BareField → List BareField
+with_values p v fields =
     with_given (codes "UserName") p.user v.user (with_given (codes "URL") p.url v.url
     (with_given (codes "Title") p.title v.title (with_given (codes "Password") p.password v.password
     (with_given (codes "Notes") p.notes v.notes fields))))
+
+-- fields without the first of a key; keys rise in a document, so there is no other
+abbrev pub without_field : List ℕ → List BareField → List BareField
+without_field key [] = []
+without_field key (f ∷ fields) = cond (bytes_eq key f.key) fields (f ∷ without_field key fields)
+
+-- fields with what a one-time code is made from, where it is given: the field `otp`, which is
+-- hidden whatever it was before, and which an empty text takes away
+abbrev pub with_otp : Option (List ℕ) → List BareField → List BareField
+with_otp None fields = fields
+with_otp (Some []) fields = without_field (codes "otp") fields
+with_otp (Some (b ∷ bs)) fields =
+    with_value (codes "otp") true (b ∷ bs) (without_field (codes "otp") fields)
+
+-- fields with all values that are given
+abbrev pub edited_fields : Protection → GivenValues → List BareField → List BareField
+edited_fields p v fields = with_otp v.otp (with_values p v fields)
 
 -- a version with the values that are given, made and looked at then, and used as often as before
 abbrev pub edited_version : Protection → GivenValues → ℕ → BareVersion → BareVersion

@@ -9,4 +9,7 @@ pub struct Values<'a> {
     pub password: Option<&'a [u8]>,
     pub url: Option<&'a str>,
     pub notes: Option<&'a str>,
+    /// What a one-time code is made from, in UTF-8; of an entry that is edited, where empty takes it
+    /// away. A new entry passes it over.
+    pub otp: Option<&'a [u8]>,
 }

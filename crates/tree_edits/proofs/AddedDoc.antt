@@ -1,5 +1,5 @@
 -- A new entry of texts leaves a document.
-use Rattle.std.proofs.Common.{◌≡◌, ℕ, List, MatchOption, MatchResult, Option, Some, Result, true, false, ap, sym, ◌∙◌}
+use Rattle.std.proofs.Common.{◌≡◌, ℕ, List, MatchOption, MatchResult, Option, Some, Result, true, false, ap, ◌∙◌}
 use Rattle.std.specs.Str.{is_utf8}
 use Rattle.vault_model.specs.Db.{NodeId}
 use Rattle.vault_model.specs.Shape.{EntryRecord}

@@ -1,5 +1,5 @@
 -- What `edit` comes to, step by step.
-use Rattle.std.proofs.Common.{◌≡◌, ℕ, List, Option, None, Some, Result, Ok, Err, refl, sym, ap, ◌∙◌}
+use Rattle.std.proofs.Common.{◌≡◌, ℕ, List, None, Some, Result, Ok, Err, ◌∙◌}
 use Rattle.vault_model.specs.Db.{NodeId}
 use Rattle.vault_model.specs.SeenNodes.{entry_time}
 use Rattle.vault_model.specs.Shape.{EntryRecord}
@@ -12,7 +12,6 @@ use Rattle.tree_core.specs.After.{Holding, after_edit, edited_entry, entry_named
 use Rattle.tree_core.specs.Changes.{changed_at, changed_entry, entry_at, holder}
 use Rattle.tree_core.specs.NewNodes.{GivenValues}
 use Rattle.tree_core.proofs.Binds.{ends, goes_on, names, names_none}
-use Rattle.tree_core.proofs.Edited.{changed_same}
 
 module _ (path : List ℕ) (v : GivenValues) (now : ℕ) (d : BareDoc) where
   abbrev rest : Holding → Result BareDoc TreeFail

@@ -1,5 +1,5 @@
 -- A version that is greater than the last of versions that rise is to be put after it.
-use Rattle.std.proofs.Common.{◌≡◌, ◌-◌, ◌+◌, ◌&&◌, ℕ, zero, suc, Bool, true, true≢false, List, [], ◌∷◌, Ok, Err, get_or, length, map, refl, sym, ap, ◌∙◌, arith}
+use Rattle.std.proofs.Common.{◌≡◌, ◌-◌, ◌+◌, ℕ, zero, suc, true, true≢false, List, [], ◌∷◌, Ok, Err, get_or, length, map, refl, sym, ap, ◌∙◌, arith}
 use Rattle.std.proofs.Math.Dec.{T}
 use Rattle.std.proofs.lemmas.List.{length-map}
 use Rattle.std.specs.declared.cmp.Ordering.{Ordering}

@@ -5,6 +5,7 @@ pub mod EditedDoc
 pub mod LastVersions
 pub mod MovedUp
 pub mod Suffixes
+pub mod Taken
 pub mod Places
 pub mod Proper
 pub mod RisingVersions

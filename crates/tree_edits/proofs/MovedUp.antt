@@ -1,5 +1,5 @@
 -- A list whose end is moved to its start, item by item.
-use Rattle.std.proofs.Common.{◌≡◌, ◌<◌, ◌≤◌, ◌+◌, ◌-◌, ℕ, suc, inl, inr, List, [], ◌++◌, append-nil, length, length-drop, drop, take, get_or, remove, nat_le, refl, sym, ap, ◌∙◌, arith}
+use Rattle.std.proofs.Common.{◌≡◌, ◌<◌, ◌≤◌, ◌+◌, ◌-◌, ℕ, suc, inl, inr, List, ◌++◌, append-nil, length, length-drop, drop, take, get_or, remove, nat_le, refl, sym, ap, ◌∙◌, arith}
 use Rattle.std.proofs.lemmas.Bool.{leb-false, leb-true}
 use Rattle.std.proofs.lemmas.List.{drop_all, get_or-drop, get_or-take, length-take-le, same_lists, take-take}
 use Rattle.std.proofs.lemmas.List.Edits.{length-swap, swapped_from_swap}

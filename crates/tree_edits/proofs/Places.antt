@@ -1,5 +1,5 @@
 -- Putting an item at the spot of its order is putting it in its place.
-use Rattle.std.proofs.Common.{◌≡◌, ◌<◌, ◌≤◌, ◌+◌, ℕ, suc, zero, arith, List, [], ◌∷◌, ◌++◌, Option, None, Some, Result, Ok, Err, MatchResult, OnOk, insert, take, drop, length, map, refl, sym, ap, ◌∙◌}
+use Rattle.std.proofs.Common.{◌≡◌, ◌<◌, ◌≤◌, ◌+◌, ℕ, suc, zero, arith, List, [], ◌∷◌, ◌++◌, None, Some, Result, Ok, Err, MatchResult, OnOk, insert, take, drop, length, map, refl, sym, ap, ◌∙◌}
 use Rattle.std.proofs.lemmas.List.{drop-map, take-map}
 use Rattle.std.proofs.lemmas.Option.{same_Some}
 use Rattle.std.specs.declared.cmp.Ordering.{Ordering}

@@ -1,15 +1,14 @@
 -- What a new entry and an edited one say is in order.
-use Rattle.std.proofs.Common.{◌≡◌, ◌&&◌, ℕ, ℤ, length, Bool, true, false, cond, List, [], ◌∷◌, Option, None, Some, IfSome, map, inl, inr, refl, sym, ap, ◌∙◌}
+use Rattle.std.proofs.Common.{◌≡◌, ◌&&◌, ℕ, ℤ, length, Bool, true, false, cond, List, [], ◌∷◌, Option, None, Some, IfSome, inl, inr, refl, sym, ap, ◌∙◌}
 use Rattle.std.specs.Prelude.{codes}
 use Rattle.std.specs.declared.cmp.Ordering.{Ordering}
 use Rattle.std.specs.declared.cmp.Ordering.TheVariants.{Less, Equal, Greater}
 use Rattle.std.specs.Borrow.{Bor}
 use Rattle.std.specs.FinMap.{entries}
 use Rattle.std.specs.List.{list_all}
-use Rattle.std.specs.Option.{option_map, unwrap_or}
+use Rattle.std.specs.Option.{unwrap_or}
 use Rattle.std.specs.Ordering.{is_lt, ordering_reverse}
-use Rattle.std.specs.Str.{chars, is_utf8}
-use Rattle.vault_model.specs.declared.contents.Stats.{Stats}
+use Rattle.std.specs.Str.{bytes_eq, chars, is_utf8}
 use Rattle.vault_model.specs.declared.metas.Meta.{Meta}
 use Rattle.vault_model.specs.declared.metas.Protection.{Protection}
 use Rattle.vault_model.specs.Bare.{BareAttachment, BareContent, BareField}
@@ -26,9 +25,8 @@ use Rattle.merge_core.proofs.SoundDoc.{all_in, version_marks}
 use Rattle.merge_core.proofs.Tables.{entry_get}
 use Rattle.tree_core.specs.After.{edited_entry}
 use Rattle.tree_core.specs.Histories.{is_within, rising_versions, versions_size, within_limits}
-use Rattle.tree_core.specs.InOrder.{put_in_order}
 use Rattle.tree_edits.specs.Texts.{AreTexts, is_text_value}
-use Rattle.tree_core.specs.NewNodes.{GivenValues, edited_fields, edited_version, field, lent_value, new_content, new_entry, new_fields, with_given, with_value}
+use Rattle.tree_core.specs.NewNodes.{GivenValues, edited_fields, edited_version, field, lent_value, new_content, new_entry, new_fields, with_given, with_otp, with_value, with_values, without_field}
 
 -- ---- texts
 
@@ -64,6 +62,10 @@ url_key = refl
 user_key : is_utf8 (codes "UserName") ≡ true
 unfolding is_utf8 chars lib.Utf8.encode
 user_key = refl
+
+otp_key : is_utf8 (codes "otp") ≡ true
+unfolding is_utf8 chars lib.Utf8.encode
+otp_key = refl
 
 abbrev are_text_fields : List BareField → Bool
 are_text_fields = list_all is_text_field
@@ -169,13 +171,51 @@ good_given : (key : List ℕ) (hidden : Bool) (value : Option (List ℕ)) (fs : 
 good_given key hidden None fs k v h = h
 good_given key hidden (Some value) fs k v h = (rises_put key hidden value fs h.0, text_put key hidden value fs k v h.1)
 
-good_edited : (p : Protection) (v : GivenValues) (fs : List BareField) → AreTexts v → Good fs → Good (edited_fields p v fs)
-good_edited p v fs t h =
+good_values : (p : Protection) (v : GivenValues) (fs : List BareField) → AreTexts v → Good fs → Good (with_values p v fs)
+good_values p v fs t h =
     good_given (codes "UserName") p.user v.user _ user_key t.user
     (good_given (codes "URL") p.url v.url _ url_key t.url
     (good_given (codes "Title") p.title v.title _ title_key t.title
     (good_given (codes "Password") p.password v.password _ password_key t.password
     (good_given (codes "Notes") p.notes v.notes fs notes_key t.notes h))))
+
+-- ---- a field taken away
+
+all_without : (test : BareField → Bool) (key : List ℕ) (fs : List BareField) → list_all test fs ≡ true → list_all test (without_field key fs) ≡ true
+all_without test key [] h = h
+all_without test key (f ∷ fs) h =
+    let both = and_true (test f) (list_all test fs) h in
+    let rest = all_without test key fs both.1 in
+    elim (bytes_eq key f.key) as (λ b. list_all test (cond b fs (f ∷ without_field key fs)) ≡ true) [
+      | true ↦ both.1
+      | false ↦ and_both (test f) (list_all test (without_field key fs)) both.0 rest
+    ]
+
+rises_without : (key : List ℕ) (fs : List BareField) → rises key_of fs ≡ true → rises key_of (without_field key fs) ≡ true
+rises_without key [] h = h
+rises_without key (f ∷ fs) h =
+    let test = λ (g : BareField). is_lt (bytes_cmp f.key g.key) in
+    let both = and_true (list_all test fs) (rises key_of fs) h in
+    let above = all_without test key fs both.0 in
+    let rest = rises_without key fs both.1 in
+    elim (bytes_eq key f.key) as (λ b. rises key_of (cond b fs (f ∷ without_field key fs)) ≡ true) [
+      | true ↦ both.1
+      | false ↦ and_both (list_all test (without_field key fs)) (rises key_of (without_field key fs)) above rest
+    ]
+
+good_without : (key : List ℕ) (fs : List BareField) → Good fs → Good (without_field key fs)
+good_without key fs h = (rises_without key fs h.0, all_without is_text_field key fs h.1)
+
+good_otp : (otp : Option (List ℕ)) (fs : List BareField) → is_text_value otp ≡ true → Good fs → Good (with_otp otp fs)
+good_otp None fs t h = h
+good_otp (Some []) fs t h = good_without (codes "otp") fs h
+good_otp (Some (b ∷ bs)) fs t h =
+    let rest = without_field (codes "otp") fs in
+    let good = good_without (codes "otp") fs h in
+    (rises_put (codes "otp") true (b ∷ bs) rest good.0, text_put (codes "otp") true (b ∷ bs) rest otp_key t good.1)
+
+good_edited : (p : Protection) (v : GivenValues) (fs : List BareField) → AreTexts v → is_text_value v.otp ≡ true → Good fs → Good (edited_fields p v fs)
+good_edited p v fs t otp h = good_otp v.otp (with_values p v fs) otp (good_values p v fs t h)
 
 -- what an edited version says
 edited_content_proper : (c : BareContent) (fs : List BareField) → is_proper_content c ≡ true → (Good c.fields → Good fs) → is_proper_content (record c { fields = fs }) ≡ true
@@ -229,10 +269,11 @@ suffix_proper items size (v ∷ vs) h =
       | false ↦ rest
     ]
 
-pub edited_entry_proper : (meta : Meta) (v : GivenValues) (time : ℕ) (e : EntryRecord) → AreTexts v → is_proper_entry e ≡ true → is_proper_entry (edited_entry meta v time e) ≡ true
-edited_entry_proper meta v time e t h =
+pub edited_entry_proper : (meta : Meta) (v : GivenValues) (time : ℕ) (e : EntryRecord) → AreTexts v → is_text_value v.otp ≡ true → is_proper_entry e ≡ true
+    → is_proper_entry (edited_entry meta v time e) ≡ true
+edited_entry_proper meta v time e t otp h =
     let s = meta.settings.value in
     let both = and_true (proper e.current) (list_all proper e.history) h in
     and_both (proper (edited_version s.protect v time e.current)) (list_all proper (within_limits s.history_items s.history_size (rising_versions e)))
-    (edited_content_proper e.current.mark.content (edited_fields s.protect v e.current.mark.content.fields) both.0 (good_edited s.protect v e.current.mark.content.fields t))
+    (edited_content_proper e.current.mark.content (edited_fields s.protect v e.current.mark.content.fields) both.0 (good_edited s.protect v e.current.mark.content.fields t otp))
     (suffix_proper s.history_items s.history_size (rising_versions e) (rising_proper e h))

@@ -3,8 +3,7 @@ use Rattle.std.proofs.Common.{◌≡◌, ◌&&◌, ℕ, Bool, true, false, cond,
 use Rattle.std.proofs.Math.Dec.{T}
 use Rattle.std.specs.declared.cmp.Ordering.{Ordering}
 use Rattle.std.specs.declared.cmp.Ordering.TheVariants.{Less, Equal, Greater}
-use Rattle.std.specs.Cmp.{IsTotalOrder}
-use Rattle.std.specs.FinMap.{FinMap, IsAntisymmetric, empty, len-empty, len-entries, entries, entries-insert, entries_sorted, find, get, get-empty, get-entries, get-insert, insert, is_sorted, put, same_map}
+use Rattle.std.specs.FinMap.{empty, len-empty, len-entries, entries, entries-insert, entries_sorted, find, get, get-empty, get-entries, get-insert, insert, is_sorted, put, same_map}
 use Rattle.std.specs.FinMap.Entries.{below_all, by_order as entry_by_order}
 use Rattle.std.specs.Ordering.{eq_by_cmp, is_eq, is_lt}
 use Rattle.vault_model.specs.declared.contents.Stats.{Stats}
@@ -14,11 +13,11 @@ use Rattle.vault_model.specs.SeenNodes.{bare_version}
 use Rattle.vault_model.specs.declared.nodes.Version.{Version}
 use Rattle.vault_model.specs.Db.{Mark, Versions, mark_cmp}
 use Rattle.vault_model.specs.Join.{stats_join}
-use Rattle.vault_model.specs.Shape.{BareVersion, EntryRecord, version_of, versions_of}
+use Rattle.vault_model.specs.Shape.{BareVersion, EntryRecord, version_of}
 use Rattle.vault_model.specs.Unite.{by_order, join_options, unite, unite_all}
 use Rattle.vault_model.proofs.Orders.{mark_order}
 use Rattle.vault_model.proofs.Tests.{decide}
-use Rattle.merge_core.proofs.Joins.{stats_joins, versions_joins}
+use Rattle.merge_core.proofs.Joins.{versions_joins}
 use Rattle.merge_core.proofs.Unite.{tie, get-unite}
 use Rattle.tree_core.specs.Histories.{rising_versions}
 use Rattle.tree_edits.specs.Versions.{AreRising, put_version}

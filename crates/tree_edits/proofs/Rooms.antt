@@ -1,5 +1,5 @@
 -- Room that is used up by one thing after another.
-use Rattle.std.proofs.Common.{◌≡◌, ◌<◌, ◌≤◌, ◌+◌, ◌-◌, ℕ, Bool, true, false, cond, inl, inr, Option, None, Some, option_and_then, nat_le, refl, sym, ap, ◌∙◌, arith}
+use Rattle.std.proofs.Common.{◌≡◌, ◌<◌, ◌≤◌, ◌+◌, ◌-◌, ℕ, false, cond, inl, inr, None, Some, option_and_then, nat_le, sym, ap, ◌∙◌, arith}
 use Rattle.std.proofs.lemmas.Bool.{leb-false, leb-true, le-leb}
 use Rattle.vault_model.proofs.Tests.{decide, is_false}
 use Rattle.tree_edits.specs.Rooms.{room_left}

@@ -8,7 +8,7 @@ abbrev pub is_text_value : Option (List ℕ) → Bool
 is_text_value None = true
 is_text_value (Some text) = is_utf8 text
 
--- All values that are given are in UTF-8.
+-- Those values of the five fields of every entry that are given are in UTF-8.
 pub record AreTexts (v : GivenValues) : Type 0 where
   pub title : is_text_value v.title ≡ true
   pub user : is_text_value v.user ≡ true

@@ -10,7 +10,7 @@ ghost use Rattle.tree_core.specs.After.{Changes, after_edit, edited_entry};
 ghost use Rattle.tree_core.specs.Histories.{settled_history, with_version};
 ghost use Rattle.tree_core.specs.NewNodes as spec;
 
-use crate::fields::set_value;
+use crate::fields::{remove_field, set_value};
 use crate::histories::rising_versions;
 use crate::limits::limit_history;
 use crate::texts::values_are_utf8;
@@ -49,15 +49,30 @@ fn bytes_of(text: Option<&str>) -> Option<&[u8]>
     }
 }
 
-// Gives fields all values that are given.
-fn set_values(
+// Makes the field `otp` the text that is given, hidden, or takes it away where that is empty.
+fn set_otp(alloc: Global, fields: &mut List<Field>, otp: Option<&[u8]>) -> Result<(), NoMemory>
+    ensures { OnOk result (map bare_field fields.new
+        ≡ spec.with_otp (spec.lent_value otp.entry) (map bare_field fields.old)) }
+{
+    let Some(text) = otp else {
+        return Ok(());
+    };
+    remove_field(fields, "otp");
+    if text.is_empty() {
+        return Ok(());
+    }
+    set_value(alloc, fields, "otp", text, true)
+}
+
+// Gives the five fields that every new entry has the values that are given.
+fn set_five(
     alloc: Global,
     fields: &mut List<Field>,
     protect: &Protection,
     values: &Values<'_>,
 ) -> Result<(), NoMemory>
     ensures { OnOk result (map bare_field fields.new
-        ≡ spec.edited_fields protect.now (spec.given_values values.now)
+        ≡ spec.with_values protect.now (spec.given_values values.now)
         (map bare_field fields.old)) }
 {
     set_given(
@@ -83,6 +98,21 @@ fn set_values(
         bytes_of(values.user),
         protect.user,
     )
+}
+
+// Gives fields all values that are given.
+fn set_values(
+    alloc: Global,
+    fields: &mut List<Field>,
+    protect: &Protection,
+    values: &Values<'_>,
+) -> Result<(), NoMemory>
+    ensures { OnOk result (map bare_field fields.new
+        ≡ spec.edited_fields protect.now (spec.given_values values.now)
+        (map bare_field fields.old)) }
+{
+    set_five(alloc, fields, protect, values)?;
+    set_otp(alloc, fields, values.otp)
 }
 
 // Gives a version the values that are given, and the time at which it is made.
@@ -173,7 +203,7 @@ fn edited_versions(
 /// Gives the entry that a path names other values, in a new version that is made now, or a second
 /// after the newest of the others if that is later; the other versions are its history, in rising
 /// order, of which the longest suffix within the limits of the database stays. A field that is new is
-/// hidden as the database says. A refusal changes nothing.
+/// hidden as the database says, and `otp` always. A refusal changes nothing.
 pub fn edit(
     alloc: Global,
     doc: &mut Doc,
@@ -181,7 +211,8 @@ pub fn edit(
     values: &Values<'_>,
     now: Stamp,
 ) -> Result<(), TreeFail>
-    requires { IfSome values.now.password (λ password. is_utf8 password.now ≡ true) }
+    requires password { IfSome values.now.password (λ password. is_utf8 password.now ≡ true) }
+    requires otp { IfSome values.now.otp (λ otp. is_utf8 otp.now ≡ true) }
     ensures { Changes (after_edit path.now (spec.given_values values.now) now (doc_seen doc.old))
         result (doc_seen doc.old) (doc_seen doc.new) }
 {

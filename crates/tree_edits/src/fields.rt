@@ -1,7 +1,9 @@
-//! Fields, new and with other values.
+//! Fields, new, with other values and taken away.
 
 ghost use Rattle.std.specs.Prelude.{◌≡◌, [], ◌∷◌, ◌++◌, ◌≤◌, IfOk, OnOk, insert, length, map, slice_get, true};
+ghost use Rattle.std.specs.List.{position_from};
 ghost use Rattle.std.specs.Option.{option_map, unwrap_or};
+ghost use Rattle.std.specs.Str.{bytes_eq};
 ghost use Rattle.vault_model.specs.Orders.{bytes_cmp};
 ghost use Rattle.vault_model.specs.Seen.{bare_field};
 ghost use Rattle.tree_core.specs.NewNodes as spec;
@@ -100,5 +102,26 @@ pub(crate) fn set_value(
             let field = new_field(alloc, key, value, hidden)?;
             insert_at(fields, at, field)
         }
+    }
+}
+
+// Where the first field of a key is, if there is one.
+fn field_index(fields: &[Field], key: &str) -> Option<usize>
+    ensures { result ≡ position_from (λ f. bytes_eq key.now f.key) 0 fields.now }
+{
+    for (at, field) in fields.iter().enumerate() {
+        if key == field.key.as_str() {
+            return Some(at);
+        }
+    }
+    None
+}
+
+/// Takes the field of a key away, where there is one.
+pub(crate) fn remove_field(fields: &mut List<Field>, key: &str)
+    ensures { map bare_field fields.new ≡ spec.without_field key.now (map bare_field fields.old) }
+{
+    if let Some(at) = field_index(fields.as_slice(), key) {
+        drop(fields.remove(at));
     }
 }

@@ -16,7 +16,7 @@ fn text_is_utf8(text: Option<&str>)
     }
 }
 
-/// All values are in UTF-8 where the password is: the others are texts.
+/// The values of the five fields are in UTF-8 where the password is: the others are texts.
 pub(crate) fn values_are_utf8(values: &Values<'_>)
     requires { IfSome values.now.password (λ password. is_utf8 password.now ≡ true) }
     ensures { AreTexts (given_values values.now) }

@@ -19,7 +19,14 @@ trips = id 8
 
 -- no value is given
 abbrev pub no_values : GivenValues
-no_values = record { title = None; user = None; password = None; url = None; notes = None }
+no_values = record {
+  title = None;
+  user = None;
+  password = None;
+  url = None;
+  notes = None;
+  otp = None;
+}
 
 -- the first copy with the entry
 abbrev pub with_shop : BareDoc

@@ -1,14 +1,14 @@
 //! Reads lists of words as the program reads them. Each line of standard input is a list, with a tab
-//! after each word. For each a line is printed: the command that the words are and what it says,
-//! with a tab after each part, or `wrong`.
+//! after each word. For each a line is printed: the command that the words are and what it says, or
+//! `generate` and how the password is generated, with a tab after each part, or `wrong`.
 #![tactic(auto)]
 
 mod parts;
 mod written;
 
-use crate::written::written;
+use crate::written::{written, written_profile};
 use cli_answers::Stop;
-use cli_words::read_words;
+use cli_words::{read_profile, read_words};
 use std::alloc::{AllocError, Global};
 use std::io::{self, BufRead, BufReader};
 
@@ -22,6 +22,18 @@ fn words_of(alloc: Global, line: &str) -> Result<Vec<String>, AllocError> {
     Ok(words)
 }
 
+// Prints how the password is generated that words ask for that are no command.
+fn answer_profile(rt: &impl Print, alloc: Global, words: &[String]) -> io::Result<()> {
+    match read_profile(alloc, words) {
+        Ok(Some(profile)) => {
+            let parts = written_profile(alloc, &profile)?;
+            println!(rt; "{}", parts.as_str())
+        }
+        Ok(None) => println!(rt; "wrong"),
+        Err(_) => println!(rt; "out of memory"),
+    }
+}
+
 // Prints what becomes of a line of the input.
 fn answer(rt: &impl Print, alloc: Global, line: &str) -> io::Result<()> {
     let words = words_of(alloc, line)?;
@@ -30,7 +42,7 @@ fn answer(rt: &impl Print, alloc: Global, line: &str) -> io::Result<()> {
             let parts = written(alloc, &command)?;
             println!(rt; "{}", parts.as_str())
         }
-        Err(Stop::Refused(_)) => println!(rt; "wrong"),
+        Err(Stop::Refused(_)) => answer_profile(rt, alloc, words.as_slice()),
         Err(_) => println!(rt; "out of memory"),
     }
 }

@@ -1,5 +1,6 @@
 //! The parts of a line that is printed.
 
+use cli_profiles::PasswordProfile;
 use cli_words::Access;
 use outside_core::{List, Text};
 use std::alloc::{AllocError, Global};
@@ -55,6 +56,12 @@ impl Parts {
             self.text(name, text.as_str())?;
         }
         Ok(())
+    }
+
+    /// How a password is generated.
+    pub fn profile(&mut self, alloc: Global, profile: &PasswordProfile) -> Result<(), AllocError> {
+        self.text("length", format!(in alloc; "{}", profile.length)?.as_str())?;
+        self.text("alphabet", profile.alphabet.as_str())
     }
 
     /// How a database is opened that has this name.

@@ -1,6 +1,7 @@
 //! A command as a line.
 
 use crate::parts::Parts;
+use cli_profiles::PasswordProfile;
 use cli_words::{Asked, Command, ExportFormat, ImportFormat, target_access, target_of};
 use std::alloc::{AllocError, Global};
 
@@ -41,12 +42,16 @@ fn name_of(command: &Command) -> &'static str {
 }
 
 // The values that an entry is to have.
-fn add_asked(parts: &mut Parts, asked: &Asked) -> Result<(), AllocError> {
+fn add_asked(parts: &mut Parts, alloc: Global, asked: &Asked) -> Result<(), AllocError> {
     parts.option("title", &asked.title)?;
     parts.option("username", &asked.user)?;
     parts.option("url", &asked.url)?;
     parts.option("notes", &asked.notes)?;
-    parts.flag("password", asked.password)
+    parts.flag("password", asked.password)?;
+    if let Some(profile) = &asked.generated {
+        parts.profile(alloc, profile)?;
+    }
+    parts.flag("otp", asked.otp)
 }
 
 // What a command says beside its database, of those that only read.
@@ -68,13 +73,15 @@ fn add_reading(parts: &mut Parts, command: &Command) -> Result<(), AllocError> {
             all,
             attachments,
             names,
+            totp,
             ..
         } => {
             parts.text("entry", entry.as_str())?;
             parts.flag("show-protected", *clear)?;
             parts.flag("all", *all)?;
             parts.flag("show-attachments", *attachments)?;
-            parts.texts("attribute", names)
+            parts.texts("attribute", names)?;
+            parts.flag("totp", *totp)
         }
         Command::Search { term, .. } => parts.text("term", term.as_str()),
         Command::Export { format, .. } => parts.text("format", export_name(*format)),
@@ -83,15 +90,15 @@ fn add_reading(parts: &mut Parts, command: &Command) -> Result<(), AllocError> {
 }
 
 // The same of those that change a database.
-fn add_changing(parts: &mut Parts, command: &Command) -> Result<(), AllocError> {
+fn add_changing(parts: &mut Parts, alloc: Global, command: &Command) -> Result<(), AllocError> {
     match command {
         Command::Add { entry, asked, .. } => {
             parts.text("entry", entry.as_str())?;
-            add_asked(parts, asked)
+            add_asked(parts, alloc, asked)
         }
         Command::Edit { entry, asked, .. } => {
             parts.text("entry", entry.as_str())?;
-            add_asked(parts, asked)
+            add_asked(parts, alloc, asked)
         }
         Command::Move { node, group, .. } => {
             parts.text("node", node.as_str())?;
@@ -138,7 +145,17 @@ pub(crate) fn written(alloc: Global, command: &Command) -> Result<Parts, AllocEr
     let mut parts = Parts::new(alloc, name_of(command))?;
     parts.access(target_of(command).as_str(), target_access(command))?;
     add_reading(&mut parts, command)?;
-    add_changing(&mut parts, command)?;
+    add_changing(&mut parts, alloc, command)?;
     add_other(&mut parts, command)?;
+    Ok(parts)
+}
+
+/// How a password is generated that words ask for alone, as a line.
+pub(crate) fn written_profile(
+    alloc: Global,
+    profile: &PasswordProfile,
+) -> Result<Parts, AllocError> {
+    let mut parts = Parts::new(alloc, "generate")?;
+    parts.profile(alloc, profile)?;
     Ok(parts)
 }

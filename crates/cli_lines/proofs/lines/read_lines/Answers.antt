@@ -10,7 +10,7 @@ pub returns-in-Ok-clause-told : goal.returns-in-Ok-clause-told
 returns-in-Ok-clause-told g c = λ i t.
     let needs = needs_seen c.args.needs in
     let asks = asks_password c.args.needs.access.now in
-    let later = asks_passwords_from needs || c.args.needs.has_line in
+    let later = asks_passwords_from needs || (c.args.needs.has_line || c.args.needs.has_otp) in
     let read = rw c.asks_password-asks.ensures at c.in-Ok.ensures.told in
     let first = read i (tells_first asks later _ i t) in
     let rest = (line_if asks 1 i).left in
@@ -24,6 +24,6 @@ pub returns-in-Err-clause-told : goal.returns-in-Err-clause-told
 returns-in-Err-clause-told g c = λ i t.
     let needs = needs_seen c.args.needs in
     let asks = asks_password c.args.needs.access.now in
-    let later = asks_passwords_from needs || c.args.needs.has_line in
+    let later = asks_passwords_from needs || (c.args.needs.has_line || c.args.needs.has_otp) in
     let read = rw c.asks_password-asks.ensures at c.in-Err.ensures.told in
     first_stops c.in-Err.stop _ _ (line_if asks 1 i) (after_password needs) (read i (tells_first asks later _ i t))

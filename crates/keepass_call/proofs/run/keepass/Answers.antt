@@ -22,30 +22,30 @@ returns-in-Ok g c =
       left = λ w t. c.in-Ok.ensures.left w.input t.input;
       wrote = rw c.lend_text.ensures at c.print.ensures;
       draft = c.in-Ok.ensures.draft;
-      held = λ n w t. c.in-Ok.ensures.held w t.files t.input t.dice;
+      held = λ n w t. c.in-Ok.ensures.held n.no_password w t.files t.input t.dice;
       unwritten = c.in-Ok.ensures.unwritten;
       undrawn = c.in-Ok.ensures.undrawn;
       stream = c.in-Ok.ensures.stream;
-      some_file = λ n. c.in-Ok.ensures.some_file;
+      some_file = λ n. c.in-Ok.ensures.some_file n.no_password;
       page = λ text is. absurd (no_none text _ is none);
     })
 
-pub returns-in-Err-answer : goal.returns-in-Err-answer
-returns-in-Err-answer g c =
+pub returns-in-Err-answer_words : goal.returns-in-Err-answer_words
+returns-in-Err-answer_words g c =
     let none : page_of (map string_bytes c.args.words.now) ≡ None = sym c.in-Ok-None.ensures.page ∙ c.in-Ok-None.field-0-is in
-    stopped_call (map string_bytes c.args.words.now) c.args.now c.tell.result _ _ _ _ c.in-Err-answer.stop
+    stopped_call (map string_bytes c.args.words.now) c.args.now c.tell.result _ _ _ _ c.in-Err-answer_words.stop
     (record {
-      gives = λ w t. ends_as (map string_bytes c.args.words.now) c.args.now w (Err c.in-Err-answer.stop) _ _ _ _ none (c.in-Err-answer.ensures.told w t.files t.input t.dice);
-      left = λ w t. c.in-Err-answer.ensures.left w.input t.input;
-      kept = c.in-Err-answer.ensures.kept;
+      gives = λ w t. ends_as (map string_bytes c.args.words.now) c.args.now w (Err c.in-Err-answer_words.stop) _ _ _ _ none (c.in-Err-answer_words.ensures.told w t.files t.input t.dice);
+      left = λ w t. c.in-Err-answer_words.ensures.left w.input t.input;
+      kept = c.in-Err-answer_words.ensures.kept;
       written = refl;
-      draft = c.in-Err-answer.ensures.draft;
-      unwritten = c.in-Err-answer.ensures.unwritten;
-      undrawn = c.in-Err-answer.ensures.undrawn;
-      stream = c.in-Err-answer.ensures.stream;
-      caused = c.in-Err-answer.ensures.cause;
+      draft = c.in-Err-answer_words.ensures.draft;
+      unwritten = c.in-Err-answer_words.ensures.unwritten;
+      undrawn = c.in-Err-answer_words.ensures.undrawn;
+      stream = c.in-Err-answer_words.ensures.stream;
+      caused = c.in-Err-answer_words.ensures.cause;
       told = c.tell.ensures;
       no_page = none;
-      unread = c.in-Err-answer.ensures.unread;
-      wrong = c.in-Err-answer.ensures.wrong;
+      unread = c.in-Err-answer_words.ensures.unread;
+      wrong = c.in-Err-answer_words.ensures.wrong;
     })

@@ -1,4 +1,4 @@
-use Rattle.std.proofs.Common.{Some, Ok, inl, inr, refl, sym, ap, map, ◌∙◌}
+use Rattle.std.proofs.Common.{inl, inr, refl, sym, ap, map, ◌∙◌}
 use Rattle.std.specs.Prelude.{option_map}
 use Rattle.vault_model.proofs.DocumentLaws.{is_doc}
 use Rattle.vault_model.specs.SeenDoc.{doc_seen}
@@ -7,6 +7,7 @@ use Rattle.tree_core.specs.After.{time_after}
 use Rattle.tree_core.specs.NewNodes.{given_values}
 use Rattle.tree_edits.proofs.AfterEdit.{edit_no_entry, edit_no_holder, edit_no_path}
 use Rattle.tree_edits.proofs.EditedDoc.{edit_comes, edit_is_doc}
+use Rattle.tree_edits.proofs.Proper.{lent_text}
 use Rattle.tree_edits.proofs.editing.edit.Goals as goal
 
 pub invariant_of-doc-in-Ok : goal.invariant_of-doc-in-Ok
@@ -15,7 +16,7 @@ invariant_of-doc-in-Ok c =
     let entry = c.in-Some-entry_of.entry.now in
     let there = sym c.entry_of.ensures ∙ ap (option_map (λ found. entry_row found.now)) c.in-Some-entry_of.is in
     let h = edit_is_doc d c.in-Some-holder.group c.in-Some.id (entry_row entry) there (given_values c.args.values.now) c.in_ok-time.time (bare_version c.in-Ok.edited.current) (map bare_version c.in-Ok.edited.history)
-    c.in-Ok.ensures (is_doc c.args.doc.now) c.values_are_utf8.ensures (tree_seen c.set_versions.new.root) c.set_versions.ensures in
+    c.in-Ok.ensures (is_doc c.args.doc.now) c.values_are_utf8.ensures (lent_text c.args.values.now.otp c.requires.otp) (tree_seen c.set_versions.new.root) c.set_versions.ensures in
     record {
       distinct = h.distinct;
       no_nil = h.no_nil;

@@ -1,4 +1,4 @@
-use Rattle.std.proofs.Common.{map, sym, ap, ◌∙◌}
+use Rattle.std.proofs.Common.{map, ap}
 use Rattle.vault_model.specs.SeenNodes.{bare_version, entry_record}
 use Rattle.tree_edits.proofs.RisingVersions.{all_rising, are_rising, rises_first, rises_last, rises_next}
 use Rattle.tree_edits.proofs.histories.add_copies.Goals as goal

@@ -1,0 +1,65 @@
+//! Why words are no command.
+
+use cli_saying::{CommandName, CommandOption};
+use outside_core::Text;
+
+/// Why words are no command, with those of them that say so.
+#[derive(Drop)]
+pub enum Cause {
+    /// There are no words.
+    NoCommand,
+    /// An option is the first word.
+    OptionFirst(Text),
+    /// No command has this name.
+    UnknownCommand(Text),
+    /// The command takes no option of this long name.
+    UnknownOption(CommandName, Text),
+    /// The command takes no option of this letter.
+    UnknownLetter(CommandName, u8),
+    /// The command takes no option of a letter of this word, which is not of ASCII.
+    UnknownWord(CommandName, Text),
+    /// This option has no value, and one is after its long name.
+    TakesNoValue(CommandOption),
+    /// The option of this letter has no value, and one is after it.
+    LetterTakesNoValue(u8),
+    /// This option was given before, by its long name or its letter.
+    OptionTwice(CommandOption),
+    /// A flag of this word was given before, or stands in it twice.
+    FlagsTwice(Text),
+    /// The option of this letter has a value, and follows other letters.
+    JoinedValue(u8),
+    /// The option that is this word has a value, and no word follows.
+    NoValue(Text),
+    /// The option that is this word has a value, and another option follows.
+    OptionAsValue(Text),
+    /// The command has fewer positions than it needs.
+    FewPositions(CommandName),
+    /// This position is one more than the command takes.
+    ExtraPosition(CommandName, Text),
+    /// A merge has more sources than it may have.
+    ManySources,
+    /// This option is given beside `--plain`.
+    NotWithPlain(CommandOption),
+    /// This option is given beside `--same-credentials`.
+    NotWithSame(CommandOption),
+    /// The first of these options does not go with the second.
+    NotTogether(CommandOption, CommandOption),
+    /// A database has no password, and no key file is named.
+    NoKeyFile,
+    /// The sources have no password, and no key file of theirs is named.
+    NoKeyFileFrom,
+    /// An import is given no key for the new database.
+    NoNewKey,
+    /// An import has no format of this name.
+    UnknownImportFormat(Text),
+    /// An export has no format of this name.
+    UnknownExportFormat(Text),
+    /// An edit is given no value.
+    NothingToChange,
+    /// This option says how a password is generated, and none is.
+    NeedsGenerate(CommandOption),
+    /// No password has this length.
+    UnknownLength(Text),
+    /// No character is left of which a password could be made.
+    NoCharacters,
+}

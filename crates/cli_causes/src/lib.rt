@@ -1,0 +1,10 @@
+//! Why words are no command: the first word that is wrong, or what all of them lack together.
+#![tactic(auto)]
+
+mod cause;
+mod causes;
+mod generating;
+mod whole;
+
+pub use cause::Cause;
+pub use causes::cause_of;

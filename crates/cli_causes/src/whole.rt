@@ -1,0 +1,246 @@
+//! Finding what is wrong in all words of a call together.
+ghost use Rattle.std.specs.Prelude.{◌≡◌, IfOk};
+ghost use Rattle.std.specs.Option.{option_or};
+ghost use Rattle.cli_causes.specs.Causes as spec;
+ghost use Rattle.cli_saying.specs.SaidWords.{said_seen, text_seen};
+
+use crate::cause::Cause;
+use crate::generating::{generated_cause, profile_cause};
+use cli_saying::{CommandName, CommandOption, SaidWords, is_given, text_of};
+use cli_words::has_change;
+use outside_core::{NoMemory, Text};
+use std::alloc::Global;
+
+// The fewest positions that a command has.
+fn fewest(command: CommandName) -> usize
+    ensures { result ≡ spec.fewest command }
+{
+    match command {
+        CommandName::Ls | CommandName::Export | CommandName::Info => 1,
+        CommandName::Move => 3,
+        CommandName::Generate => 0,
+        _ => 2,
+    }
+}
+
+// The most positions that a command has.
+fn most(command: CommandName) -> usize
+    ensures { result ≡ spec.most command }
+{
+    match command {
+        CommandName::Merge => 17,
+        CommandName::Ls => 2,
+        _ => fewest(command),
+    }
+}
+
+// A position more than a command takes.
+fn extra_cause(alloc: Global, command: CommandName, word: &str) -> Result<Cause, NoMemory>
+    ensures { IfOk result (λ cause. cause ≡ spec.extra_cause command word.now) }
+{
+    match command {
+        CommandName::Merge => Ok(Cause::ManySources),
+        _ => Ok(Cause::ExtraPosition(command, Text::of(alloc, word)?)),
+    }
+}
+
+// Fewer positions than a command needs, or one too many.
+fn positions_cause(
+    alloc: Global,
+    command: CommandName,
+    positions: &[Text],
+) -> Result<Option<Cause>, NoMemory>
+    ensures { IfOk result (λ cause. cause ≡ spec.positions_cause command positions.now) }
+{
+    if positions.len() < fewest(command) {
+        return Ok(Some(Cause::FewPositions(command)));
+    }
+    match positions.get(most(command)) {
+        Some(word) => Ok(Some(extra_cause(alloc, command, word.as_str())?)),
+        None => Ok(None),
+    }
+}
+
+// What goes with no plain document and is given beside it.
+fn plain_cause(said: &SaidWords<'_, '_>) -> Option<Cause>
+    ensures { result ≡ spec.plain_cause (said_seen said.now) }
+{
+    if is_given(said, CommandOption::NoPassword) {
+        Some(Cause::NotWithPlain(CommandOption::NoPassword))
+    } else if is_given(said, CommandOption::KeyFile) {
+        Some(Cause::NotWithPlain(CommandOption::KeyFile))
+    } else if is_given(said, CommandOption::NoPasswordFrom) {
+        Some(Cause::NotWithPlain(CommandOption::NoPasswordFrom))
+    } else if is_given(said, CommandOption::KeyFileFrom) {
+        Some(Cause::NotWithPlain(CommandOption::KeyFileFrom))
+    } else if is_given(said, CommandOption::SameCredentials) {
+        Some(Cause::NotWithPlain(CommandOption::SameCredentials))
+    } else {
+        None
+    }
+}
+
+// What opens a database, or the sources of a merge, does not fit it.
+fn sealed_cause(said: &SaidWords<'_, '_>) -> Option<Cause>
+    ensures { result ≡ spec.sealed_cause (said_seen said.now) }
+{
+    let same = is_given(said, CommandOption::SameCredentials);
+    let no_password_from = is_given(said, CommandOption::NoPasswordFrom);
+    let key_file_from = is_given(said, CommandOption::KeyFileFrom);
+    if is_given(said, CommandOption::NoPassword) && !is_given(said, CommandOption::KeyFile) {
+        Some(Cause::NoKeyFile)
+    } else if same && no_password_from {
+        Some(Cause::NotWithSame(CommandOption::NoPasswordFrom))
+    } else if same && key_file_from {
+        Some(Cause::NotWithSame(CommandOption::KeyFileFrom))
+    } else if no_password_from && !key_file_from {
+        Some(Cause::NoKeyFileFrom)
+    } else {
+        None
+    }
+}
+
+// What opens databases does not fit them.
+fn credentials_cause(said: &SaidWords<'_, '_>) -> Option<Cause>
+    ensures { result ≡ spec.credentials_cause (said_seen said.now) }
+{
+    if is_given(said, CommandOption::Plain) {
+        plain_cause(said)
+    } else {
+        sealed_cause(said)
+    }
+}
+
+// What opens a new database does not fit it.
+fn new_key_cause(said: &SaidWords<'_, '_>) -> Option<Cause>
+    ensures { result ≡ spec.new_key_cause (said_seen said.now) }
+{
+    let has_password = is_given(said, CommandOption::SetPassword);
+    let has_key_file = is_given(said, CommandOption::SetKeyFile);
+    if is_given(said, CommandOption::Plain) {
+        if has_password {
+            Some(Cause::NotWithPlain(CommandOption::SetPassword))
+        } else if has_key_file {
+            Some(Cause::NotWithPlain(CommandOption::SetKeyFile))
+        } else {
+            None
+        }
+    } else if has_password || has_key_file {
+        None
+    } else {
+        Some(Cause::NoNewKey)
+    }
+}
+
+// A format of an import that is unknown.
+fn import_format_cause(alloc: Global, name: Option<&str>) -> Result<Option<Cause>, NoMemory>
+    ensures { IfOk result (λ cause. cause ≡ spec.import_format_cause (text_seen name.entry)) }
+{
+    match name {
+        None | Some("xml" | "psafe3" | "csv") => Ok(None),
+        Some(name) => Ok(Some(Cause::UnknownImportFormat(Text::of(alloc, name)?))),
+    }
+}
+
+// A format of an export that is unknown.
+fn export_format_cause(alloc: Global, name: Option<&str>) -> Result<Option<Cause>, NoMemory>
+    ensures { IfOk result (λ cause. cause ≡ spec.export_format_cause (text_seen name.entry)) }
+{
+    match name {
+        None | Some("xml" | "csv") => Ok(None),
+        Some(name) => Ok(Some(Cause::UnknownExportFormat(Text::of(alloc, name)?))),
+    }
+}
+
+// A one-time code is shown beside all that there is.
+fn show_cause(said: &SaidWords<'_, '_>) -> Option<Cause>
+    ensures { result ≡ spec.show_cause (said_seen said.now) }
+{
+    let totp = is_given(said, CommandOption::Totp);
+    if totp && is_given(said, CommandOption::All) {
+        Some(Cause::NotTogether(CommandOption::Totp, CommandOption::All))
+    } else if totp && is_given(said, CommandOption::Attachments) {
+        Some(Cause::NotTogether(CommandOption::Totp, CommandOption::Attachments))
+    } else {
+        None
+    }
+}
+
+// An edit is given no value.
+fn change_cause(said: &SaidWords<'_, '_>) -> Option<Cause>
+    ensures { result ≡ spec.change_cause (said_seen said.now) }
+{
+    if has_change(said) {
+        None
+    } else {
+        Some(Cause::NothingToChange)
+    }
+}
+
+// What is said of an entry that is edited does not fit.
+fn edit_cause(alloc: Global, said: &SaidWords<'_, '_>) -> Result<Option<Cause>, NoMemory>
+    ensures { IfOk result (λ cause. cause ≡ option_or (spec.generated_cause (said_seen said.now))
+        (spec.change_cause (said_seen said.now))) }
+{
+    match generated_cause(alloc, said)? {
+        Some(cause) => Ok(Some(cause)),
+        None => Ok(change_cause(said)),
+    }
+}
+
+// What a command asks for beside what all of them do.
+fn own_cause(
+    alloc: Global,
+    command: CommandName,
+    said: &SaidWords<'_, '_>,
+) -> Result<Option<Cause>, NoMemory>
+    ensures { IfOk result (λ cause. cause ≡ spec.own_cause command (said_seen said.now)) }
+{
+    match command {
+        CommandName::Show => Ok(show_cause(said)),
+        CommandName::Add => generated_cause(alloc, said),
+        CommandName::Edit => edit_cause(alloc, said),
+        CommandName::Import => match new_key_cause(said) {
+            Some(cause) => Ok(Some(cause)),
+            None => import_format_cause(alloc, text_of(said, CommandOption::ImportFormat)),
+        },
+        CommandName::Export => export_format_cause(alloc, text_of(said, CommandOption::Format)),
+        CommandName::Generate => profile_cause(alloc, said),
+        _ => Ok(None),
+    }
+}
+
+// What does not go together, or what the command asks for beside it.
+fn options_cause(
+    alloc: Global,
+    command: CommandName,
+    said: &SaidWords<'_, '_>,
+) -> Result<Option<Cause>, NoMemory>
+    ensures { IfOk result (λ cause. cause
+        ≡ option_or (spec.credentials_cause (said_seen said.now))
+        (spec.own_cause command (said_seen said.now))) }
+{
+    match credentials_cause(said) {
+        Some(cause) => Ok(Some(cause)),
+        None => own_cause(alloc, command, said),
+    }
+}
+
+/// What is wrong in all words together, of which `last` is the last.
+pub(crate) fn said_cause(
+    alloc: Global,
+    command: CommandName,
+    last: &str,
+    said: &SaidWords<'_, '_>,
+) -> Result<Option<Cause>, NoMemory>
+    ensures { IfOk result (λ cause. cause
+        ≡ spec.said_cause command last.now (said_seen said.now)) }
+{
+    if said.due.is_some() {
+        return Ok(Some(Cause::NoValue(Text::of(alloc, last)?)));
+    }
+    match positions_cause(alloc, command, said.positions)? {
+        Some(cause) => Ok(Some(cause)),
+        None => options_cause(alloc, command, said),
+    }
+}

@@ -1,0 +1,5 @@
+use Rattle.std.proofs.Common.{ℕ}
+use Rattle.cli_codes.proofs.lines.+push_digits.Given as goal
+
+abbrev pub decreases-push_digits : goal.decreases-push_digits
+decreases-push_digits l = l.count

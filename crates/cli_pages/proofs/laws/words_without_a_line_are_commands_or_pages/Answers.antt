@@ -1,6 +1,0 @@
--- They are a command or ask for a page.
-use Rattle.cli_pages.proofs.Said.{of_nothing}
-use Rattle.cli_pages.proofs.laws.words_without_a_line_are_commands_or_pages.Goals as goal
-
-pub returns : goal.returns
-returns c = of_nothing

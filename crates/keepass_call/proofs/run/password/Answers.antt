@@ -1,0 +1,17 @@
+use Rattle.std.proofs.Common.{ℕ, List, ◌∙◌}
+use Rattle.keepass_call.proofs.Passwords.{memory_stream, password_ends, password_refused}
+use Rattle.keepass_call.proofs.run.password.Goals as goal
+
+pub returns-in-Ok-clause-told : goal.returns-in-Ok-clause-told
+returns-in-Ok-clause-told g c = λ d s told.
+    let same = c.as_bytes-alphabet.ensures.value ∙ c.as_str.ensures in
+    let chosen = (rw same at c.in-Ok.ensures.told) d told in
+    password_ends c.password_output.result c.args.profile d _ s _ _ told chosen.0 chosen.1 c.password_output.ensures.told c.password_output.ensures.cause
+
+pub returns-in-Ok-clause-cause : goal.returns-in-Ok-clause-cause
+returns-in-Ok-clause-cause g c = memory_stream c.password_output.result _ _ c.password_output.ensures.cause
+
+pub returns-in-Err-clause-told : goal.returns-in-Err-clause-told
+returns-in-Err-clause-told g c = λ d s told.
+    let same = c.as_bytes-alphabet.ensures.value ∙ c.as_str.ensures in
+    password_refused c.in-Err.stop c.args.profile d s _ _ told ((rw same at c.in-Err.ensures.told) d told)
