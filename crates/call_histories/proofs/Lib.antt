@@ -1,3 +1,4 @@
+pub mod FreeCalls
 pub mod Held
 pub mod Steps
 pub mod Runs

@@ -11,14 +11,26 @@ use Rattle.call_histories.specs.Copies.{AreApart, Copies, CopyHolds, Disks, Hold
 use Rattle.call_histories.specs.Histories.{AreDeeds, AreEvents, Event, IsDeed, IsRunOf, disks_after, disks_at_end, done}
 use Rattle.call_histories.specs.HistoryLaws.{CallsAreRuns, CopiesJoin, CopiesSame, MergesJoin, OnlyMerged}
 use Rattle.call_histories.proofs.Held.{one_doc}
-use Rattle.call_histories.proofs.Steps.{one_step}
+use Rattle.call_histories.proofs.Steps.{GrownBy, one_step}
+
+-- the copies after what an event did, if anything
+abbrev pub after_deed : World → Option DocEvent → World
+after_deed w None = w
+after_deed w (Some x) = after_doc_event w x
+
+-- what grew did so by the call that did it
+abbrev pub AreGrown : World → List Event → List (Option DocEvent) → Type 0
+AreGrown w [] xs = Unit {0}
+AreGrown w (e ∷ es) [] = Unit {0}
+AreGrown w (e ∷ es) (x ∷ xs) = GrownBy w e x × AreGrown (after_deed w x) es xs
 
 -- What events did, and what the files hold after them.
-record Ran (copies : Copies) (disks : Disks) (w : World) (es : List Event) : Type 0 where
-  xs : List (Option DocEvent)
-  deeds : AreDeeds es xs
-  may : AreDocEvents w (done xs)
-  hold : (k : ℕ) → k < copies.count → CopyHolds (disks_at_end copies disks es) (copies.copy k) (after_doc_events w (done xs) k).doc
+pub record Ran (copies : Copies) (disks : Disks) (w : World) (es : List Event) : Type 0 where
+  pub xs : List (Option DocEvent)
+  pub deeds : AreDeeds es xs
+  pub grown : AreGrown w es xs
+  pub may : AreDocEvents w (done xs)
+  pub hold : (k : ℕ) → k < copies.count → CopyHolds (disks_at_end copies disks es) (copies.copy k) (after_doc_events w (done xs) k).doc
 
 abbrev Holds : Copies → Disks → World → Type 0
 Holds copies disks w = (k : ℕ) → k < copies.count → CopyHolds disks (copies.copy k) (w k).doc
@@ -26,22 +38,22 @@ Holds copies disks w = (k : ℕ) → k < copies.count → CopyHolds disks (copie
 abbrev AreAllDocs : World → Type 0
 AreAllDocs w = (j : ℕ) → IsDoc (w j).doc
 
-go_on : (copies : Copies) (disks : Disks) (w : World) (e : Event) (es : List Event) → AreAllDocs w → (deed : Option DocEvent) → IsDeed e deed → AreDocEvents w (done (deed ∷ []))
+go_on : (copies : Copies) (disks : Disks) (w : World) (e : Event) (es : List Event) → AreAllDocs w → (deed : Option DocEvent) → IsDeed e deed → GrownBy w e deed → AreDocEvents w (done (deed ∷ []))
     → Holds copies (disks_after copies disks e) (after_doc_events w (done (deed ∷ [])))
     → ((v : World) → AreAllDocs v → Holds copies (disks_after copies disks e) v → Ran copies (disks_after copies disks e) v es)
     → Ran copies disks w (e ∷ es)
-go_on copies disks w e es doc None is may hold rest =
+go_on copies disks w e es doc None is grown may hold rest =
     let r = rest w doc hold in
-    record { xs = None ∷ r.xs; deeds = (is, r.deeds); may = r.may; hold = r.hold }
-go_on copies disks w e es doc (Some x) is may hold rest =
+    record { xs = None ∷ r.xs; deeds = (is, r.deeds); grown = (grown, r.grown); may = r.may; hold = r.hold }
+go_on copies disks w e es doc (Some x) is grown may hold rest =
     let r = rest (after_doc_event w x) (doc_after w doc x may.0) hold in
-    record { xs = Some x ∷ r.xs; deeds = (is, r.deeds); may = (may.0, r.may); hold = r.hold }
+    record { xs = Some x ∷ r.xs; deeds = (is, r.deeds); grown = (grown, r.grown); may = (may.0, r.may); hold = r.hold }
 
-ran : (copies : Copies) → AreApart copies → (es : List Event) (disks : Disks) (w : World) → AreAllDocs w → Holds copies disks w → AreEvents copies disks es → Ran copies disks w es
-ran copies apart [] disks w doc hold h = record { xs = []; deeds = tt; may = tt; hold = hold }
+pub ran : (copies : Copies) → AreApart copies → (es : List Event) (disks : Disks) (w : World) → AreAllDocs w → Holds copies disks w → AreEvents copies disks es → Ran copies disks w es
+ran copies apart [] disks w doc hold h = record { xs = []; deeds = tt; grown = tt; may = tt; hold = hold }
 ran copies apart (e ∷ es) disks w doc hold h =
     let s = one_step copies apart disks w doc hold e h.0 in
-    go_on copies disks w e es doc s.deed s.is s.may s.hold (λ v d k. ran copies apart es (disks_after copies disks e) v d k h.1)
+    go_on copies disks w e es doc s.deed s.is s.grown s.may s.hold (λ v d k. ran copies apart es (disks_after copies disks e) v d k h.1)
 
 pub calls_are_runs : CallsAreRuns
 calls_are_runs copies docs disks es h =

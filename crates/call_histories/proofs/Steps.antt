@@ -76,13 +76,13 @@ merges_so command m = ap merges (sym m.is)
 record Makes (t : BareDoc) (ss : List BareDoc) (command : Command) (doc : Option BareDoc) : Type 0 where
   new : BareDoc
   is : (doc ≡ Some new) ⊎ ((doc ≡ None) × (t ≡ new))
-  by : ((merges command ≡ false) × (IsDoc new → GrowsInCurrent t new)) ⊎ ((merges command ≡ true) × (merge_result t ss ≡ Ok new))
+  by : ((merges command ≡ false) × ((doc ≡ Some new) × (IsDoc new → GrowsInCurrent t new))) ⊎ ((merges command ≡ true) × (merge_result t ss ≡ Ok new))
 
 task_makes : (time : ℕ) (task : Task) (dice : List ℕ) (change : Change) → IsDoc task.opened.doc → Kind task.command
     → (change_of_task time task dice).answer ≡ Ok change → Makes task.opened.doc task.sources task.command change.doc
 task_makes time task dice change isd (inl e) h =
     let g = commands_grow time task.command task.lines.more task.lines.otp task.sources (settings_in task.opened.sealing) task.opened.doc dice change isd e.0 h in
-    record { new = g.doc; is = inl g.is; by = inl (e.1, g.grows) }
+    record { new = g.doc; is = inl g.is; by = inl (e.1, (g.is, g.grows)) }
 task_makes time task dice change isd (inr m) h =
     let g = merges_merge time m.access m.file m.names m.from m.same task.lines.more task.lines.otp task.sources (settings_in task.opened.sealing) task.opened.doc dice change
     (subst (λ (command : Command). (change_of time command task.lines.more task.lines.otp task.sources (settings_in task.opened.sealing) task.opened.doc dice).answer ≡ Ok change) (sym m.is) h) in
@@ -90,10 +90,31 @@ task_makes time task dice change isd (inr m) h =
 
 -- ---- one event
 
+-- A document grew by a call: by what its task, which is no merge, makes of the copy's document.
+pub record IsGrown (w : plans.World) (e : Event) (i : ℕ) (d : BareDoc) : Type 0 where
+  pub c : CallSeen
+  pub is : e ≡ call c
+  pub task : Task
+  pub is_task : IsTask c.words c.time c.world task
+  pub no_merge : merges task.command ≡ false
+  pub writes : may_write task.command ≡ true
+  pub opened : task.opened.doc ≡ (w i).doc
+  pub change : Change
+  pub makes : (change_of_task c.time task c.world.dice).answer ≡ Ok change
+  pub doc : change.doc ≡ Some d
+
+-- so it is where growth is what an event did
+abbrev pub GrownBy : plans.World → Event → Option DocEvent → Type 0
+GrownBy w e None = Unit {0}
+GrownBy w e (Some (growth i d)) = IsGrown w e i d
+GrownBy w e (Some (joining i js d)) = Unit {0}
+GrownBy w e (Some (overwriting i j)) = Unit {0}
+
 -- What an event did, and what the files hold after it.
 pub record IsStep (copies : Copies) (disks : Disks) (w : plans.World) (e : Event) : Type 0 where
   pub deed : Option DocEvent
   pub is : IsDeed e deed
+  pub grown : GrownBy w e deed
   pub may : AreDocEvents w (done (deed ∷ []))
   pub hold : (k : ℕ) → k < copies.count → CopyHolds (disks_after copies disks e) (copies.copy k) (after_doc_events w (done (deed ∷ [])) k).doc
 
@@ -133,6 +154,7 @@ module _ (copies : Copies) (apart : AreApart copies) (disks : Disks) (w : plans.
     nothing is same = record {
       deed = None;
       is = is;
+      grown = tt;
       may = tt;
       hold = subst (λ (f : FileMap). (k : ℕ) → k < copies.count → CopyHolds (put_files disks c.disk f) (copies.copy k) (w k).doc)
           (sym (ap (λ (o : Option FileMap). unwrap_or o (disks c.disk)) (same ∙ on.told.files)))
@@ -188,12 +210,25 @@ module _ (copies : Copies) (apart : AreApart copies) (disks : Disks) (w : plans.
         | inl g ↦ record {
           deed = Some (growth c.target makes.new);
           is = did_so (growth c.target makes.new) (sym (ap (λ b. if b then joining c.target c.sources makes.new else growth c.target makes.new) g.0));
-          may = ((new_doc, g.1 new_doc), tt);
+          grown = record {
+            c = c;
+            is = refl;
+            task = task;
+            is_task = wt.is_task;
+            no_merge = g.0;
+            writes = writes;
+            opened = that.doc;
+            change = wt.change;
+            makes = wt.makes;
+            doc = g.1.0;
+          };
+          may = ((new_doc, g.1.1 new_doc), tt);
           hold = holds_after ((w c.target).learned ++ db_in makes.new ∷ []);
         }
         | inr m ↦ record {
           deed = Some (joining c.target c.sources makes.new);
           is = did_so (joining c.target c.sources makes.new) (sym (ap (λ b. if b then joining c.target c.sources makes.new else growth c.target makes.new) m.0));
+          grown = tt;
           may = (m.1, tt);
           hold = holds_after ((w c.target).learned ++ learned_by w c.sources);
         }
@@ -249,6 +284,7 @@ module _ (copies : Copies) (apart : AreApart copies) (disks : Disks) (w : plans.
       record {
         deed = Some (overwriting i j);
         is = refl;
+        grown = tt;
         may = (tt, tt);
         hold = subst (λ (o : Option (List ℕ)). (k : ℕ) → k < copies.count → CopyHolds (put_files disks (copies.copy i).disk (with_bytes old name o)) (copies.copy k) (put w i (w j) k).doc) (sym from.found)
             (changed copies disks w hold apart i h.0 (copies.copy i).disk refl (insert old name from.bytes) (w j)

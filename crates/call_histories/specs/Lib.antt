@@ -1,3 +1,4 @@
 pub mod Copies
+pub mod FreeHistories
 pub mod Histories
 pub mod HistoryLaws

@@ -1,6 +1,7 @@
 //! The laws of histories of calls. Each function has laws as its contract; it does nothing, and
 //! takes no memory.
 
+ghost use Rattle.call_histories.specs.FreeHistories.{FreeCallsAgree};
 ghost use Rattle.call_histories.specs.HistoryLaws.{CallsAreRuns, CopiesJoin, CopiesSame, MergesGoOn, MergesJoin};
 
 /// Whatever is called on copies of a database, carried out, refused or cut off, and whatever file is
@@ -23,4 +24,11 @@ pub fn copies_agree()
 pub fn merges_agree()
     ensures join { MergesJoin }
     ensures go_on { MergesGoOn }
+{}
+
+/// Where calls on copies of one database delete nothing for good and move no group, and no id is drawn
+/// twice, all that the copies learn is of an agreed set, whatever is merged and copied over meanwhile;
+/// so copies that have learned the same are alike in what is current, with no premise on agreement.
+pub fn free_calls_agree()
+    ensures { FreeCallsAgree }
 {}

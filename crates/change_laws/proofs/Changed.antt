@@ -55,16 +55,16 @@ timed file now made x true h = cc h
 timed file now made x false h = unrefused file (made now) x h
 
 -- What was made of a document at a moment, and is in the change.
-record IsMade {A : Type 0} (made : Result A TreeFail) (doc_of : A → BareDoc) (change : Change) : Type 0 where
-  after : A
-  is : made ≡ Ok after
-  doc : change.doc ≡ Some (doc_of after)
+pub record IsMade {A : Type 0} (made : Result A TreeFail) (doc_of : A → BareDoc) (change : Change) : Type 0 where
+  pub after : A
+  pub is : made ≡ Ok after
+  pub doc : change.doc ≡ Some (doc_of after)
 
 left_by : (r : Result AfterCommand Refusal) (change : Change) → new_document r ≡ Ok change → (a : AfterCommand) × ((r ≡ Ok a) × (change.doc ≡ Some a.doc))
 left_by (Ok a) change h = (a, (refl, ap (λ (c : Change). c.doc) (sym (same_answer _ change h))))
 left_by (Err refusal) change h = cc h
 
-made_so : {A : Type 0} (file : List ℕ) (now : ℕ) (made : ℕ → Result A TreeFail) (doc_of : A → BareDoc) (text : A → List ℕ) (change : Change)
+pub made_so : {A : Type 0} (file : List ℕ) (now : ℕ) (made : ℕ → Result A TreeFail) (doc_of : A → BareDoc) (text : A → List ℕ) (change : Change)
     → new_document (change_or_refusal file (time_of now >>= made) >>= λ x. Ok (record { text = text x; doc = doc_of x })) ≡ Ok change
     → IsMade (made now) doc_of change
 made_so file now made doc_of text change h =
@@ -77,13 +77,13 @@ made_so file now made doc_of text change h =
     }
 
 -- what is not refused before it is looked for
-unchecked : (checked : Result (Unit {0}) Refusal) (r : Result AfterCommand Refusal) (change : Change) → new_document (checked >>= λ _. r) ≡ Ok change → new_document r ≡ Ok change
+pub unchecked : (checked : Result (Unit {0}) Refusal) (r : Result AfterCommand Refusal) (change : Change) → new_document (checked >>= λ _. r) ≡ Ok change → new_document r ≡ Ok change
 unchecked (Ok done) r change h = h
 unchecked (Err refusal) r change h = cc h
 
 -- ---- commands
 
-bin_given : (id : NodeId) (b : Bool) → is_some (if b then Some id else None) ≡ b
+pub bin_given : (id : NodeId) (b : Bool) → is_some (if b then Some id else None) ≡ b
 bin_given id true = refl
 bin_given id false = refl
 
@@ -134,7 +134,7 @@ with_some_id true next dice x h = (new_id (next_bytes 16 dice), (drop 16 dice, h
 with_some_id false next dice x h = (nil_id, (dice, h))
 
 -- the password, which may be drawn
-with_some_password : {A : Type 0} (profile : Option PasswordProfile) (line : Option (List ℕ)) (made : Option (List ℕ) → Result A Refusal) (dice : List ℕ) (x : A)
+pub with_some_password : {A : Type 0} (profile : Option PasswordProfile) (line : Option (List ℕ)) (made : Option (List ℕ) → Result A Refusal) (dice : List ℕ) (x : A)
     → (then_left (password_of profile line dice) (λ password left. with_left (made password) left)).answer ≡ Ok x → (password : Option (List ℕ)) × (made password ≡ Ok x)
 with_some_password None line made dice x h = (line, h)
 with_some_password (Some profile) line made dice x h =

@@ -36,7 +36,9 @@ pub fn copies_merge()
     ensures { MergeSucceeds }
 {}
 
-/// A law speaks of something: a small database of which an entry can be shown and a table printed.
+/// Each of these laws but that of codes speaks of something: a small database of which an entry can
+/// be shown and found, which can be printed as a table and as a document, and into which two copies
+/// can be merged.
 pub fn example_conditions()
     ensures { ExampleConditions }
 {}

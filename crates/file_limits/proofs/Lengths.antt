@@ -1,5 +1,5 @@
 -- How long the parts of a file are.
-use Rattle.std.proofs.Common.{◌≡◌, ℕ, zero, suc, ◌+◌, ◌-◌, ◌*◌, ◌/◌, ◌%◌, ◌<◌, ◌≤◌, List, [], ◌∷◌, ◌++◌, length, take, drop, replicate, map, refl, sym, ◌∙◌, ap, arith, length-append, length-drop, length-take}
+use Rattle.std.proofs.Common.{◌≡◌, ℕ, zero, suc, ◌+◌, ◌-◌, ◌*◌, ◌/◌, ◌%◌, ◌<◌, ◌≤◌, List, [], ◌∷◌, ◌++◌, length, take, drop, replicate, map, refl, ap, arith, length-append, length-drop, length-take}
 use Rattle.std.proofs.lemmas.List.{length-replicate}
 use Rattle.std.specs.Int.{w32, to_le_bytes}
 use Rattle.std.specs.List.{concat, flat_map}
@@ -22,9 +22,8 @@ use Rattle.doc_spelling.specs.Ranges.{count_all}
 use Rattle.doc_write.specs.Written.{binary_len}
 use Rattle.kdbx_frame.specs.declared.settings.Cipher.{Cipher}
 use Rattle.kdbx_frame.specs.declared.settings.Cipher.TheVariants.{Aes, ChaCha, Twofish}
-use Rattle.kdbx_inner.specs.Inner.{Binary}
 use Rattle.kdbx_payload.specs.HeaderMacs.{header_mac}
-use Rattle.kdbx_writing.specs.Fields.{spelled_field, spelled_fields}
+use Rattle.kdbx_writing.specs.Fields.{spelled_field}
 use Rattle.kdbx_writing.specs.Inner.{binary_field, inner_fields, spelled_inner}
 use Rattle.kdbx_seal.specs.Enciphered.{enciphered_text}
 use Rattle.kdbx_seal.specs.Made.{attached_file}

@@ -1,2 +1,3 @@
+pub mod Example
 mod Lengths
 pub mod Within

@@ -1,5 +1,5 @@
 -- What is written is within the limit.
-use Rattle.std.proofs.Common.{◌≡◌, ℕ, ◌+◌, ◌-◌, ◌*◌, ◌/◌, ◌<◌, ◌≤◌, Bool, true, false, cond, List, [], ◌++◌, length, take, drop, replicate, drop_at, Option, Some, None, Result, Ok, Err, refl, sym, ◌∙◌, ap, subst, arith, length-append, length-take, length-drop}
+use Rattle.std.proofs.Common.{◌≡◌, ℕ, ◌+◌, ◌-◌, ◌*◌, ◌/◌, ◌≤◌, Bool, true, false, cond, List, ◌++◌, length, take, drop, replicate, drop_at, Option, Some, None, Result, Ok, Err, refl, ap, subst, arith, length-append}
 use Rattle.std.specs.Prelude.{nat_lt}
 use Rattle.std.proofs.lemmas.Bool.{ltb-false}
 use Rattle.std.proofs.lemmas.List.{length-replicate, length-take-le}
@@ -14,7 +14,7 @@ use Rattle.vault_model.specs.Tree.{BareDoc}
 use Rattle.doc_spelling.specs.Documents.{spelled_document}
 use Rattle.doc_spelling.specs.Pool.{pool_of}
 use Rattle.doc_spelling.specs.Ranges.{count_all, tree_nodes}
-use Rattle.doc_write.specs.Written.{binary_len, pool_len, up_to_u64, write_outcome, written_len}
+use Rattle.doc_write.specs.Written.{binary_len, up_to_u64, write_outcome, written_len}
 use Rattle.doc_write.specs.declared.writing.WriteFail.{WriteFail}
 use Rattle.doc_write.specs.declared.writing.WriteFail.TheVariants as write
 use Rattle.kdbx_frame.specs.declared.settings.Cipher.{Cipher}
@@ -22,23 +22,22 @@ use Rattle.kdbx_frame.specs.declared.settings.Cipher.TheVariants.{Aes, ChaCha, T
 use Rattle.kdbx_frame.specs.declared.settings.Settings.{Settings}
 use Rattle.kdbx_frame.specs.Settings.{iv_len}
 use Rattle.kdbx_frame.specs.Fields.{file_limit, header_limit}
-use Rattle.kdbx_frame.specs.Header.{sums_len}
 use Rattle.kdbx_payload.specs.HeaderMacs.{base_of, header_mac, key_of}
 use Rattle.kdbx_writing.specs.declared.draws.Draws.{Draws}
 use Rattle.kdbx_writing.specs.Draws.{AreDrawn, AreFront, start_len, stream_len}
 use Rattle.kdbx_writing.specs.Header.{header_with, spelled_header}
 use Rattle.kdbx_writing.specs.Inner.{spelled_inner}
 use Rattle.kdbx_seal.specs.Answers.{refusal_of, size_refusal}
-use Rattle.kdbx_seal.specs.Made.{attached_file, files_of, made_file, text_4}
+use Rattle.kdbx_seal.specs.Made.{files_of, made_file, text_4}
 use Rattle.kdbx_seal.specs.PayloadMade.{blocks_to_end, chacha_keystream, content_of, file_of_4, hashed_to_end, made_with, pieces, plain_content_31, plain_content_4, written_keystream}
 use Rattle.kdbx_seal.specs.declared.fail.SealFail.{SealFail}
 use Rattle.kdbx_seal.specs.declared.fail.SealFail.TheVariants as seal
 use Rattle.kdbx_seal.proofs.HashedPieces.{hashed_to_end_len}
 use Rattle.cli_answers.specs.declared.answers.Refusal.{Refusal}
 use Rattle.cli_writing.specs.Drawing.{next_bytes}
-use Rattle.cli_writing.specs.Writing.{NewFile, file_or_refusal, plain_file}
+use Rattle.cli_writing.specs.Writing.{NewFile, file_or_refusal}
 use Rattle.cli_sealing.specs.Draws.{after_iv, after_stream, draws_of, front_of}
-use Rattle.cli_sealing.specs.Sealing.{file_by, file_unless, sealed_file, settings_for}
+use Rattle.cli_sealing.specs.Sealing.{file_by, file_unless, settings_for}
 use Rattle.file_limits.specs.Limits.{MadeFilesAreWithin, PlainFilesAreWithin, SealedFilesAreWithin}
 use Rattle.file_limits.proofs.Lengths.{blocks_within, enciphered_within, header_mac_long, inner_long}
 
@@ -162,7 +161,7 @@ start_fits V31 = omega arith
 start_fits V40 = omega arith
 start_fits V41 = omega arith
 
-are_drawn : (s : Settings) (dice : List ℕ) → AreDrawn s (draws_of s dice)
+pub are_drawn : (s : Settings) (dice : List ℕ) → AreDrawn s (draws_of s dice)
 are_drawn s dice = record {
   kdf = front_fits 32 32 dice (omega arith);
   seed = front_fits 32 32 (drop 32 dice) (omega arith);

@@ -1,6 +1,7 @@
-//! The law of the limits of files. The function has it as its contract; it does nothing, and takes
-//! no memory.
+//! The law of the limits of files. Each function has a law as its contract; it does nothing, and
+//! takes no memory.
 
+ghost use Rattle.file_limits.specs.Example.{ExampleFiles};
 ghost use Rattle.file_limits.specs.Limits.{MadeFilesAreWithin, PlainFilesAreWithin, SealedFilesAreWithin};
 
 /// Whatever its document, a file that is made or written is within the limit of files that are read,
@@ -9,4 +10,9 @@ pub fn written_files_are_within()
     ensures made { MadeFilesAreWithin }
     ensures sealed { SealedFilesAreWithin }
     ensures plain { PlainFilesAreWithin }
+{}
+
+/// Each of these laws speaks of something: a small document that is sealed, and written by itself.
+pub fn example_files()
+    ensures { ExampleFiles }
 {}

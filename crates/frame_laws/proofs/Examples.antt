@@ -1,14 +1,20 @@
 -- Commands on a small database, computed.
-use Rattle.std.proofs.Common.{codes, None, Some, Ok, Err, Result, refl, arith}
+use Rattle.std.proofs.Common.{◌≡◌, List, [], ◌∷◌, codes, None, Some, Ok, Err, Result, refl, sym, ap, arith}
 use Rattle.std.specs.Str.{chars, is_utf8}
 use Rattle.vault_model.specs.Proper.{is_proper_content, is_proper_group_content}
+use Rattle.vault_model.specs.Db.{nil_id}
+use Rattle.vault_model.specs.Shape.{BareVersion, EntryRecord}
 use Rattle.vault_model.specs.Tree.{BareDoc}
-use Rattle.merge_core.specs.Example.{as_it_was, edited, home}
+use Rattle.merge_core.specs.Example.{as_it_was, bank, edited, entry, home, root, version}
 use Rattle.tree_core.specs.declared.fails.Removed.TheVariants.{Deleted}
 use Rattle.tree_core.specs.declared.fails.TreeFail.{TreeFail}
 use Rattle.tree_core.specs.After.{AfterRemoval, after_add, after_make_group, after_move_entry, after_move_group, after_remove_entry, after_remove_group}
+use Rattle.tree_core.specs.Changes.{changed_at, changed_entry}
+use Rattle.tree_core.specs.Histories.{rising_versions, within_limits}
+use Rattle.tree_core.specs.NewNodes.{edited_version}
 use Rattle.tree_core.specs.Finding.{entry_found, group_found, has_entry_path, has_group_path}
-use Rattle.frame_laws.specs.Example.{ExampleChanges, no_values, without_bin}
+use Rattle.tree_edits.proofs.RisingVersions.{all_rising, rises_first}
+use Rattle.frame_laws.specs.Example.{ExampleChanges, new_notes, no_values, without_bin}
 
 -- what was made
 abbrev doc_in : Result BareDoc TreeFail → BareDoc
@@ -18,6 +24,21 @@ doc_in (Err why) = as_it_was
 abbrev removal_in : Result AfterRemoval TreeFail → AfterRemoval
 removal_in (Ok a) = a
 removal_in (Err why) = record { removed = Deleted; doc = as_it_was }
+
+-- ---- an edit
+
+abbrev old : EntryRecord
+old = entry 10 nil_id (version 10 (codes "Bank") (codes "a")) []
+
+abbrev new : BareVersion
+new = edited_version as_it_was.meta.settings.value.protect new_notes 50 old.current
+
+-- the database with that version as the current one, and this history
+abbrev with_history : List BareVersion → BareDoc
+with_history vs = record as_it_was { tree = changed_at root (changed_entry bank (λ (x : EntryRecord). record x { current = new; history = vs })) as_it_was.tree }
+
+one_version : rising_versions old ≡ old.current ∷ []
+one_version = sym (all_rising old [] (old.current ∷ []) (rises_first [] [] refl) refl)
 
 pub example_changes : ExampleChanges
 unfolding entry_found group_found has_entry_path has_group_path is_proper_content is_proper_group_content is_utf8 chars lib.Utf8.encode
@@ -58,6 +79,24 @@ example_changes = record {
     items_rise = refl;
     meta_texts = refl;
   };
+  edit = (
+    with_history (old.current ∷ []),
+    (
+      record {
+        distinct = refl;
+        no_nil = refl;
+        levels = omega arith;
+        tombs_rise = refl;
+        tombs_apart = refl;
+        entries_proper = refl;
+        groups_proper = refl;
+        icons_rise = refl;
+        items_rise = refl;
+        meta_texts = refl;
+      },
+      ap (λ vs. Ok (with_history (within_limits as_it_was.meta.settings.value.history_items as_it_was.meta.settings.value.history_size vs))) one_version,
+    ),
+  );
   add = (
     doc_in (after_add (codes "Work/Chat") home no_values 50 as_it_was),
     (
@@ -130,6 +169,7 @@ example_changes = record {
       refl,
     ),
   );
+  needs_none = refl;
   delete_entry = (
     removal_in (after_remove_entry (codes "Mail") None 50 as_it_was),
     (

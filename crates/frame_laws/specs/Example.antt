@@ -1,10 +1,10 @@
 -- Commands on a small database of two entries and a group, so that each law speaks of something.
-use Rattle.std.specs.Prelude.{◌≡◌, true, codes, None, Some, Result, Ok}
+use Rattle.std.specs.Prelude.{◌≡◌, true, false, codes, None, Some, Result, Ok}
 use Rattle.vault_model.specs.Tree.{BareDoc, IsDoc}
 use Rattle.tree_core.specs.declared.fails.Removed.{Removed}
 use Rattle.tree_core.specs.declared.fails.Removed.TheVariants.{Deleted, Recycled}
 use Rattle.tree_core.specs.declared.fails.TreeFail.{TreeFail}
-use Rattle.tree_core.specs.After.{AfterRemoval, after_add, after_make_group, after_move_entry, after_move_group, after_remove_entry, after_remove_group, needs_bin}
+use Rattle.tree_core.specs.After.{AfterRemoval, after_add, after_edit, after_make_group, after_move_entry, after_move_group, after_remove_entry, after_remove_group, needs_bin}
 use Rattle.tree_core.specs.NewNodes.{GivenValues}
 use Rattle.merge_core.specs.Example.{as_it_was, edited, home}
 
@@ -18,6 +18,10 @@ no_values = record {
   notes = None;
   otp = None;
 }
+
+-- only the notes are given
+abbrev pub new_notes : GivenValues
+new_notes = record no_values { notes = Some (codes "b") }
 
 -- the database with a bin that has to be made
 abbrev pub without_bin : BareDoc
@@ -38,15 +42,17 @@ abbrev pub HappensSo : Removed → Result AfterRemoval TreeFail → Type 0
 HappensSo removed made = (a : AfterRemoval) × (IsDoc a.doc × (made ≡ Ok a)
     × (a.removed ≡ removed))
 
--- Entries and groups are added, moved, deleted and put into a bin that is made.
+-- Entries and groups are added, edited, moved, deleted and put into a bin that is made.
 pub record ExampleChanges : Type 0 where
   pub doc : IsDoc as_it_was
   pub wide : IsDoc edited
   pub bare : IsDoc without_bin
+  pub edit : Happens (after_edit (codes "Bank") new_notes 50 as_it_was)
   pub add : Happens (after_add (codes "Work/Chat") home no_values 50 as_it_was)
   pub make_group : Happens (after_make_group (codes "Home") home 50 as_it_was)
   pub move_entry : Happens (after_move_entry (codes "Bank") (codes "Work") 50 as_it_was)
   pub move_group : Happens (after_move_group (codes "Work") (codes "Home") 50 edited)
+  pub needs_none : needs_bin as_it_was ≡ false
   pub delete_entry : HappensSo Deleted (after_remove_entry (codes "Mail") None 50 as_it_was)
   pub delete_group : HappensSo Deleted (after_remove_group (codes "Work") None 50 as_it_was)
   pub needs : needs_bin without_bin ≡ true

@@ -1,3 +1,4 @@
 pub mod Choices
 pub mod Cuts
 pub mod DrawnOnce
+pub mod Example

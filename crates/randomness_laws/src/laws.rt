@@ -1,6 +1,7 @@
 //! The laws that no byte that is drawn is used twice. Each function has laws as its contract; it
 //! does nothing, and takes no memory.
 
+ghost use Rattle.randomness_laws.specs.Example.{ExampleDraws};
 ghost use Rattle.randomness_laws.specs.Pieces.{CallsDrawOnce, DrawsFewBytes, FilesAreOfPieces, IdsAreOfPieces, PasswordsAreOfPieces, TasksDrawOnce};
 
 /// What a command draws are pieces of the dice, one after another, and what is left are the bytes
@@ -15,4 +16,10 @@ pub fn draws_once()
     ensures password { PasswordsAreOfPieces }
     ensures file { FilesAreOfPieces }
     ensures few { DrawsFewBytes }
+{}
+
+/// Each of these laws but that of passwords speaks of something: two calls, of which the first seals
+/// a file.
+pub fn example_draws()
+    ensures { ExampleDraws }
 {}

@@ -1,0 +1,17 @@
+//! What is so of the worked cases. Each function has it as its contract; it does nothing, and takes
+//! no memory.
+
+ghost use Rattle.edit_examples.specs.Cases.{ExampleEdit};
+ghost use Rattle.edit_examples.specs.Newest.{ReplacingGrows, UndoingGrows};
+
+/// There is an edit, which makes the second copy of the worked example of what it was before.
+pub fn an_entry_is_edited()
+    ensures { ExampleEdit }
+{}
+
+/// Were an edit to drop the newest version of an entry, or to put a version of any time in its place,
+/// what it leaves would not have grown in what is current, so that it would be no step of a history.
+pub fn newest_versions_count()
+    ensures undone { ¬ UndoingGrows }
+    ensures replaced { ¬ ReplacingGrows }
+{}
