@@ -72,7 +72,7 @@ shown_files() {
   compared 'references at their limits' "$showing/against" "$program" limits
   many_times "drawn documents, seed $seed" "$showing/against" "$program" random "$seed" 600
   many_times "drawn documents by a second reading, seed $seed" "$showing/finding.py" "$program" 200 "$seed"
-  compared "one-time codes of drawn secrets, seed $seed" "$showing/codes" "$program" 100 "$seed"
+  compared "one-time codes of drawn secrets, seed $seed" "$showing/codes" "$program" 140 "$seed"
   show_refusals "$1"
   : >input.txt
   shown_where_nothing_can_be_written
