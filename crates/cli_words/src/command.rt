@@ -1,6 +1,7 @@
 //! What the program can be asked to do.
 
 use cli_profiles::PasswordProfile;
+use kdbx_frame::{Cipher, FileVersion};
 use outside_core::{List, Text};
 
 /// How a database is opened.
@@ -53,6 +54,69 @@ pub enum ImportFormat {
     Psafe,
     /// A table of entries.
     Csv,
+    /// An export of Bitwarden that is not encrypted.
+    Bitwarden,
+}
+
+/// The kind of a key derivation, as words ask for it.
+#[derive(Clone, Copy)]
+pub enum KdfKind {
+    /// Rounds of AES.
+    Aes,
+    /// Argon2d.
+    Argon2d,
+    /// Argon2id.
+    Argon2id,
+}
+
+/// How the key of a database's file is to be derived.
+#[derive(Clone, Copy)]
+pub struct KdfAsked {
+    /// The kind of the derivation.
+    pub kind: KdfKind,
+    /// The rounds of AES, or the passes of Argon2.
+    pub rounds: u64,
+    /// The memory of Argon2 in KiB.
+    pub kib: u64,
+    /// The lanes of Argon2.
+    pub lanes: u64,
+}
+
+/// What becomes of the password in a database's composite key.
+#[derive(Clone, Copy)]
+pub enum PasswordChange {
+    /// It stays, as it is or missing.
+    Keep,
+    /// It is the line of the input after the database's.
+    Set,
+    /// There is none.
+    Unset,
+}
+
+/// What becomes of the key file in a database's composite key.
+#[derive(Drop)]
+pub enum KeyFileChange {
+    /// It stays, as it is or missing.
+    Keep,
+    /// It is the file of this name.
+    Set(Text),
+    /// There is none.
+    Unset,
+}
+
+/// What a database's file is changed to, each where it is asked for.
+#[derive(Drop)]
+pub struct FileChange {
+    /// What becomes of the password.
+    pub password: PasswordChange,
+    /// What becomes of the key file.
+    pub key_file: KeyFileChange,
+    /// The cipher of the content.
+    pub cipher: Option<Cipher>,
+    /// How the key is derived.
+    pub kdf: Option<KdfAsked>,
+    /// The version of the format.
+    pub version: Option<FileVersion>,
 }
 
 /// What the program is asked to do.
@@ -187,6 +251,19 @@ pub enum Command {
         /// The file of the new database.
         file: Text,
     },
+    /// Makes an empty database.
+    Create {
+        /// How the new database is opened afterwards.
+        access: Access,
+        /// The file of the new database.
+        file: Text,
+        /// The name of the database and of its root group, where one is given.
+        name: Option<Text>,
+        /// The cipher of the content, where one is asked for.
+        cipher: Option<Cipher>,
+        /// How the key is derived, where that is asked for.
+        kdf: Option<KdfAsked>,
+    },
     /// Writes a database in another format.
     Export {
         /// How the database is opened.
@@ -195,6 +272,15 @@ pub enum Command {
         format: ExportFormat,
         /// The file of the database.
         file: Text,
+    },
+    /// Gives the file of a database another key, or other settings.
+    EditFile {
+        /// How the database is opened.
+        access: Access,
+        /// The file of the database.
+        file: Text,
+        /// What it is changed to.
+        change: FileChange,
     },
     /// Shows what a database is.
     Info {

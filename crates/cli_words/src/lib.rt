@@ -7,7 +7,10 @@ pub mod laws;
 mod needs;
 mod profiles;
 
-pub use command::{Access, Asked, Command, ExportFormat, ImportFormat};
+pub use command::{
+    Access, Asked, Command, ExportFormat, FileChange, ImportFormat, KdfAsked, KdfKind,
+    KeyFileChange, PasswordChange,
+};
 pub use commands::{has_change, read_words};
 pub use needs::{
     ImportNeeds, Needs, asks_password, asks_passwords_from, generated_by, import_of, needs_of,
