@@ -3,8 +3,10 @@ use Rattle.std.specs.Prelude.{◌≡◌, ℕ, List, [], ◌∷◌, ◌++◌, cod
 use Rattle.std.specs.Fmt.{decimal}
 use Rattle.hex.specs.Hex.{encode_lower}
 use Rattle.uuid.specs.Text.{hyphenated_text, lower}
+use Rattle.cli_answers.specs.declared.answers.NeededVersion.{NeededVersion}
+use Rattle.cli_answers.specs.declared.answers.NeededVersion.TheVariants as needed
 use Rattle.cli_answers.specs.declared.answers.Reason.{Reason}
-use Rattle.cli_answers.specs.declared.answers.Reason.TheVariants.{WrongWords, EmptyTerm, NoSuchPath, NameTaken, AlreadyThere, RootFixed, IntoItself, IdTaken, NoAttribute, NoResult, FileExists, DamagedOrWrongKey, DamagedBlock, WrongKeyOrDamaged, WrongPassword, KeyFileHash, NotKdbx, NotPsafe, EndsEarly, BadHeaderField, BadDictionary, Form, MissingElement, BadValue, NilId, NilRecord, DuplicateId, BinaryRef, BadKeyFile, BadField, NotUtf8, NoTitleColumn, BadRow, LineForm, Version, UnknownId, StreamUnknown, Compressed, Variant, Clash, MoveCycle, NoSuchFile, TooLarge, Depth, TooDeep, TooMany, KdfLimit, IterLimit, StampLimit, LineLimit, TooMuch, NoOtp, OtpForm, OtpUnknown, OtpLimit, Spent, OutOfMemory, InputEnded}
+use Rattle.cli_answers.specs.declared.answers.Reason.TheVariants.{WrongWords, EmptyTerm, NoSuchPath, NameTaken, AlreadyThere, RootFixed, IntoItself, IdTaken, NoAttribute, NoResult, FileExists, NeedsVersion, DamagedOrWrongKey, DamagedBlock, WrongKeyOrDamaged, WrongPassword, KeyFileHash, NotKdbx, NotPsafe, EndsEarly, BadHeaderField, BadDictionary, Form, MissingElement, BadValue, NilId, NilRecord, DuplicateId, BinaryRef, BadKeyFile, BadField, NotUtf8, NoTitleColumn, BadRow, BadJson, BadFolder, BadItem, LineForm, Version, UnknownId, StreamUnknown, Compressed, Variant, EncryptedExport, Clash, MoveCycle, NoSuchFile, TooLarge, Depth, TooDeep, TooMany, KdfLimit, IterLimit, StampLimit, LineLimit, TooMuch, NoOtp, OtpForm, OtpUnknown, OtpLimit, Spent, OutOfMemory, InputEnded}
 use Rattle.cli_answers.specs.declared.answers.Refusal.{Refusal}
 use Rattle.cli_answers.specs.declared.answers.Stop.{Stop}
 use Rattle.cli_answers.specs.declared.answers.Stop.TheVariants.{Refused, FileFault, InputFault, NoMemory}
@@ -22,6 +24,7 @@ status_of (IdTaken id) = 2
 status_of (NoAttribute name) = 2
 status_of NoResult = 2
 status_of FileExists = 2
+status_of (NeedsVersion version) = 2
 status_of (DamagedOrWrongKey kept found) = 3
 status_of (DamagedBlock number) = 3
 status_of WrongKeyOrDamaged = 3
@@ -44,12 +47,16 @@ status_of (BadField place) = 4
 status_of (NotUtf8 place) = 4
 status_of NoTitleColumn = 4
 status_of (BadRow number) = 4
+status_of BadJson = 4
+status_of (BadFolder number) = 4
+status_of (BadItem number) = 4
 status_of (LineForm number) = 4
 status_of (Version number) = 5
 status_of (UnknownId id) = 5
 status_of (StreamUnknown number) = 5
 status_of Compressed = 5
 status_of (Variant number) = 5
+status_of EncryptedExport = 5
 status_of (Clash id) = 6
 status_of (MoveCycle ids) = 6
 status_of NoSuchFile = 7
@@ -75,6 +82,11 @@ abbrev pub spaced_ids : List (List ℕ) → List ℕ
 spaced_ids [] = []
 spaced_ids (id ∷ ids) = codes " " ++ hyphenated_text lower id ++ spaced_ids ids
 
+-- The version that is needed.
+abbrev pub needs_version_text : NeededVersion → List ℕ
+needs_version_text needed.V40 = codes "needs version 4.0"
+needs_version_text needed.V41 = codes "needs version 4.1"
+
 -- What an answer says of its subject: numbers in decimal, ids in lower case with hyphens, bytes in
 -- lower-case hexadecimal.
 abbrev pub reason_text : Reason → List ℕ
@@ -89,6 +101,7 @@ reason_text (IdTaken id) = codes "id taken " ++ hyphenated_text lower id
 reason_text (NoAttribute name) = codes "no attribute " ++ name
 reason_text NoResult = codes "no results"
 reason_text FileExists = codes "file exists"
+reason_text (NeedsVersion version) = needs_version_text version
 reason_text (DamagedOrWrongKey kept found) = codes "damaged or wrong key: kept "
     ++ encode_lower kept ++ codes " found " ++ encode_lower found
 reason_text (DamagedBlock number) = codes "damaged block " ++ decimal number
@@ -113,12 +126,16 @@ reason_text (BadField place) = codes "bad field at " ++ decimal place
 reason_text (NotUtf8 place) = codes "not UTF-8 at " ++ decimal place
 reason_text NoTitleColumn = codes "no Title column"
 reason_text (BadRow number) = codes "bad row " ++ decimal number
+reason_text BadJson = codes "bad JSON"
+reason_text (BadFolder number) = codes "bad folder " ++ decimal number
+reason_text (BadItem number) = codes "bad item " ++ decimal number
 reason_text (LineForm number) = codes "line " ++ decimal number ++ codes " is not UTF-8"
 reason_text (Version number) = codes "version " ++ decimal number
 reason_text (UnknownId id) = codes "unknown " ++ hyphenated_text lower id
 reason_text (StreamUnknown number) = codes "stream " ++ decimal number
 reason_text Compressed = codes "compressed"
 reason_text (Variant number) = codes "variant " ++ decimal number
+reason_text EncryptedExport = codes "encrypted export"
 reason_text (Clash id) = codes "clash at " ++ hyphenated_text lower id
 reason_text (MoveCycle ids) = codes "move cycle" ++ spaced_ids ids
 reason_text NoSuchFile = codes "no such file"

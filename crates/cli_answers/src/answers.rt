@@ -3,11 +3,20 @@ ghost use Rattle.std.specs.Prelude.{◌≡◌, ◌++◌, IfOk, OnOk, codes, stri
 ghost use Rattle.std.specs.Fmt.{decimal};
 ghost use Rattle.hex.specs.Hex.{encode_lower};
 ghost use Rattle.uuid.specs.Text.{hyphenated_text, lower};
-ghost use Rattle.cli_answers.specs.Messages.{status_of, reason_text, error_line, refusal_of, spaced_ids, Refuses};
+ghost use Rattle.cli_answers.specs.Messages.{status_of, reason_text, error_line, refusal_of, needs_version_text, spaced_ids, Refuses};
 
 use outside_core::{Bytes, List, NoMemory, Text};
 use std::alloc::{AllocError, Global};
 use uuid_core::Uuid;
+
+/// The version of the format that a file needs for what is in it; version 3.1 is never the least.
+#[derive(Clone, Copy)]
+pub enum NeededVersion {
+    /// Version 4.0.
+    V40,
+    /// Version 4.1.
+    V41,
+}
 
 /// Why a call of the program is refused. A place is in bytes from the start of the file, or of its
 /// deciphered text.
@@ -33,8 +42,11 @@ pub enum Reason {
     NoAttribute(Text),
     /// No entry matches the terms of a search.
     NoResult,
-    /// There is a file of the name already, and an import makes a new one.
+    /// There is a file of the name already, and the command makes a new one.
     FileExists,
+    /// The database, or its key derivation, needs this version of the format, and an older one is
+    /// asked for.
+    NeedsVersion(NeededVersion),
     /// The file keeps another hash or MAC of its header than the header has under the key.
     DamagedOrWrongKey { kept: [u8; 32], found: [u8; 32] },
     /// The block of this number is not the one that was written.
@@ -64,7 +76,7 @@ pub enum Reason {
     BadValue(usize),
     /// The group or the entry at the place has the nil id.
     NilId(usize),
-    /// The record of this number has the nil id.
+    /// The record or the item of this number has the nil id.
     NilRecord(u64),
     /// Two nodes of the document have this id.
     DuplicateId(Uuid),
@@ -81,6 +93,13 @@ pub enum Reason {
     NoTitleColumn,
     /// The row of this number has another width than the first, or a malformed time.
     BadRow(u64),
+    /// The export is no JSON, or no object.
+    BadJson,
+    /// The folder of this number in the export lacks its id or its name; at 0 the folders are no
+    /// list.
+    BadFolder(u64),
+    /// The item of this number in the export is malformed; at 0 the items are no list.
+    BadItem(u64),
     /// The line of this number is not UTF-8.
     LineForm(u64),
     /// Files of this version are not read.
@@ -93,6 +112,8 @@ pub enum Reason {
     Compressed,
     /// The key derivation is of this variant, which is not read.
     Variant(u64),
+    /// The export is encrypted.
+    EncryptedExport,
     /// A node of this id is in the way of a merge: a root has the id elsewhere, or a node of another
     /// kind.
     Clash(Uuid),
@@ -182,6 +203,7 @@ pub fn status(reason: &Reason) -> u8
         Reason::NoAttribute(_) => 2,
         Reason::NoResult => 2,
         Reason::FileExists => 2,
+        Reason::NeedsVersion(_) => 2,
         Reason::DamagedOrWrongKey { .. } => 3,
         Reason::DamagedBlock(_) => 3,
         Reason::WrongKeyOrDamaged => 3,
@@ -204,12 +226,16 @@ pub fn status(reason: &Reason) -> u8
         Reason::NotUtf8(_) => 4,
         Reason::NoTitleColumn => 4,
         Reason::BadRow(_) => 4,
+        Reason::BadJson => 4,
+        Reason::BadFolder(_) => 4,
+        Reason::BadItem(_) => 4,
         Reason::LineForm(_) => 4,
         Reason::Version(_) => 5,
         Reason::UnknownId(_) => 5,
         Reason::StreamUnknown(_) => 5,
         Reason::Compressed => 5,
         Reason::Variant(_) => 5,
+        Reason::EncryptedExport => 5,
         Reason::Clash(_) => 6,
         Reason::MoveCycle(_) => 6,
         Reason::NoSuchFile => 7,
@@ -319,6 +345,16 @@ fn no_attribute(alloc: Global, name: &str) -> Result<String, AllocError>
     format!(in alloc; "no attribute {name}")
 }
 
+// The version that is needed.
+fn needs_version(alloc: Global, version: NeededVersion) -> Result<String, AllocError>
+    ensures { IfOk result (λ text. string_bytes text ≡ needs_version_text version) }
+{
+    match version {
+        NeededVersion::V40 => String::from_str(alloc, "needs version 4.0"),
+        NeededVersion::V41 => String::from_str(alloc, "needs version 4.1"),
+    }
+}
+
 // Adds ids, each after a space.
 fn add_ids(alloc: Global, text: &mut String, ids: &[Uuid]) -> Result<(), AllocError>
     ensures { OnOk result (string_bytes text.new ≡ string_bytes text.old ++ spaced_ids ids.now) }
@@ -363,6 +399,7 @@ pub fn text_of_reason(alloc: Global, reason: &Reason) -> Result<String, AllocErr
         Reason::NoAttribute(name) => no_attribute(alloc, name.as_str()),
         Reason::NoResult => String::from_str(alloc, "no results"),
         Reason::FileExists => String::from_str(alloc, "file exists"),
+        Reason::NeedsVersion(version) => needs_version(alloc, *version),
         Reason::DamagedOrWrongKey { kept, found } => {
             compared(alloc, "damaged or wrong key: kept ", *kept, *found)
         }
@@ -387,12 +424,16 @@ pub fn text_of_reason(alloc: Global, reason: &Reason) -> Result<String, AllocErr
         Reason::NotUtf8(at) => numbered(alloc, "not UTF-8 at ", *at),
         Reason::NoTitleColumn => String::from_str(alloc, "no Title column"),
         Reason::BadRow(number) => numbered(alloc, "bad row ", *number),
+        Reason::BadJson => String::from_str(alloc, "bad JSON"),
+        Reason::BadFolder(number) => numbered(alloc, "bad folder ", *number),
+        Reason::BadItem(number) => numbered(alloc, "bad item ", *number),
         Reason::LineForm(number) => line_is(alloc, *number, " is not UTF-8"),
         Reason::Version(number) => numbered(alloc, "version ", u64::from(*number)),
         Reason::UnknownId(id) => with_id(alloc, "unknown ", id),
         Reason::StreamUnknown(number) => numbered(alloc, "stream ", u64::from(*number)),
         Reason::Compressed => String::from_str(alloc, "compressed"),
         Reason::Variant(number) => numbered(alloc, "variant ", *number),
+        Reason::EncryptedExport => String::from_str(alloc, "encrypted export"),
         Reason::Clash(id) => with_id(alloc, "clash at ", id),
         Reason::MoveCycle(ids) => cycle_text(alloc, ids.as_slice()),
         Reason::NoSuchFile => String::from_str(alloc, "no such file"),

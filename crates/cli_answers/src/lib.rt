@@ -7,5 +7,5 @@ mod answers;
 mod pages;
 mod texts;
 
-pub use answers::{Reason, Refusal, Stop, line, refused, status, text_of_reason};
+pub use answers::{NeededVersion, Reason, Refusal, Stop, line, refused, status, text_of_reason};
 pub use pages::page_of;
