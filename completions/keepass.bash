@@ -30,18 +30,23 @@ _keepass() {
   if [ "$COMP_CWORD" -eq 1 ]; then
     case $word in
       -*) COMPREPLY=($(compgen -W '--help --version --why' -- "$word")) ;;
-      *) COMPREPLY=($(compgen -W 'ls show search add edit mv rm mkdir rmdir merge import export db-info generate clip' -- "$word")) ;;
+      *) COMPREPLY=($(compgen -W 'ls show search add edit mv rm mkdir rmdir merge import db-create export db-edit db-info generate clip' -- "$word")) ;;
     esac
     return
   fi
   case "$command $before" in
-    'import --format') COMPREPLY=($(compgen -W 'xml psafe3 csv' -- "$word")); return ;;
+    'import --format') COMPREPLY=($(compgen -W 'xml psafe3 csv bitwarden' -- "$word")); return ;;
+    'db-create --cipher') COMPREPLY=($(compgen -W 'aes twofish chacha20' -- "$word")); return ;;
+    'db-create --kdf') COMPREPLY=($(compgen -W 'aes argon2d argon2id' -- "$word")); return ;;
     'export -f' | 'export --format') COMPREPLY=($(compgen -W 'xml csv' -- "$word")); return ;;
+    'db-edit --cipher') COMPREPLY=($(compgen -W 'aes twofish chacha20' -- "$word")); return ;;
+    'db-edit --kdf') COMPREPLY=($(compgen -W 'aes argon2d argon2id' -- "$word")); return ;;
+    'db-edit --version') COMPREPLY=($(compgen -W '3.1 4.0 4.1' -- "$word")); return ;;
     'edit -t' | 'export -f' | 'clip -t') return ;;
   esac
   case $before in
     --key-file | --key-file-from | --set-key-file | -k) _keepass_files "$word" all; return ;;
-    --attributes | --exclude | --length | --notes | --seconds | --title | --url | --username | -L | -a | -u | -x) return ;;
+    --attributes | --cipher | --exclude | --kdf | --lanes | --length | --memory | --name | --notes | --rounds | --seconds | --title | --url | --username | --version | -L | -a | -u | -x) return ;;
   esac
   case $command in
     ls) kinds=(file group) options='-R --recursive -f --flatten -k --key-file --no-password --plain -q --quiet --help' ;;
@@ -55,7 +60,9 @@ _keepass() {
     rmdir) kinds=(file group) options='-k --key-file --no-password --plain -q --quiet --help' ;;
     merge) kinds=(file file...) options='-s --same-credentials -d --dry-run --key-file-from --no-password-from -k --key-file --no-password --plain -q --quiet --help' ;;
     import) kinds=(file file) options='--format -p --set-password --set-key-file --plain -q --quiet --help' ;;
+    db-create) kinds=(file) options='-p --set-password --set-key-file --cipher --kdf --rounds --memory --lanes --name --plain -q --quiet --help' ;;
     export) kinds=(file) options='-f --format -k --key-file --no-password --plain -q --quiet --help' ;;
+    db-edit) kinds=(file) options='-p --set-password --set-key-file --unset-password --unset-key-file --cipher --kdf --rounds --memory --lanes --version -k --key-file --no-password -q --quiet --help' ;;
     db-info) kinds=(file) options='-k --key-file --no-password --plain -q --quiet --help' ;;
     generate) kinds=() options='-L --length -l --lower -U --upper -n --numeric -s --special -x --exclude --help' ;;
     clip) kinds=(file entry field) options='-t --seconds -k --key-file --no-password --plain -q --quiet --help' ;;
@@ -69,7 +76,7 @@ _keepass() {
     case $value${COMP_WORDS[number]} in
       *=) value=1 ;;
       1*) value= ;;
-      --attributes | --exclude | --format | --key-file | --key-file-from | --length | --notes | --seconds | --set-key-file | --title | --url | --username | -L | -a | -k | -u | -x) value=1 ;;
+      --attributes | --cipher | --exclude | --format | --kdf | --key-file | --key-file-from | --lanes | --length | --memory | --name | --notes | --rounds | --seconds | --set-key-file | --title | --url | --username | --version | -L | -a | -k | -u | -x) value=1 ;;
       -*) case "$command ${COMP_WORDS[number]}" in 'edit -t' | 'export -f' | 'clip -t') value=1 ;; esac ;;
       *)
         place=$((place + 1))

@@ -14,7 +14,9 @@ declare -gA option_rows=(
   ['rmdir']='key-file:k:FILE: no-password::: plain::: quiet:q::'
   ['merge']='same-credentials:s:: dry-run:d:: key-file-from::FILE: no-password-from::: key-file:k:FILE: no-password::: plain::: quiet:q::'
   ['import']='format::FORMAT: set-password:p:: set-key-file::FILE: plain::: quiet:q::'
+  ['db-create']='set-password:p:: set-key-file::FILE: cipher::CIPHER: kdf::KDF: rounds::NUMBER: memory::KIB: lanes::NUMBER: name::NAME: plain::: quiet:q::'
   ['export']='format:f:FORMAT: key-file:k:FILE: no-password::: plain::: quiet:q::'
+  ['db-edit']='set-password:p:: set-key-file::FILE: unset-password::: unset-key-file::: cipher::CIPHER: kdf::KDF: rounds::NUMBER: memory::KIB: lanes::NUMBER: version::VERSION: key-file:k:FILE: no-password::: quiet:q::'
   ['db-info']='key-file:k:FILE: no-password::: plain::: quiet:q::'
   ['generate']='length:L:NUMBER: lower:l:: upper:U:: numeric:n:: special:s:: exclude:x:CHARS:'
   ['clip']='seconds:t:SECONDS: key-file:k:FILE: no-password::: plain::: quiet:q::'
@@ -33,7 +35,9 @@ declare -gA command_positions=(
   ['rmdir']='DATABASE GROUP'
   ['merge']='TARGET SOURCE...'
   ['import']='SOURCE DATABASE'
+  ['db-create']='DATABASE'
   ['export']='DATABASE'
+  ['db-edit']='DATABASE'
   ['db-info']='DATABASE'
   ['generate']=''
   ['clip']='DATABASE ENTRY [FIELD]'
@@ -52,18 +56,20 @@ declare -gA command_briefs=(
   ['rmdir']='remove a group'
   ['merge']='merge copies of a database'
   ['import']='make a database of another file'
+  ['db-create']='make an empty database'
   ['export']='print a whole database, passwords too'
+  ['db-edit']=$'change a file\'s key or settings'
   ['db-info']='tell what a file is'
   ['generate']='generate a password'
   ['clip']='copy a value to the clipboard'
 )
 
 # The commands in the order of the help.
-command_order='ls show search add edit mv rm mkdir rmdir merge import export db-info generate clip'
+command_order='ls show search add edit mv rm mkdir rmdir merge import db-create export db-edit db-info generate clip'
 
 # The formats of the commands that have one.
 declare -gA command_formats=(
-  ['import']='xml psafe3 csv'
+  ['import']='xml psafe3 csv bitwarden'
   ['export']='xml csv'
 )
 

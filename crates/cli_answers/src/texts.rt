@@ -128,12 +128,35 @@ keepass import [OPTION..] SOURCE DATABASE
     opened with a line of standard input.
     --format FORMAT
         What SOURCE is: a document as XML (xml, the default), a file of Password
-        Safe 3 (psafe3), or a table (csv).
+        Safe 3 (psafe3), a table (csv), or an export of Bitwarden as JSON that
+        is not encrypted (bitwarden).
     -p, --set-password
         DATABASE gets a password: the line of standard input after the one of
         SOURCE, if that has one.
     --set-key-file FILE
         DATABASE is opened with this key file from now on.
+
+keepass db-create [OPTION..] DATABASE
+    Makes DATABASE, which must not be there yet: an empty database. It needs a
+    password or a key file, unless --plain is given.
+    -p, --set-password
+        DATABASE gets a password: the line of standard input.
+    --set-key-file FILE
+        DATABASE is opened with this key file from now on.
+    --cipher CIPHER
+        The cipher of the file.
+    --kdf KDF
+        How the key of the file is derived: by 100000 rounds of AES (aes), or by
+        Argon2 (argon2d, argon2id) in 10 passes over 65536 KiB with 2 lanes, but
+        for what the next three say.
+    --rounds NUMBER
+        How many rounds of AES, or passes of Argon2. Needs --kdf.
+    --memory KIB
+        The memory of Argon2 in KiB. Needs --kdf argon2d or argon2id.
+    --lanes NUMBER
+        How many lanes Argon2 has. Needs --kdf argon2d or argon2id.
+    --name NAME
+        The name of the database and of its root group.
 
 keepass export [OPTION..] DATABASE
     Prints the whole database without its protection: the passwords in it can be
@@ -141,6 +164,34 @@ keepass export [OPTION..] DATABASE
     -f FORMAT, --format FORMAT
         What is printed: the document as XML (xml, the default), or a table
         (csv).
+
+keepass db-edit [OPTION..] DATABASE
+    Gives the file of a database another key, cipher, key derivation or version.
+    What is in it stays. At least one of them must be given.
+    -p, --set-password
+        DATABASE gets another password: the line of standard input after the one
+        of its old password, if it has one.
+    --set-key-file FILE
+        DATABASE is opened with this key file from now on.
+    --unset-password
+        DATABASE has no password from now on. Then it needs a key file.
+    --unset-key-file
+        DATABASE needs no key file from now on. Then it needs a password.
+    --cipher CIPHER
+        The cipher of the file.
+    --kdf KDF
+        How the key of the file is derived: by 100000 rounds of AES (aes), or by
+        Argon2 (argon2d, argon2id) in 10 passes over 65536 KiB with 2 lanes, but
+        for what the next three say.
+    --rounds NUMBER
+        How many rounds of AES, or passes of Argon2. Needs --kdf.
+    --memory KIB
+        The memory of Argon2 in KiB. Needs --kdf argon2d or argon2id.
+    --lanes NUMBER
+        How many lanes Argon2 has. Needs --kdf argon2d or argon2id.
+    --version VERSION
+        The version of the format of the file. One that is too old for what is
+        in DATABASE, or for Argon2, is refused.
 
 keepass db-info [OPTION..] DATABASE
     Prints what the database is called, how it is protected, and how much is in
@@ -164,13 +215,15 @@ keepass generate [OPTION..]
         None of these characters is among them.
 
 Options of every command but generate:
-    --plain
-        The database is a plain XML export, which has no password and no key
-        file.
     -q, --quiet
         Nothing is reported.
 
-Options of every command but import, generate:
+Options of every command but db-edit, generate:
+    --plain
+        The database is a plain XML export, which has no password and no key
+        file.
+
+Options of every command but import, db-create, generate:
     -k FILE, --key-file FILE
         The database needs this key file besides its password.
     --no-password
@@ -180,6 +233,8 @@ keepass --help
     Prints how the program is called.
 keepass --version
     Prints the version of the program.
+keepass --why WORDS..
+    Prints in a line why WORDS are no command, and nothing where they are one.
 
 Exit status:
    0  Done.
@@ -190,7 +245,7 @@ Exit status:
    4  The file or a one-time code is malformed, or a line of the input is not
       UTF-8.
    5  The file has a version, a cipher or a compression that is not supported,
-      or a one-time code is of an unknown kind.
+      or is an encrypted export, or a one-time code is of an unknown kind.
    6  The databases cannot be merged.
    7  A file is missing, or could not be read or written.
    8  A limit was passed.

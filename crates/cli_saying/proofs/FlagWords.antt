@@ -5,7 +5,7 @@ use Rattle.std.specs.Option.{option_and_then}
 use Rattle.std.proofs.lemmas.Bool.Decides.{Decides-eqb}
 use Rattle.cli_saying.specs.declared.names.CommandName.{CommandName}
 use Rattle.cli_saying.specs.declared.forms.CommandOption.{CommandOption}
-use Rattle.cli_saying.specs.declared.forms.CommandOption.TheVariants.{Recursive, Flat, Quiet, Plain, NoPassword, KeyFile, Title, User, Url, Notes, EntryPassword, SameCredentials, DryRun, KeyFileFrom, NoPasswordFrom, Clear, All, Attachments, Format, Attribute, SetPassword, SetKeyFile, ImportFormat, Totp, Generate, Length, Lower, Upper, Numeric, Special, Exclude, Otp}
+use Rattle.cli_saying.specs.declared.forms.CommandOption.TheVariants.{Recursive, Flat, Quiet, Plain, NoPassword, KeyFile, Title, User, Url, Notes, EntryPassword, SameCredentials, DryRun, KeyFileFrom, NoPasswordFrom, Clear, All, Attachments, Format, Attribute, SetPassword, SetKeyFile, ImportFormat, Totp, Generate, Length, Lower, Upper, Numeric, Special, Exclude, Otp, Cipher, Kdf, Rounds, Memory, Lanes, UnsetPassword, UnsetKeyFile, FileVersion, DatabaseName}
 use Rattle.cli_saying.specs.Laws.{IsFlagWord, are_flag_letters, is_flag, is_flag_letter, lack_end}
 use Rattle.cli_saying.specs.Options.{form_of, has_value, letter_option, name_option}
 use Rattle.cli_saying.proofs.Letters.{no_dash}
@@ -74,6 +74,15 @@ name_whole Numeric = λ c s. refl
 name_whole Special = λ c s. refl
 name_whole Exclude = λ c s. refl
 name_whole Otp = λ c s. refl
+name_whole Cipher = λ c s. refl
+name_whole Kdf = λ c s. refl
+name_whole Rounds = λ c s. refl
+name_whole Memory = λ c s. refl
+name_whole Lanes = λ c s. refl
+name_whole UnsetPassword = λ c s. refl
+name_whole UnsetKeyFile = λ c s. refl
+name_whole FileVersion = λ c s. refl
+name_whole DatabaseName = λ c s. refl
 
 -- The word of a name.
 name_says : (command : CommandName) (name : List ℕ) → is_flag (name_option command name) ≡ true

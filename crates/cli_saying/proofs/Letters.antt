@@ -5,7 +5,7 @@ use Rattle.std.proofs.lemmas.Bool.Decides.{Decides-eqb}
 use Rattle.cli_saying.specs.declared.names.CommandName.{CommandName}
 use Rattle.cli_saying.specs.declared.names.CommandName.TheVariants as name
 use Rattle.cli_saying.specs.declared.forms.CommandOption.{CommandOption}
-use Rattle.cli_saying.specs.declared.forms.CommandOption.TheVariants.{Recursive, Flat, Quiet, Plain, NoPassword, KeyFile, Title, User, Url, Notes, EntryPassword, SameCredentials, DryRun, KeyFileFrom, NoPasswordFrom, Clear, All, Attachments, Format, Attribute, SetPassword, SetKeyFile, ImportFormat, Totp, Generate, Length, Lower, Upper, Numeric, Special, Exclude, Otp}
+use Rattle.cli_saying.specs.declared.forms.CommandOption.TheVariants.{Recursive, Flat, Quiet, Plain, NoPassword, KeyFile, Title, User, Url, Notes, EntryPassword, SameCredentials, DryRun, KeyFileFrom, NoPasswordFrom, Clear, All, Attachments, Format, Attribute, SetPassword, SetKeyFile, ImportFormat, Totp, Generate, Length, Lower, Upper, Numeric, Special, Exclude, Otp, Cipher, Kdf, Rounds, Memory, Lanes, UnsetPassword, UnsetKeyFile, FileVersion, DatabaseName}
 use Rattle.cli_saying.specs.Options.{form_of, has_letter, is_letter, letter_option, with_letter}
 
 -- A letter is one of ASCII, where there is one.
@@ -45,6 +45,15 @@ low Numeric = omega arith
 low Special = omega arith
 low Exclude = omega arith
 low Otp = tt
+low Cipher = tt
+low Kdf = tt
+low Rounds = tt
+low Memory = tt
+low Lanes = tt
+low UnsetPassword = tt
+low UnsetKeyFile = tt
+low FileVersion = tt
+low DatabaseName = tt
 
 low_letter : (own : Option ℕ) (letter : ℕ) → IsLow own → is_letter own letter ≡ true → letter < 128
 low_letter None letter h e = absurd (let no : false ≡ true → ⊥ = λ p. cc p in no e)
@@ -73,6 +82,8 @@ no_dash name.MakeGroup = refl
 no_dash name.RemoveGroup = refl
 no_dash name.Merge = refl
 no_dash name.Import = refl
+no_dash name.Create = refl
 no_dash name.Export = refl
+no_dash name.EditFile = refl
 no_dash name.Info = refl
 no_dash name.Generate = refl

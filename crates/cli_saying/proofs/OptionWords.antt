@@ -5,7 +5,7 @@ use Rattle.std.proofs.lemmas.Bool.Decides.{Decides-eqb}
 use Rattle.std.proofs.lemmas.List.{append_assoc}
 use Rattle.cli_saying.specs.declared.names.CommandName.{CommandName}
 use Rattle.cli_saying.specs.declared.forms.CommandOption.{CommandOption}
-use Rattle.cli_saying.specs.declared.forms.CommandOption.TheVariants.{Recursive, Flat, Quiet, Plain, NoPassword, KeyFile, Title, User, Url, Notes, EntryPassword, SameCredentials, DryRun, KeyFileFrom, NoPasswordFrom, Clear, All, Attachments, Format, Attribute, SetPassword, SetKeyFile, ImportFormat, Totp, Generate, Length, Lower, Upper, Numeric, Special, Exclude, Otp}
+use Rattle.cli_saying.specs.declared.forms.CommandOption.TheVariants.{Recursive, Flat, Quiet, Plain, NoPassword, KeyFile, Title, User, Url, Notes, EntryPassword, SameCredentials, DryRun, KeyFileFrom, NoPasswordFrom, Clear, All, Attachments, Format, Attribute, SetPassword, SetKeyFile, ImportFormat, Totp, Generate, Length, Lower, Upper, Numeric, Special, Exclude, Otp, Cipher, Kdf, Rounds, Memory, Lanes, UnsetPassword, UnsetKeyFile, FileVersion, DatabaseName}
 use Rattle.cli_saying.specs.Options.{form_of, has_value, letter_option, name_option}
 use Rattle.cli_saying.proofs.Letters.{no_dash}
 use Rattle.cli_saying.proofs.Named.{named}
@@ -53,6 +53,15 @@ name_valued Numeric = λ c s v. refl
 name_valued Special = λ c s v. refl
 name_valued Exclude = λ c s v. refl
 name_valued Otp = λ c s v. refl
+name_valued Cipher = λ c s v. refl
+name_valued Kdf = λ c s v. refl
+name_valued Rounds = λ c s v. refl
+name_valued Memory = λ c s v. refl
+name_valued Lanes = λ c s v. refl
+name_valued UnsetPassword = λ c s v. refl
+name_valued UnsetKeyFile = λ c s v. refl
+name_valued FileVersion = λ c s v. refl
+name_valued DatabaseName = λ c s v. refl
 
 -- The letter of an option is not `-`.
 no_sign : (command : CommandName) (letter : ℕ) (option : CommandOption) → letter_option command letter ≡ Some option → (letter == 45) ≡ false

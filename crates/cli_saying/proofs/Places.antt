@@ -1,7 +1,7 @@
 -- The places of options.
 use Rattle.std.proofs.Common.{◌≡◌, ◌∙◌, ap, sym, refl, ℕ, true, [], ◌∷◌, get_or}
 use Rattle.cli_saying.specs.declared.forms.CommandOption.{CommandOption}
-use Rattle.cli_saying.specs.declared.forms.CommandOption.TheVariants.{Recursive, Flat, Quiet, Plain, NoPassword, KeyFile, Title, User, Url, Notes, EntryPassword, SameCredentials, DryRun, KeyFileFrom, NoPasswordFrom, Clear, All, Attachments, Format, Attribute, SetPassword, SetKeyFile, ImportFormat, Totp, Generate, Length, Lower, Upper, Numeric, Special, Exclude, Otp}
+use Rattle.cli_saying.specs.declared.forms.CommandOption.TheVariants.{Recursive, Flat, Quiet, Plain, NoPassword, KeyFile, Title, User, Url, Notes, EntryPassword, SameCredentials, DryRun, KeyFileFrom, NoPasswordFrom, Clear, All, Attachments, Format, Attribute, SetPassword, SetKeyFile, ImportFormat, Totp, Generate, Length, Lower, Upper, Numeric, Special, Exclude, Otp, Cipher, Kdf, Rounds, Memory, Lanes, UnsetPassword, UnsetKeyFile, FileVersion, DatabaseName}
 use Rattle.cli_saying.specs.Options.{is_repeatable, place_of}
 
 -- The option at a place.
@@ -10,7 +10,8 @@ option_at place = get_or
     (Recursive ∷ Flat ∷ Quiet ∷ Plain ∷ NoPassword ∷ KeyFile ∷ Title ∷ User ∷ Url ∷ Notes ∷ EntryPassword ∷ SameCredentials
     ∷ DryRun ∷ KeyFileFrom ∷ NoPasswordFrom ∷ Clear ∷ All ∷ Attachments ∷ Format ∷ Attribute ∷ SetPassword
     ∷ SetKeyFile ∷ ImportFormat ∷ Totp ∷ Generate ∷ Length ∷ Lower ∷ Upper ∷ Numeric
-    ∷ Special ∷ Exclude ∷ Otp ∷ []) place Recursive
+    ∷ Special ∷ Exclude ∷ Otp ∷ Cipher ∷ Kdf ∷ Rounds ∷ Memory ∷ Lanes
+    ∷ UnsetPassword ∷ UnsetKeyFile ∷ FileVersion ∷ DatabaseName ∷ []) place Recursive
 
 back : (option : CommandOption) → option_at (place_of option) ≡ option
 back Recursive = refl
@@ -45,6 +46,15 @@ back Numeric = refl
 back Special = refl
 back Exclude = refl
 back Otp = refl
+back Cipher = refl
+back Kdf = refl
+back Rounds = refl
+back Memory = refl
+back Lanes = refl
+back UnsetPassword = refl
+back UnsetKeyFile = refl
+back FileVersion = refl
+back DatabaseName = refl
 
 -- Options at one place are one option.
 pub same_option : (f g : CommandOption) → place_of f ≡ place_of g → f ≡ g
@@ -83,6 +93,15 @@ last Numeric h = cc
 last Special h = cc
 last Exclude h = cc
 last Otp h = cc
+last Cipher h = cc
+last Kdf h = cc
+last Rounds h = cc
+last Memory h = cc
+last Lanes h = cc
+last UnsetPassword h = cc
+last UnsetKeyFile h = cc
+last FileVersion h = cc
+last DatabaseName h = cc
 
 -- Only one option may occur more than once.
 pub one_repeatable : (f g : CommandOption) → is_repeatable f ≡ true → is_repeatable g ≡ true → place_of f ≡ place_of g

@@ -23,7 +23,9 @@ found_each name.MakeGroup = ((refl, refl), ((refl, tt), ((refl, tt), ((refl, ref
 found_each name.RemoveGroup = ((refl, refl), ((refl, tt), ((refl, tt), ((refl, refl), tt))))
 found_each name.Merge = ((refl, refl), ((refl, refl), ((refl, tt), ((refl, tt), ((refl, refl), ((refl, tt), ((refl, tt), ((refl, refl), tt))))))))
 found_each name.Import = ((refl, refl), ((refl, tt), ((refl, tt), ((refl, refl), ((refl, tt), tt)))))
+found_each name.Create = ((refl, refl), ((refl, tt), ((refl, tt), ((refl, tt), ((refl, tt), ((refl, tt), ((refl, tt), ((refl, tt), ((refl, refl), ((refl, tt), tt))))))))))
 found_each name.Export = ((refl, refl), ((refl, refl), ((refl, tt), ((refl, tt), ((refl, refl), tt)))))
+found_each name.EditFile = ((refl, refl), ((refl, tt), ((refl, tt), ((refl, tt), ((refl, tt), ((refl, tt), ((refl, tt), ((refl, tt), ((refl, tt), ((refl, tt), ((refl, refl), ((refl, tt), ((refl, refl), tt)))))))))))))
 found_each name.Info = ((refl, refl), ((refl, tt), ((refl, tt), ((refl, refl), tt))))
 found_each name.Generate = ((refl, refl), ((refl, refl), ((refl, refl), ((refl, refl), ((refl, refl), ((refl, refl), tt))))))
 

@@ -5,7 +5,7 @@ use Rattle.std.specs.Str.{bytes_eq}
 use Rattle.cli_saying.specs.declared.names.CommandName.{CommandName}
 use Rattle.cli_saying.specs.declared.names.CommandName.TheVariants as name
 use Rattle.cli_saying.specs.declared.forms.CommandOption.{CommandOption}
-use Rattle.cli_saying.specs.declared.forms.CommandOption.TheVariants.{Recursive, Flat, Quiet, Plain, NoPassword, KeyFile, Title, User, Url, Notes, EntryPassword, SameCredentials, DryRun, KeyFileFrom, NoPasswordFrom, Clear, All, Attachments, Format, Attribute, SetPassword, SetKeyFile, ImportFormat, Totp, Generate, Length, Lower, Upper, Numeric, Special, Exclude, Otp}
+use Rattle.cli_saying.specs.declared.forms.CommandOption.TheVariants.{Recursive, Flat, Quiet, Plain, NoPassword, KeyFile, Title, User, Url, Notes, EntryPassword, SameCredentials, DryRun, KeyFileFrom, NoPasswordFrom, Clear, All, Attachments, Format, Attribute, SetPassword, SetKeyFile, ImportFormat, Totp, Generate, Length, Lower, Upper, Numeric, Special, Exclude, Otp, Cipher, Kdf, Rounds, Memory, Lanes, UnsetPassword, UnsetKeyFile, FileVersion, DatabaseName}
 
 -- ---- commands
 
@@ -23,10 +23,12 @@ command_named word =
     else (if bytes_eq word (codes "rmdir") then Some name.RemoveGroup
     else (if bytes_eq word (codes "merge") then Some name.Merge
     else (if bytes_eq word (codes "import") then Some name.Import
+    else (if bytes_eq word (codes "db-create") then Some name.Create
     else (if bytes_eq word (codes "export") then Some name.Export
+    else (if bytes_eq word (codes "db-edit") then Some name.EditFile
     else (if bytes_eq word (codes "db-info") then Some name.Info
     else (if bytes_eq word (codes "generate") then Some name.Generate
-    else None)))))))))))))
+    else None)))))))))))))))
 
 -- ---- how options are written
 
@@ -104,6 +106,15 @@ form_of Numeric = flag (codes "numeric") (the (codes "n"))
 form_of Special = flag (codes "special") (the (codes "s"))
 form_of Exclude = valued (codes "exclude") (the (codes "x"))
 form_of Otp = flag (codes "otp") None
+form_of Cipher = valued (codes "cipher") None
+form_of Kdf = valued (codes "kdf") None
+form_of Rounds = valued (codes "rounds") None
+form_of Memory = valued (codes "memory") None
+form_of Lanes = valued (codes "lanes") None
+form_of UnsetPassword = flag (codes "unset-password") None
+form_of UnsetKeyFile = flag (codes "unset-key-file") None
+form_of FileVersion = valued (codes "version") None
+form_of DatabaseName = valued (codes "name") None
 
 -- Whether an option has a value; the others are flags.
 abbrev pub has_value : CommandOption → Bool
@@ -147,6 +158,15 @@ place_of Numeric = 28
 place_of Special = 29
 place_of Exclude = 30
 place_of Otp = 31
+place_of Cipher = 32
+place_of Kdf = 33
+place_of Rounds = 34
+place_of Memory = 35
+place_of Lanes = 36
+place_of UnsetPassword = 37
+place_of UnsetKeyFile = 38
+place_of FileVersion = 39
+place_of DatabaseName = 40
 
 -- ---- which options each command takes
 
@@ -165,14 +185,21 @@ own_options name.MakeGroup = []
 own_options name.RemoveGroup = []
 own_options name.Merge = SameCredentials ∷ DryRun ∷ KeyFileFrom ∷ NoPasswordFrom ∷ []
 own_options name.Import = SetPassword ∷ SetKeyFile ∷ ImportFormat ∷ []
+own_options name.Create = SetPassword ∷ SetKeyFile
+    ∷ Cipher ∷ Kdf ∷ Rounds ∷ Memory ∷ Lanes ∷ DatabaseName ∷ []
 own_options name.Export = Format ∷ []
+own_options name.EditFile = SetPassword ∷ SetKeyFile ∷ UnsetPassword ∷ UnsetKeyFile
+    ∷ Cipher ∷ Kdf ∷ Rounds ∷ Memory ∷ Lanes ∷ FileVersion ∷ []
 own_options name.Info = []
 own_options name.Generate = Length ∷ Lower ∷ Upper ∷ Numeric ∷ Special ∷ Exclude ∷ []
 
--- The options that a command shares with others: what has a database takes those of what is printed
--- and of plain documents, and all but `import`, which makes its database, those of what opens one.
+-- The options that a command shares with others: what has a database takes that of what is printed,
+-- and all but `db-edit`, which gives its file a key, that of plain documents; and all but `import`
+-- and `db-create`, which make their database, those of what opens one.
 abbrev pub shared_options : CommandName → List CommandOption
 shared_options name.Import = Quiet ∷ Plain ∷ []
+shared_options name.Create = Quiet ∷ Plain ∷ []
+shared_options name.EditFile = Quiet ∷ NoPassword ∷ KeyFile ∷ []
 shared_options name.Generate = []
 shared_options command = Quiet ∷ Plain ∷ NoPassword ∷ KeyFile ∷ []
 

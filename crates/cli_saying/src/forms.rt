@@ -70,10 +70,28 @@ pub enum CommandOption {
     Exclude,
     /// `--otp`
     Otp,
+    /// `--cipher CIPHER`
+    Cipher,
+    /// `--kdf KDF`
+    Kdf,
+    /// `--rounds NUMBER`
+    Rounds,
+    /// `--memory KIB`
+    Memory,
+    /// `--lanes NUMBER`
+    Lanes,
+    /// `--unset-password`
+    UnsetPassword,
+    /// `--unset-key-file`
+    UnsetKeyFile,
+    /// `--version VERSION`
+    FileVersion,
+    /// `--name NAME`
+    DatabaseName,
 }
 
 /// How many options there are.
-pub const OPTIONS: usize = 32;
+pub const OPTIONS: usize = 41;
 
 /// How an option is written.
 #[derive(Clone, Copy)]
@@ -161,6 +179,15 @@ pub(crate) fn form_of(option: CommandOption) -> OptionForm
         CommandOption::Special => flag("special", Some(b's')),
         CommandOption::Exclude => valued("exclude", Some(b'x')),
         CommandOption::Otp => flag("otp", None),
+        CommandOption::Cipher => valued("cipher", None),
+        CommandOption::Kdf => valued("kdf", None),
+        CommandOption::Rounds => valued("rounds", None),
+        CommandOption::Memory => valued("memory", None),
+        CommandOption::Lanes => valued("lanes", None),
+        CommandOption::UnsetPassword => flag("unset-password", None),
+        CommandOption::UnsetKeyFile => flag("unset-key-file", None),
+        CommandOption::FileVersion => valued("version", None),
+        CommandOption::DatabaseName => valued("name", None),
     }
 }
 
@@ -181,7 +208,7 @@ pub fn is_repeatable(option: CommandOption) -> bool
 /// The place of an option among all of them.
 pub fn place_of(option: CommandOption) -> usize
     ensures is { result ≡ spec.place_of option }
-    ensures most { result < 32 }
+    ensures most { result < 41 }
 {
     match option {
         CommandOption::Recursive => 0,
@@ -216,5 +243,14 @@ pub fn place_of(option: CommandOption) -> usize
         CommandOption::Special => 29,
         CommandOption::Exclude => 30,
         CommandOption::Otp => 31,
+        CommandOption::Cipher => 32,
+        CommandOption::Kdf => 33,
+        CommandOption::Rounds => 34,
+        CommandOption::Memory => 35,
+        CommandOption::Lanes => 36,
+        CommandOption::UnsetPassword => 37,
+        CommandOption::UnsetKeyFile => 38,
+        CommandOption::FileVersion => 39,
+        CommandOption::DatabaseName => 40,
     }
 }

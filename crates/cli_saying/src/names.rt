@@ -27,8 +27,12 @@ pub enum CommandName {
     Merge,
     /// `import`
     Import,
+    /// `db-create`
+    Create,
     /// `export`
     Export,
+    /// `db-edit`
+    EditFile,
     /// `db-info`
     Info,
     /// `generate`
@@ -51,7 +55,9 @@ pub fn command_named(name: &str) -> Option<CommandName>
         "rmdir" => Some(CommandName::RemoveGroup),
         "merge" => Some(CommandName::Merge),
         "import" => Some(CommandName::Import),
+        "db-create" => Some(CommandName::Create),
         "export" => Some(CommandName::Export),
+        "db-edit" => Some(CommandName::EditFile),
         "db-info" => Some(CommandName::Info),
         "generate" => Some(CommandName::Generate),
         _ => None,

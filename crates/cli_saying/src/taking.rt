@@ -67,7 +67,33 @@ fn own_options(command: CommandName) -> &'static [CommandOption]
                 CommandOption::ImportFormat,
             ]
         }
+        CommandName::Create => {
+            &[
+                CommandOption::SetPassword,
+                CommandOption::SetKeyFile,
+                CommandOption::Cipher,
+                CommandOption::Kdf,
+                CommandOption::Rounds,
+                CommandOption::Memory,
+                CommandOption::Lanes,
+                CommandOption::DatabaseName,
+            ]
+        }
         CommandName::Export => &[CommandOption::Format],
+        CommandName::EditFile => {
+            &[
+                CommandOption::SetPassword,
+                CommandOption::SetKeyFile,
+                CommandOption::UnsetPassword,
+                CommandOption::UnsetKeyFile,
+                CommandOption::Cipher,
+                CommandOption::Kdf,
+                CommandOption::Rounds,
+                CommandOption::Memory,
+                CommandOption::Lanes,
+                CommandOption::FileVersion,
+            ]
+        }
         CommandName::Generate => {
             &[
                 CommandOption::Length,
@@ -82,13 +108,22 @@ fn own_options(command: CommandName) -> &'static [CommandOption]
     }
 }
 
-// The options that a command shares with others: what has a database takes those of what is printed
-// and of plain documents, and all but `import`, which makes its database, those of what opens one.
+// The options that a command shares with others: what has a database takes that of what is printed,
+// and all but `db-edit`, which gives its file a key, that of plain documents; and all but `import`
+// and `db-create`, which make their database, those of what opens one.
 fn shared_options(command: CommandName) -> &'static [CommandOption]
     ensures { result.now ≡ spec.shared_options command }
 {
     match command {
         CommandName::Import => &[CommandOption::Quiet, CommandOption::Plain],
+        CommandName::Create => &[CommandOption::Quiet, CommandOption::Plain],
+        CommandName::EditFile => {
+            &[
+                CommandOption::Quiet,
+                CommandOption::NoPassword,
+                CommandOption::KeyFile,
+            ]
+        }
         CommandName::Generate => &[],
         _ => {
             &[
