@@ -4,8 +4,15 @@ use Rattle.cli_answers.specs.declared.answers.Refusal.{Refusal}
 use Rattle.cli_profiles.specs.declared.profiles.PasswordProfile.{PasswordProfile}
 use Rattle.cli_words.specs.declared.command.Access.{Access}
 use Rattle.cli_words.specs.declared.command.Command.{Command}
-use Rattle.cli_words.specs.declared.command.Command.TheVariants.{Ls, Show, Search, Add, Edit, Move, Remove, MakeGroup, RemoveGroup, Merge, Import, Export, Info}
+use Rattle.cli_words.specs.declared.command.Command.TheVariants.{Ls, Show, Search, Add, Edit, Move, Remove, MakeGroup, RemoveGroup, Merge, Import, Create, Export, EditFile, Info}
+use Rattle.cli_words.specs.declared.command.FileChange.{FileChange}
 use Rattle.cli_words.specs.declared.command.ImportFormat.{ImportFormat}
+use Rattle.cli_words.specs.declared.command.KdfAsked.{KdfAsked}
+use Rattle.cli_words.specs.declared.command.KeyFileChange.{KeyFileChange}
+use Rattle.cli_words.specs.declared.command.KeyFileChange.TheVariants as key_file
+use Rattle.cli_words.specs.declared.command.PasswordChange.{PasswordChange}
+use Rattle.cli_words.specs.declared.command.PasswordChange.TheVariants as password
+use Rattle.kdbx_frame.specs.declared.settings.Cipher.{Cipher}
 
 -- What a command asks for: the file of its database and how it is opened; the files of its sources,
 -- how each is opened, and whether each has the password of the database; whether a line of the input
@@ -35,8 +42,16 @@ without_sources access file has_line = record {
 abbrev pub asks_password : Access → Bool
 asks_password access = not (access.plain || access.no_password)
 
+-- A new password of a database is a line.
+abbrev pub sets_password : PasswordChange → Bool
+sets_password password.Keep = false
+sets_password password.Set = true
+sets_password password.Unset = false
+
 -- What each command asks for. The database that an import opens is its source, and the line after
--- the source's is the password of the new database.
+-- the source's is the password of the new database. The one that is made empty is not opened, and
+-- its line is the password that it is to have. Where a database's file gets another password, that
+-- is the line after the one that opens it.
 abbrev pub needs_of : Command → Needs
 needs_of (Ls access file group recursive flat) = without_sources access file false
 needs_of (Show access file entry clear all attachments names totp) =
@@ -60,7 +75,10 @@ needs_of (Merge access file sources from same dry) = record {
 }
 needs_of (Import access format source from file) =
     without_sources from source (asks_password access)
+needs_of (Create access file name cipher kdf) = without_sources access file false
 needs_of (Export access format file) = without_sources access file false
+needs_of (EditFile access file change) =
+    without_sources access file (sets_password change.password)
 needs_of (Info access file) = without_sources access file false
 
 -- How the password of an entry is generated, where a command asks for that.
@@ -86,6 +104,41 @@ import_of (Import access format source from file) = Some (record {
   file = file;
 })
 import_of command = None
+
+-- What an empty database is made by: how it is opened afterwards, its file and its name, and the
+-- cipher and the key derivation, each where it is asked for.
+pub record CreateNeeds : Type 0 where
+  pub access : Access
+  pub file : List ℕ
+  pub name : Option (List ℕ)
+  pub cipher : Option Cipher
+  pub kdf : Option KdfAsked
+
+-- Where the database of a command comes from: it is opened; it is made of what another program has
+-- written; it is made empty; or it is opened, and its file is changed.
+pub data Origin : Type 0 where
+  Opened : Origin
+  Imported : ImportNeeds → Origin
+  Created : CreateNeeds → Origin
+  Changed : FileChange → Origin
+
+-- Where the database of each command comes from.
+abbrev pub origin_of : Command → Origin
+origin_of (Import access format source from file) = Imported (record {
+  format = format;
+  source = source;
+  access = access;
+  file = file;
+})
+origin_of (Create access file name cipher kdf) = Created (record {
+  access = access;
+  file = file;
+  name = name;
+  cipher = cipher;
+  kdf = kdf;
+})
+origin_of (EditFile access file change) = Changed change
+origin_of command = Opened
 
 -- The file of what an import makes, or else the other.
 abbrev pub file_made : Option ImportNeeds → List ℕ → List ℕ
@@ -146,13 +199,23 @@ source_files from (name ∷ names) = database_files from name ++ source_files fr
 abbrev pub files_of : Needs → List (List ℕ)
 files_of needs = database_files needs.access needs.file ++ source_files needs.from needs.sources
 
--- The files of an import: its source, the new database, and the key file of that; or else those of
--- what a command asks for.
-abbrev pub files_by : Option ImportNeeds → Needs → List (List ℕ)
-files_by (Some import) needs = import.source ∷ import.file ∷ key_files import.access.key_file
-files_by None needs = files_of needs
+-- The key file that a database's file is to have, where one is named.
+abbrev pub new_key_files : KeyFileChange → List (List ℕ)
+new_key_files key_file.Keep = []
+new_key_files (key_file.Set name) = name ∷ []
+new_key_files key_file.Unset = []
+
+-- The files of a database by where it comes from. Of an import they are its source, the new
+-- database, and the key file of that; of an empty database its own, and its key file; and of one
+-- whose file is changed those that it is opened by, and the new key file.
+abbrev pub files_by : Origin → Needs → List (List ℕ)
+files_by Opened needs = files_of needs
+files_by (Imported import) needs = import.source ∷ import.file ∷ key_files import.access.key_file
+files_by (Created create) needs = create.file ∷ key_files create.access.key_file
+files_by (Changed change) needs =
+    database_files needs.access needs.file ++ new_key_files change.key_file
 
 -- The files that the words name.
 abbrev pub files_named : Result Command Refusal → List (List ℕ)
-files_named (Ok command) = files_by (import_of command) (needs_of command)
+files_named (Ok command) = files_by (origin_of command) (needs_of command)
 files_named (Err refusal) = []

@@ -2,10 +2,11 @@
 ghost use Rattle.std.specs.Prelude.{◌≡◌};
 ghost use Rattle.std.specs.Option.{option_copied};
 ghost use Rattle.cli_words.specs.Needs as spec;
-ghost use Rattle.cli_words.specs.SeenNeeds.{import_seen, imports_seen, needs_seen};
+ghost use Rattle.cli_words.specs.SeenNeeds.{create_seen, import_seen, imports_seen, needs_seen, origin_seen};
 
-use crate::command::{Access, Command, ImportFormat};
+use crate::command::{Access, Command, FileChange, ImportFormat, KdfAsked, PasswordChange};
 use cli_profiles::PasswordProfile;
+use kdbx_frame::Cipher;
 use outside_core::Text;
 
 /// What a command asks for: the file of its database and how it is opened, the files of its sources
@@ -41,6 +42,13 @@ fn without_sources<'a>(access: &'a Access, file: &'a Text, has_line: bool) -> Ne
         has_line,
         has_otp: false,
     }
+}
+
+// Reports whether a new password of a database is a line.
+fn sets_password(change: PasswordChange) -> bool
+    ensures { result ≡ spec.sets_password change }
+{
+    matches!(change, PasswordChange::Set)
 }
 
 /// What a command asks for.
@@ -97,7 +105,13 @@ pub fn needs_of(command: &Command) -> Needs<'_>
             from,
             ..
         } => without_sources(from, source, asks_password(access)),
+        Command::Create { access, file, .. } => without_sources(access, file, false),
         Command::Export { access, file, .. } => without_sources(access, file, false),
+        Command::EditFile {
+            access,
+            file,
+            change,
+        } => without_sources(access, file, sets_password(change.password)),
         Command::Info { access, file, .. } => without_sources(access, file, false),
     }
 }
@@ -154,6 +168,73 @@ pub fn import_of(command: &Command) -> Option<ImportNeeds<'_>>
             })
         }
         _ => None,
+    }
+}
+
+/// What an empty database is made by.
+#[derive(Clone, Copy)]
+pub struct CreateNeeds<'a> {
+    /// How the new database is opened afterwards.
+    pub access: &'a Access,
+    /// The file of the new database.
+    pub file: &'a Text,
+    /// The name of the database and of its root group, where one is given.
+    pub name: &'a Option<Text>,
+    /// The cipher of the content, where one is asked for.
+    pub cipher: Option<Cipher>,
+    /// How the key is derived, where that is asked for.
+    pub kdf: Option<KdfAsked>,
+}
+
+/// Where the database of a command comes from.
+#[derive(Clone, Copy)]
+pub enum Origin<'a> {
+    /// It is opened.
+    Opened,
+    /// It is made of what another program has written.
+    Imported(ImportNeeds<'a>),
+    /// It is made empty.
+    Created(CreateNeeds<'a>),
+    /// It is opened, and its file is changed.
+    Changed(&'a FileChange),
+}
+
+/// Where the database of a command comes from.
+pub fn origin_of(command: &Command) -> Origin<'_>
+    ensures { origin_seen result ≡ spec.origin_of command.now }
+{
+    match command {
+        Command::Import {
+            access,
+            format,
+            source,
+            file,
+            ..
+        } => {
+            Origin::Imported(ImportNeeds {
+                format: *format,
+                source,
+                access,
+                file,
+            })
+        }
+        Command::Create {
+            access,
+            file,
+            name,
+            cipher,
+            kdf,
+        } => {
+            Origin::Created(CreateNeeds {
+                access,
+                file,
+                name,
+                cipher: *cipher,
+                kdf: *kdf,
+            })
+        }
+        Command::EditFile { change, .. } => Origin::Changed(change),
+        _ => Origin::Opened,
     }
 }
 
