@@ -1,5 +1,5 @@
 -- What a command asks for.
-use Rattle.std.specs.Prelude.{◌≡◌, ℕ, Bool, false, true, IsSome, ◌&&◌, ◌||◌, not, List, [], ◌∷◌, ◌++◌, Option, None, Some, Result, Ok, Err}
+use Rattle.std.specs.Prelude.{◌≡◌, ℕ, Bool, false, true, IsSome, is_some, ◌&&◌, ◌||◌, not, List, [], ◌∷◌, ◌++◌, Option, None, Some, Result, Ok, Err}
 use Rattle.cli_answers.specs.declared.answers.Refusal.{Refusal}
 use Rattle.cli_profiles.specs.declared.profiles.PasswordProfile.{PasswordProfile}
 use Rattle.cli_words.specs.declared.command.Access.{Access}
@@ -162,6 +162,28 @@ target_access command = access_made (import_of command) (needs_of command).acces
 -- A database that is no plain document has a password or a key file.
 abbrev pub HasKey : Access → Type 0
 HasKey access = access.plain ≡ false → access.no_password ≡ true → IsSome access.key_file
+
+-- A database has a password after a change of its file: it is set, or it stays.
+abbrev pub keeps_password : Access → PasswordChange → Bool
+keeps_password access password.Keep = not access.no_password
+keeps_password access password.Set = true
+keeps_password access password.Unset = false
+
+-- And it has a key file: it is set, or it stays.
+abbrev pub keeps_key_file : Access → KeyFileChange → Bool
+keeps_key_file access key_file.Keep = is_some access.key_file
+keeps_key_file access (key_file.Set name) = true
+keeps_key_file access key_file.Unset = false
+
+-- A file that is changed is sealed, and its new key has a password or a key file.
+pub record HasNewKey (access : Access) (change : FileChange) : Type 0 where
+  pub sealed : access.plain ≡ false
+  pub part : keeps_password access change.password || keeps_key_file access change.key_file ≡ true
+
+-- So it is with each command that changes a file.
+abbrev pub HasKeyAfter : Command → Type 0
+HasKeyAfter (EditFile access file change) = HasNewKey access change
+HasKeyAfter command = Unit {0}
 
 -- Each source asks for a line: a password of its own, unless it has the password of the database, or
 -- none.
