@@ -13,9 +13,10 @@ use Rattle.std.proofs.lemmas.Str.{encode_ascii}
 use Rattle.std.proofs.Math.Seq.{drop-cons}
 use Rattle.gen_core.specs.Chosen.{IsAlphabet}
 use Rattle.cli_saying.specs.declared.forms.CommandOption.TheVariants as option
+use Rattle.cli_saying.specs.Numbers.{number_of}
 use Rattle.cli_saying.specs.Said.{Said, is_given, text_of}
 use Rattle.cli_profiles.specs.Generating.{generated_in, has_profile_option, profile_alone}
-use Rattle.cli_profiles.specs.Profiles.{IsProfile, alphabet_of, as_length, characters, is_wanted, length_asked, number_of, profile_in, profile_with}
+use Rattle.cli_profiles.specs.Profiles.{IsProfile, alphabet_of, as_length, characters, is_wanted, length_asked, profile_in, profile_with}
 use Rattle.cli_profiles.specs.declared.profiles.PasswordProfile.{PasswordProfile}
 
 -- The two parts of a test that is met.
@@ -105,7 +106,7 @@ checked n = by (nat_le 1 n) refl (nat_le n 4096) refl
 
 checked_length : (text : Option (List ℕ)) → IsLength (length_asked text)
 checked_length None = (omega arith, omega arith)
-checked_length (Some text) = by (number_of text)
+checked_length (Some text) = by (number_of 4 text)
   where
     by : (number : Option ℕ) → IsLength (option_and_then as_length number)
     by None = tt

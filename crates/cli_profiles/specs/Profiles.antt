@@ -4,6 +4,7 @@ use Rattle.std.specs.Prelude.{Bool, true, false, not, ◌&&◌, ◌||◌, ◌==�
 use Rattle.std.specs.List.{list_any}
 use Rattle.gen_core.specs.Chosen.{IsAlphabet}
 use Rattle.cli_saying.specs.declared.forms.CommandOption.TheVariants as option
+use Rattle.cli_saying.specs.Numbers.{number_of}
 use Rattle.cli_saying.specs.Said.{Said, is_given, text_of}
 use Rattle.cli_profiles.specs.declared.profiles.Classes.{Classes}
 use Rattle.cli_profiles.specs.declared.profiles.PasswordProfile.{PasswordProfile}
@@ -65,24 +66,13 @@ alphabet_of said = filter (is_wanted said) characters
 
 -- ---- the length
 
--- The number that decimal digits write after others, whose number is this.
-abbrev pub number_after : ℕ → List ℕ → Option ℕ
-number_after number [] = Some number
-number_after number (b ∷ text) =
-    if nat_le 48 b && nat_le b 57 then number_after (number * 10 + (b - 48)) text else None
-
--- The number of one to four decimal digits.
-abbrev pub number_of : List ℕ → Option ℕ
-number_of text =
-    if nat_le 1 (length text) && nat_le (length text) 4 then number_after 0 text else None
-
 -- The number, if a password can be so long: 1 to 4,096.
 abbrev pub as_length : ℕ → Option ℕ
 as_length number = if nat_le 1 number && nat_le number 4096 then Some number else None
 
--- The length that a text is.
+-- The length that a text of one to four digits is.
 abbrev pub length_named : List ℕ → Option ℕ
-length_named text = option_and_then as_length (number_of text)
+length_named text = option_and_then as_length (number_of 4 text)
 
 -- The length that is asked for: 32 where none is named.
 abbrev pub length_asked : Option (List ℕ) → Option ℕ

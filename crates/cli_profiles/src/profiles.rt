@@ -3,7 +3,7 @@ ghost use Rattle.std.specs.Prelude.{◌≡◌, IfOk};
 ghost use Rattle.cli_saying.specs.SaidWords.{Gives, said_seen, text_seen};
 ghost use Rattle.cli_profiles.specs.Profiles as spec;
 
-use cli_saying::{CommandOption, SaidWords, WordsFail, is_given, text_of};
+use cli_saying::{CommandOption, SaidWords, WordsFail, is_given, number_of, text_of};
 use outside_core::{NoMemory, Text};
 use std::alloc::Global;
 
@@ -116,39 +116,22 @@ pub fn alphabet_of(alloc: Global, said: &SaidWords<'_, '_>) -> Result<Text, NoMe
     Ok(alphabet)
 }
 
-// The number of one to four decimal digits.
-fn number_of(text: &[u8]) -> Option<u32>
-    ensures { result ≡ spec.number_of text.now }
-{
-    if text.is_empty() || text.len() > 4 {
-        return None;
-    }
-    let mut number: u32 = 0;
-    for b in text {
-        if *b < b'0' || *b > b'9' {
-            return None;
-        }
-        number = number * 10 + u32::from(*b - b'0');
-    }
-    Some(number)
-}
-
 // The number, if a password can be so long.
-fn as_length(number: u32) -> Option<u32>
+fn as_length(number: u64) -> Option<u32>
     ensures { result ≡ spec.as_length number }
 {
     if number >= 1 && number <= 4096 {
-        Some(number)
+        Some(number as u32)
     } else {
         None
     }
 }
 
-/// The length that a text is.
+/// The length that a text of one to four digits is.
 pub fn length_named(text: &str) -> Option<u32>
     ensures { result ≡ spec.length_named text.now }
 {
-    match number_of(text.as_bytes()) {
+    match number_of(4, text) {
         Some(number) => as_length(number),
         None => None,
     }

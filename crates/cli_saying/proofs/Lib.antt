@@ -1,3 +1,4 @@
+pub mod Digits
 pub mod FlagWords
 pub mod Flags
 pub mod LongNames

@@ -29,3 +29,18 @@ abbrev pub is_fit_new : Said → Bool
 is_fit_new said = if is_given option.Plain said
     then not (is_given option.SetPassword said || is_given option.SetKeyFile said)
     else (is_given option.SetPassword said || is_given option.SetKeyFile said)
+
+-- A part of a key is there after a change: it is set, or was there and is not unset.
+abbrev pub has_part : (set unset before : Bool) → Bool
+has_part set unset before = set || (before && not unset)
+
+-- What changes the key of a database fits it: no part of the key is both set and unset, and one of
+-- them is there afterwards.
+abbrev pub is_fit_change : Said → Bool
+is_fit_change said =
+    not (is_given option.SetPassword said && is_given option.UnsetPassword said)
+    && (not (is_given option.SetKeyFile said && is_given option.UnsetKeyFile said)
+    && (has_part (is_given option.SetPassword said) (is_given option.UnsetPassword said)
+    (not (is_given option.NoPassword said))
+    || has_part (is_given option.SetKeyFile said) (is_given option.UnsetKeyFile said)
+    (is_given option.KeyFile said)))

@@ -1,5 +1,6 @@
 pub mod Credentials
 pub mod Laws
+pub mod Numbers
 pub mod Prefixes
 pub mod Said
 pub mod SaidWords

@@ -44,6 +44,29 @@ pub fn is_fit_new(said: &SaidWords<'_, '_>) -> bool
     }
 }
 
+// Reports whether a part of a key is there after a change.
+fn has_part(set: bool, unset: bool, before: bool) -> bool
+    ensures { result ≡ spec.has_part set unset before }
+{
+    set || (before && !unset)
+}
+
+/// Reports whether what changes the key of a database fits it.
+pub fn is_fit_change(said: &SaidWords<'_, '_>) -> bool
+    ensures { result ≡ spec.is_fit_change (said_seen said.now) }
+{
+    let password = is_given(said, CommandOption::SetPassword);
+    let no_password = is_given(said, CommandOption::UnsetPassword);
+    let key_file = is_given(said, CommandOption::SetKeyFile);
+    let no_key_file = is_given(said, CommandOption::UnsetKeyFile);
+    let had_password = !is_given(said, CommandOption::NoPassword);
+    let had_key_file = is_given(said, CommandOption::KeyFile);
+    !(password && no_password)
+        && !(key_file && no_key_file)
+        && (has_part(password, no_password, had_password)
+            || has_part(key_file, no_key_file, had_key_file))
+}
+
 /// Reports whether nothing is due, and what opens each database fits it.
 pub fn is_whole(said: &SaidWords<'_, '_>) -> bool
     ensures { result ≡ spec.is_whole (said_seen said.now) }

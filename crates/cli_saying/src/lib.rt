@@ -6,14 +6,16 @@ mod credentials;
 mod forms;
 pub mod laws;
 mod names;
+mod numbers;
 pub mod option_laws;
 mod said;
 mod taking;
 mod words;
 
-pub use credentials::{is_fit_new, is_whole};
+pub use credentials::{is_fit_change, is_fit_new, is_whole};
 pub use forms::{CommandOption, OPTIONS, has_value, is_repeatable, place_of};
 pub use names::{CommandName, command_named};
+pub use numbers::number_of;
 pub use said::{
     GivenTexts, ReadingState, SaidWords, WordsFail, copies_of, copy_of, empty_state, is_given,
     no_texts, text_of,

@@ -1,3 +1,4 @@
 pub mod Needs
 pub mod SeenNeeds
+pub mod Settings
 pub mod Words

@@ -14,10 +14,12 @@ use Rattle.cli_words.specs.declared.command.PasswordChange.{PasswordChange}
 use Rattle.cli_words.specs.declared.command.PasswordChange.TheVariants as password
 use Rattle.kdbx_frame.specs.declared.settings.Cipher.{Cipher}
 
--- What a command asks for: the file of its database and how it is opened; the files of its sources,
--- how each is opened, and whether each has the password of the database; whether a line of the input
--- is due after those that open databases; and whether one more, a one-time code, is due after it.
+-- What a command asks for: whether it opens its database; the file of that and how it is opened; the
+-- files of its sources, how each is opened, and whether each has the password of the database;
+-- whether a line of the input is due after those that open databases; and whether one more, a
+-- one-time code, is due after it.
 pub record Needs : Type 0 where
+  pub opens : Bool
   pub access : Access
   pub file : List ℕ
   pub from : Access
@@ -29,6 +31,7 @@ pub record Needs : Type 0 where
 -- What a command asks for that has no sources.
 abbrev pub without_sources : Access → List ℕ → Bool → Needs
 without_sources access file has_line = record {
+  opens = true;
   access = access;
   file = file;
   from = access;
@@ -65,6 +68,7 @@ needs_of (Remove access file entry) = without_sources access file false
 needs_of (MakeGroup access file group) = without_sources access file false
 needs_of (RemoveGroup access file group) = without_sources access file false
 needs_of (Merge access file sources from same dry) = record {
+  opens = true;
   access = access;
   file = file;
   from = from;
@@ -76,7 +80,10 @@ needs_of (Merge access file sources from same dry) = record {
 needs_of (Import access format source from file) =
     without_sources from source (asks_password access)
 needs_of (Create access file name cipher kdf) = without_sources access file false
+needs_of (Create access file name cipher kdf) = creating access file
 needs_of (Export access format file) = without_sources access file false
+needs_of (EditFile access file change) =
+    without_sources access file (sets_password change.password)
 needs_of (EditFile access file change) =
     without_sources access file (sets_password change.password)
 needs_of (Info access file) = without_sources access file false
@@ -140,6 +147,31 @@ origin_of (Create access file name cipher kdf) = Created (record {
 origin_of (EditFile access file change) = Changed change
 origin_of command = Opened
 
+-- What `db-create` asks for: the file of the new database and how that is opened afterwards; its
+-- name; its cipher; and how its key is derived.
+pub record CreateNeeds : Type 0 where
+  pub access : Access
+  pub file : List ℕ
+  pub name : Option (List ℕ)
+  pub cipher : Option Cipher
+  pub kdf : Option KdfAsked
+
+-- What `db-create` asks for; other commands are none.
+abbrev pub creation_of : Command → Option CreateNeeds
+creation_of (Create access file name cipher kdf) = Some (record {
+  access = access;
+  file = file;
+  name = name;
+  cipher = cipher;
+  kdf = kdf;
+})
+creation_of command = None
+
+-- What `db-edit` changes; other commands are none.
+abbrev pub edit_file_of : Command → Option FileChange
+edit_file_of (EditFile access file change) = Some change
+edit_file_of command = None
+
 -- The file of what an import makes, or else the other.
 abbrev pub file_made : Option ImportNeeds → List ℕ → List ℕ
 file_made (Some import) file = import.file
@@ -197,10 +229,14 @@ pub record HasKeys (needs : Needs) : Type 0 where
   pub sources : HasKey needs.from
   pub same : needs.same ≡ true → needs.from ≡ needs.access
 
+-- The database asks for a line where it is opened.
+abbrev pub asks_target_password : Needs → Bool
+asks_target_password needs = needs.opens && asks_password needs.access
+
 -- A line is asked for: by the database, by each of its sources, or after them.
 abbrev pub asks_line : Needs → Bool
 asks_line needs =
-    asks_password needs.access
+    asks_target_password needs
     || (asks_passwords_from needs || (needs.has_line || needs.has_otp))
 
 -- The key file, where one is named.
@@ -237,7 +273,28 @@ files_by (Created create) needs = create.file ∷ key_files create.access.key_fi
 files_by (Changed change) needs =
     database_files needs.access needs.file ++ new_key_files change.key_file
 
+-- The files of a database that is created: its own, and then its key file; or else the others.
+abbrev pub files_made : Option CreateNeeds → List (List ℕ) → List (List ℕ)
+files_made (Some new) files = new.file ∷ key_files new.access.key_file
+files_made None files = files
+
+-- The new key file, where one is set.
+abbrev pub new_key_files : KeyFileChange → List (List ℕ)
+new_key_files key_file.Keep = []
+new_key_files (key_file.Set name) = name ∷ []
+new_key_files key_file.Unset = []
+
+-- These files, and then the new key file of a change.
+abbrev pub files_changed : Option FileChange → List (List ℕ) → List (List ℕ)
+files_changed (Some change) files = files ++ new_key_files change.key_file
+files_changed None files = files
+
+-- The files that a command names.
+abbrev pub files_asked : Command → List (List ℕ)
+files_asked command = files_changed (edit_file_of command)
+    (files_made (creation_of command) (files_by (import_of command) (needs_of command)))
+
 -- The files that the words name.
 abbrev pub files_named : Result Command Refusal → List (List ℕ)
-files_named (Ok command) = files_by (origin_of command) (needs_of command)
+files_named (Ok command) = files_asked command
 files_named (Err refusal) = []

@@ -10,6 +10,7 @@ use Rattle.cli_words.specs.Needs.{CreateNeeds, Changed, Created, Imported, Impor
 -- the same without the loans
 abbrev pub needs_seen : declared.Needs → Needs
 needs_seen needs = record {
+  opens = needs.opens;
   access = needs.access.now;
   file = needs.file.now;
   from = needs.from.now;
@@ -48,3 +49,17 @@ origin_seen origin.Opened = Opened
 origin_seen (origin.Imported import) = Imported (import_seen import)
 origin_seen (origin.Created create) = Created (create_seen create)
 origin_seen (origin.Changed change) = Changed change.now
+
+-- what a new database asks for without the loans
+abbrev pub creation_seen : lent_new.CreateNeeds → CreateNeeds
+creation_seen needs = record {
+  access = needs.access.now;
+  file = needs.file.now;
+  name = option_map (λ name. name.now) needs.name;
+  cipher = needs.cipher;
+  kdf = needs.kdf;
+}
+
+-- the same where there is a new database
+abbrev pub creations_seen : Option lent_new.CreateNeeds → Option CreateNeeds
+creations_seen = option_map creation_seen

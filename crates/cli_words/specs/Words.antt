@@ -10,17 +10,20 @@ use Rattle.cli_profiles.specs.declared.profiles.PasswordProfile.{PasswordProfile
 use Rattle.cli_words.specs.declared.command.Access.{Access}
 use Rattle.cli_words.specs.declared.command.Asked.{Asked}
 use Rattle.cli_words.specs.declared.command.Command.{Command}
-use Rattle.cli_words.specs.declared.command.Command.TheVariants.{Ls, Show, Search, Add, Edit, Move, Remove, MakeGroup, RemoveGroup, Merge, Import, Export, Info}
+use Rattle.cli_words.specs.declared.command.Command.TheVariants.{Ls, Show, Search, Add, Edit, Move, Remove, MakeGroup, RemoveGroup, Merge, Import, Create, Export, EditFile, Info}
 use Rattle.cli_words.specs.declared.command.ExportFormat.{ExportFormat}
 use Rattle.cli_words.specs.declared.command.ExportFormat.TheVariants as format
 use Rattle.cli_words.specs.declared.command.ImportFormat.{ImportFormat}
-use Rattle.cli_words.specs.declared.command.ImportFormat.TheVariants.{Xml, Psafe, Csv}
+use Rattle.cli_words.specs.declared.command.ImportFormat.TheVariants.{Xml, Psafe, Csv, Bitwarden}
 use Rattle.cli_saying.specs.declared.names.CommandName.{CommandName}
 use Rattle.cli_saying.specs.declared.names.CommandName.TheVariants as name
 use Rattle.cli_saying.specs.declared.forms.CommandOption.TheVariants as option
 use Rattle.cli_saying.specs.Options.{command_named}
-use Rattle.cli_saying.specs.Credentials.{is_fit_new, is_whole}
+use Rattle.cli_saying.specs.Credentials.{is_fit_change, is_fit_new, is_whole}
 use Rattle.cli_saying.specs.Said.{Said, is_given, nothing_said, text_of, with_words}
+use Rattle.cli_words.specs.Settings.{change_in, cipher_in, has_file_change, kdf_in}
+use Rattle.cli_words.specs.declared.command.KdfAsked.{KdfAsked}
+use Rattle.kdbx_frame.specs.declared.settings.Cipher.{Cipher}
 
 -- How a database is opened.
 abbrev pub access_of : Said → Access
@@ -92,7 +95,8 @@ import_format_named name =
     if bytes_eq name (codes "xml") then Some Xml
     else (if bytes_eq name (codes "psafe3") then Some Psafe
     else (if bytes_eq name (codes "csv") then Some Csv
-    else None))
+    else (if bytes_eq name (codes "bitwarden") then Some Bitwarden
+    else None)))
 
 -- The format of what is imported: the plain document where none is named.
 abbrev pub import_format_asked : Option (List ℕ) → Option ImportFormat
@@ -104,6 +108,7 @@ abbrev pub lacks_password : ImportFormat → Bool
 lacks_password Xml = true
 lacks_password Psafe = false
 lacks_password Csv = true
+lacks_password Bitwarden = true
 
 -- How the source of an import is opened: by a password alone, if it has one.
 abbrev pub access_source : Said → ImportFormat → Access
@@ -214,6 +219,24 @@ import_at said (source ∷ file ∷ []) =
     import_as said source file (import_format_asked (text_of option.ImportFormat said))
 import_at said positions = None
 
+-- What a new database is to be fits together: a plain document has neither a key nor settings.
+abbrev pub is_fit_create : Said → Bool
+is_fit_create said = is_fit_new said && not (is_given option.Plain said
+    && (is_given option.Cipher said || is_given option.Kdf said))
+
+-- A new database in this file with these settings, if each of them is known.
+abbrev pub create_with : Said → List ℕ → Option (Option Cipher) → Option (Option KdfAsked)
+    → Option Command
+create_with said file (Some cipher) (Some kdf) =
+    Some (Create (access_new said) file (text_of option.DatabaseName said) cipher kdf)
+create_with said file cipher kdf = None
+
+-- `db-create DATABASE`
+abbrev pub create_at : Said → List (List ℕ) → Option Command
+create_at said (file ∷ []) =
+    if is_fit_create said then create_with said file (cipher_in said) (kdf_in said) else None
+create_at said positions = None
+
 -- A database is written in a format, if that is known.
 abbrev pub export_as : Said → List ℕ → Option ExportFormat → Option Command
 export_as said file (Some known) = Some (Export (access_of said) known file)
@@ -223,6 +246,19 @@ export_as said file None = None
 abbrev pub export_at : Said → List (List ℕ) → Option Command
 export_at said (file ∷ []) = export_as said file (format_asked (text_of option.Format said))
 export_at said positions = None
+
+-- What changes a file fits it, and there is a change.
+abbrev pub is_fit_edit : Said → Bool
+is_fit_edit said = has_file_change said && is_fit_change said
+
+-- The change of the file of a database.
+abbrev pub edit_file_with : Said → List ℕ → Option Command
+edit_file_with said file = option_map (EditFile (access_of said) file) (change_in said)
+
+-- `db-edit DATABASE`
+abbrev pub edit_file_at : Said → List (List ℕ) → Option Command
+edit_file_at said (file ∷ []) = if is_fit_edit said then edit_file_with said file else None
+edit_file_at said positions = None
 
 -- `db-info DATABASE`
 abbrev pub info_at : Said → List (List ℕ) → Option Command
@@ -246,7 +282,9 @@ command_at name.MakeGroup = make_group_at
 command_at name.RemoveGroup = remove_group_at
 command_at name.Merge = merge_at
 command_at name.Import = import_at
+command_at name.Create = create_at
 command_at name.Export = export_at
+command_at name.EditFile = edit_file_at
 command_at name.Info = info_at
 command_at name.Generate = no_command_at
 

@@ -76,9 +76,9 @@ pub struct KdfAsked {
     pub kind: KdfKind,
     /// The rounds of AES, or the passes of Argon2.
     pub rounds: u64,
-    /// The memory of Argon2 in KiB.
+    /// The memory of Argon2 in KiB, which AES has not.
     pub kib: u64,
-    /// The lanes of Argon2.
+    /// The lanes of Argon2, which AES has not.
     pub lanes: u64,
 }
 

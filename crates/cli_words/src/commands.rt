@@ -9,7 +9,9 @@ ghost use Rattle.cli_saying.specs.SaidWords.{Gives, said_seen, text_seen};
 ghost use Rattle.cli_words.specs.Words as spec;
 ghost use Rattle.cli_words.specs.Words.{command_of};
 
-use crate::command::{Access, Asked, Command, ExportFormat, ImportFormat};
+use crate::bases::{access_from, access_new, access_source, base_and_path, base_of, base_with};
+use crate::command::{Asked, Command, ExportFormat, ImportFormat};
+use crate::files::{create_at, edit_file_at};
 use cli_answers::{Reason, Stop, refused};
 use cli_profiles::generated_in;
 use cli_saying::{
@@ -33,58 +35,6 @@ pub fn has_change(said: &SaidWords<'_, '_>) -> bool
         || is_given(said, CommandOption::EntryPassword)
         || is_given(said, CommandOption::Generate)
         || is_given(said, CommandOption::Otp)
-}
-
-// How a database is opened.
-fn access_of(alloc: Global, said: &SaidWords<'_, '_>) -> Result<Access, NoMemory>
-    ensures { IfOk result (λ access. access ≡ spec.access_of (said_seen said.now)) }
-{
-    Ok(Access {
-        plain: is_given(said, CommandOption::Plain),
-        quiet: is_given(said, CommandOption::Quiet),
-        key_file: copy_of(alloc, text_of(said, CommandOption::KeyFile))?,
-        no_password: is_given(said, CommandOption::NoPassword),
-    })
-}
-
-// How each source of a merge is opened.
-fn access_from(alloc: Global, said: &SaidWords<'_, '_>) -> Result<Access, NoMemory>
-    ensures { IfOk result (λ access. access ≡ spec.access_from (said_seen said.now)) }
-{
-    if is_given(said, CommandOption::SameCredentials) {
-        return access_of(alloc, said);
-    }
-    Ok(Access {
-        plain: is_given(said, CommandOption::Plain),
-        quiet: is_given(said, CommandOption::Quiet),
-        key_file: copy_of(alloc, text_of(said, CommandOption::KeyFileFrom))?,
-        no_password: is_given(said, CommandOption::NoPasswordFrom),
-    })
-}
-
-// How a new database is opened.
-fn access_new(alloc: Global, said: &SaidWords<'_, '_>) -> Result<Access, NoMemory>
-    ensures { IfOk result (λ access. access ≡ spec.access_new (said_seen said.now)) }
-{
-    let plain = is_given(said, CommandOption::Plain);
-    Ok(Access {
-        plain,
-        quiet: is_given(said, CommandOption::Quiet),
-        key_file: copy_of(alloc, text_of(said, CommandOption::SetKeyFile))?,
-        no_password: !(plain || is_given(said, CommandOption::SetPassword)),
-    })
-}
-
-// How the source of an import is opened.
-fn access_source(said: &SaidWords<'_, '_>, format: ImportFormat) -> Access
-    ensures { result ≡ spec.access_source (said_seen said.now) format }
-{
-    Access {
-        plain: !matches!(&format, ImportFormat::Psafe),
-        quiet: is_given(said, CommandOption::Quiet),
-        key_file: None,
-        no_password: false,
-    }
 }
 
 // The texts that an entry is to have.
@@ -186,6 +136,7 @@ fn import_format_named(name: &str) -> Option<ImportFormat>
         "xml" => Some(ImportFormat::Xml),
         "psafe3" => Some(ImportFormat::Psafe),
         "csv" => Some(ImportFormat::Csv),
+        "bitwarden" => Some(ImportFormat::Bitwarden),
         _ => None,
     }
 }
@@ -197,71 +148,6 @@ fn import_format_asked(name: Option<&str>) -> Option<ImportFormat>
     match name {
         Some(name) => import_format_named(name),
         None => Some(ImportFormat::Xml),
-    }
-}
-
-// How a database is opened, and its file.
-#[derive(Drop)]
-struct Base {
-    access: Access,
-    file: Text,
-}
-
-// A database that is opened so, with its file.
-fn base_with(alloc: Global, access: Access, file: &Text) -> Result<Base, NoMemory>
-    ensures access { IfOk result (λ base. base.access ≡ access) }
-    ensures file { IfOk result (λ base. base.file ≡ file.now) }
-{
-    match Text::of(alloc, file.as_str()) {
-        Ok(file) => Ok(Base { access, file }),
-        Err(fail) => {
-            drop(access);
-            Err(fail)
-        }
-    }
-}
-
-// How a database is opened, and its file.
-fn base_of(alloc: Global, said: &SaidWords<'_, '_>, file: &Text) -> Result<Base, NoMemory>
-    ensures access { IfOk result (λ base. base.access ≡ spec.access_of (said_seen said.now)) }
-    ensures file { IfOk result (λ base. base.file ≡ file.now) }
-{
-    match access_of(alloc, said) {
-        Ok(access) => base_with(alloc, access, file),
-        Err(fail) => Err(fail),
-    }
-}
-
-// The same, and what a command names in the database.
-#[derive(Drop)]
-struct BaseAndPath {
-    access: Access,
-    file: Text,
-    path: Text,
-}
-
-// The same, and what a command names in the database.
-fn base_and_path(
-    alloc: Global,
-    said: &SaidWords<'_, '_>,
-    file: &Text,
-    path: &Text,
-) -> Result<BaseAndPath, NoMemory>
-    ensures access { IfOk result (λ both. both.access ≡ spec.access_of (said_seen said.now)) }
-    ensures file { IfOk result (λ both. both.file ≡ file.now) }
-    ensures path { IfOk result (λ both. both.path ≡ path.now) }
-{
-    let base = base_of(alloc, said, file)?;
-    match Text::of(alloc, path.as_str()) {
-        Ok(path) => Ok(BaseAndPath {
-            access: base.access,
-            file: base.file,
-            path,
-        }),
-        Err(fail) => {
-            drop(base);
-            Err(fail)
-        }
     }
 }
 
@@ -644,7 +530,9 @@ fn command_at(
         CommandName::RemoveGroup => remove_group_at(alloc, said),
         CommandName::Merge => merge_at(alloc, said),
         CommandName::Import => import_at(alloc, said),
+        CommandName::Create => create_at(alloc, said),
         CommandName::Export => export_at(alloc, said),
+        CommandName::EditFile => edit_file_at(alloc, said),
         CommandName::Info => info_at(alloc, said),
         CommandName::Generate => Err(WordsFail::Wrong),
     }

@@ -34,6 +34,7 @@ fn without_sources<'a>(access: &'a Access, file: &'a Text, has_line: bool) -> Ne
     ensures { needs_seen result ≡ spec.without_sources access.now file.now has_line }
 {
     Needs {
+        opens: true,
         access,
         file,
         from: access,
@@ -49,6 +50,29 @@ fn sets_password(change: PasswordChange) -> bool
     ensures { result ≡ spec.sets_password change }
 {
     matches!(change, PasswordChange::Set)
+}
+
+// Reports whether the password of a database becomes another line of the input.
+fn sets_password(change: PasswordChange) -> bool
+    ensures { result ≡ spec.sets_password change }
+{
+    matches!(&change, PasswordChange::Set)
+}
+
+// What a command asks for that creates a database.
+fn creating<'a>(access: &'a Access, file: &'a Text) -> Needs<'a>
+    ensures { needs_seen result ≡ spec.creating access.now file.now }
+{
+    Needs {
+        opens: false,
+        access,
+        file,
+        from: access,
+        same: false,
+        sources: &[],
+        has_line: asks_password(access),
+        has_otp: false,
+    }
 }
 
 /// What a command asks for.
@@ -71,6 +95,7 @@ pub fn needs_of(command: &Command) -> Needs<'_>
             asked,
             ..
         } => Needs {
+            opens: true,
             access,
             file,
             from: access,
@@ -91,6 +116,7 @@ pub fn needs_of(command: &Command) -> Needs<'_>
             same,
             ..
         } => Needs {
+            opens: true,
             access,
             file,
             from,
@@ -106,7 +132,13 @@ pub fn needs_of(command: &Command) -> Needs<'_>
             ..
         } => without_sources(from, source, asks_password(access)),
         Command::Create { access, file, .. } => without_sources(access, file, false),
+        Command::Create { access, file, .. } => creating(access, file),
         Command::Export { access, file, .. } => without_sources(access, file, false),
+        Command::EditFile {
+            access,
+            file,
+            change,
+        } => without_sources(access, file, sets_password(change.password)),
         Command::EditFile {
             access,
             file,
@@ -238,6 +270,55 @@ pub fn origin_of(command: &Command) -> Origin<'_>
     }
 }
 
+/// What `db-create` asks for.
+#[derive(Clone, Copy)]
+pub struct CreateNeeds<'a> {
+    /// How the new database is opened afterwards.
+    pub access: &'a Access,
+    /// The file of the new database.
+    pub file: &'a Text,
+    /// The name of the database and of its root group, where one is given.
+    pub name: Option<&'a Text>,
+    /// The cipher of the content, where one is asked for.
+    pub cipher: Option<Cipher>,
+    /// How the key is derived, where that is asked for.
+    pub kdf: Option<KdfAsked>,
+}
+
+/// What `db-create` asks for; other commands are none.
+pub fn creation_of(command: &Command) -> Option<CreateNeeds<'_>>
+    ensures { creations_seen result ≡ spec.creation_of command.now }
+{
+    match command {
+        Command::Create {
+            access,
+            file,
+            name,
+            cipher,
+            kdf,
+        } => {
+            Some(CreateNeeds {
+                access,
+                file,
+                name: name.as_ref(),
+                cipher: *cipher,
+                kdf: *kdf,
+            })
+        }
+        _ => None,
+    }
+}
+
+/// What `db-edit` changes; other commands are none.
+pub fn edit_file_of(command: &Command) -> Option<&FileChange>
+    ensures { option_copied result ≡ spec.edit_file_of command.now }
+{
+    match command {
+        Command::EditFile { change, .. } => Some(change),
+        _ => None,
+    }
+}
+
 /// The file that a command shows or writes: that of the new database of an import, or else that of
 /// the database that it opens.
 pub fn target_of(command: &Command) -> &Text
@@ -257,6 +338,13 @@ pub fn target_access(command: &Command) -> &Access
         Command::Import { access, .. } => access,
         _ => needs_of(command).access,
     }
+}
+
+/// Reports whether the database asks for a line where it is opened.
+pub fn asks_target_password(needs: Needs<'_>) -> bool
+    ensures { result ≡ spec.asks_target_password (needs_seen needs.entry) }
+{
+    needs.opens && asks_password(needs.access)
 }
 
 /// Reports whether each source asks for a line: a password of its own, unless it has the password
