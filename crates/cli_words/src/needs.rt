@@ -2,7 +2,7 @@
 ghost use Rattle.std.specs.Prelude.{◌≡◌};
 ghost use Rattle.std.specs.Option.{option_copied};
 ghost use Rattle.cli_words.specs.Needs as spec;
-ghost use Rattle.cli_words.specs.SeenNeeds.{create_seen, import_seen, imports_seen, needs_seen, origin_seen};
+ghost use Rattle.cli_words.specs.SeenNeeds.{creation_seen, creations_seen, import_seen, imports_seen, needs_seen};
 
 use crate::command::{Access, Command, FileChange, ImportFormat, KdfAsked, PasswordChange};
 use cli_profiles::PasswordProfile;
@@ -13,6 +13,8 @@ use outside_core::Text;
 /// and how each is opened, and which lines of the input are due after those that open them.
 #[derive(Clone, Copy)]
 pub struct Needs<'a> {
+    /// Whether the database is opened.
+    pub opens: bool,
     /// How the database is opened.
     pub access: &'a Access,
     /// The file of the database.
@@ -45,20 +47,6 @@ fn without_sources<'a>(access: &'a Access, file: &'a Text, has_line: bool) -> Ne
     }
 }
 
-// Reports whether a new password of a database is a line.
-fn sets_password(change: PasswordChange) -> bool
-    ensures { result ≡ spec.sets_password change }
-{
-    matches!(change, PasswordChange::Set)
-}
-
-// Reports whether the password of a database becomes another line of the input.
-fn sets_password(change: PasswordChange) -> bool
-    ensures { result ≡ spec.sets_password change }
-{
-    matches!(&change, PasswordChange::Set)
-}
-
 // What a command asks for that creates a database.
 fn creating<'a>(access: &'a Access, file: &'a Text) -> Needs<'a>
     ensures { needs_seen result ≡ spec.creating access.now file.now }
@@ -73,6 +61,13 @@ fn creating<'a>(access: &'a Access, file: &'a Text) -> Needs<'a>
         has_line: asks_password(access),
         has_otp: false,
     }
+}
+
+// Reports whether the password of a database becomes another line of the input.
+fn sets_password(change: PasswordChange) -> bool
+    ensures { result ≡ spec.sets_password change }
+{
+    matches!(&change, PasswordChange::Set)
 }
 
 /// What a command asks for.
@@ -131,14 +126,8 @@ pub fn needs_of(command: &Command) -> Needs<'_>
             from,
             ..
         } => without_sources(from, source, asks_password(access)),
-        Command::Create { access, file, .. } => without_sources(access, file, false),
         Command::Create { access, file, .. } => creating(access, file),
         Command::Export { access, file, .. } => without_sources(access, file, false),
-        Command::EditFile {
-            access,
-            file,
-            change,
-        } => without_sources(access, file, sets_password(change.password)),
         Command::EditFile {
             access,
             file,
@@ -203,73 +192,6 @@ pub fn import_of(command: &Command) -> Option<ImportNeeds<'_>>
     }
 }
 
-/// What an empty database is made by.
-#[derive(Clone, Copy)]
-pub struct CreateNeeds<'a> {
-    /// How the new database is opened afterwards.
-    pub access: &'a Access,
-    /// The file of the new database.
-    pub file: &'a Text,
-    /// The name of the database and of its root group, where one is given.
-    pub name: &'a Option<Text>,
-    /// The cipher of the content, where one is asked for.
-    pub cipher: Option<Cipher>,
-    /// How the key is derived, where that is asked for.
-    pub kdf: Option<KdfAsked>,
-}
-
-/// Where the database of a command comes from.
-#[derive(Clone, Copy)]
-pub enum Origin<'a> {
-    /// It is opened.
-    Opened,
-    /// It is made of what another program has written.
-    Imported(ImportNeeds<'a>),
-    /// It is made empty.
-    Created(CreateNeeds<'a>),
-    /// It is opened, and its file is changed.
-    Changed(&'a FileChange),
-}
-
-/// Where the database of a command comes from.
-pub fn origin_of(command: &Command) -> Origin<'_>
-    ensures { origin_seen result ≡ spec.origin_of command.now }
-{
-    match command {
-        Command::Import {
-            access,
-            format,
-            source,
-            file,
-            ..
-        } => {
-            Origin::Imported(ImportNeeds {
-                format: *format,
-                source,
-                access,
-                file,
-            })
-        }
-        Command::Create {
-            access,
-            file,
-            name,
-            cipher,
-            kdf,
-        } => {
-            Origin::Created(CreateNeeds {
-                access,
-                file,
-                name,
-                cipher: *cipher,
-                kdf: *kdf,
-            })
-        }
-        Command::EditFile { change, .. } => Origin::Changed(change),
-        _ => Origin::Opened,
-    }
-}
-
 /// What `db-create` asks for.
 #[derive(Clone, Copy)]
 pub struct CreateNeeds<'a> {
@@ -278,7 +200,7 @@ pub struct CreateNeeds<'a> {
     /// The file of the new database.
     pub file: &'a Text,
     /// The name of the database and of its root group, where one is given.
-    pub name: Option<&'a Text>,
+    pub name: &'a Option<Text>,
     /// The cipher of the content, where one is asked for.
     pub cipher: Option<Cipher>,
     /// How the key is derived, where that is asked for.
@@ -300,7 +222,7 @@ pub fn creation_of(command: &Command) -> Option<CreateNeeds<'_>>
             Some(CreateNeeds {
                 access,
                 file,
-                name: name.as_ref(),
+                name,
                 cipher: *cipher,
                 kdf: *kdf,
             })
