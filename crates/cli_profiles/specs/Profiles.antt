@@ -1,6 +1,6 @@
 -- Of which characters a generated password is made, and of how many. Bytes are numbers, those of
 -- ASCII.
-use Rattle.std.specs.Prelude.{Bool, true, false, not, ◌&&◌, ◌||◌, ◌==◌, ℕ, ◌+◌, ◌-◌, ◌*◌, ◌<◌, ◌≤◌, nat_le, if◌then◌else◌, All, List, [], ◌∷◌, ◌++◌, length, codes, filter, Option, None, Some, option_and_then}
+use Rattle.std.specs.Prelude.{Bool, true, false, not, ◌&&◌, ◌||◌, ◌==◌, ℕ, ◌<◌, ◌≤◌, nat_le, if◌then◌else◌, All, List, [], ◌∷◌, ◌++◌, length, codes, filter, Option, None, Some, option_and_then}
 use Rattle.std.specs.List.{list_any}
 use Rattle.gen_core.specs.Chosen.{IsAlphabet}
 use Rattle.cli_saying.specs.declared.forms.CommandOption.TheVariants as option

@@ -1,7 +1,12 @@
 -- Words of calls, and which commands they are.
 use Rattle.std.proofs.Common.{◌≡◌, refl, [], ◌∷◌, codes, true, false, Some, None}
 use Rattle.cli_words.specs.declared.command.Access.{Access}
-use Rattle.cli_words.specs.declared.command.Command.TheVariants.{Ls, Show, Edit, Merge, Import, Export}
+use Rattle.cli_words.specs.declared.command.Command.TheVariants.{Ls, Show, Edit, Merge, Import, Create, Export, EditFile}
+use Rattle.cli_words.specs.declared.command.KdfKind.TheVariants as kdf
+use Rattle.cli_words.specs.declared.command.KeyFileChange.TheVariants as key_file
+use Rattle.cli_words.specs.declared.command.PasswordChange.TheVariants as password
+use Rattle.kdbx_frame.specs.declared.settings.Cipher.TheVariants as cipher
+use Rattle.vault_model.specs.declared.forms.FileVersion.TheVariants.{V41}
 use Rattle.cli_words.specs.declared.command.ExportFormat.TheVariants.{Csv}
 use Rattle.cli_words.specs.declared.command.ImportFormat.TheVariants as import_format
 use Rattle.cli_words.specs.Words.{command_in, profile_of}
@@ -96,3 +101,60 @@ code_given : command_in (codes "edit" ∷ codes "--otp" ∷ codes "-gn" ∷ code
       otp = true;
     }))
 code_given = refl
+
+-- Costs are read as they are, and those that are not named are the usual ones.
+many_rounds : command_in (codes "db-edit" ∷ codes "--kdf" ∷ codes "aes" ∷ codes "--rounds" ∷ codes "4294967297" ∷ codes "D" ∷ [])
+    ≡ Some (EditFile by_password (codes "D") (record {
+      password = password.Keep;
+      key_file = key_file.Keep;
+      cipher = None;
+      kdf = Some (record { kind = kdf.Aes; rounds = 4294967297; kib = 65536; lanes = 2 });
+      version = None;
+    }))
+many_rounds = refl
+
+usual_costs : command_in (codes "db-create" ∷ codes "-p" ∷ codes "--kdf=argon2id" ∷ codes "--memory" ∷ codes "0000001024" ∷ codes "--name=Home" ∷ codes "D" ∷ [])
+    ≡ Some (Create by_password (codes "D") (Some (codes "Home")) None
+    (Some (record { kind = kdf.Argon2id; rounds = 10; kib = 1024; lanes = 2 })))
+usual_costs = refl
+
+eleven_digits : command_in (codes "db-edit" ∷ codes "--kdf" ∷ codes "aes" ∷ codes "--rounds" ∷ codes "00000000001" ∷ codes "D" ∷ []) ≡ None
+eleven_digits = refl
+
+memory_of_aes : command_in (codes "db-edit" ∷ codes "--kdf" ∷ codes "aes" ∷ codes "--memory" ∷ codes "1" ∷ codes "D" ∷ []) ≡ None
+memory_of_aes = refl
+
+rounds_alone : command_in (codes "db-edit" ∷ codes "--rounds" ∷ codes "1" ∷ codes "D" ∷ []) ≡ None
+rounds_alone = refl
+
+-- Parts of a key are set or unset, and one of them stays.
+other_key : command_in (codes "db-edit" ∷ codes "-p" ∷ codes "--unset-key-file" ∷ codes "--version=4.1" ∷ codes "--cipher" ∷ codes "twofish" ∷ codes "D" ∷ [])
+    ≡ Some (EditFile by_password (codes "D") (record {
+      password = password.Set;
+      key_file = key_file.Unset;
+      cipher = Some cipher.Twofish;
+      kdf = None;
+      version = Some V41;
+    }))
+other_key = refl
+
+set_and_unset : command_in (codes "db-edit" ∷ codes "-p" ∷ codes "--unset-password" ∷ codes "D" ∷ []) ≡ None
+set_and_unset = refl
+
+no_part_left : command_in (codes "db-edit" ∷ codes "--unset-password" ∷ codes "D" ∷ []) ≡ None
+no_part_left = refl
+
+both_unset : command_in (codes "db-edit" ∷ codes "-k" ∷ codes "K" ∷ codes "--unset-password" ∷ codes "--unset-key-file" ∷ codes "D" ∷ []) ≡ None
+both_unset = refl
+
+nothing_changed : command_in (codes "db-edit" ∷ codes "D" ∷ []) ≡ None
+nothing_changed = refl
+
+plain_changed : command_in (codes "db-edit" ∷ codes "--plain" ∷ codes "-p" ∷ codes "D" ∷ []) ≡ None
+plain_changed = refl
+
+plain_with_cipher : command_in (codes "db-create" ∷ codes "--plain" ∷ codes "--cipher" ∷ codes "aes" ∷ codes "D" ∷ []) ≡ None
+plain_with_cipher = refl
+
+created_without_key : command_in (codes "db-create" ∷ codes "D" ∷ []) ≡ None
+created_without_key = refl

@@ -10,17 +10,21 @@ use Rattle.cli_profiles.proofs.Alphabets.{asked_profile, generated_profile}
 use Rattle.cli_words.specs.declared.command.Access.{Access}
 use Rattle.cli_words.specs.declared.command.Asked.{Asked}
 use Rattle.cli_words.specs.declared.command.Command.{Command}
-use Rattle.cli_words.specs.declared.command.Command.TheVariants.{Add, Edit}
+use Rattle.cli_words.specs.declared.command.Command.TheVariants.{Add, Edit, EditFile}
+use Rattle.cli_words.specs.declared.command.FileChange.{FileChange}
+use Rattle.cli_words.specs.declared.command.KdfAsked.{KdfAsked}
 use Rattle.cli_saying.specs.declared.names.CommandName.{CommandName}
 use Rattle.cli_saying.specs.declared.names.CommandName.TheVariants as name
 use Rattle.cli_saying.specs.declared.forms.CommandOption.TheVariants as option
-use Rattle.cli_words.specs.Needs.{HasKey, HasKeys, asks_password, generated_by, needs_of, target_access, without_sources}
+use Rattle.cli_words.specs.Needs.{HasKey, HasKeys, asks_password, generated_by, needs_of, sets_password, target_access, without_sources}
+use Rattle.cli_words.specs.Settings.{change_in, cipher_in, kdf_in}
+use Rattle.kdbx_frame.specs.declared.settings.Cipher.{Cipher}
 use Rattle.cli_saying.specs.Options.{command_named}
 use Rattle.cli_words.specs.declared.command.ExportFormat.{ExportFormat}
 use Rattle.cli_words.specs.declared.command.ImportFormat.{ImportFormat}
 use Rattle.cli_saying.specs.Credentials.{is_fit, is_fit_from, is_fit_new, is_whole}
 use Rattle.cli_saying.specs.Said.{Said, is_due, is_given, nothing_said, text_of, with_words}
-use Rattle.cli_words.specs.Words.{access_from, access_new, access_of, access_source, add_at, asked_of, asked_with, command_at, command_by, command_in, command_saying, edit_at, edit_of, export_as, export_at, format_asked, has_change, import_as, import_at, import_format_asked, import_from, info_at, is_fit_show, is_mergeable, list_at, make_group_at, merge_at, merge_of, move_at, profile_at, profile_by, profile_of, profile_saying, remove_at, remove_group_at, search_at, show_at}
+use Rattle.cli_words.specs.Words.{access_from, access_new, access_of, access_source, add_at, asked_of, asked_with, command_at, command_by, command_in, command_saying, create_at, create_with, edit_at, edit_file_at, edit_of, export_as, export_at, format_asked, has_change, import_as, import_at, import_format_asked, import_from, info_at, is_fit_create, is_fit_edit, is_fit_show, is_mergeable, list_at, make_group_at, merge_at, merge_of, move_at, profile_at, profile_by, profile_of, profile_saying, remove_at, remove_group_at, search_at, show_at}
 
 -- What a command opens has keys, and so has what it shows or writes; and a password that it
 -- generates can be chosen.
@@ -136,6 +140,34 @@ import_key said source file (Some format) = by (is_fit_new said) refl
       tt,
     )
 
+-- A new database has a key where what it is to be fits together.
+fits_new : (new plain : Bool) → (new && plain) ≡ true → new ≡ true
+fits_new true plain h = refl
+fits_new false plain h = cc
+
+new_access_key : (said : Said) → is_fit_new said ≡ true → HasKey (access_new said)
+new_access_key said h p n =
+    new_key (is_given option.Plain said) (is_given option.SetPassword said) (is_given option.SetKeyFile said) h p n
+
+create_key : (said : Said) (file : List ℕ) → IfKey (create_at said (file ∷ []))
+create_key said file = by (is_fit_create said) refl
+  where
+    made : HasKey (access_new said) → (cipher : Option (Option Cipher)) (kdf : Option (Option KdfAsked)) → IfKey (create_with said file cipher kdf)
+    made h None kdf = tt
+    made h (Some cipher) None = tt
+    made h (Some cipher) (Some kdf) = (record { target = h; sources = h; same = λ e. refl }, h, tt)
+
+    by : (b : Bool) → is_fit_create said ≡ b → IfKey (if b then create_with said file (cipher_in said) (kdf_in said) else None)
+    by false e = tt
+    by true e = made (new_access_key said (fits_new (is_fit_new said) _ e)) (cipher_in said) (kdf_in said)
+
+edit_file_key : (said : Said) → AreKeys said → (file : List ℕ) → IfKey (edit_file_at said (file ∷ []))
+edit_file_key said h file = if_key (is_fit_edit said) _ (by (change_in said))
+  where
+    by : (change : Option FileChange) → IfKey (option_map (EditFile (access_of said) file) change)
+    by None = tt
+    by (Some change) = alone said h file (sets_password change.password)
+
 -- A command by the values that an entry is to have.
 asked_key : (F : Asked → Command) → ((asked : Asked) → IfSome asked.generated IsProfile → IsKeyed (F asked)) → (said : Said)
     → IfKey (option_map F (asked_of said))
@@ -175,6 +207,9 @@ command_key name.Import said h =
     (λ a b c r. tt)
 command_key name.Export said h =
     by_positions (export_at said) tt (λ a. export_key said h a (format_asked (text_of option.Format said))) (λ a b. tt) (λ a b c r. tt)
+command_key name.Create said h = by_positions (create_at said) tt (create_key said) (λ a b. tt) (λ a b c r. tt)
+command_key name.EditFile said h =
+    by_positions (edit_file_at said) tt (edit_file_key said h) (λ a b. tt) (λ a b c r. tt)
 command_key name.Info said h = by_positions (info_at said) tt (λ a. alone said h a false) (λ a b. tt) (λ a b c r. tt)
 command_key name.Generate said h = λ positions. tt
 
