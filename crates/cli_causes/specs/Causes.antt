@@ -225,7 +225,8 @@ own_cause name.Show said = show_cause said
 own_cause name.Add said = generated_cause said
 own_cause name.Edit said = option_or (generated_cause said) (change_cause said)
 own_cause name.Import said =
-    option_or (new_key_cause name.Import said) (import_format_cause (text_of option.ImportFormat said))
+    option_or (new_key_cause name.Import said)
+    (import_format_cause (text_of option.ImportFormat said))
 own_cause name.Create said = create_cause said
 own_cause name.Export said = export_format_cause (text_of option.Format said)
 own_cause name.EditFile said = edit_file_cause said
