@@ -274,7 +274,7 @@ test_files() {
       refuse_at_once "keepass: $file: file fault" 7
     fi
   done
-  if [ "$command" = import ] && [ -e "$target" ]; then refuse_at_once "keepass: $target: file exists" 2; fi
+  if { [ "$command" = import ] || [ "$command" = db-create ]; } && [ -e "$target" ]; then refuse_at_once "keepass: $target: file exists" 2; fi
 }
 
 # Reads the words, and takes out what belongs to the script: `--tty`, and the `-` of an export to the terminal. Sets

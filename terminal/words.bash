@@ -178,16 +178,80 @@ read_profile() {
   if [ -z "$left" ]; then because 'no characters are left: --exclude has all of them'; fi
 }
 
+# Looks at a key derivation and its costs: those of Argon2 need one of its kinds, and each is one to ten digits.
+read_kdf() {
+  local word
+  for word in rounds memory lanes; do
+    if is_given "$word" && ! is_given kdf; then because "'--$word' needs '--kdf'"; fi
+  done
+  if ! is_given kdf; then return; fi
+  case ${given[kdf]} in
+    aes)
+      for word in memory lanes; do
+        if is_given "$word"; then because "'--$word' needs '--kdf argon2d' or '--kdf argon2id'"; fi
+      done
+      ;;
+    argon2d | argon2id) ;;
+    *) because "unknown key derivation '${given[kdf]}': aes or argon2d or argon2id" ;;
+  esac
+  for word in rounds memory lanes; do
+    if is_given "$word" && [[ ! ${given[$word]} =~ ^[0-9]{1,10}$ ]]; then
+      because "'--$word' needs one to ten digits: '${given[$word]}'"
+    fi
+  done
+}
+
+# Looks at what is said of a file's settings: cipher, key derivation and version.
+read_settings() {
+  if is_given cipher; then
+    case ${given[cipher]} in
+      aes | twofish | chacha20) ;;
+      *) because "unknown cipher '${given[cipher]}': aes or twofish or chacha20" ;;
+    esac
+  fi
+  read_kdf
+  if is_given version; then
+    case ${given[version]} in
+      3.1 | 4.0 | 4.1) ;;
+      *) because "unknown version '${given[version]}': 3.1 or 4.0 or 4.1" ;;
+    esac
+  fi
+}
+
+# Looks at the key of a new file, and whether one without a key has settings.
+read_new_key() {
+  local word
+  if is_given plain && is_given set-password; then because "'--set-password' does not go with '--plain': an XML export has no key"; fi
+  if is_given plain && is_given set-key-file; then because "'--set-key-file' does not go with '--plain': an XML export has no key"; fi
+  if ! is_given plain && ! is_given set-password && ! is_given set-key-file; then
+    because "$command needs a key for the new database: -p, --set-key-file FILE, or --plain for none"
+  fi
+  for word in cipher kdf; do
+    if is_given plain && is_given "$word"; then because "'--$word' does not go with '--plain'"; fi
+  done
+}
+
+# Looks at the parts of a key that is changed, and whether anything is.
+read_change() {
+  local word given_words="${!given[*]}"
+  for word in password key-file; do
+    if is_given "set-$word" && is_given "unset-$word"; then because "'--set-$word' does not go with '--unset-$word'"; fi
+  done
+  if ! is_given set-password && ! is_given set-key-file && { is_given no-password || is_given unset-password; } &&
+    { ! is_given key-file || is_given unset-key-file; }; then
+    because 'no key is left: a database needs a password or a key file'
+  fi
+  read_settings
+  case " $given_words " in
+    *' set-password '* | *' unset-password '* | *' set-key-file '* | *' unset-key-file '* | *' cipher '* | *' kdf '* | *' version '*) ;;
+    *) because 'nothing to change: give another key, --cipher, --kdf or --version' ;;
+  esac
+}
+
 # Looks for options that do not go together, formats that are unknown, and an edit of nothing.
 read_options() {
   local word
-  if [ "$command" = import ]; then
-    if is_given plain && is_given set-password; then because "'--plain' makes an export without a password; '--set-password' does not go with it"; fi
-    if is_given plain && is_given set-key-file; then because "'--plain' makes an export without a key file; '--set-key-file' does not go with it"; fi
-    if ! is_given plain && ! is_given set-password && ! is_given set-key-file; then
-      because 'import needs a key for the new database: -p, --set-key-file FILE, or --plain for none'
-    fi
-  fi
+  if [ "$command" = import ] || [ "$command" = db-create ]; then read_new_key; fi
   for word in no-password key-file no-password-from key-file-from same-credentials; do
     if is_given plain && is_given "$word"; then because "'--$word' does not go with '--plain': an XML export has no key"; fi
   done
@@ -202,6 +266,10 @@ read_options() {
   for word in all show-attachments; do
     if is_given totp && is_given "$word"; then because "'--totp' does not go with '--$word'"; fi
   done
+  case $command in
+    db-create) read_settings ;;
+    db-edit) read_change ;;
+  esac
   read_profile
   if [ "$command" = edit ] && ! is_given title && ! is_given username && ! is_given url && ! is_given notes && ! is_given password-prompt \
     && ! is_given generate && ! is_given otp; then
@@ -313,7 +381,8 @@ files_of() {
     if is_given set-key-file; then files+=("${given[set-key-file]}"); fi
     return
   fi
-  add_database "${positions[0]}" "$key"
+  if [ "$command" != db-create ]; then add_database "${positions[0]}" "$key"; fi
+  if is_given set-key-file; then files+=("${given[set-key-file]}"); fi
   if [ "$command" != merge ]; then return; fi
   if ! is_given same-credentials; then key=${given[key-file-from]-}; fi
   for source in "${positions[@]:1}"; do add_database "$source" "$key"; done
@@ -330,7 +399,8 @@ lines_of() {
     if is_given set-password; then lines+=("New password of ${positions[1]}"); fi
     return
   fi
-  if ! is_given plain && ! is_given no-password; then lines+=("Password of ${positions[0]}"); fi
+  if [ "$command" != db-create ] && ! is_given plain && ! is_given no-password; then lines+=("Password of ${positions[0]}"); fi
+  if is_given set-password; then lines+=("New password of ${positions[0]}"); fi
   if [ "$command" = merge ] && ! is_given plain && ! is_given same-credentials && ! is_given no-password-from; then
     for source in "${positions[@]:1}"; do lines+=("Password of $source"); done
   fi
