@@ -53,7 +53,6 @@ module _ (before : List EntryTexts) (texts : EntryTexts) (name : EntryName) (old
     (few : length before < 2 ^ 64 - 1)
     (more : number ≡ min (counted_in old.counts name + 1) (2 ^ 64 - 1))
     (put : (q : EntryName) → get name_cmp new.counts q ≡ cond (is_eq (name_cmp name q)) (Some number) (get name_cmp old.counts q)) where
-
   number_is : number ≡ count_of texts before + 1
   unfolding HasCounted
   number_is =
@@ -67,6 +66,7 @@ module _ (before : List EntryTexts) (texts : EntryTexts) (name : EntryName) (old
     where
       test_is : is_eq (name_cmp name q) ≡ bytes_eq (name_bytes q) (texts_name texts)
       test_is = same_test (name_bytes name) (name_bytes q) ∙ ap (bytes_eq (name_bytes q)) named
+
       by_test : (b : Bool) → bytes_eq (name_bytes q) (texts_name texts) ≡ b → counted_in new.counts q ≡ count_named (name_bytes q) (before ++ texts ∷ [])
       by_test true e =
           let same = (bytes_eq-Decides (name_bytes q) (texts_name texts)).0 e in

@@ -1,12 +1,13 @@
 //! How often each name occurred so far, and the ids that follow from it.
 
-ghost use Rattle.std.specs.Prelude.{◌≡◌, ◌<◌, ◌-◌, ◌^◌, [], ◌++◌, List, IfOk, decimal, length};
-ghost use Rattle.std.specs.Option.{unwrap_or};
+ghost use Rattle.std.specs.Prelude.{◌≡◌, ◌≢◌, ◌<◌, ◌-◌, ◌^◌, [], ◌++◌, List, IfOk, decimal, length};
+ghost use Rattle.std.specs.Option.{ForSome, unwrap_or};
 ghost use Rattle.import_ids.specs.Ids.{entry_space, named_id};
 ghost use Rattle.import_ids.specs.Counts as spec;
 ghost use Rattle.import_ids.specs.Counts.{GivesId, HasCounted};
 ghost use Rattle.import_ids.specs.Names as spec_names;
 ghost use Rattle.import_ids.specs.SeenNames.{name_bytes, texts_seen};
+ghost use Rattle.vault_model.specs.Db.{nil_id};
 
 use crate::names::{EntryName, EntryTexts, name_of};
 use crate::numbered::numbered_id;
@@ -63,9 +64,10 @@ impl NameCounts {
         own: Option<Uuid>,
         texts: EntryTexts<'_>,
     ) -> Result<Uuid, NoMemory>
-        ensures { (before : List spec_names.EntryTexts) → HasCounted self.old before
+        ensures gives { (before : List spec_names.EntryTexts) → HasCounted self.old before
             → length before < 2 ^ 64 - 1
             → IfOk result (λ id. GivesId before own (texts_seen texts.entry) id self.new) }
+        ensures not_nil { ForSome own (λ id. id ≢ nil_id) → IfOk result (λ id. id ≢ nil_id) }
     {
         let name = name_of(alloc, texts)?;
         let number = self.count_of(&name).saturating_add(1);

@@ -1,7 +1,8 @@
 -- Ids that are made of names are not nil.
-use Rattle.std.proofs.Common.{◌≡◌, ◌≢◌, ◌<◌, ◌≤◌, ◌+◌, ◌*◌, ◌%◌, ℕ, suc, zero, false, List, ◌++◌, length, take, refl, sym, ap, arith}
+use Rattle.std.proofs.Common.{◌∙◌, Option, Some, None, ◌≡◌, ◌≢◌, ◌<◌, ◌≤◌, ◌+◌, ◌*◌, ◌%◌, ℕ, suc, zero, false, List, ◌++◌, length, take, refl, sym, ap, arith}
 use Rattle.std.proofs.lemmas.List.{get_or-set_same, length-append, length-set, length-take}
 use Rattle.std.specs.Int.{to_be_bytes, w32}
+use Rattle.std.specs.Option.{ForSome, unwrap_or}
 use Rattle.std.specs.Prelude.{slice_index}
 use Rattle.sha1.specs.Sha1.{digest_bytes, hash_after, padded_message, sha1}
 use Rattle.uuid.specs.Parts.{with_variant, with_version, variant_byte}
@@ -11,7 +12,7 @@ use Rattle.vault_model.specs.Db.{NodeId, nil_id}
 use Rattle.vault_model.specs.Join.{is_id}
 use Rattle.vault_model.proofs.Ids.{same_id}
 use Rattle.vault_model.proofs.Tests.{is_false}
-use Rattle.import_tree.specs.Entries.{named_id}
+use Rattle.import_ids.specs.Ids.{named_id}
 
 digest_length : (h : List ℕ) (n : ℕ) → length (digest_bytes h n) ≡ 4 * n
 unfolding digest_bytes
@@ -46,3 +47,8 @@ named_not_nil space name e =
 -- an id that is not nil is another id
 pub other_than_nil : (u : NodeId) → u ≢ nil_id → is_id nil_id u ≡ false
 other_than_nil u n = is_false (is_id nil_id u) (λ e. n (sym (same_id nil_id u e)))
+
+-- an id of its own or one that is made of a name is not nil
+pub own_or_named : (own : Option NodeId) (made space : NodeId) (name : List ℕ) → made ≡ unwrap_or own (named_id space name) → ForSome own (λ id. id ≢ nil_id) → made ≢ nil_id
+own_or_named None made space name is some e = named_not_nil space name (sym is ∙ e)
+own_or_named (Some own) made space name is some e = some own refl (sym is ∙ e)
