@@ -242,7 +242,7 @@ P = ("<KeePassFile><Root><Group><UUID>@1</UUID><Name>Root</Name><Entry><UUID>@2<
      "<Entry><UUID>@3</UUID><String><Key>Title</Key><Value>Mail</Value></String></Entry><Group><UUID>@4</UUID><Name>Work</Name></Group></Group>"
      "</Root></KeePassFile>")
 KNOWN = (("xml", model.whole(P).encode(), 4284, "a67f0d412f55cabca573c979380fab298e98ddae17694778458cb87d2c44c4e0"),
-         ("csv", b"Group,Title,Password\nRoot/Home,Wifi,s3\n", 3791, "10847c663c1d1fa4d14d93ccd3b43e106f0dc983cc548c80d6d690e23b55552b"))
+         ("csv", b"Group,Title,Password\nRoot/Home,Wifi,s3\n", 3791, "2d4f14178cf3ca2e01addbd4165f3c15b6e86fed85365874e24daf154fb09cbf"))
 
 
 def try_known():
