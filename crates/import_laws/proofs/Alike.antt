@@ -1,15 +1,15 @@
 -- Documents that are alike but for what their nodes say agree.
-use Rattle.std.proofs.Common.{◌≡◌, ◌⊎◌, ℕ, true, false, inl, inr, List, [], ◌∷◌, map, Ok, Some, None, refl, sym, ap, subst, ◌∙◌}
+use Rattle.std.proofs.Common.{◌≡◌, true, false, inl, inr, List, [], ◌∷◌, map, Some, None, refl, sym, ap, subst, ◌∙◌}
 use Rattle.std.specs.FinMap.{contains_key, find, get}
 use Rattle.history_laws.proofs.OrderlyLaws.{unmoved_agree}
 use Rattle.merge_core.proofs.SoundDoc.{db_root, db_tomb, document_sound, distinct, entry_at, group_at, kinds_apart, one_parent, place_kid}
 use Rattle.vault_model.specs.Db.{Db, NodeId, Place, Sound, id_cmp}
 use Rattle.vault_model.specs.Join.{Agreed, IsIn}
-use Rattle.vault_model.specs.Shape.{Children, EntryRecord, GroupRecord}
-use Rattle.vault_model.specs.Tree.{BareDoc, IsDoc, child_rows, db_in, entry_rows, group_rows, id_of}
+use Rattle.vault_model.specs.Shape.{Children}
+use Rattle.vault_model.specs.Tree.{BareDoc, IsDoc, child_rows, db_in, entry_rows, id_of}
 use Rattle.vault_model.specs.declared.nodes.Tombstone.{Tombstone}
 use Rattle.vault_model.proofs.Tests.{from_map, in_map, is_false, some_of}
-use Rattle.import_laws.proofs.Bare.{entry_id, group_id, group_ids}
+use Rattle.import_laws.proofs.Bare.{entry_id}
 
 -- Two trees have the same nodes in the same groups.
 pub record IsAlike (d e : BareDoc) : Type 0 where
@@ -79,4 +79,4 @@ alike_agree d e is too a =
     })
     (λ m n u i j held. pairs (λ m n. get n.tombs u ≡ None) x y (no_loss d d is is ad u) (no_loss d e is too a u) (no_loss e d too is b u) (no_loss e e too too be u) m n i j)
     (λ m n g p q i j held here there. pairs (λ m n. get m.places g ≡ Some p → get n.places g ≡ Some q → p.parent ≡ q.parent) x y
-        (unmoved d d is is ad g p q) (unmoved d e is too a g p q) (unmoved e d too is b g p q) (unmoved e e too too be g p q) m n i j here there)
+    (unmoved d d is is ad g p q) (unmoved d e is too a g p q) (unmoved e d too is b g p q) (unmoved e e too too be g p q) m n i j here there)

@@ -6,7 +6,7 @@ use Rattle.doc_forms.specs.Entries.{no_content}
 use Rattle.import_ids.specs.Ids.{named_id}
 use Rattle.import_ids.specs.Names.{EntryTexts}
 use Rattle.import_tree.specs.Entries.{ImportedEntry, texts_of}
-use Rattle.import_tree.specs.Trees.{Placed, document_of, import_root, new_groups, placed_after, with_all_placed, with_entry, with_entry_among}
+use Rattle.import_tree.specs.Trees.{Placed, document_of, import_root, new_groups, placed_after, placed_at, with_all_placed, with_entry, with_entry_among}
 use Rattle.vault_model.specs.Db.{NodeId, nil_id}
 use Rattle.vault_model.specs.Empty.{new_group}
 use Rattle.vault_model.specs.Shape.{Children, EntryRecord, GroupRecord}
@@ -78,7 +78,7 @@ bare_placed_all (p ∷ ps) t =
 
 untimed_placed : (now : ℕ) (before : List EntryTexts) (es : List ImportedEntry) → map bare_placed (placed_after now before es) ≡ map bare_placed (placed_after 0 before (map untimed es))
 untimed_placed now before [] = refl
-untimed_placed now before (e ∷ es) = ap (λ (ps : List Placed). bare_placed (record { now = now; names = e.groups; row = _ }) ∷ ps) (untimed_placed now (before ++ texts_of e ∷ []) es)
+untimed_placed now before (e ∷ es) = ap (λ (ps : List Placed). bare_placed (placed_at now before e) ∷ ps) (untimed_placed now (before ++ texts_of e ∷ []) es)
 
 -- what is left does not hang on the moment, nor on the times of the entries
 pub bare_document : (now : ℕ) (es : List ImportedEntry) → bare (document_of now es).tree ≡ with_all_placed (map bare_placed (placed_after 0 [] (map untimed es))) (bare (import_root 0))
@@ -96,7 +96,7 @@ same_ids : (es : List (NodeId × EntryRecord)) → map entry_id (map bare_row es
 same_ids [] = refl
 same_ids (e ∷ es) = ap (λ us. e.0 ∷ us) (same_ids es)
 
-id_bare : (t : Tree) → id_of (bare t) ≡ id_of t
+pub id_bare : (t : Tree) → id_of (bare t) ≡ id_of t
 id_bare (node id group entries groups) = refl
 
 ids_bare : (ts : Trees) → ids_of (bare_all ts) ≡ ids_of ts

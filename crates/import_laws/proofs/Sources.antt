@@ -1,12 +1,10 @@
 -- What a source gives at two moments is alike.
-use Rattle.std.proofs.Common.{◌≡◌, ℕ, ◌+◌, ◌==◌, Bool, true, false, List, [], ◌∷◌, map, Option, Some, None, Result, Ok, Err, refl, sym, ap, subst, ◌∙◌}
-use Rattle.std.specs.Option.{ok_or}
-use Rattle.std.specs.Str.{is_utf8}
+use Rattle.std.proofs.Common.{◌≡◌, ℕ, ◌+◌, List, [], ◌∷◌, map, Result, Ok, Err, refl, sym, ap, subst, ◌∙◌}
 use Rattle.csv.specs.Reading.{default_config, records, strip_bom}
 use Rattle.outside_core.specs.Results.{◌>>=◌}
 use Rattle.import_tree.specs.Entries.{ImportedEntry}
 use Rattle.import_tree.specs.Outcome.{imported_document, sound_tree}
-use Rattle.import_tree.specs.Trees.{document_of}
+use Rattle.import_tree.specs.Trees.{document_of, import_root, placed_after, with_all_placed}
 use Rattle.import_tree.specs.declared.fails.TreeFail.{TreeFail}
 use Rattle.psafe_core.specs.Outcome.{content_outcome, nil_check, nil_record, or_field_form, or_tree_fail, psafe_outcome, records_outcome}
 use Rattle.psafe_core.specs.Records.{imported_record, imported_records}
@@ -14,20 +12,15 @@ use Rattle.psafe_file.specs.Faults.{sound_fields}
 use Rattle.psafe_file.specs.Fields.{SafeField, contents_of, records_of}
 use Rattle.psafe_file.specs.Macs.{mac_check}
 use Rattle.psafe_file.specs.Opened.{SafeContent, file_mac_key, safe_outcome}
-use Rattle.psafe_file.specs.declared.fails.PsafeFail.{PsafeFail}
 use Rattle.mac_core.specs.Hmac.{hmac}
-use Rattle.table_reading.specs.Cells.{cell, time_of}
 use Rattle.table_reading.specs.Columns.{columns_of}
-use Rattle.table_reading.specs.Documents.{csv_document, checked_bytes, refuse_untitled, rows_document, table_document, table_of}
+use Rattle.table_reading.specs.Documents.{checked_bytes, refuse_untitled, rows_document, table_of}
 use Rattle.table_reading.specs.Refusals.{as_table}
 use Rattle.table_reading.specs.Rows.{row_entries, row_entry, row_times, timed_entry}
-use Rattle.table_reading.specs.declared.fails.TableFail.{TableFail}
-use Rattle.table_reading.specs.declared.rows.Times.{Times}
-use Rattle.vault_model.specs.Shape.{Children}
-use Rattle.vault_model.specs.Tree.{BareDoc, IsDoc, Tree, child_rows, entry_rows, id_of}
+use Rattle.vault_model.specs.Tree.{BareDoc, Tree, child_rows, entry_rows, id_of}
 use Rattle.import_laws.specs.Agreement.{Agree, EntriesAgree, SafesAgree, TablesAgree, untimed}
 use Rattle.import_laws.proofs.Alike.{IsAlike, alike_agree}
-use Rattle.import_laws.proofs.Bare.{bare, bare_children, bare_document, bare_entries, entry_id, id_bare}
+use Rattle.import_laws.proofs.Bare.{bare, bare_children, bare_document, bare_entries, bare_placed, entry_id, id_bare}
 
 -- ---- entries
 
@@ -40,7 +33,7 @@ imported_is now es d is = by (sound_tree (document_of now es).tree) is
     by (Err f) h = absurd (cc h)
 
 same_bare : (now later : ℕ) (es fs : List ImportedEntry) → map untimed es ≡ map untimed fs → bare (document_of now es).tree ≡ bare (document_of later fs).tree
-same_bare now later es fs same = bare_document now es ∙ ap (λ l. _ l) same ∙ sym (bare_document later fs)
+same_bare now later es fs same = bare_document now es ∙ ap (λ (l : List ImportedEntry). with_all_placed (map bare_placed (placed_after 0 [] l)) (bare (import_root 0))) same ∙ sym (bare_document later fs)
 
 alike : (now later : ℕ) (es fs : List ImportedEntry) → map untimed es ≡ map untimed fs → IsAlike (document_of now es) (document_of later fs)
 alike now later es fs same =
