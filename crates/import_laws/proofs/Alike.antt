@@ -58,7 +58,7 @@ pairs P x y xx xy yx yy m n (inr (inl i)) (inr (inl j)) = subst (λ a. P a n) i 
 pairs P x y xx xy yx yy m n (inr (inl i)) (inr (inr j)) = absurd j
 pairs P x y xx xy yx yy m n (inr (inr i)) j = absurd i
 
-each : (P : Db → Type 0) (x y : Db) → P x → P y → (m : Db) → IsIn m (x ∷ y ∷ []) → P m
+pub each : (P : Db → Type 0) (x y : Db) → P x → P y → (m : Db) → IsIn m (x ∷ y ∷ []) → P m
 each P x y px py m (inl i) = subst P i px
 each P x y px py m (inr (inl i)) = subst P i py
 each P x y px py m (inr (inr i)) = absurd i
