@@ -18,7 +18,8 @@ const ENTRY_SPACE: [u8; 16] = [
 
 /// The id of the entry of this number among those of a name.
 pub(crate) fn numbered_id(alloc: Global, name: &EntryName, number: u64) -> Result<Uuid, NoMemory>
-    ensures { IfOk result (λ id. id ≡ named_id entry_space (name_bytes name.now ++ decimal number)) }
+    ensures { IfOk result (λ id. id
+        ≡ named_id entry_space (name_bytes name.now ++ decimal number)) }
 {
     let mut buffer = Buffer::new();
     let digits = buffer.format(number).as_bytes();

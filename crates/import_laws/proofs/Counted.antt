@@ -5,8 +5,8 @@ use Rattle.std.specs.Fmt.{decimal}
 use Rattle.std.specs.Char.{digit_value}
 use Rattle.std.specs.Str.Parse.{AllDigits, digits_value}
 use Rattle.std.proofs.lemmas.Fmt.{decimal_is_IsNumeral}
-use Rattle.import_ids.specs.Names.{EntryTexts, count_of, counted, name_after, texts_name}
-use Rattle.import_laws.specs.Names.{AreShort, NamesTellApart}
+use Rattle.import_ids.specs.Names.{EntryTexts, count_of, counted, name_after}
+use Rattle.import_laws.specs.Names.{NamesTellApart}
 
 no_colon : (c : ℕ) → digit_value c < 10 → 58 ≡ c → ⊥
 no_colon c digit same =

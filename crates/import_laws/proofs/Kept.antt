@@ -1,11 +1,11 @@
 -- What only one of two databases has stays as it is in their join.
-use Rattle.std.proofs.Common.{◌≡◌, true, false, cond, inl, inr, List, [], ◌∷◌, map, Option, Some, None, refl, sym, ap, ◌∙◌}
+use Rattle.std.proofs.Common.{◌≡◌, true, cond, inl, inr, List, [], ◌∷◌, map, Option, Some, None, refl, ap, ◌∙◌}
 use Rattle.std.specs.FinMap.{contains_key, find, get}
 use Rattle.merge_core.proofs.Facts.{held_by, join_entries, own_from_alive}
 use Rattle.merge_core.proofs.Regroup.{part_kept}
 use Rattle.merge_core.proofs.SoundDoc.{db_tomb}
 use Rattle.vault_model.specs.Db.{Db, NodeId, Versions, holds, id_cmp}
-use Rattle.vault_model.specs.Join.{Agreed, IsIn, IsPart, join, kept, stats_join}
+use Rattle.vault_model.specs.Join.{Agreed, IsIn, IsPart, kept, stats_join}
 use Rattle.vault_model.specs.Tree.{BareDoc, IsDoc, db_in}
 use Rattle.vault_model.specs.Unite.{gather, unite}
 use Rattle.vault_model.specs.declared.nodes.Tombstone.{Tombstone}

@@ -1,5 +1,5 @@
 -- What is merged of two imports, of what only one of them has.
-use Rattle.std.specs.Prelude.{◌≡◌, List, [], ◌∷◌, None, Some}
+use Rattle.std.specs.Prelude.{◌≡◌, [], ◌∷◌, None, Some}
 use Rattle.std.specs.FinMap.{get}
 use Rattle.vault_model.specs.Db.{Db, NodeId, Versions}
 use Rattle.vault_model.specs.Join.{Agreed, join}

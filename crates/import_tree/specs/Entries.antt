@@ -44,10 +44,11 @@ abbrev pub hidden_field : List ℕ → Option (List ℕ) → List BareField
 hidden_field key None = []
 hidden_field key (Some text) = field key text true ∷ []
 
--- The passwords before, and the source of one-time codes.
+-- The passwords before, where there are some.
 abbrev pub history_field : Option (List ℕ) → List BareField
 history_field text = hidden_field (codes "PasswordHistory") text
 
+-- The source of one-time codes, where there is one.
 abbrev pub otp_field : Option (List ℕ) → List BareField
 otp_field text = hidden_field (codes "otp") text
 

@@ -7,8 +7,8 @@ use Rattle.import_tree.specs.Entries.{ImportedEntry, texts_of}
 use Rattle.import_tree.specs.Trees.{Placed, placed_at}
 
 -- An entry more is placed at a moment, and counted.
-pub record Added (now : ℕ) (before : List EntryTexts) (entry : ImportedEntry) (old new : List Placed)
-    (after : NameCounts) : Type 0 where
+pub record Added (now : ℕ) (before : List EntryTexts) (entry : ImportedEntry)
+    (old new : List Placed) (after : NameCounts) : Type 0 where
   pub placed : new ≡ old ++ placed_at now before entry ∷ []
   pub counted : HasCounted after (before ++ texts_of entry ∷ [])
 

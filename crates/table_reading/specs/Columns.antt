@@ -31,10 +31,11 @@ place_of names [] = None
 place_of names (column ∷ columns) =
     place_after (if is_among names column then Some zero else None) (place_of names columns)
 
--- The names that columns of titles have, and those of URLs.
+-- The names that columns of titles have.
 abbrev pub title_names : List (List ℕ)
 title_names = codes "title" ∷ codes "name" ∷ codes "account" ∷ []
 
+-- The names that columns of URLs have.
 abbrev pub url_names : List (List ℕ)
 url_names = codes "url" ∷ codes "urls" ∷ codes "login_uri" ∷ codes "web site" ∷ codes "website" ∷ []
 
