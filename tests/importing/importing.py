@@ -3,7 +3,8 @@
 `--plain` writes; or the refusal. Documents are those of the model of tests/moving, plain ones are read by the reader of tests/damaged,
 and files of Password Safe by psafe.py.
 
-    importing.py                   tries the model on known texts: their lengths and SHA-256 are from another writer of the same rules
+    importing.py                   tries the model on known texts: their lengths and SHA-256 are from another writer of the same rules, that
+                                   of the table with its entry's id and its root's time of change put in
     importing.py import WORD...    does what the program does with these words (those of --plain alone), so that the tests can be tried
                                    on it"""
 import hashlib, os, re, sys, time, types, uuid
