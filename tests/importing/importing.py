@@ -3,7 +3,8 @@
 `--plain` writes; or the refusal. Documents are those of the model of tests/moving, plain ones are read by the reader of tests/damaged,
 and files of Password Safe by psafe.py.
 
-    importing.py                   tries the model on known texts: their lengths and SHA-256 are from another writer of the same rules
+    importing.py                   tries the model on known texts: their lengths and SHA-256 are from another writer of the same rules, that
+                                   of the table with its entry's id and its root's time of change put in
     importing.py import WORD...    does what the program does with these words (those of --plain alone), so that the tests can be tried
                                    on it"""
 import hashlib, os, re, sys, time, types, uuid
@@ -30,14 +31,22 @@ FILE_LIMIT, LINE_LIMIT = 134_217_728, 4096
 
 
 def named_id(space, name):
-    """An id of version 5: of a name in a space."""
-    return uuid.uuid5(space, name).bytes
+    """An id of version 5 (RFC 9562): of a name in a space."""
+    name = name if isinstance(name, bytes) else name.encode()
+    return uuid.UUID(bytes=hashlib.sha1(space.bytes + name).digest()[:16], version=5).bytes
+
+
+def entry_name(names, fields, number):
+    """The name of which the id of an entry is made that has none: its texts, each after its length, and its number among those that have
+    the same texts."""
+    texts = [text.encode() for text in ("/".join(names), fields["Title"], fields["UserName"], fields["URL"])]
+    return b"".join(b"%d:%s" % (len(text), text) for text in texts) + b"%d" % number
 
 
 def new_entry(identity, fields, created, modified, now):
     """An entry of fields by their keys."""
     times = {"LastModificationTime": modified, "CreationTime": created, "LastAccessTime": now, "ExpiryTime": now, "LocationChanged": now}
-    hidden = ("Password", "PasswordHistory")
+    hidden = ("Password", "PasswordHistory", "otp")
     return {"UUID": identity, "IconID": 0, "CustomIconUUID": None, "ForegroundColor": "", "BackgroundColor": "", "OverrideURL": "",
             "Tags": "", "QualityCheck": True, "PreviousParentGroup": NIL, "Times": times | {"Expires": False, "UsageCount": 0},
             "String": {key: {"Key": key, "Value": text, "hidden": key in hidden} for key, text in fields.items()}, "Binary": {},
@@ -52,6 +61,8 @@ class Tree:
         self.now = now
         self.document = model.document_of(b"<KeePassFile><Root><Group><UUID>AQEBAQEBAQEBAQEBAQEBAQ==</UUID></Group></Root></KeePassFile>")
         self.document["Root"] = model.new_group(ROOT.bytes, "Root", now)
+        self.document["Root"]["Times"]["LastModificationTime"] = 0
+        self.seen = {}
 
     def group(self, names):
         """The group to which names lead from the root; those that are not there are made, each as the last in its group."""
@@ -65,6 +76,10 @@ class Tree:
         return group
 
     def add(self, names, identity, fields, created, modified):
+        """Adds an entry, which is counted; its id is that of its name where it has none."""
+        texts = entry_name(names, fields, 0)
+        self.seen[texts] = self.seen.get(texts, 0) + 1
+        identity = identity or named_id(ENTRIES, entry_name(names, fields, self.seen[texts]))
         self.group(names)["Entry"].append(new_entry(identity, fields, created, modified, self.now))
 
     def whole(self):
@@ -100,7 +115,7 @@ def of_psafe(data, line, now):
         if psafe.HISTORY in last:
             fields["PasswordHistory"] = last[psafe.HISTORY].decode()
         names = [name for name in last.get(psafe.GROUP, b"").decode().split(".") if name]
-        tree.add(names, last.get(psafe.UUID, named_id(ENTRIES, str(number))), fields, created, modified)
+        tree.add(names, last.get(psafe.UUID), fields, created, modified)
     return tree.whole()
 
 
@@ -146,7 +161,29 @@ def rows_of(text):
     return rows
 
 
-COLUMNS = "Group", "Title", "Username", "Password", "URL", "Notes", "Last Modified", "Created"
+COLUMNS = {"Group": "group folder grouping", "Title": "title name account", "Username": "username user_name login_name login_username login",
+           "Password": "password login_password", "URL": "url urls login_uri web_site website", "Notes": "notes note comments extra",
+           "otp": "totp otpauth login_totp otp", "Last Modified": "last_modified", "Created": "created"}
+MEANINGS = {name: meaning for meaning, names in COLUMNS.items() for name in names.split()}
+MEANINGS |= {name.replace("_", " "): MEANINGS[name] for name in ("user_name", "login_name", "web_site", "last_modified")}
+for name in "user_name", "login_name", "web_site", "last_modified":
+    del MEANINGS[name]
+SMALL = str.maketrans("ABCDEFGHIJKLMNOPQRSTUVWXYZ", "abcdefghijklmnopqrstuvwxyz")
+
+
+def meaning(column):
+    """What a column means by its name, if it means something."""
+    return MEANINGS.get(column.strip().translate(SMALL))
+
+
+def host(url):
+    rest = url.partition("://")[2] if "://" in url else url
+    return re.split("[/?#]", rest)[0].rpartition("@")[2].partition(":")[0]
+
+
+def one_time(text):
+    """The field of a one-time code, if there is one."""
+    return {"otp": text if text.startswith("otpauth://") else "otpauth://totp/?secret=" + text} if text else {}
 
 
 def moment(text, now, number):
@@ -164,16 +201,18 @@ def of_table(data, line, now):
     except UnicodeDecodeError as error:
         raise Refused(4, f"not UTF-8 at {error.start}")
     head, *rows = rows_of(text.removeprefix("\ufeff")) or [[]]
-    places = {name: place for place, name in enumerate(head)}
-    model.refuse_if("Title" not in places, 4, "no Title column")
+    places = {meaning(name): place for place, name in enumerate(head) if meaning(name)}
+    model.refuse_if("Title" not in places and "URL" not in places, 4, "no Title column")
     tree = Tree(now)
     for number, row in enumerate(rows, 1):
         model.refuse_if(len(row) != len(head), 4, f"bad row {number}")
         said = {name: row[places[name]] if name in places else "" for name in COLUMNS}
         modified, created = moment(said["Last Modified"], now, number), moment(said["Created"], now, number)
         names = [name for name in said["Group"].split("/") if name]
-        fields = {"Title": said["Title"], "UserName": said["Username"], "Password": said["Password"], "URL": said["URL"], "Notes": said["Notes"]}
-        tree.add(names[names[:1] == ["Root"] :], named_id(ENTRIES, str(number)), fields, created, modified)
+        title = said["Title"] if "Title" in places else host(said["URL"])
+        fields = {"Title": title, "UserName": said["Username"], "Password": said["Password"], "URL": said["URL"], "Notes": said["Notes"]}
+        fields |= one_time(said["otp"])
+        tree.add(names[names[:1] == ["Root"] :], None, fields, created, modified)
     return tree.whole()
 
 
@@ -204,7 +243,7 @@ P = ("<KeePassFile><Root><Group><UUID>@1</UUID><Name>Root</Name><Entry><UUID>@2<
      "<Entry><UUID>@3</UUID><String><Key>Title</Key><Value>Mail</Value></String></Entry><Group><UUID>@4</UUID><Name>Work</Name></Group></Group>"
      "</Root></KeePassFile>")
 KNOWN = (("xml", model.whole(P).encode(), 4284, "a67f0d412f55cabca573c979380fab298e98ddae17694778458cb87d2c44c4e0"),
-         ("csv", b"Group,Title,Password\nRoot/Home,Wifi,s3\n", 3791, "10847c663c1d1fa4d14d93ccd3b43e106f0dc983cc548c80d6d690e23b55552b"))
+         ("csv", b"Group,Title,Password\nRoot/Home,Wifi,s3\n", 3791, "2d4f14178cf3ca2e01addbd4165f3c15b6e86fed85365874e24daf154fb09cbf"))
 
 
 def try_known():

@@ -121,7 +121,7 @@ def files(folder, data, examples):
     made("NOBINARY", "nobinary.xml", xml(group(1, "Root", entry(2, "Bank", "<Binary><Key>a</Key><Value Ref=\"7\"/></Binary>"))))
     made("PACKED", "packed.xml", xml(group(1, "Root"), "<Binaries><Binary ID=\"0\" Compressed=\"True\">H4sI</Binary></Binaries>"))
     made("LATIN", "latin.csv", "Title\nMüller\n".encode("latin-1"))
-    made("NOTITLE", "notitle.csv", b"name,url,username\na,b,c\n")
+    made("NOTITLE", "notitle.csv", b"group,notes\na,b\n")
     made("BADROW", "badrow.csv", b"Title,URL\na,b\nc\n")
     made("TABLE", "table.csv", b"Title\nBank\n")
     made("ONE", "one.xml", xml(group(1, "Root", entry(2, "Bank"))))

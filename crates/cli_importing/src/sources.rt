@@ -153,7 +153,7 @@ fn read_table(alloc: Global, name: &str, bytes: &Secret, now: Stamp) -> Result<D
     ensures cause { IfErr result IsPlainStop }
 {
     match import_csv(alloc, bytes.lend(0, bytes.len()), now) {
-        Ok(doc) => Ok(doc),
+        Ok(table) => Ok(table.doc),
         Err(fail) => Err(table_stop(alloc, fail, name)),
     }
 }

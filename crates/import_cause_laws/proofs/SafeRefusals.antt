@@ -10,7 +10,7 @@ use Rattle.outside_core.specs.Results.{◌>>=◌}
 use Rattle.sha2.specs.Sha256.{sha256}
 use Rattle.block_core.specs.Cbc.{blocks}
 use Rattle.mac_core.specs.Hmac.{hmac}
-use Rattle.vault_model.specs.Db.{nil_id}
+use Rattle.vault_model.specs.Db.{NodeId, nil_id}
 use Rattle.vault_model.specs.Join.{IsIn}
 use Rattle.vault_model.specs.Tree.{BareDoc}
 use Rattle.vault_model.proofs.Tests.{apart}
@@ -31,8 +31,8 @@ use Rattle.psafe_file.specs.declared.fails.PsafeFail.TheVariants as fail
 use Rattle.psafe_file.proofs.Marks.{IsFirstMark, block_at, found, is_mark}
 use Rattle.psafe_file.proofs.Openings.{opened}
 use Rattle.psafe_file.proofs.SafeForms.{divided}
-use Rattle.psafe_core.specs.Outcome.{content_outcome, nil_check, nil_record, of_tree, or_field_form, or_tree_fail, psafe_outcome, records_outcome}
-use Rattle.psafe_core.specs.Records.{id_of, imported_records}
+use Rattle.psafe_core.specs.Outcome.{content_outcome, is_nil, nil_check, nil_record, of_tree, or_field_form, or_tree_fail, psafe_outcome, records_outcome}
+use Rattle.psafe_core.specs.Records.{imported_records, own_id}
 use Rattle.import_cause_laws.specs.SafeCauses.{HasNoEnd, IsWrongAt, SafeCause, SafeRefusalsHaveCauses, fields_in, records_in_content}
 use Rattle.import_cause_laws.proofs.TreeRefusals.{TreeCause, refused_at, same_fail, tree_refusals}
 
@@ -224,6 +224,11 @@ module _ (bytes password : List ℕ) (now : ℕ) (why : PsafeFail) where
 
     -- ---- the records
 
+    -- an id that is there, and is the nil id
+    nil_own : (own : Option NodeId) → is_nil own ≡ true → own ≡ Some nil_id
+    nil_own None e = cc e
+    nil_own (Some id) e = ap (λ (u : NodeId). Some u) ((bytes_eq-Decides id nil_id).0 e)
+
     -- the record of a number that has the nil id
     record NilAt (first number : ℕ) (rs : List (List SafeField)) : Type 0 where
       before : List (List SafeField)
@@ -231,11 +236,11 @@ module _ (bytes password : List ℕ) (now : ℕ) (why : PsafeFail) where
       after : List (List SafeField)
       are : rs ≡ before ++ nil ∷ after
       number_is : number ≡ first + length before
-      is_nil : id_of number nil ≡ nil_id
+      is_nil : own_id nil ≡ Some nil_id
 
     nil_at : (first number : ℕ) (rs : List (List SafeField)) → nil_record first rs ≡ Some number → NilAt first number rs
     nil_at first number [] h = cc h
-    nil_at first number (r ∷ rs) h = by (nil_at (first + 1) number rs) (bytes_eq (id_of first r) nil_id) refl h
+    nil_at first number (r ∷ rs) h = by (nil_at (first + 1) number rs) (is_nil (own_id r)) refl h
       where
         same_number : (a b : ℕ) → ◌≡◌ {A = Option ℕ} (Some a) (Some b) → a ≡ b
         same_number a b g = cc g
@@ -246,10 +251,10 @@ module _ (bytes password : List ℕ) (now : ℕ) (why : PsafeFail) where
             counted : number ≡ first + 1 + length l.before → number ≡ first + suc (length l.before)
             counted is = omega (arith, is)
 
-        by : (nil_record (first + 1) rs ≡ Some number → NilAt (first + 1) number rs) → (b : Bool) → bytes_eq (id_of first r) nil_id ≡ b → cond b (Some first) (nil_record (first + 1) rs) ≡ Some number → NilAt first number (r ∷ rs)
+        by : (nil_record (first + 1) rs ≡ Some number → NilAt (first + 1) number rs) → (b : Bool) → is_nil (own_id r) ≡ b → cond b (Some first) (nil_record (first + 1) rs) ≡ Some number → NilAt first number (r ∷ rs)
         by rest true e g =
             let same = same_number first number g in
-            record { before = []; nil = r; after = rs; are = refl; number_is = omega (arith, same); is_nil = ap (λ n. id_of n r) (sym same) ∙ (bytes_eq-Decides (id_of first r) nil_id).0 e }
+            record { before = []; nil = r; after = rs; are = refl; number_is = omega (arith, same); is_nil = nil_own (own_id r) e }
         by rest false e g = later (rest g)
 
     in_nil : (o : Option ℕ) → nil_record 1 (records_in_content content) ≡ o → nil_check o ≡ Err why → Cause why
@@ -260,11 +265,11 @@ module _ (bytes password : List ℕ) (now : ℕ) (why : PsafeFail) where
         is_so (fail.NilId number) (same_fail (fail.NilId number) why h)
         (record { content = content; opened = is_opened; before = n.before; nil = n.nil; after = n.after; records_are = n.are; number_is = omega (arith, counted); is_nil = n.is_nil })
 
-    in_tree : (r : Result BareDoc TreeFail) → imported_document now (imported_records now 1 (records_in_content content)) ≡ r → or_tree_fail r ≡ Err why → Cause why
+    in_tree : (r : Result BareDoc TreeFail) → imported_document now (imported_records now (records_in_content content)) ≡ r → or_tree_fail r ≡ Err why → Cause why
     in_tree (Ok doc) is h = cc h
-    in_tree (Err f) is h = is_so (of_tree f) (same_fail (of_tree f) why h) (of f (tree_refusals now (imported_records now 1 (records_in_content content)) f is))
+    in_tree (Err f) is h = is_so (of_tree f) (same_fail (of_tree f) why h) (of f (tree_refusals now (imported_records now (records_in_content content)) f is))
       where
-        of : (f : TreeFail) → TreeCause f (document_of now (imported_records now 1 (records_in_content content))).tree → Cause (of_tree f)
+        of : (f : TreeFail) → TreeCause f (document_of now (imported_records now (records_in_content content))).tree → Cause (of_tree f)
         of (tree.DuplicateId id) c = record { content = content; opened = is_opened; so = c }
         of (tree.TooDeep id) c = record { content = content; opened = is_opened; so = c }
         of tree.NoMemory c = c
@@ -273,7 +278,7 @@ module _ (bytes password : List ℕ) (now : ℕ) (why : PsafeFail) where
     unfolding records_outcome
     in_records h = elim (refused_at (nil_check (nil_record 1 (records_in_content content))) _ why h) [
       | inl a ↦ in_nil (nil_record 1 (records_in_content content)) refl a
-      | inr a ↦ in_tree (imported_document now (imported_records now 1 (records_in_content content))) refl a.1.1
+      | inr a ↦ in_tree (imported_document now (imported_records now (records_in_content content))) refl a.1.1
     ]
 
     in_content : content_outcome (file_mac_key bytes password) now content ≡ Err why → Cause why

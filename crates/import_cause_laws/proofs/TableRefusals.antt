@@ -1,5 +1,5 @@
 -- Refusals to import a table have their causes.
-use Rattle.std.proofs.Common.{◌≡◌, ◌⊎◌, ◌+◌, ◌<◌, ◌≤◌, ℕ, zero, suc, Bool, true, false, inl, inr, cond, List, [], ◌∷◌, ◌++◌, length, take, codes, Option, None, Some, Result, Ok, Err, bytes_eq, nat_le, refl, ap, subst, ◌∙◌, arith}
+use Rattle.std.proofs.Common.{◌≡◌, ◌⊎◌, ◌+◌, ◌<◌, ◌≤◌, ℕ, zero, suc, Bool, true, false, inl, inr, cond, List, [], ◌∷◌, ◌++◌, length, take, codes, Option, None, Some, Result, Ok, Err, bytes_eq, nat_le, refl, sym, ap, subst, ◌∙◌, arith}
 use Rattle.std.specs.Prelude.{◌==◌}
 use Rattle.std.specs.Option.{ok_or}
 use Rattle.std.specs.Str.{IsValidUpTo, is_utf8}
@@ -17,13 +17,13 @@ use Rattle.import_tree.specs.Trees.{document_of}
 use Rattle.import_tree.specs.declared.fails.TreeFail.{TreeFail}
 use Rattle.import_tree.specs.declared.fails.TreeFail.TheVariants as tree
 use Rattle.table_reading.specs.Cells.{cell, time_of}
-use Rattle.table_reading.specs.Columns.{columns_of, place_after, place_of}
+use Rattle.table_reading.specs.Columns.{columns_of, is_among, place_after, place_of, title_names, url_names}
 use Rattle.table_reading.specs.Documents.{csv_document, refuse_bytes, refuse_untitled, rows_document, table_document, table_of}
 use Rattle.table_reading.specs.Refusals.{as_table, of_tree}
 use Rattle.table_reading.specs.Rows.{refuse_width, row_entries, row_entry, row_time, row_times}
 use Rattle.table_reading.specs.declared.fails.TableFail.{TableFail}
 use Rattle.table_reading.specs.declared.fails.TableFail.TheVariants as fail
-use Rattle.import_cause_laws.specs.TableCauses.{HasRow, IsNoTime, TableCause, TableRefusalsHaveCauses, rows_of}
+use Rattle.import_cause_laws.specs.TableCauses.{HasNone, HasRow, IsNoTime, TableCause, TableRefusalsHaveCauses, rows_of}
 use Rattle.import_cause_laws.proofs.TreeRefusals.{TreeCause, refused_at, same_fail, tree_refusals}
 
 -- ---- bytes that are no text
@@ -93,17 +93,17 @@ some_place first place h = cc h
 no_place : {B : Type 0} (x : ℕ) → Some x ≡ None → B
 no_place x h = cc h
 
-unnamed : (name : List ℕ) (columns : List (List ℕ)) → place_of name columns ≡ None → IsIn name columns → ⊥
-unnamed name [] h there = there
-unnamed name (c ∷ cs) h there = by (unnamed name cs) (place_of name cs) refl h
+unnamed : (names : List (List ℕ)) (columns : List (List ℕ)) → place_of names columns ≡ None → HasNone names columns
+unnamed names [] h column there = absurd there
+unnamed names (c ∷ cs) h column there = by (unnamed names cs) (place_of names cs) refl h
   where
-    here : (b : Bool) → bytes_eq c name ≡ b → cond {A = Option ℕ} b (Some 0) None ≡ None → (IsIn name cs → ⊥) → ⊥
+    here : (b : Bool) → is_among names c ≡ b → cond {A = Option ℕ} b (Some 0) None ≡ None → HasNone names cs → is_among names column ≡ false
     here true e k later = no_place 0 k
-    here false e k later = elim there [ inl same ↦ apart (bytes_eq c name) ((bytes_eq-Decides c name).1 same) e | inr in_rest ↦ later in_rest ]
+    here false e k later = elim there [ inl same ↦ ap (is_among names) (sym same) ∙ e | inr in_rest ↦ later column in_rest ]
 
-    by : (place_of name cs ≡ None → IsIn name cs → ⊥) → (o : Option ℕ) → place_of name cs ≡ o → place_after (cond {A = Option ℕ} (bytes_eq c name) (Some 0) None) o ≡ None → ⊥
-    by later (Some place) is k = some_place (cond {A = Option ℕ} (bytes_eq c name) (Some 0) None) place k
-    by later None is k = here (bytes_eq c name) refl k (later is)
+    by : (place_of names cs ≡ None → HasNone names cs) → (o : Option ℕ) → place_of names cs ≡ o → place_after (cond {A = Option ℕ} (is_among names c) (Some 0) None) o ≡ None → is_among names column ≡ false
+    by later (Some place) is k = some_place (cond {A = Option ℕ} (is_among names c) (Some 0) None) place k
+    by later None is k = here (is_among names c) refl k (later is)
 
 -- ---- rows
 
@@ -201,14 +201,15 @@ module _ (bytes : List ℕ) (now : ℕ) (why : TableFail) where
       | inr a ↦ in_tree a.0 a.1.0 (imported_document now a.0) refl a.1.1
     ]
 
-    in_title : (o : Option ℕ) → place_of (codes "Title") names ≡ o → refuse_untitled o ≡ Err why → Cause why
-    in_title (Some place) is h = cc h
-    in_title None is h = is_so fail.ColumnMissing (same_fail fail.ColumnMissing why h) (inr (names, rows, are, unnamed (codes "Title") names is))
+    in_title : (o p : Option ℕ) → place_of title_names names ≡ o → place_of url_names names ≡ p → refuse_untitled o p ≡ Err why → Cause why
+    in_title (Some place) p is at h = cc h
+    in_title None (Some place) is at h = cc h
+    in_title None None is at h = is_so fail.ColumnMissing (same_fail fail.ColumnMissing why h) (inr (names, rows, are, unnamed title_names names is, unnamed url_names names at))
 
   in_rows : (rows : List (List (List ℕ))) → rows_of bytes ≡ rows → rows_document now rows ≡ Err why → Cause why
   in_rows [] are h = is_so fail.ColumnMissing (same_fail fail.ColumnMissing why h) (inl are)
-  in_rows (names ∷ rows) are h = elim (refused_at (refuse_untitled (columns_of names).title) _ why h) [
-    | inl a ↦ in_title names rows are (place_of (codes "Title") names) refl a
+  in_rows (names ∷ rows) are h = elim (refused_at (refuse_untitled (columns_of names).title (columns_of names).url) _ why h) [
+    | inl a ↦ in_title names rows are (place_of title_names names) (place_of url_names names) refl refl a
     | inr a ↦ in_table names rows are a.1.1
   ]
 

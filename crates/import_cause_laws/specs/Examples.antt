@@ -12,4 +12,4 @@ pub record ExampleRefusals : Type 0 where
   pub cut : psafe_outcome (codes "PWS3") (codes "word") 5 ≡ Err (Truncated 4)
   pub narrow : csv_document (codes "Title,URL\na\n") 5 ≡ Err (RowWidth 1)
   pub late : csv_document (codes "Title,Created\n\na,\nb,yesterday\n") 5 ≡ Err (BadTime 2)
-  pub untitled : csv_document (codes "Group,title\na,b\n") 5 ≡ Err ColumnMissing
+  pub untitled : csv_document (codes "Group,Notes\na,b\n") 5 ≡ Err ColumnMissing

@@ -15,7 +15,7 @@ use Rattle.psafe_file.specs.SafeForms.{IsOpened, IsSafeFile}
 use Rattle.psafe_file.specs.declared.fails.PsafeFail.{PsafeFail}
 use Rattle.psafe_file.specs.declared.fails.PsafeFail.TheVariants.{DuplicateId, FieldForm, IterLimit, Mac, NilId, NoMemory, NotPsafe, TooDeep, Truncated, WrongPassword}
 use Rattle.psafe_core.specs.Outcome.{psafe_outcome}
-use Rattle.psafe_core.specs.Records.{id_of, imported_records}
+use Rattle.psafe_core.specs.Records.{imported_records, own_id}
 use Rattle.import_cause_laws.specs.Trees.{HasTooDeep, HasTwo}
 
 -- ---- the parts of a file
@@ -100,12 +100,12 @@ pub record HasNilRecord (number : ℕ) (bytes password : List ℕ) : Type 0 wher
   pub after : List (List SafeField)
   pub records_are : records_in_content content ≡ before ++ nil ∷ after
   pub number_is : number ≡ length before + 1
-  pub is_nil : id_of number nil ≡ nil_id
+  pub is_nil : own_id nil ≡ Some nil_id
 
 -- The tree that the records of a content give at a moment.
 abbrev pub tree_of : ℕ → SafeContent → Tree
 tree_of now content =
-    (document_of now (imported_records now 1 (records_in_content content))).tree
+    (document_of now (imported_records now (records_in_content content))).tree
 
 -- A password opens a file whose records give such a tree at a moment.
 pub record GivesTree (is_so : Tree → Type 0) (now : ℕ) (bytes password : List ℕ) : Type 0 where

@@ -1,5 +1,5 @@
 -- Why a table is not imported, as what is so of its bytes.
-use Rattle.std.specs.Prelude.{◌≡◌, ◌≢◌, ◌⊎◌, ◌+◌, ℕ, List, [], ◌∷◌, ◌++◌, codes, length, None, Ok, Err}
+use Rattle.std.specs.Prelude.{◌≡◌, ◌≢◌, ◌⊎◌, ◌+◌, ℕ, List, [], ◌∷◌, ◌++◌, false, length, None, Ok, Err}
 use Rattle.std.specs.Str.{IsValidUpTo}
 use Rattle.csv.specs.Reading.{default_config, records, strip_bom}
 use Rattle.doc_forms.specs.Values.{iso_time}
@@ -8,7 +8,7 @@ use Rattle.vault_model.specs.Tree.{Tree}
 use Rattle.import_tree.specs.Entries.{ImportedEntry}
 use Rattle.import_tree.specs.Trees.{document_of}
 use Rattle.table_reading.specs.Cells.{cell}
-use Rattle.table_reading.specs.Columns.{columns_of}
+use Rattle.table_reading.specs.Columns.{columns_of, is_among, title_names, url_names}
 use Rattle.table_reading.specs.Documents.{csv_document, table_of}
 use Rattle.table_reading.specs.Rows.{row_entries}
 use Rattle.table_reading.specs.declared.fails.TableFail.{TableFail}
@@ -19,11 +19,15 @@ use Rattle.import_cause_laws.specs.Trees.{HasTooDeep, HasTwo}
 abbrev pub rows_of : List ℕ → List (List (List ℕ))
 rows_of bytes = records default_config (strip_bom bytes)
 
--- The first row of a table does not name this column, or there is no row.
-abbrev pub HasNoColumn : List ℕ → List ℕ → Type 0
-HasNoColumn name bytes = (rows_of bytes ≡ [])
+-- No column has one of these names.
+abbrev pub HasNone : List (List ℕ) → List (List ℕ) → Type 0
+HasNone names columns = (column : List ℕ) → IsIn column columns → is_among names column ≡ false
+
+-- A table has no row, or its first row names neither a column of titles nor one of URLs.
+abbrev pub HasNoTitle : List ℕ → Type 0
+HasNoTitle bytes = (rows_of bytes ≡ [])
     ⊎ ((names : List (List ℕ)) × (rows : List (List (List ℕ)))
-    × (rows_of bytes ≡ names ∷ rows) × (IsIn name names → ⊥))
+    × (rows_of bytes ≡ names ∷ rows) × HasNone title_names names × HasNone url_names names)
 
 -- The row of this number, from 1, after the one that names the columns.
 pub record HasRow (number : ℕ) (bytes : List ℕ) : Type 0 where
@@ -61,7 +65,7 @@ pub record GivesTree (is_so : Tree → Type 0) (now : ℕ) (bytes : List ℕ) : 
 -- The cause of each refusal.
 abbrev pub TableCause : TableFail → List ℕ → ℕ → Type 0
 TableCause (NotUtf8 len) bytes now = IsValidUpTo bytes len
-TableCause ColumnMissing bytes now = HasNoColumn (codes "Title") bytes
+TableCause ColumnMissing bytes now = HasNoTitle bytes
 TableCause (RowWidth number) bytes now = HasOtherWidth number bytes
 TableCause (BadTime number) bytes now = HasBadTime number bytes
 TableCause (DuplicateId id) bytes now = GivesTree (HasTwo id) now bytes

@@ -15,7 +15,7 @@ pub fn psafe_files()
 {}
 
 /// A table that is refused has the cause of its refusal: its bytes are no UTF-8 from there on; it
-/// has no row, or the first does not name the column `Title`; the row of that number has another
+/// has no row, or the first names neither a column of titles nor one of URLs; the row of that number has another
 /// number of fields than the first, or a time that is neither empty nor ISO; or two nodes have one
 /// id, or a group is below the last level.
 pub fn tables()

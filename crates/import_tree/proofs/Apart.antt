@@ -8,7 +8,7 @@ use Rattle.vault_model.specs.Shape.{EntryRecord, GroupRecord}
 use Rattle.vault_model.specs.Tree.{Tree, Trees, beside, node, node_ids_all, none}
 use Rattle.vault_model.specs.Walk.{name_of}
 use Rattle.import_tree.specs.Branches.{deep_id, deep_in, entries_below, first_name, first_of, groups_of, ids_in, inside, others, own_ids, own_rows, with_inside, with_named, with_other, with_own, with_way}
-use Rattle.import_tree.specs.Entries.{named_id}
+use Rattle.import_ids.specs.Ids.{named_id}
 use Rattle.import_tree.specs.Outcome.{groups_below_among}
 use Rattle.import_tree.specs.SeenBranches.{names_in}
 use Rattle.import_tree.specs.Trees.{Placed, new_groups, with_all_placed, with_entry, with_entry_among}

@@ -12,9 +12,9 @@ use Rattle.vault_model.specs.Tree.{Tree, Trees, beside, entry_rows, entry_rows_a
 use Rattle.vault_model.specs.Walk.{name_of}
 use Rattle.vault_model.proofs.Tests.{and_both, and_true, map_append, not_false, not_true, or_false}
 use Rattle.tree_core.proofs.Counted.{all_append, all_front}
-use Rattle.import_tree.specs.Entries.{named_id}
+use Rattle.import_ids.specs.Ids.{named_id}
 use Rattle.import_tree.specs.Trees.{new_groups, with_entry, with_entry_among}
-use Rattle.import_tree.proofs.NamedIds.{named_not_nil, other_than_nil}
+use Rattle.import_ids.proofs.NamedIds.{named_not_nil, other_than_nil}
 
 -- one of two ways, each of which keeps what is asked
 either : (P : Trees → Type 0) (b : Bool) (x y : Trees) → P x → P y → P (cond b x y)

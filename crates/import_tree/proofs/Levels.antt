@@ -7,7 +7,7 @@ use Rattle.vault_model.specs.Shape.{EntryRecord}
 use Rattle.vault_model.specs.Tree.{LEVELS, Tree, Trees, beside, height, height_all, node, none}
 use Rattle.vault_model.specs.Walk.{name_of}
 use Rattle.vault_model.proofs.Tests.{or_false}
-use Rattle.import_tree.specs.Entries.{named_id}
+use Rattle.import_ids.specs.Ids.{named_id}
 use Rattle.import_tree.specs.SeenDrafts.{has_more_names, placed_seen}
 use Rattle.import_tree.specs.Trees.{new_groups, with_all_placed, with_entry, with_entry_among}
 use Rattle.import_tree.specs.declared.drafts.PlacedEntry.{PlacedEntry}

@@ -1,5 +1,4 @@
 pub mod Deep
-pub mod NamedIds
 pub mod Kept
 pub mod Proper
 pub mod Put
@@ -7,3 +6,4 @@ pub mod Apart
 pub mod TakenApart
 pub mod Grown
 pub mod Levels
+pub mod Placing

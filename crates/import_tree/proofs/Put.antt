@@ -21,7 +21,7 @@ use Rattle.tree_core.specs.NewNodes.{empty_group}
 use Rattle.tree_groups.proofs.GroupPuts.{group_put}
 use Rattle.tree_steps.proofs.InPlace.{entry_put, record_seen, seen_with_groups, trees, with_entries, with_groups}
 use Rattle.vault_model.specs.declared.nodes.Entry.{Entry}
-use Rattle.import_tree.specs.Entries.{named_id}
+use Rattle.import_ids.specs.Ids.{named_id}
 use Rattle.import_tree.specs.Trees.{new_groups, with_entry, with_entry_among}
 use Rattle.import_tree.proofs.Apart.{new_is}
 

@@ -2,7 +2,7 @@
 use Rattle.std.proofs.Common.{◌≡◌, ◌+◌, ◌-◌, ℕ, List, [], ◌∷◌, ◌++◌, None, Some, append_assoc, append-nil, sym, ap, ◌∙◌, arith}
 use Rattle.vault_model.specs.Db.{NodeId}
 use Rattle.import_tree.specs.Branches.{deep_id, deep_in, entries_below, first_name, ids_in, inside, others, own_ids}
-use Rattle.import_tree.specs.Entries.{named_id}
+use Rattle.import_ids.specs.Ids.{named_id}
 use Rattle.import_tree.specs.SeenBranches.{TakesApart, all_deep, all_ids, all_steps, branch_deep, branch_ids, branch_steps, names_in, ways_seen}
 use Rattle.import_tree.specs.Trees.{Placed, with_all_placed}
 use Rattle.import_tree.specs.declared.branches.Branch.{Branch}

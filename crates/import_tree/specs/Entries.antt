@@ -1,52 +1,56 @@
 -- The entries of an imported file, with the groups that they are in.
-use Rattle.std.specs.Prelude.{◌≡◌, ℕ, Bool, true, false, IfSome, Option, None, Some, List, [], ◌∷◌, ◌++◌, codes, take}
-use Rattle.std.specs.Fmt.{decimal}
+use Rattle.std.specs.Prelude.{◌≡◌, ℕ, Bool, true, false, Option, None, Some, List, [], ◌∷◌, ◌++◌, codes}
+use Rattle.std.specs.Option.{ForSome}
 use Rattle.std.specs.Str.{is_utf8}
 use Rattle.doc_forms.specs.Entries.{no_content}
-use Rattle.sha1.specs.Sha1.{sha1}
-use Rattle.uuid.specs.Parts.{with_variant, with_version}
-use Rattle.uuid.specs.declared.Variant.TheVariants.{RFC4122}
-use Rattle.uuid.specs.declared.Version.TheVariants.{Sha1}
+use Rattle.import_ids.specs.Names.{EntryTexts}
 use Rattle.vault_model.specs.Bare.{BareContent, BareField}
 use Rattle.vault_model.specs.Db.{NodeId, nil_id}
 use Rattle.vault_model.specs.Shape.{EntryRecord}
+use Rattle.vault_model.specs.Walk.{slash_joined}
 
--- What the ids of entries without an id are made in.
-abbrev pub entry_space : NodeId
-entry_space = 0x2f ∷ 0x0c ∷ 0x7a ∷ 0x54 ∷ 0x31 ∷ 0xb8 ∷ 0x4e ∷ 0x6d
-    ∷ 0x9a ∷ 0x02 ∷ 0xc4 ∷ 0x7d ∷ 0x5e ∷ 0x81 ∷ 0x90 ∷ 0xab ∷ []
-
--- A name-based id of version 5 (RFC 9562, section 5.5).
-abbrev pub named_id : NodeId → List ℕ → NodeId
-named_id space name = with_version (with_variant (take 16 (sha1 (space ++ name))) RFC4122) Sha1
-
--- The id of the entry of this number, which the file gives none.
-abbrev pub numbered_id : ℕ → NodeId
-numbered_id number = named_id entry_space (decimal number)
-
--- An entry of an imported file: the names of the groups that it is in, from below the root; its id;
--- its texts; the passwords that it had before, in the form in which the file keeps them, if it does;
--- and when it was made and changed.
+-- An entry of an imported file: the names of the groups that it is in, from below the root; the id
+-- that the file gives it, if it gives one; its texts; the passwords that it had before, in the form in
+-- which the file keeps them, and where its one-time codes come from, if it has them; and when it was
+-- made and changed.
 pub record ImportedEntry : Type 0 where
   pub groups : List (List ℕ)
-  pub id : NodeId
+  pub id : Option NodeId
   pub title : List ℕ
   pub user : List ℕ
   pub password : List ℕ
   pub url : List ℕ
   pub notes : List ℕ
   pub history : Option (List ℕ)
+  pub otp : Option (List ℕ)
   pub created : ℕ
   pub modified : ℕ
+
+-- What tells an entry apart from the others of its file.
+abbrev pub texts_of : ImportedEntry → EntryTexts
+texts_of entry = record {
+  path = slash_joined entry.groups;
+  title = entry.title;
+  user = entry.user;
+  url = entry.url;
+}
 
 -- A field of an entry.
 abbrev pub field : List ℕ → List ℕ → Bool → BareField
 field key value hidden = record { key = key; value = value; hidden = hidden }
 
--- The passwords before, as a hidden field, where there are some.
+-- A hidden field of this key, where there is a text for it.
+abbrev pub hidden_field : List ℕ → Option (List ℕ) → List BareField
+hidden_field key None = []
+hidden_field key (Some text) = field key text true ∷ []
+
+-- The passwords before, where there are some.
 abbrev pub history_field : Option (List ℕ) → List BareField
-history_field None = []
-history_field (Some text) = field (codes "PasswordHistory") text true ∷ []
+history_field text = hidden_field (codes "PasswordHistory") text
+
+-- The source of one-time codes, where there is one.
+abbrev pub otp_field : Option (List ℕ) → List BareField
+otp_field text = hidden_field (codes "otp") text
 
 -- The fields of an entry, by their keys.
 abbrev pub fields_of : ImportedEntry → List BareField
@@ -57,16 +61,18 @@ fields_of entry =
     ++ field (codes "Title") entry.title false
     ∷ field (codes "URL") entry.url false
     ∷ field (codes "UserName") entry.user false
-    ∷ [])
+    ∷ otp_field entry.otp)
 
--- All texts of an entry are in UTF-8.
-pub record AreTexts (entry : ImportedEntry) : Type 0 where
-  pub title : is_utf8 entry.title ≡ true
-  pub user : is_utf8 entry.user ≡ true
-  pub password : is_utf8 entry.password ≡ true
-  pub url : is_utf8 entry.url ≡ true
-  pub notes : is_utf8 entry.notes ≡ true
-  pub history : IfSome entry.history (λ text. is_utf8 text ≡ true)
+-- All texts of an entry are in UTF-8: its title, its user's name, its password, its URL and its notes,
+-- the passwords that it had before and the source of its one-time codes.
+pub record AreTexts (a b c d e : List ℕ) (f g : Option (List ℕ)) : Type 0 where
+  pub title : is_utf8 a ≡ true
+  pub user : is_utf8 b ≡ true
+  pub password : is_utf8 c ≡ true
+  pub url : is_utf8 d ≡ true
+  pub notes : is_utf8 e ≡ true
+  pub history : ForSome f (λ text. is_utf8 text ≡ true)
+  pub otp : ForSome g (λ text. is_utf8 text ≡ true)
 
 -- What an entry says at a moment that has these fields and was made then; every time is that moment
 -- that the file does not give.

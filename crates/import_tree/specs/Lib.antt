@@ -5,3 +5,4 @@ pub mod Outcome
 pub mod Branches
 pub mod SeenBranches
 pub mod SeenDrafts
+pub mod Placing

@@ -1,9 +1,9 @@
 -- What is seen of what imported entries have given so far.
 use Rattle.std.specs.Prelude.{Bool, [], length, map, nat_lt}
-use Rattle.import_tree.specs.Trees.{Placed, root_id, with_all_placed}
+use Rattle.import_tree.specs.Trees.{Placed, import_root, with_all_placed}
 use Rattle.import_tree.specs.declared.drafts.ImportDraft.{ImportDraft}
 use Rattle.import_tree.specs.declared.drafts.PlacedEntry.{PlacedEntry}
-use Rattle.vault_model.specs.Empty.{empty_tree, new_meta}
+use Rattle.vault_model.specs.Empty.{new_meta}
 use Rattle.vault_model.specs.SeenNodes.{entry_row}
 use Rattle.vault_model.specs.Tree.{BareDoc}
 
@@ -22,7 +22,7 @@ has_more_names placed = nat_lt 127 (length placed.names)
 -- the document that a draft would be, before its ids and levels are tested
 abbrev pub draft_seen : ImportDraft → BareDoc
 draft_seen draft = record {
-  tree = with_all_placed (map placed_seen draft.entries.items) (empty_tree root_id draft.moment);
+  tree = with_all_placed (map placed_seen draft.entries.items) (import_root draft.moment);
   tombs = [];
   meta = new_meta;
 }

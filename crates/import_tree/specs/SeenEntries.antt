@@ -2,7 +2,7 @@
 use Rattle.std.specs.Prelude.{ℕ, List, Option}
 use Rattle.std.specs.Option.{option_map}
 use Rattle.import_tree.specs.Entries.{ImportedEntry}
-use Rattle.import_tree.specs.declared.entries.ImportedEntry as memory
+use Rattle.import_tree.specs.declared.imported.ImportedEntry as memory
 use Rattle.secret_core.specs.Secret.{SecretBuffer}
 
 -- the bytes of a text, where there is one
@@ -20,6 +20,7 @@ imported_seen entry = record {
   url = entry.url.bytes;
   notes = entry.notes.bytes;
   history = text_seen entry.history;
+  otp = text_seen entry.otp;
   created = entry.created;
   modified = entry.modified;
 }

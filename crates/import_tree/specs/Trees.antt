@@ -1,6 +1,8 @@
 -- The tree of imported entries: groups by their names.
 use Rattle.std.specs.Prelude.{ℕ, if◌then◌else◌, List, [], ◌∷◌, ◌++◌, bytes_eq}
-use Rattle.import_tree.specs.Entries.{ImportedEntry, entry_at, named_id}
+use Rattle.import_ids.specs.Ids.{id_after, named_id}
+use Rattle.import_ids.specs.Names.{EntryTexts}
+use Rattle.import_tree.specs.Entries.{ImportedEntry, entry_at, texts_of}
 use Rattle.vault_model.specs.Db.{NodeId}
 use Rattle.vault_model.specs.Empty.{empty_tree, new_group, new_meta}
 use Rattle.vault_model.specs.Shape.{EntryRecord}
@@ -54,20 +56,34 @@ abbrev pub with_all_placed : List Placed → Tree → Tree
 with_all_placed [] tree = tree
 with_all_placed (placed ∷ rest) tree = with_all_placed rest (with_placed placed tree)
 
--- A tree with an imported entry more.
-abbrev pub with_imported : ℕ → ImportedEntry → Tree → Tree
-with_imported now entry tree = with_entry now entry.groups (entry.id, entry_at now entry) tree
+-- An imported entry, put there at a moment, where those before it in its source have these texts.
+abbrev pub placed_at : ℕ → List EntryTexts → ImportedEntry → Placed
+placed_at now before entry = record {
+  now = now;
+  names = entry.groups;
+  row = (id_after before entry.id (texts_of entry), entry_at now entry);
+}
 
--- A tree with imported entries more, one after another.
-abbrev pub with_entries : ℕ → List ImportedEntry → Tree → Tree
-with_entries now [] tree = tree
-with_entries now (entry ∷ entries) tree =
-    with_entries now entries (with_imported now entry tree)
+-- Imported entries, one after another.
+abbrev pub placed_after : ℕ → List EntryTexts → List ImportedEntry → List Placed
+placed_after now before [] = []
+placed_after now before (entry ∷ entries) =
+    placed_at now before entry ∷ placed_after now (before ++ texts_of entry ∷ []) entries
+
+-- A tree whose root was never changed.
+abbrev pub with_old_root : Tree → Tree
+with_old_root (node id group entries groups) =
+    node id (record group { state = record group.state { modified = 0 } }) entries groups
+
+-- The tree of no entries at a moment: an empty root, which was never changed, so that it never takes
+-- the place of another root's state in a merge. All other times are that moment.
+abbrev pub import_root : ℕ → Tree
+import_root now = with_old_root (empty_tree root_id now)
 
 -- The document of imported entries at a moment.
 abbrev pub document_of : ℕ → List ImportedEntry → BareDoc
 document_of now entries = record {
-  tree = with_entries now entries (empty_tree root_id now);
+  tree = with_all_placed (placed_after now [] entries) (import_root now);
   tombs = [];
   meta = new_meta;
 }

@@ -1,4 +1,4 @@
-//! The entries of an imported file, and what is made of them.
+//! What is made of the entries of an imported file.
 
 ghost use Rattle.std.specs.Prelude.{◌≡◌, [], ◌∷◌, ◌++◌, IfOk, OnOk, codes, map, true, false};
 ghost use Rattle.import_tree.specs.Entries as spec;
@@ -6,29 +6,13 @@ ghost use Rattle.import_tree.specs.SeenEntries.{imported_seen, text_seen};
 ghost use Rattle.vault_model.specs.Seen.{bare_content, bare_field};
 ghost use Rattle.vault_model.specs.SeenNodes.{entry_row};
 
+use crate::imported::ImportedEntry;
 use outside_core::{List, NoMemory, Text};
 use secret_core::Secret;
 use std::alloc::Global;
 use tree_steps::put_last;
 use uuid_core::Uuid;
 use vault_model::{AutoType, Content, Entry, Field, Stamp, Stats, Version};
-
-/// An entry of an imported file. `groups` are the names of the groups that lead to it, from below
-/// the root. `history` has the passwords that it had before, in the form in which the file keeps
-/// them. A time that the file does not give is the moment of the import.
-#[derive(Drop)]
-pub struct ImportedEntry {
-    pub groups: List<Text>,
-    pub id: Uuid,
-    pub title: Secret,
-    pub user: Secret,
-    pub password: Secret,
-    pub url: Secret,
-    pub notes: Secret,
-    pub history: Option<Secret>,
-    pub created: Stamp,
-    pub modified: Stamp,
-}
 
 // Puts a field after the others.
 fn add_field(
@@ -45,17 +29,18 @@ fn add_field(
     put_last(fields, Field { key, value, hidden })
 }
 
-// Puts the passwords before after the other fields, where there are some.
-fn add_history(
+// Puts a hidden field after the others, where there is a text for it.
+fn add_hidden(
     alloc: Global,
     fields: &mut List<Field>,
-    history: Option<Secret>,
+    key: &str,
+    text: Option<Secret>,
 ) -> Result<(), NoMemory>
     ensures { OnOk result (map bare_field fields.new
-        ≡ map bare_field fields.old ++ spec.history_field (text_seen history)) }
+        ≡ map bare_field fields.old ++ spec.hidden_field key.now (text_seen text)) }
 {
-    match history {
-        Some(history) => add_field(alloc, fields, "PasswordHistory", history, true),
+    match text {
+        Some(text) => add_field(alloc, fields, key, text, true),
         None => Ok(()),
     }
 }
@@ -66,6 +51,7 @@ struct Names {
     title: Secret,
     url: Secret,
     user: Secret,
+    otp: Option<Secret>,
 }
 
 // Puts the passwords after the other fields.
@@ -80,7 +66,7 @@ fn add_passwords(
         ∷ spec.history_field (text_seen history)) }
 {
     match add_field(alloc, fields, "Password", password, true) {
-        Ok(()) => add_history(alloc, fields, history),
+        Ok(()) => add_hidden(alloc, fields, "PasswordHistory", history),
         Err(fail) => {
             drop(history);
             Err(fail)
@@ -88,22 +74,44 @@ fn add_passwords(
     }
 }
 
-// Puts a place and a user's name after the other fields.
+// Puts a user's name and the source of one-time codes after the other fields.
+fn add_user(
+    alloc: Global,
+    fields: &mut List<Field>,
+    user: Secret,
+    otp: Option<Secret>,
+) -> Result<(), NoMemory>
+    ensures { OnOk result (map bare_field fields.new ≡ map bare_field fields.old
+        ++ spec.field (codes "UserName") user.bytes false
+        ∷ spec.otp_field (text_seen otp)) }
+{
+    match add_field(alloc, fields, "UserName", user, false) {
+        Ok(()) => add_hidden(alloc, fields, "otp", otp),
+        Err(fail) => {
+            drop(otp);
+            Err(fail)
+        }
+    }
+}
+
+// Puts a place, a user's name and the source of one-time codes after the other fields.
 fn add_place(
     alloc: Global,
     fields: &mut List<Field>,
     url: Secret,
     user: Secret,
+    otp: Option<Secret>,
 ) -> Result<(), NoMemory>
     ensures { OnOk result (map bare_field fields.new ≡ map bare_field fields.old
         ++ spec.field (codes "URL") url.bytes false
         ∷ spec.field (codes "UserName") user.bytes false
-        ∷ []) }
+        ∷ spec.otp_field (text_seen otp)) }
 {
     match add_field(alloc, fields, "URL", url, false) {
-        Ok(()) => add_field(alloc, fields, "UserName", user, false),
+        Ok(()) => add_user(alloc, fields, user, otp),
         Err(fail) => {
             drop(user);
+            drop(otp);
             Err(fail)
         }
     }
@@ -115,14 +123,20 @@ fn add_names(alloc: Global, fields: &mut List<Field>, names: Names) -> Result<()
         ++ spec.field (codes "Title") names.title.bytes false
         ∷ spec.field (codes "URL") names.url.bytes false
         ∷ spec.field (codes "UserName") names.user.bytes false
-        ∷ []) }
+        ∷ spec.otp_field (text_seen names.otp)) }
 {
-    let Names { title, url, user } = names;
+    let Names {
+        title,
+        url,
+        user,
+        otp,
+    } = names;
     match add_field(alloc, fields, "Title", title, false) {
-        Ok(()) => add_place(alloc, fields, url, user),
+        Ok(()) => add_place(alloc, fields, url, user, otp),
         Err(fail) => {
             drop(url);
             drop(user);
+            drop(otp);
             Err(fail)
         }
     }
@@ -160,6 +174,7 @@ fn add_fields(alloc: Global, fields: &mut List<Field>, entry: ImportedEntry) -> 
         title: entry.title,
         url: entry.url,
         user: entry.user,
+        otp: entry.otp,
     };
     match add_first(alloc, fields, entry.notes, entry.password, entry.history) {
         Ok(()) => add_names(alloc, fields, names),
@@ -211,12 +226,15 @@ fn content_of(alloc: Global, fields: List<Field>, created: Stamp, now: Stamp) ->
     }
 }
 
-/// The entry that is made of an imported entry at a moment.
-pub(crate) fn entry_of(alloc: Global, now: Stamp, entry: ImportedEntry) -> Result<Entry, NoMemory>
-    ensures { IfOk result (λ made. entry_row made
-        ≡ (entry.id, spec.entry_at now (imported_seen entry))) }
+/// The entry of this id that is made of an imported entry at a moment.
+pub(crate) fn entry_of(
+    alloc: Global,
+    now: Stamp,
+    id: Uuid,
+    entry: ImportedEntry,
+) -> Result<Entry, NoMemory>
+    ensures { IfOk result (λ made. entry_row made ≡ (id, spec.entry_at now (imported_seen entry))) }
 {
-    let id = entry.id;
     let created = entry.created;
     let modified = entry.modified;
     let fields = fields_of(alloc, entry)?;

@@ -2,9 +2,9 @@
 
 ghost use Rattle.std.specs.Prelude.{◌≡◌, ◌≤◌, [], IfOk, OnOk, map, true};
 ghost use Rattle.import_tree.specs.SeenDrafts.{draft_seen, placed_seen};
-ghost use Rattle.import_tree.specs.Trees.{root_id, with_all_placed, with_placed};
+ghost use Rattle.import_tree.specs.Trees.{import_root, with_all_placed, with_old_root, with_placed};
 ghost use Rattle.vault_model.specs.Db.{nil_id};
-ghost use Rattle.vault_model.specs.Empty.{empty_bare};
+ghost use Rattle.vault_model.specs.Empty.{new_meta};
 ghost use Rattle.vault_model.specs.Proper.{is_text_meta};
 ghost use Rattle.vault_model.specs.SeenNodes.{are_entries_proper, are_groups_proper, icons_rise, items_rise, tree_seen, document_of};
 ghost use Rattle.vault_model.specs.Tree.{LEVELS, height, is_elsewhere};
@@ -16,6 +16,13 @@ use std::alloc::Global;
 use uuid_core::Uuid;
 use vault_making::empty_doc;
 use vault_model::{Doc, Group, Meta, Stamp};
+
+// The first second of the year 1, the time of what was never changed.
+fn never() -> Stamp
+    ensures { result ≡ 0 }
+{
+    Stamp::of(0).unwrap()
+}
 
 /// The tree that entries of a draft give. It is no document yet: two of its nodes may have one id.
 #[derive(Drop)]
@@ -56,20 +63,26 @@ fn put_all(alloc: Global, tree: &mut DraftTree, entries: Vec<PlacedEntry>) -> Re
     Ok(())
 }
 
-// The root and the meta data of a document.
+// The root of a document, which was never changed, and the meta data.
 fn tree_in(doc: Doc) -> DraftTree
-    ensures root { result.root ≡ doc.root }
+    ensures root { tree_seen result.root ≡ with_old_root (tree_seen doc.root) }
     ensures meta { result.meta ≡ doc.meta }
 {
+    let mut root = doc.root;
+    root.state.modified = never();
     DraftTree {
-        root: doc.root,
+        root,
         meta: doc.meta,
     }
 }
 
-// The tree of no entries: an empty root, all of whose times are this moment.
+// The tree of no entries: an empty root, which was never changed.
 fn new_tree(alloc: Global, moment: Stamp) -> Result<DraftTree, NoMemory>
-    ensures { IfOk result (λ tree. document_of tree.meta tree.root [] ≡ empty_bare root_id moment) }
+    ensures { IfOk result (λ tree. document_of tree.meta tree.root [] ≡ record {
+      tree = import_root moment;
+      tombs = [];
+      meta = new_meta;
+    }) }
 {
     let doc = empty_doc(alloc, Uuid::from_bytes(ROOT), moment)?;
     Ok(tree_in(doc))

@@ -1,71 +1,31 @@
-//! A document that is made of imported entries, one after another.
+//! The document of imported entries.
 
-ghost use Rattle.std.specs.Prelude.{◌≡◌, ◌≢◌, ◌≤◌, [], IfErr, IfOk, OnErr, OnOk, true};
+ghost use Rattle.std.specs.Prelude.{◌≡◌, ◌≤◌, [], IfErr, OnOk, map, true};
 ghost use Rattle.std.specs.List.{list_any};
-ghost use Rattle.import_tree.specs.Entries.{AreTexts};
+ghost use Rattle.import_tree.specs.Outcome as spec;
 ghost use Rattle.import_tree.specs.Outcome.{Returns, meaning_of, sound_document, sound_tree};
 ghost use Rattle.import_tree.specs.SeenDrafts.{draft_seen, has_more_names};
 ghost use Rattle.import_tree.specs.SeenEntries.{imported_seen};
-ghost use Rattle.import_tree.specs.Trees.{document_of, with_imported};
 ghost use Rattle.outside_core.specs.Results.{Fails};
-ghost use Rattle.vault_model.specs.Db.{nil_id};
 ghost use Rattle.vault_model.specs.SeenDoc.{doc_seen};
 ghost use Rattle.vault_model.specs.SeenNodes as seen;
 ghost use Rattle.vault_model.specs.SeenNodes.{tree_seen};
 ghost use Rattle.vault_model.specs.Tree.{LEVELS, are_distinct, height, node_ids};
 
 use crate::depths::refuse_draft;
-use crate::drafts::{ImportDraft, PlacedEntry};
-use crate::entries::{ImportedEntry, entry_of};
+use crate::drafts::ImportDraft;
 use crate::fails::TreeFail;
 use crate::growing::{DraftTree, tree_of};
+use crate::imported::ImportedEntry;
+use crate::naming::draft_of;
 use crate::outcome::refusal_of;
-use crate::putting::names_are_utf8;
 use outside_core::{List, NoMemory};
 use std::alloc::Global;
-use std::mem;
 use vault_model::{Doc, Stamp};
 
 /// The most names that lead to an entry of a document. Of a draft with more no tree is made, which
 /// would take memory of the stack for each of them.
 const MOST_NAMES: usize = 127;
-
-/// The draft of no entries: an empty root, all of whose times are now.
-pub fn start_import(alloc: Global, now: Stamp) -> Result<ImportDraft, NoMemory>
-    ensures { IfOk result (λ draft. draft_seen draft ≡ document_of now []) }
-{
-    Ok(ImportDraft {
-        moment: now,
-        entries: Vec::new(alloc),
-    })
-}
-
-/// Puts an entry after the others of the group to which its names lead. Groups that are not there
-/// are made, each as the last in its group. Every time is now that the entry does not give. The only
-/// refusal is that memory ran out; it changes nothing.
-pub fn add_imported(
-    alloc: Global,
-    draft: &mut ImportDraft,
-    now: Stamp,
-    mut entry: ImportedEntry,
-) -> Result<(), NoMemory>
-    requires texts { AreTexts (imported_seen entry) }
-    requires id { entry.id ≢ nil_id }
-    ensures ok { OnOk result (draft_seen draft.new ≡ record (draft_seen draft.old) {
-      tree = with_imported now (imported_seen entry) (draft_seen draft.old).tree;
-    }) }
-    ensures err { OnErr result (draft_seen draft.new ≡ draft_seen draft.old) }
-{
-    let names = mem::replace(&mut entry.groups, List::new(alloc));
-    names_are_utf8(names.as_slice());
-    let made = entry_of(alloc, now, entry)?;
-    draft.entries.push(PlacedEntry {
-        moment: now,
-        names,
-        entry: made,
-    })?;
-    Ok(())
-}
 
 // Reports whether more names lead to an entry of a draft than to any of a document.
 fn is_deep(draft: &ImportDraft) -> bool
@@ -123,13 +83,8 @@ fn sound_with(alloc: Global, tree: DraftTree) -> Result<Doc, TreeFail>
     }
 }
 
-/// The document of a draft.
-///
-/// # Errors
-///
-/// [`TreeFail::DuplicateId`] with the least id that two nodes have; then [`TreeFail::TooDeep`] with
-/// the least id of a group below the 128th level. [`TreeFail::NoMemory`] where memory runs out.
-pub fn finish_import(alloc: Global, draft: ImportDraft) -> Result<Doc, TreeFail>
+// The document of a draft.
+fn finish_import(alloc: Global, draft: ImportDraft) -> Result<Doc, TreeFail>
     ensures { Returns doc_seen result (sound_document (draft_seen draft)) }
 {
     refuse_deep(alloc, &draft)?;
@@ -137,4 +92,25 @@ pub fn finish_import(alloc: Global, draft: ImportDraft) -> Result<Doc, TreeFail>
         Ok(tree) => sound_with(alloc, tree),
         Err(NoMemory) => Err(TreeFail::NoMemory),
     }
+}
+
+/// The document of the entries of a source, in their order, at a moment: each is put after the others
+/// of the group to which its names lead. Groups that are not there are made, each as the last in its
+/// group. Every time is that moment that an entry does not give.
+///
+/// # Errors
+///
+/// [`TreeFail::DuplicateId`] with the least id that two nodes have; then [`TreeFail::TooDeep`] with
+/// the least id of a group below the 128th level. [`TreeFail::NoMemory`] where memory runs out.
+#[tactic(auto, unfolding(crate::specs::Outcome::imported_document))]
+pub fn imported_document(
+    alloc: Global,
+    now: Stamp,
+    entries: Vec<ImportedEntry>,
+) -> Result<Doc, TreeFail>
+    ensures { Returns doc_seen result
+        (spec.imported_document now (map imported_seen entries.items)) }
+{
+    let draft = draft_of(alloc, now, entries)?;
+    finish_import(alloc, draft)
 }

@@ -7,13 +7,12 @@ mod drafts;
 mod entries;
 mod fails;
 mod growing;
-mod ids;
+mod imported;
 mod importing;
+mod naming;
 mod outcome;
 mod putting;
 
-pub use drafts::ImportDraft;
-pub use entries::ImportedEntry;
 pub use fails::TreeFail;
-pub use ids::numbered_id;
-pub use importing::{add_imported, finish_import, start_import};
+pub use imported::ImportedEntry;
+pub use importing::imported_document;

@@ -1,18 +1,18 @@
 -- What a file of Password Safe is imported as, or the first reason why it is not.
-use Rattle.std.specs.Prelude.{ℕ, ◌+◌, if◌then◌else◌, Option, None, Some, List, [], ◌∷◌, bytes_eq, Result, Ok, Err}
+use Rattle.std.specs.Prelude.{ℕ, Bool, false, ◌+◌, if◌then◌else◌, Option, None, Some, List, [], ◌∷◌, bytes_eq, Result, Ok, Err}
 use Rattle.import_tree.specs.Outcome.{imported_document}
 use Rattle.import_tree.specs.declared.fails.TreeFail.{TreeFail}
 use Rattle.import_tree.specs.declared.fails.TreeFail.TheVariants as tree
 use Rattle.mac_core.specs.Hmac.{hmac}
 use Rattle.outside_core.specs.Results.{◌>>=◌}
-use Rattle.psafe_core.specs.Records.{id_of, imported_records}
+use Rattle.psafe_core.specs.Records.{imported_records, own_id}
 use Rattle.psafe_file.specs.Faults.{sound_fields}
 use Rattle.psafe_file.specs.Fields.{SafeField, contents_of, records_of}
 use Rattle.psafe_file.specs.Macs.{mac_check}
 use Rattle.psafe_file.specs.Opened.{SafeContent, file_mac_key, safe_outcome}
 use Rattle.psafe_file.specs.declared.fails.PsafeFail.{PsafeFail}
 use Rattle.psafe_file.specs.declared.fails.PsafeFail.TheVariants as fail
-use Rattle.vault_model.specs.Db.{nil_id}
+use Rattle.vault_model.specs.Db.{NodeId, nil_id}
 use Rattle.vault_model.specs.Tree.{BareDoc}
 
 -- Fields, or the refusal with the place of their first fault.
@@ -20,11 +20,16 @@ abbrev pub or_field_form : Result (List SafeField) ℕ → Result (List SafeFiel
 or_field_form (Ok fields) = Ok fields
 or_field_form (Err place) = Err (fail.FieldForm place)
 
--- The number of the first record whose entry has the nil id; the first has this number.
+-- An id is there, and is the nil id.
+abbrev pub is_nil : Option NodeId → Bool
+is_nil None = false
+is_nil (Some id) = bytes_eq id nil_id
+
+-- The number of the first record that has the nil id; the first of these has this number.
 abbrev pub nil_record : ℕ → List (List SafeField) → Option ℕ
 nil_record number [] = None
 nil_record number (r ∷ rs) =
-    if bytes_eq (id_of number r) nil_id then Some number else nil_record (number + 1) rs
+    if is_nil (own_id r) then Some number else nil_record (number + 1) rs
 
 -- No record has the nil id.
 abbrev pub nil_check : Option ℕ → Result (Unit {0}) PsafeFail
@@ -46,7 +51,7 @@ or_tree_fail (Err refusal) = Err (of_tree refusal)
 unfoldable pub records_outcome : ℕ → List (List SafeField) → Result BareDoc PsafeFail
 records_outcome now records = do
   _ ← nil_check (nil_record 1 records)
-  or_tree_fail (imported_document now (imported_records now 1 records))
+  or_tree_fail (imported_document now (imported_records now records))
 
 -- The document of what a password opened, by the key of its MAC.
 unfoldable pub content_outcome : List ℕ → ℕ → SafeContent → Result BareDoc PsafeFail

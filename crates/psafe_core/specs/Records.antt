@@ -1,9 +1,9 @@
 -- The entry that a record of Password Safe gives: what its fields say (formatV3.txt, section 3.3).
-use Rattle.std.specs.Prelude.{ℕ, ◌+◌, ◌==◌, ◌&&◌, Bool, true, false, if◌then◌else◌, Option, None, Some, List, [], ◌∷◌, length}
+use Rattle.std.specs.Prelude.{ℕ, ◌==◌, ◌&&◌, Bool, true, false, if◌then◌else◌, Option, None, Some, List, [], ◌∷◌, length, map}
 use Rattle.std.specs.List.{filter}
 use Rattle.std.specs.Option.{option_or, unwrap_or}
 use Rattle.std.specs.Str.{is_utf8}
-use Rattle.import_tree.specs.Entries.{ImportedEntry, numbered_id}
+use Rattle.import_tree.specs.Entries.{ImportedEntry}
 use Rattle.psafe_file.specs.Fields.{SafeField}
 use Rattle.psafe_file.specs.Kinds.{created_kind, group_kind, history_kind, id_kind, modified_kind, moment_of, notes_kind, password_kind, title_kind, url_kind, user_kind}
 use Rattle.vault_model.specs.Db.{NodeId}
@@ -36,9 +36,9 @@ text_of kind fields = unwrap_or (last_of (text_in kind) fields) []
 abbrev pub time_of : ℕ → ℕ → List SafeField → ℕ
 time_of kind now fields = unwrap_or (last_of (moment_in kind) fields) now
 
--- The id of the entry of the record of this number, from 1.
-unfoldable pub id_of : ℕ → List SafeField → NodeId
-id_of number fields = unwrap_or (last_of id_in fields) (numbered_id number)
+-- The id of a record, if it has one.
+unfoldable pub own_id : List SafeField → Option NodeId
+own_id fields = last_of id_in fields
 
 -- A byte more at the start of the first name.
 abbrev pub in_first_name : ℕ → List (List ℕ) → List (List ℕ)
@@ -61,23 +61,22 @@ is_named (b ∷ bs) = true
 abbrev pub group_names : List ℕ → List (List ℕ)
 group_names text = filter is_named (between_dots text)
 
--- The entry of the record of this number, at a moment, which its times are that it does not give.
-abbrev pub imported_record : ℕ → ℕ → List SafeField → ImportedEntry
-imported_record now number fields = record {
+-- The entry of a record, at a moment, which its times are that it does not give.
+abbrev pub imported_record : ℕ → List SafeField → ImportedEntry
+imported_record now fields = record {
   groups = group_names (text_of group_kind fields);
-  id = id_of number fields;
+  id = own_id fields;
   title = text_of title_kind fields;
   user = text_of user_kind fields;
   password = text_of password_kind fields;
   url = text_of url_kind fields;
   notes = text_of notes_kind fields;
   history = last_of (text_in history_kind) fields;
+  otp = None;
   created = time_of created_kind now fields;
   modified = time_of modified_kind now fields;
 }
 
--- The entries of records, which are numbered from this number on.
-abbrev pub imported_records : ℕ → ℕ → List (List SafeField) → List ImportedEntry
-imported_records now number [] = []
-imported_records now number (r ∷ rs) =
-    imported_record now number r ∷ imported_records now (number + 1) rs
+-- The entries of records.
+abbrev pub imported_records : ℕ → List (List SafeField) → List ImportedEntry
+imported_records now records = map (imported_record now) records

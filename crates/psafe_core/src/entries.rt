@@ -1,14 +1,15 @@
 //! The entries that records give.
-ghost use Rattle.std.specs.Prelude.{◌≡◌, [], ◌∷◌, ◌++◌, IfOk, OnOk};
+ghost use Rattle.std.specs.Prelude.{◌≡◌, [], ◌∷◌, ◌++◌, IfOk, OnOk, false};
 ghost use Rattle.std.specs.List.{filter};
 ghost use Rattle.std.specs.Option.{option_map};
 ghost use Rattle.import_tree.specs.SeenEntries.{imported_seen};
+ghost use Rattle.psafe_core.specs.Outcome.{is_nil};
 ghost use Rattle.psafe_core.specs.Records as spec;
 ghost use Rattle.psafe_core.specs.Records.{group_names, imported_record, is_named, last_of, text_in};
 ghost use Rattle.psafe_file.specs.Kinds as spec_kinds;
 ghost use Rattle.psafe_file.specs.SeenFields.{fields_seen};
 
-use crate::readings::{id_of, last_text, time_of};
+use crate::readings::{last_text, own_id, time_of};
 use import_tree::ImportedEntry;
 use outside_core::{List, NoMemory, Text};
 use psafe_file::{SafeField, kind};
@@ -172,15 +173,15 @@ fn kept_of(alloc: Global, record_fields: &[SafeField]) -> Result<Kept, NoMemory>
     }
 }
 
-// The entry of the record of this number, which has these groups and keeps this.
+// The entry of a record, which has these groups and keeps this.
 fn entry_with(
     alloc: Global,
     now: Stamp,
-    number: u64,
     record_fields: &[SafeField],
     groups: List<Text>,
     kept: Kept,
 ) -> Result<ImportedEntry, NoMemory>
+    requires not_nil { is_nil (spec.own_id (fields_seen record_fields.now)) ≡ false }
     requires groups { groups
         ≡ group_names (spec.text_of spec_kinds.group_kind (fields_seen record_fields.now)) }
     requires password { kept.password.bytes
@@ -190,18 +191,19 @@ fn entry_with(
     requires notes { kept.notes.bytes
         ≡ spec.text_of spec_kinds.notes_kind (fields_seen record_fields.now) }
     ensures { IfOk result (λ e. imported_seen e
-        ≡ imported_record now number (fields_seen record_fields.now)) }
+        ≡ imported_record now (fields_seen record_fields.now)) }
 {
     match names_of(alloc, record_fields) {
         Ok(names) => Ok(ImportedEntry {
             groups,
-            id: id_of(number, record_fields),
+            id: own_id(record_fields),
             title: names.title,
             user: names.user,
             password: kept.password,
             url: names.url,
             notes: kept.notes,
             history: kept.history,
+            otp: None,
             created: time_of(kind::CREATED, now, record_fields),
             modified: time_of(kind::MODIFIED, now, record_fields),
         }),
@@ -213,19 +215,19 @@ fn entry_with(
     }
 }
 
-/// The entry of the record of this number, from 1.
+/// The entry of a record, which has not the nil id.
 pub(crate) fn entry_of(
     alloc: Global,
     now: Stamp,
-    number: u64,
     record_fields: &[SafeField],
 ) -> Result<ImportedEntry, NoMemory>
+    requires { is_nil (spec.own_id (fields_seen record_fields.now)) ≡ false }
     ensures { IfOk result (λ e. imported_seen e
-        ≡ imported_record now number (fields_seen record_fields.now)) }
+        ≡ imported_record now (fields_seen record_fields.now)) }
 {
     let groups = record_groups(alloc, record_fields)?;
     match kept_of(alloc, record_fields) {
-        Ok(kept) => entry_with(alloc, now, number, record_fields, groups, kept),
+        Ok(kept) => entry_with(alloc, now, record_fields, groups, kept),
         Err(fail) => {
             drop(groups);
             Err(fail)

@@ -1,25 +1,23 @@
 //! Importing a file: its document, or the first reason why it has none.
-ghost use Rattle.std.specs.Prelude.{◌≡◌, ◌≢◌, ◌∷◌, [], ◌++◌, ℕ, List, None, OnOk};
-ghost use Rattle.import_tree.specs.Outcome.{sound_document};
-ghost use Rattle.import_tree.specs.SeenDrafts.{draft_seen};
+ghost use Rattle.std.specs.Prelude.{◌≡◌, ◌∷◌, [], ◌++◌, ℕ, List, None, IfOk, OnOk, false, map};
+ghost use Rattle.import_tree.specs.Outcome.{imported_document};
+ghost use Rattle.import_tree.specs.SeenEntries.{imported_seen};
 ghost use Rattle.mac_core.specs.Hmac256.{HasAbsorbed};
-ghost use Rattle.psafe_core.specs.Outcome.{content_outcome, nil_record, of_tree, or_field_form, or_tree_fail, psafe_outcome, records_outcome};
+ghost use Rattle.psafe_core.specs.Outcome.{content_outcome, is_nil, nil_record, of_tree, or_field_form, or_tree_fail, psafe_outcome, records_outcome};
 ghost use Rattle.psafe_core.specs.Records as spec;
 ghost use Rattle.psafe_core.specs.Records.{imported_record, imported_records};
-ghost use Rattle.psafe_core.specs.Seen.{with_more};
 ghost use Rattle.psafe_file.specs.Faults.{sound_fields};
 ghost use Rattle.psafe_file.specs.Fields.{contents_of};
 ghost use Rattle.psafe_file.specs.Fields as fields_spec;
 ghost use Rattle.psafe_file.specs.SeenFields.{fields_seen, records_seen};
 ghost use Rattle.psafe_file.specs.Opened.{content_seen};
 ghost use Rattle.psafe_file.specs.Results.{Returns};
-ghost use Rattle.vault_model.specs.Db.{nil_id};
 ghost use Rattle.vault_model.specs.SeenDoc.{doc_seen};
 
 use crate::PsafeFail;
 use crate::entries::entry_of;
-use crate::readings::id_of;
-use import_tree::{ImportDraft, TreeFail, add_imported, finish_import, start_import};
+use crate::readings::own_id;
+use import_tree::{ImportedEntry, TreeFail, imported_document};
 use mac_core::Hmac256;
 use outside_core::{List, NoMemory};
 use psafe_file::{
@@ -49,50 +47,79 @@ fn absorb_fields(computed: &mut Hmac256, fields: &[SafeField])
     }
 }
 
-// The number of the first record whose entry has the nil id, if one has it.
+// Reports whether a record has the nil id.
+fn has_nil_id(record_fields: &[SafeField]) -> bool
+    ensures { result ≡ is_nil (spec.own_id (fields_seen record_fields.now)) }
+{
+    match own_id(record_fields) {
+        Some(id) => id.is_nil(),
+        None => false,
+    }
+}
+
+// The number of the first record that has the nil id, if one has it.
 fn nil_record(records: &[&[SafeField]]) -> Option<u64>
     ensures { result ≡ nil_record 1 (records_seen records.now) }
 {
     for at in 0..records.len() {
-        let number = at as u64 + 1;
-        if id_of(number, records[at]).is_nil() {
-            return Some(number);
+        if has_nil_id(records[at]) {
+            return Some(at as u64 + 1);
         }
     }
     None
 }
 
-// Puts the entry of the record of this number into a draft.
+// Puts the entry of a record after others.
 fn add_record(
     alloc: Global,
-    draft: &mut ImportDraft,
     now: Stamp,
-    number: u64,
+    entries: &mut Vec<ImportedEntry>,
     record_fields: &[SafeField],
 ) -> Result<(), NoMemory>
-    requires { spec.id_of number (fields_seen record_fields.now) ≢ nil_id }
-    ensures { OnOk result (draft_seen draft.new ≡ with_more now
-        (imported_record now number (fields_seen record_fields.now) ∷ []) (draft_seen draft.old)) }
+    requires { is_nil (spec.own_id (fields_seen record_fields.now)) ≡ false }
+    ensures { OnOk result (map imported_seen entries.new.items ≡ map imported_seen entries.old.items
+        ++ imported_record now (fields_seen record_fields.now) ∷ []) }
 {
-    let entry = entry_of(alloc, now, number, record_fields)?;
-    add_imported(alloc, draft, now, entry)
+    let entry = entry_of(alloc, now, record_fields)?;
+    entries.push(entry)?;
+    Ok(())
 }
 
-// Puts the entries of records into a draft, one after another.
+// Puts the entries of records after others.
 fn add_records(
     alloc: Global,
-    draft: &mut ImportDraft,
     now: Stamp,
+    entries: &mut Vec<ImportedEntry>,
     records: &[&[SafeField]],
 ) -> Result<(), NoMemory>
     requires { nil_record 1 (records_seen records.now) ≡ None }
-    ensures { OnOk result (draft_seen draft.new ≡ with_more now
-        (imported_records now 1 (records_seen records.now)) (draft_seen draft.old)) }
+    ensures { OnOk result (map imported_seen entries.new.items ≡ map imported_seen entries.old.items
+        ++ imported_records now (records_seen records.now)) }
 {
     for at in 0..records.len() {
-        add_record(alloc, draft, now, at as u64 + 1, records[at])?;
+        add_record(alloc, now, entries, records[at])?;
     }
     Ok(())
+}
+
+// The entries of records.
+fn entries_of(
+    alloc: Global,
+    now: Stamp,
+    records: &[&[SafeField]],
+) -> Result<Vec<ImportedEntry>, NoMemory>
+    requires { nil_record 1 (records_seen records.now) ≡ None }
+    ensures { IfOk result (λ entries. map imported_seen entries.items
+        ≡ imported_records now (records_seen records.now)) }
+{
+    let mut entries = Vec::new(alloc);
+    match add_records(alloc, now, &mut entries, records) {
+        Ok(()) => Ok(entries),
+        Err(fail) => {
+            drop(entries);
+            Err(fail)
+        }
+    }
 }
 
 // A refusal of imported entries, as one of the file.
@@ -106,31 +133,28 @@ fn of_tree(refusal: TreeFail) -> PsafeFail
     }
 }
 
-// The document of a draft.
-fn finish(alloc: Global, draft: ImportDraft) -> Result<Doc, PsafeFail>
-    ensures { Returns doc_seen result (or_tree_fail (sound_document (draft_seen draft))) }
+// The document of the entries of records.
+fn finish(alloc: Global, now: Stamp, entries: Vec<ImportedEntry>) -> Result<Doc, PsafeFail>
+    ensures { Returns doc_seen result
+        (or_tree_fail (imported_document now (map imported_seen entries.items))) }
 {
-    match finish_import(alloc, draft) {
+    match imported_document(alloc, now, entries) {
         Ok(doc) => Ok(doc),
         Err(refusal) => Err(of_tree(refusal)),
     }
 }
 
 // The document of records.
-#[tactic(auto, unfolding(crate::specs::Outcome::records_outcome, import_tree::specs::Outcome::imported_document))]
+#[tactic(auto, unfolding(crate::specs::Outcome::records_outcome))]
 fn document_of(alloc: Global, now: Stamp, records: &[&[SafeField]]) -> Result<Doc, PsafeFail>
     ensures { Returns doc_seen result (records_outcome now (records_seen records.now)) }
 {
     if let Some(number) = nil_record(records) {
         return Err(PsafeFail::NilId(number));
     }
-    let mut draft = start_import(alloc, now)?;
-    match add_records(alloc, &mut draft, now, records) {
-        Ok(()) => finish(alloc, draft),
-        Err(fail) => {
-            drop(draft);
-            Err(PsafeFail::from(fail))
-        }
+    match entries_of(alloc, now, records) {
+        Ok(entries) => finish(alloc, now, entries),
+        Err(fail) => Err(PsafeFail::from(fail)),
     }
 }
 

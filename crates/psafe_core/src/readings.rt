@@ -5,7 +5,6 @@ ghost use Rattle.psafe_core.specs.Records as spec;
 ghost use Rattle.psafe_core.specs.Records.{id_in, last_of, moment_in, text_in};
 ghost use Rattle.psafe_file.specs.SeenFields.{field_seen, fields_seen};
 
-use import_tree::numbered_id;
 use psafe_file::{SafeField, kind, moment_of, text_of};
 use uuid_core::Uuid;
 use vault_model::Stamp;
@@ -65,9 +64,10 @@ fn last_moment(kind: u8, record_fields: &[SafeField]) -> Option<Stamp>
     last
 }
 
-// The last id that a record has.
-fn last_id(record_fields: &[SafeField]) -> Option<Uuid>
-    ensures { result ≡ last_of id_in (fields_seen record_fields.now) }
+/// The id that a record has, if it has one.
+#[tactic(auto, unfolding(crate::specs::Records::own_id))]
+pub(crate) fn own_id(record_fields: &[SafeField]) -> Option<Uuid>
+    ensures { result ≡ spec.own_id (fields_seen record_fields.now) }
 {
     let mut last = None;
     for field in record_fields {
@@ -81,16 +81,4 @@ pub(crate) fn time_of(kind: u8, now: Stamp, record_fields: &[SafeField]) -> Stam
     ensures { result ≡ spec.time_of kind now (fields_seen record_fields.now) }
 {
     last_moment(kind, record_fields).unwrap_or(now)
-}
-
-/// The id of the entry of the record of this number, from 1: its own, or else one that is made of
-/// the number.
-#[tactic(auto, unfolding(crate::specs::Records::id_of))]
-pub(crate) fn id_of(number: u64, record_fields: &[SafeField]) -> Uuid
-    ensures { result ≡ spec.id_of number (fields_seen record_fields.now) }
-{
-    match last_id(record_fields) {
-        Some(id) => id,
-        None => numbered_id(number),
-    }
 }

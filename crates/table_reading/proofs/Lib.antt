@@ -2,4 +2,5 @@ pub mod Examples
 pub mod IsoTimes
 pub mod Places
 pub mod RecordRows
-pub mod Remaining
+pub mod Gathered
+pub mod Hosts

@@ -22,10 +22,11 @@ refuse_bytes bytes false = Err (fail.NotUtf8 (utf8_valid_len bytes))
 abbrev pub checked_bytes : List ℕ → Result (Unit {0}) TableFail
 checked_bytes bytes = refuse_bytes bytes (is_utf8 bytes)
 
--- the column `Title` is there
-abbrev pub refuse_untitled : Option ℕ → Result (Unit {0}) TableFail
-refuse_untitled (Some place) = Ok tt
-refuse_untitled None = Err fail.ColumnMissing
+-- a column of titles is there, or one of URLs
+abbrev pub refuse_untitled : Option ℕ → Option ℕ → Result (Unit {0}) TableFail
+refuse_untitled None None = Err fail.ColumnMissing
+refuse_untitled None (Some place) = Ok tt
+refuse_untitled (Some place) url = Ok tt
 
 -- what is known of the rows after the first, which names the columns
 abbrev pub table_of : ℕ → List (List ℕ) → Table
@@ -41,7 +42,7 @@ table_document table rows = do
 abbrev pub rows_document : ℕ → List (List (List ℕ)) → Result BareDoc TableFail
 rows_document now [] = Err fail.ColumnMissing
 rows_document now (names ∷ rows) = do
-  _ ← refuse_untitled (columns_of names).title
+  _ ← refuse_untitled (columns_of names).title (columns_of names).url
   table_document (table_of now names) rows
 
 -- The document of a table as CSV at a moment: the rows are those of RFC 4180 as the crate `csv`

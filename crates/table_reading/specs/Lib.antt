@@ -3,4 +3,5 @@ pub mod Cells
 pub mod Columns
 pub mod Groups
 pub mod Rows
+pub mod Steps
 pub mod Documents

@@ -2,9 +2,9 @@
 use Rattle.std.specs.Prelude.{ℕ, ◌==◌, Bool, true, false, List, [], ◌∷◌, length, map, None, Result, Ok, Err}
 use Rattle.std.specs.List.{enumerate_from}
 use Rattle.std.specs.Option.{ok_or}
-use Rattle.import_tree.specs.Entries.{ImportedEntry, numbered_id}
+use Rattle.import_tree.specs.Entries.{ImportedEntry}
 use Rattle.outside_core.specs.Results.{◌>>=◌}
-use Rattle.table_reading.specs.Cells.{cell, time_of}
+use Rattle.table_reading.specs.Cells.{cell, otp_of, time_of, title_of}
 use Rattle.table_reading.specs.Groups.{group_names}
 use Rattle.table_reading.specs.declared.columns.Columns.{Columns}
 use Rattle.table_reading.specs.declared.fails.TableFail.{TableFail}
@@ -29,17 +29,18 @@ row_times table number row = do
   modified ← row_time table.moment number (cell table.columns.modified row)
   Ok (record { created = created; modified = modified })
 
--- the entry of the row of this number, with its times
-abbrev pub timed_entry : Columns → ℕ → Times → List (List ℕ) → ImportedEntry
-timed_entry columns number times row = record {
+-- the entry of a row, with its times
+abbrev pub timed_entry : Columns → Times → List (List ℕ) → ImportedEntry
+timed_entry columns times row = record {
   groups = group_names (cell columns.group row);
-  id = numbered_id number;
-  title = cell columns.title row;
+  id = None;
+  title = title_of columns.title columns.url row;
   user = cell columns.user row;
   password = cell columns.password row;
   url = cell columns.url row;
   notes = cell columns.notes row;
   history = None;
+  otp = otp_of (cell columns.otp row);
   created = times.created;
   modified = times.modified;
 }
@@ -48,7 +49,7 @@ timed_entry columns number times row = record {
 abbrev pub row_entry : Table → ℕ → List (List ℕ) → Result ImportedEntry TableFail
 row_entry table number row = do
   times ← row_times table number row
-  Ok (timed_entry table.columns number times row)
+  Ok (timed_entry table.columns times row)
 
 -- the values of results, or the first refusal among them
 abbrev pub values_of : {A E : Type 0} → List (Result A E) → Result (List A) E

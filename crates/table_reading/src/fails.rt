@@ -13,7 +13,7 @@ use uuid_core::Uuid;
 pub enum TableFail {
     /// The bytes are not UTF-8: the length of their longest prefix that is.
     NotUtf8(u64),
-    /// There is no row, or the first row does not name the column `Title`.
+    /// There is no row, or the first row names neither a column of titles nor one of URLs.
     ColumnMissing,
     /// The row of this number has another number of fields than the first row.
     RowWidth(u64),

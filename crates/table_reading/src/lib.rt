@@ -10,4 +10,4 @@ mod records;
 mod rows;
 
 pub use fails::TableFail;
-pub use import::import_csv;
+pub use import::{ImportedTable, import_csv};

@@ -9,4 +9,4 @@ pub returns-in-Err-clause-gives : goal.returns-in-Err-clause-gives
 returns-in-Err-clause-gives c =
     let lent = lent_whole c.args.bytes.now.bytes c.lend.result.now c.len.result c.lend.ensures c.len.ensures in
     table_refused c.in-Err.fail c.table_stop.result c.args.name.now (csv_document c.args.bytes.now.bytes c.args.now) c.table_stop.ensures.stop
-    (subst (λ (b : List ℕ). Fails (meaning_of c.in-Err.fail) (csv_document b c.args.now)) lent c.in-Err.ensures)
+    (subst (λ (b : List ℕ). Fails (meaning_of c.in-Err.fail) (csv_document b c.args.now)) lent c.in-Err.ensures.doc)

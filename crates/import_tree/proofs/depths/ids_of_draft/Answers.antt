@@ -1,6 +1,7 @@
-use Rattle.std.proofs.Common.{◌≡◌, ◌<◌, ◌+◌, ◌++◌, ◌∷◌, [], List, ap, sym, ◌∙◌, map, arith}
+use Rattle.std.proofs.Common.{ℕ, ◌≡◌, ◌<◌, ◌+◌, ◌++◌, ◌∷◌, [], List, ap, sym, ◌∙◌, map, arith}
 use Rattle.vault_model.specs.Db.{NodeId}
 use Rattle.vault_model.specs.Empty.{new_group}
+use Rattle.vault_model.specs.Shape.{GroupRecord}
 use Rattle.std.specs.Prelude.{codes}
 use Rattle.import_tree.specs.Branches.{deep_in, ids_in}
 use Rattle.import_tree.specs.SeenBranches.{all_deep, all_ids, all_steps, branch_steps, ways_seen}
@@ -10,6 +11,10 @@ use Rattle.import_tree.specs.declared.branches.Branch.{Branch}
 use Rattle.import_tree.specs.declared.drafts.PlacedEntry.{PlacedEntry}
 use Rattle.import_tree.proofs.TakenApart.{deep_pushed, ids_pushed, steps_pushed, whole_deep, whole_ids}
 use Rattle.import_tree.proofs.depths.ids_of_draft.Goals as goal
+
+-- the root's group, which was never changed
+abbrev old_root : ℕ → GroupRecord
+old_root now = let group = new_group (codes "Root") now in record group { state = record group.state { modified = 0 } }
 
 pub loop-branch-init : goal.loop-branch-init
 loop-branch-init c =
@@ -23,10 +28,10 @@ loop-branch-init c =
     ap all_deep c.in_ok-vec-2.ensures.items ∙ ap (λ (u : NodeId). deep_in 127 u (ways_seen c.in_ok-ways.ways.items)) id ∙ ap (deep_in 127 root_id) ways in
     let first : c.in_ok-vec.field-0.items ≡ root_id ∷ [] = c.in_ok-vec.ensures.items ∙ ap (λ (u : NodeId). u ∷ []) id in
     record {
-      ids = whole_ids root_id (new_group (codes "Root") draft.moment) ps
+      ids = whole_ids root_id (old_root draft.moment) ps
           ∙ ap (λ (us : List NodeId). us ++ ids_in root_id ps) (sym first)
           ∙ ap (λ (us : List NodeId). c.in_ok-vec.field-0.items ++ us) (sym open_ids);
-      deep = whole_deep root_id (new_group (codes "Root") draft.moment) ps
+      deep = whole_deep root_id (old_root draft.moment) ps
           ∙ ap (λ (us : List NodeId). us ++ deep_in 127 root_id ps) (sym c.new.ensures.items)
           ∙ ap (λ (us : List NodeId). c.new.result.items ++ us) (sym open_deep);
     }

@@ -1,7 +1,7 @@
 use Rattle.std.proofs.Common.{◌≡◌, List, ℕ, None, Some, ◌++◌, ◌∷◌, [], ap, refl, sym, ◌∙◌}
 use Rattle.vault_model.specs.Db.{NodeId}
 use Rattle.import_tree.specs.Branches.{deep_id, entries_below, first_name, inside, others, own_ids}
-use Rattle.import_tree.specs.Entries.{named_id}
+use Rattle.import_ids.specs.Ids.{named_id}
 use Rattle.import_tree.specs.SeenBranches.{ways_seen}
 use Rattle.import_tree.specs.declared.branches.Branch.{Branch}
 use Rattle.import_tree.specs.declared.branches.Way.{Way}

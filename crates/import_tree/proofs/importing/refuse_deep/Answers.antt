@@ -1,6 +1,5 @@
 use Rattle.std.proofs.Common.{sym, ◌∙◌, arith}
-use Rattle.vault_model.specs.Empty.{empty_tree}
-use Rattle.import_tree.specs.Trees.{root_id}
+use Rattle.import_tree.specs.Trees.{import_root}
 use Rattle.import_tree.specs.SeenDrafts.{draft_seen}
 use Rattle.import_tree.proofs.Deep.{fits}
 use Rattle.import_tree.proofs.Levels.{few_levels}
@@ -12,4 +11,4 @@ returns-then-is_deep-clause-fits c = fits (draft_seen c.args.draft.now).tree c.r
 pub returns-else-is_deep-clause-fits : goal.returns-else-is_deep-clause-fits
 returns-else-is_deep-clause-fits c =
     let draft = c.args.draft.now in
-    few_levels draft.entries.items (empty_tree root_id draft.moment) (sym c.is_deep.ensures ∙ c.if-is_deep.false) (omega arith)
+    few_levels draft.entries.items (import_root draft.moment) (sym c.is_deep.ensures ∙ c.if-is_deep.false) (omega arith)

@@ -6,7 +6,7 @@ use Rattle.vault_model.specs.SeenNodes.{entry_row, tree_seen}
 use Rattle.vault_model.specs.Tree.{Tree}
 use Rattle.vault_model.specs.declared.nodes.Group.{Group, out-Group}
 use Rattle.tree_core.specs.Changes.{with_group}
-use Rattle.import_tree.specs.Entries.{named_id}
+use Rattle.import_ids.specs.Ids.{named_id}
 use Rattle.import_tree.specs.Trees.{new_groups, with_entry}
 use Rattle.import_tree.proofs.Put.{after_first, err_then, filled, first_name, has, kept_below, made_last, no_names, ok_then, put_below, put_here, put_new}
 use Rattle.import_tree.proofs.putting.+putting.Goals as goal

@@ -1,0 +1,5 @@
+pub mod Bare
+pub mod Alike
+pub mod Sources
+pub mod Kept
+pub mod Counted
