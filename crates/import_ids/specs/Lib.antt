@@ -1,0 +1,4 @@
+pub mod Names
+pub mod Ids
+pub mod SeenNames
+pub mod Counts
