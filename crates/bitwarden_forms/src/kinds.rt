@@ -99,7 +99,7 @@ pub(crate) fn is_folder(value: &Value) -> bool
 }
 
 /// Reports whether a folder has this id.
-pub(crate) fn has_id(folder: &Value, id: &str) -> bool
+pub fn has_id(folder: &Value, id: &str) -> bool
     ensures { result ≡ spec.has_id id.now (view folder.now) }
 {
     text(Some(folder), "id") == id
