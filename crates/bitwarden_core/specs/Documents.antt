@@ -1,0 +1,46 @@
+-- The document of an export of Bitwarden.
+use Rattle.std.specs.Prelude.{ℕ, List, [], map, Result, Ok, Err}
+use Rattle.bitwarden_core.specs.Folders.{folder_names}
+use Rattle.bitwarden_core.specs.Groups.{with_paths}
+use Rattle.bitwarden_core.specs.Placing.{placed_items}
+use Rattle.bitwarden_forms.specs.Exports.{export_of, folders_in, items_in}
+use Rattle.bitwarden_forms.specs.declared.fails.BitwardenFail.{BitwardenFail}
+use Rattle.bitwarden_forms.specs.declared.fails.BitwardenFail.TheVariants as fail
+use Rattle.import_tree.specs.Outcome.{sound_document}
+use Rattle.import_tree.specs.Trees.{Placed, document_of, with_all_placed}
+use Rattle.import_tree.specs.declared.fails.TreeFail.{TreeFail}
+use Rattle.import_tree.specs.declared.fails.TreeFail.TheVariants as tree
+use Rattle.outside_core.specs.Results.{◌>>=◌}
+use Rattle.serde_json.specs.Data.{Data}
+use Rattle.vault_model.specs.Tree.{BareDoc}
+
+-- the refusal of a tree
+abbrev pub of_tree : TreeFail → BitwardenFail
+of_tree (tree.DuplicateId id) = fail.DuplicateId id
+of_tree (tree.TooDeep id) = fail.TooDeep id
+of_tree tree.NoMemory = fail.NoMemory
+
+-- what a tree gives, as an export gives it
+abbrev pub as_export : {A : Type 0} → Result A TreeFail → Result A BitwardenFail
+as_export (Ok x) = Ok x
+as_export (Err refusal) = Err (of_tree refusal)
+
+-- The document of folders and of entries at a moment: each folder gives a group, in their order, and
+-- then each entry is put into its group.
+abbrev pub placed_document : ℕ → List Data → List Placed → BareDoc
+placed_document now folders placed = record (document_of now []) {
+  tree = with_all_placed placed (with_paths now (map folder_names folders) (document_of now []).tree);
+}
+
+-- The document of an export that is as it has to be.
+abbrev pub document_at : ℕ → Data → Result BareDoc BitwardenFail
+document_at now export = do
+  placed ← placed_items now (folders_in export) [] (items_in export)
+  as_export (sound_document (placed_document now (folders_in export) placed))
+
+-- The document of an unencrypted export of Bitwarden at a moment, or the first reason why there is
+-- none.
+abbrev pub bitwarden_document : List ℕ → ℕ → Result BareDoc BitwardenFail
+bitwarden_document bytes now = do
+  export ← export_of bytes
+  document_at now export

@@ -1,0 +1,5 @@
+pub mod Folders
+pub mod Placing
+pub mod Groups
+pub mod Documents
+pub mod Steps

@@ -1,0 +1,6 @@
+pub mod Json
+pub mod Dates
+pub mod Kinds
+pub mod Refusals
+pub mod Exports
+pub mod Seen

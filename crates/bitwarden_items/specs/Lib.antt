@@ -1,0 +1,4 @@
+pub mod Passwords
+pub mod Versions
+pub mod Seen
+pub mod Proper

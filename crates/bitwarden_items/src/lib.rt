@@ -1,0 +1,8 @@
+//! The entries that items of Bitwarden give: their versions.
+#![tactic(auto)]
+
+mod entries;
+mod passwords;
+mod versions;
+
+pub use entries::entry_of;

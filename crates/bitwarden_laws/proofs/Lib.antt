@@ -1,0 +1,2 @@
+mod Earlier
+mod Passwords
