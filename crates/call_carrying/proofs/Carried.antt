@@ -15,7 +15,7 @@ use Rattle.cli_lines.proofs.Inputs.{left_alone, left_so}
 use Rattle.cli_lines.specs.Lines.{Lines}
 use Rattle.cli_sealing.specs.Sealing.{Seals}
 use Rattle.cli_words.specs.declared.command.Command.{Command}
-use Rattle.cli_words.specs.declared.command.Command.TheVariants.{Ls, Show, Search, Add, Edit, Move, Remove, MakeGroup, RemoveGroup, Merge, Import, Export, Info}
+use Rattle.cli_words.specs.declared.command.Command.TheVariants.{Ls, Show, Search, Add, Edit, Move, Remove, MakeGroup, RemoveGroup, Merge, Import, Create, Export, EditFile, Info}
 use Rattle.cli_words.specs.Needs.{target_access, target_of}
 use Rattle.cli_writing.specs.Held.{IsWritten}
 use Rattle.cli_writing.specs.Writing.{IsWriteStop, KeepsDraft, KeepsFiles, NewFile, Store, Writes}
@@ -140,7 +140,9 @@ no_change (MakeGroup access file group) e = cc
 no_change (RemoveGroup access file group) e = cc
 no_change (Merge access file names from same dry) e = refl
 no_change (Import access format source from file) e = refl
+no_change (Create access file name cipher kdf) e = cc
 no_change (Export access format file) e = refl
+no_change (EditFile access file change) e = refl
 no_change (Info access file) e = refl
 
 pub tells_change : (command : Command) (dice : Option (List ℕ)) (d : List ℕ) → TellsStream (draws command) dice d → TellsStream (draws_change command) dice d
@@ -323,7 +325,9 @@ undrawn_unsealed (RemoveGroup access file group) sealed written w h e = cc
 undrawn_unsealed (Merge access file names from same true) sealed written w h e = none_and written sealed (w refl)
 undrawn_unsealed (Merge access file names from same false) sealed written w h e = and_none written sealed (h ∙ e)
 undrawn_unsealed (Import access format source from file) sealed written w h e = and_none written sealed (h ∙ e)
+undrawn_unsealed (Create access file name cipher kdf) sealed written w h e = cc
 undrawn_unsealed (Export access format file) sealed written w h e = none_and written sealed (w refl)
+undrawn_unsealed (EditFile access file change) sealed written w h e = and_none written sealed (h ∙ e)
 undrawn_unsealed (Info access file) sealed written w h e = none_and written sealed (w refl)
 
 -- Where a document is written, its file is asked for.

@@ -48,7 +48,7 @@ module _ (time : ℕ) (before now : Seen) (counts counts' : Counts) where
   opens task is writes =
       let same = ok_is task three_task (sym (task_given merge_three time (world_of three_files) task is) ∙ task_given merge_three time (world_of three_files) three_task (three_is_task time)) in
       let these : OpensCopies plain_copies c three_task = record {
-        no_import = refl;
+        opens = refl;
         target = record { there = omega arith; disk = refl; named = refl; key = refl };
         sources = (
           record { there = omega arith; disk = refl; named = refl; key = refl },

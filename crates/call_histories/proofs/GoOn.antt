@@ -16,7 +16,7 @@ use Rattle.history_laws.proofs.HistoryLaws.{there}
 use Rattle.run_laws.specs.TrimmedRuns.{AreDocEvents, DocEvent, after_doc_event, after_doc_events, growth, joining, overwriting, world_after}
 use Rattle.run_laws.proofs.RunLaws.{are_docs, doc_after, runs_join}
 use Rattle.cli_words.specs.declared.command.Command.{Command}
-use Rattle.cli_words.specs.declared.command.Command.TheVariants.{Ls, Show, Search, Add, Edit, Move, Remove, MakeGroup, RemoveGroup, Merge, Import, Export, Info}
+use Rattle.cli_words.specs.declared.command.Command.TheVariants.{Ls, Show, Search, Add, Edit, Move, Remove, MakeGroup, RemoveGroup, Merge, Import, Create, Export, EditFile, Info}
 use Rattle.cli_commands.specs.Commands.{may_write}
 use Rattle.keepass_call.specs.Merges.{IsAgreedMerge, merges}
 use Rattle.call_histories.specs.HistoryLaws.{MergesGoOn}
@@ -85,7 +85,9 @@ merge_writes (MakeGroup access file group) e = refl
 merge_writes (RemoveGroup access file group) e = refl
 merge_writes (Merge access file names from same dry) e = e
 merge_writes (Import access format source from file) e = refl
+merge_writes (Create access file name cipher kdf) e = refl
 merge_writes (Export access format file) e = absurd (true≢false (sym e))
+merge_writes (EditFile access file change) e = refl
 merge_writes (Info access file) e = absurd (true≢false (sym e))
 
 pub merges_go_on : MergesGoOn

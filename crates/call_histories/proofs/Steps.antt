@@ -19,12 +19,13 @@ use Rattle.run_laws.specs.TrimmedRuns.{AreDocEvents, DocEvent, after_doc_events,
 use Rattle.cli_answers.specs.declared.answers.Refusal.{Refusal}
 use Rattle.cli_words.specs.declared.command.Access.{Access}
 use Rattle.cli_words.specs.declared.command.Command.{Command}
-use Rattle.cli_words.specs.declared.command.Command.TheVariants.{Ls, Show, Search, Add, Edit, Move, Remove, MakeGroup, RemoveGroup, Merge, Import, Export, Info}
-use Rattle.cli_words.specs.Needs.{ImportNeeds, file_made, import_of, needs_of, target_of}
+use Rattle.cli_words.specs.declared.command.Command.TheVariants.{Ls, Show, Search, Add, Edit, Move, Remove, MakeGroup, RemoveGroup, Merge, Import, Create, Export, EditFile, Info}
+use Rattle.cli_words.specs.Needs as from
+use Rattle.cli_words.specs.Needs.{Origin, needs_of, origin_of, target_of}
 use Rattle.cli_words.specs.Words.{command_of}
 use Rattle.cli_files.specs.Tasks.{Task, databases_in}
 use Rattle.cli_databases.specs.Held.{HoldDatabases}
-use Rattle.call_reading.specs.Opening.{HoldImportOrDatabases}
+use Rattle.call_reading.specs.Opening.{HoldByOrigin}
 use Rattle.cli_commands.specs.Commands.{Change, change_of, may_write}
 use Rattle.change_laws.specs.Changes.{edits}
 use Rattle.change_laws.proofs.Changed.{commands_grow, merges_merge}
@@ -51,7 +52,7 @@ record IsMerge (command : Command) : Type 0 where
 abbrev Kind : Command → Type 0
 Kind command = ((edits command ≡ true) × (merges command ≡ false)) ⊎ IsMerge command
 
-kind_of : (command : Command) → may_write command ≡ true → import_of command ≡ None → Kind command
+kind_of : (command : Command) → may_write command ≡ true → origin_of command ≡ from.Opened → Kind command
 kind_of (Ls access file group recursive flat) w i = absurd (true≢false (sym w))
 kind_of (Show access file entry clear all attachments names totp) w i = absurd (true≢false (sym w))
 kind_of (Search access file term) w i = absurd (true≢false (sym w))
@@ -64,8 +65,28 @@ kind_of (RemoveGroup access file group) w i = inl (refl, refl)
 kind_of (Merge access file names from same true) w i = absurd (true≢false (sym w))
 kind_of (Merge access file names from same false) w i = inr (record { access = access; file = file; names = names; from = from; same = same; is = refl })
 kind_of (Import access format source from file) w i = cc i
+kind_of (Create access file name cipher kdf) w i = cc i
 kind_of (Export access format file) w i = absurd (true≢false (sym w))
+kind_of (EditFile access file change) w i = cc i
 kind_of (Info access file) w i = absurd (true≢false (sym w))
+
+-- the file of a database that is opened as it is
+opened_target : (command : Command) → origin_of command ≡ from.Opened → target_of command ≡ (needs_of command).file
+opened_target (Ls access file group recursive flat) is = refl
+opened_target (Show access file entry clear all attachments names totp) is = refl
+opened_target (Search access file term) is = refl
+opened_target (Add access file entry asked) is = refl
+opened_target (Edit access file entry asked) is = refl
+opened_target (Move access file node group) is = refl
+opened_target (Remove access file entry) is = refl
+opened_target (MakeGroup access file group) is = refl
+opened_target (RemoveGroup access file group) is = refl
+opened_target (Merge access file names from same dry) is = refl
+opened_target (Import access format source from file) is = cc is
+opened_target (Create access file name cipher kdf) is = cc is
+opened_target (Export access format file) is = refl
+opened_target (EditFile access file change) is = cc is
+opened_target (Info access file) is = refl
 
 merges_so : (command : Command) → IsMerge command → merges command ≡ true
 merges_so command m = ap merges (sym m.is)
@@ -135,7 +156,7 @@ module _ (copies : Copies) (disks : Disks) (w : plans.World) (hold : (k : ℕ) �
     opens = on.opens task is_task writes
 
     databases : HoldDatabases (needs_of task.command) task.lines c.world.files (databases_in task)
-    databases = subst (λ (i : Option ImportNeeds). HoldImportOrDatabases i (needs_of task.command) task.lines c.time c.world.files (databases_in task)) opens.no_import is_task.holds
+    databases = subst (λ (o : Origin). HoldByOrigin o (needs_of task.command) task.lines c.time c.world.files (databases_in task)) opens.opens is_task.holds
 
     pub target_is : IsThat (copies.copy c.target).key (w c.target).doc task.opened
     target_is = copy_opened copies c w held (needs_of task.command).access task.lines.password (needs_of task.command).file c.target task.opened databases.target opens.target
@@ -177,10 +198,10 @@ module _ (copies : Copies) (apart : AreApart copies) (disks : Disks) (w : plans.
       makes : Makes (w c.target).doc (docs_of w c.sources) task.command wt.change.doc
       makes = subst (λ (ds : List BareDoc). Makes (w c.target).doc ds task.command wt.change.doc) (sources_are copies disks w hold c on wt.task wt.is_task writes)
           (subst (λ (d : BareDoc). Makes d task.sources task.command wt.change.doc) that.doc
-          (task_makes c.time task c.world.dice wt.change is_doc (kind_of task.command writes opened_so.no_import) wt.makes))
+          (task_makes c.time task c.world.dice wt.change is_doc (kind_of task.command writes opened_so.opens) wt.makes))
 
       name_is : target_of task.command ≡ (copies.copy c.target).name
-      name_is = ap (λ (i : Option ImportNeeds). file_made i (needs_of task.command).file) opened_so.no_import ∙ sym opened_so.target.named
+      name_is = opened_target task.command opened_so.opens ∙ sym opened_so.target.named
 
       held_there : IsHeld c.world.files (copies.copy c.target).name (key_in task.opened.sealing) (w c.target).doc
       held_there = subst (λ (k : Option (List ℕ)). IsHeld c.world.files (copies.copy c.target).name k (w c.target).doc) (sym that.under)

@@ -8,7 +8,8 @@ use Rattle.doc_forms.specs.Documents.{DocumentAndHash}
 use Rattle.kdbx_open.specs.Opening.{FileContents}
 use Rattle.kdbx_open.specs.Sealed.{Sealed}
 use Rattle.cli_words.specs.declared.command.Access.{Access}
-use Rattle.cli_words.specs.Needs.{import_of, needs_of}
+use Rattle.cli_words.specs.Needs as from
+use Rattle.cli_words.specs.Needs.{needs_of, origin_of}
 use Rattle.cli_files.specs.Files.{plain_document}
 use Rattle.cli_files.specs.Held.{GivesKey}
 use Rattle.cli_files.specs.Tasks.{Task}
@@ -96,9 +97,9 @@ AreOpened copies c from same target (name ∷ names) (line ∷ lines) (i ∷ is)
     IsOpened copies c from (password_from same target line) name i
     × AreOpened copies c from same target names lines is
 
--- A task is no import, and opens the copies that the call names.
+-- A task makes no database and changes no key, and opens the copies that the call names.
 pub record OpensCopies (copies : Copies) (c : CallSeen) (task : Task) : Type 0 where
-  pub no_import : import_of task.command ≡ None
+  pub opens : origin_of task.command ≡ from.Opened
   pub target : IsOpened copies c (needs_of task.command).access task.lines.password
       (needs_of task.command).file c.target
   pub sources : AreOpened copies c (needs_of task.command).from (needs_of task.command).same

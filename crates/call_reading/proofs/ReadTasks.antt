@@ -1,6 +1,6 @@
 -- What a call asks for, phase after phase.
 use Rattle.std.proofs.Common.{◌≡◌, ℕ, List, sym, ◌∙◌, ap, subst, Option, Result, Ok, Err}
-use Rattle.std.specs.Prelude.{not, Contains, is_some}
+use Rattle.std.specs.Prelude.{Contains}
 use Rattle.outside_core.specs.Counts.{Increased}
 use Rattle.outside_core.specs.Files.{FileMap}
 use Rattle.outside_core.specs.Results.{◌>>=◌}
@@ -11,11 +11,10 @@ use Rattle.cli_answers.specs.declared.answers.Stop.TheVariants.{Refused, FileFau
 use Rattle.cli_answers.specs.Phases.{IsEarlyStop, IsFileStop, IsLeft, IsStreamStop, IsWordsStop, Leaves, RefusesAskedStream, Stops, TellsStream}
 use Rattle.cli_lines.specs.Lines.{HasLines, Lines, lines_of}
 use Rattle.cli_lines.proofs.Inputs.{left_alone}
-use Rattle.cli_words.specs.Needs.{Needs, asks_line, files_named, import_of, needs_of, target_access}
+use Rattle.cli_words.specs.Needs.{Needs, asks_line, files_named, needs_of}
 use Rattle.cli_words.specs.declared.command.Command.{Command}
 use Rattle.cli_files.specs.Files.{Databases}
 use Rattle.call_reading.specs.Opening.{SomeCommandDatabases, databases_for}
-use Rattle.call_reading.proofs.Opened.{sealed_by}
 use Rattle.cli_files.specs.declared.task.Task as memory
 use Rattle.cli_words.specs.Words.{command_of}
 use Rattle.cli_files.specs.Tasks.{task_with}
@@ -87,13 +86,6 @@ database_refused (Refused refusal) words time input files command needs lines c 
 database_refused (FileFault name) words time input files command needs lines c same p h = tt
 database_refused InputFault words time input files command needs lines c same p h = tt
 database_refused NoMemory words time input files command needs lines c same p h = tt
-
--- ---- what opens databases
-
--- The database is sealed unless it is a plain document.
-pub sealed_for : (command : Command) (lines : Lines) (time : ℕ) (databases : Databases) → SomeCommandDatabases command lines time databases
-    → is_some databases.target.sealing ≡ not (target_access command).plain
-sealed_for command lines time databases h = sealed_by (import_of command) (needs_of command) lines time databases h
 
 -- ---- what is left of the input
 

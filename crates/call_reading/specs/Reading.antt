@@ -11,7 +11,7 @@ use Rattle.call_reading.specs.Opening.{SomeCommandDatabases, databases_for}
 use Rattle.cli_files.specs.Tasks.{Task, databases_in, task_with}
 
 -- What these words ask for at a moment over this input and these files: the command, the lines that
--- are due, and the databases that the command names, or the one that an import makes.
+-- are due, and the databases that the command names, or the one that it makes.
 unfoldable pub task_of : List (List ℕ) → ℕ → List ℕ → FileMap → Result Task Refusal
 task_of words time input files = do
   command ← command_of words

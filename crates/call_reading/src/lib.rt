@@ -1,5 +1,5 @@
 //! What a call of the program is to do, from its words, its input and its files: the databases that
-//! a command opens, or the one that an import makes, are its part.
+//! a command opens, or the one that it makes, are its part.
 #![tactic(auto)]
 
 mod opening;

@@ -4,46 +4,27 @@ ghost use Rattle.outside_core.specs.Files.{FileMap};
 ghost use Rattle.kdbx_frame.specs.Settings.{IsInOrder};
 ghost use Rattle.cli_answers.specs.Phases.{IsFileStop, Returns};
 ghost use Rattle.cli_databases.specs.SeenOpened.{databases_seen};
-ghost use Rattle.cli_lines.specs.Lines.{CanOpen, HasLines};
-ghost use Rattle.cli_lines.specs.SeenLines.{line_seen, lines_seen};
-ghost use Rattle.cli_words.specs.Needs.{HasKey, HasKeys, Needs, files_by, files_named, needs_of, target_access};
-ghost use Rattle.cli_words.specs.SeenNeeds.{import_seen};
-ghost use Rattle.call_reading.specs.Opening.{SomeImportOrDatabases, SomeCommandDatabases, databases_by, databases_for};
+ghost use Rattle.cli_lines.specs.Lines.{HasLines};
+ghost use Rattle.cli_lines.specs.SeenLines.{lines_seen};
+ghost use Rattle.cli_words.specs.Needs.{HasKey, HasKeyAfter, HasKeys, files_named, needs_of, target_access};
+ghost use Rattle.call_reading.specs.Opening.{SomeCommandDatabases, databases_for};
+ghost use Rattle.call_reading.specs.SeenAlone.{IsAlone};
 
 use cli_answers::Stop;
 use cli_databases::{Databases, open};
+use cli_files::Opened;
 use cli_importing::import;
 use cli_lines::Lines;
-use cli_words::{Command, ImportNeeds, import_of};
+use cli_resealing::{create, edit_file};
+use cli_words::{Command, Origin, origin_of};
 use outside_core::{FileStore, List};
 use std::alloc::Global;
 
-// The database that an import makes, which has no sources beside it.
-fn open_import<F: FileStore>(
-    alloc: Global,
-    files: &mut F,
-    needs: ImportNeeds<'_>,
-    lines: &Lines,
-    now: u64,
-) -> Result<Databases, Stop>
-    requires { CanOpen needs.access.now (line_seen lines.now.more) }
-    ensures told { (n : Needs) (m : FileMap) → F.files files.old ≡ Some m
-        → Returns databases_seen result
-        (databases_by (Some (import_seen needs.entry)) n (lines_seen lines.now) now m) }
-    ensures some_file { (n : Needs) → IfOk result (λ databases.
-        SomeImportOrDatabases (Some (import_seen needs.entry)) n (lines_seen lines.now) now
-        (databases_seen databases)) }
-    ensures in_order { IfOk result (λ databases. IfSome databases.target.sealing (λ sealing.
-        IsInOrder sealing.settings)) }
-    ensures cause { (n : Needs) → IfErr result (IsFileStop
-        (files_by (Some (import_seen needs.entry)) n)
-        (F.faults files.old) (F.faults files.new) (F.absences files.old) (F.absences files.new)) }
-    ensures faults { F.faults files.old ≤ F.faults files.new }
-    ensures files { F.files files.new ≡ F.files files.old }
-    ensures draft_name { F.draft_name files.new ≡ F.draft_name files.old }
-    ensures draft_bytes { F.draft_bytes files.new ≡ F.draft_bytes files.old }
+// A database that a command makes, which has no sources beside it.
+fn alone(alloc: Global, made: Result<Opened, Stop>) -> Result<Databases, Stop>
+    ensures { IsAlone made result }
 {
-    match import(alloc, files, needs, lines, now) {
+    match made {
         Ok(target) => Ok(Databases {
             target,
             sources: List::new(alloc),
@@ -53,8 +34,8 @@ fn open_import<F: FileStore>(
 }
 
 /// Opens the databases of a command at a moment, with the lines that it asked for: those that it
-/// names, or the one that an import makes. The composite key of a sealed one goes on with it, and
-/// must be cleared and released; after a refusal it was. No file is changed.
+/// names, or the one that it makes. The composite key of a sealed one goes on with it, and must be
+/// cleared and released; after a refusal it was. No file is changed.
 pub fn open_for<F: FileStore>(
     alloc: Global,
     files: &mut F,
@@ -64,6 +45,7 @@ pub fn open_for<F: FileStore>(
 ) -> Result<Databases, Stop>
     requires keys { HasKeys (needs_of command.now) }
     requires target_key { HasKey (target_access command.now) }
+    requires new_key { HasKeyAfter command.now }
     requires lines { HasLines (needs_of command.now) (lines_seen lines.now) }
     ensures told { (m : FileMap) → F.files files.old ≡ Some m
         → Returns databases_seen result
@@ -79,8 +61,11 @@ pub fn open_for<F: FileStore>(
     ensures draft_name { F.draft_name files.new ≡ F.draft_name files.old }
     ensures draft_bytes { F.draft_bytes files.new ≡ F.draft_bytes files.old }
 {
-    match import_of(command) {
-        Some(needs) => open_import(alloc, files, needs, lines, now),
-        None => open(alloc, files, cli_words::needs_of(command), lines),
+    let needs = cli_words::needs_of(command);
+    match origin_of(command) {
+        Origin::Opened => open(alloc, files, needs, lines),
+        Origin::Imported(source) => alone(alloc, import(alloc, files, source, lines, now)),
+        Origin::Created(new) => alone(alloc, create(alloc, files, new, lines, now)),
+        Origin::Changed(change) => alone(alloc, edit_file(alloc, files, needs, change, lines)),
     }
 }

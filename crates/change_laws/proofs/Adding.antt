@@ -8,7 +8,7 @@ use Rattle.kdbx_frame.specs.declared.settings.Settings.{Settings}
 use Rattle.cli_answers.specs.Phases.{StreamAnswer, then_left}
 use Rattle.cli_codes.specs.Codes.{code_refusal}
 use Rattle.cli_words.specs.declared.command.Command.{Command}
-use Rattle.cli_words.specs.declared.command.Command.TheVariants.{Ls, Show, Search, Add, Edit, Move, Remove, MakeGroup, RemoveGroup, Merge, Import, Export, Info}
+use Rattle.cli_words.specs.declared.command.Command.TheVariants.{Ls, Show, Search, Add, Edit, Move, Remove, MakeGroup, RemoveGroup, Merge, Import, Create, Export, EditFile, Info}
 use Rattle.cli_words.specs.Needs.{generated_by}
 use Rattle.cli_writing.specs.Drawing.{next_bytes}
 use Rattle.cli_changes.specs.Entries.{after_add_command, after_edit_command, entry_title, values_of}
@@ -72,7 +72,9 @@ module _ (time : ℕ) (line otp : Option (List ℕ)) (sources : List BareDoc) (s
   added (RemoveGroup access file group) can h = absurd can
   added (Merge access file names from same dry) can h = absurd can
   added (Import access format source from file) can h = absurd can
+  added (Create access file name cipher kdf) can h = absurd can
   added (Export access format file) can h = absurd can
+  added (EditFile access file change) can h = absurd can
   added (Info access file) can h = absurd can
 
 pub commands_add : CommandsAdd

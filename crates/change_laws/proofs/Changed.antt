@@ -23,7 +23,7 @@ use Rattle.cli_codes.specs.Codes.{code_refusal}
 use Rattle.cli_generating.specs.Generated.{generated}
 use Rattle.cli_profiles.specs.declared.profiles.PasswordProfile.{PasswordProfile}
 use Rattle.cli_words.specs.declared.command.Command.{Command}
-use Rattle.cli_words.specs.declared.command.Command.TheVariants.{Ls, Show, Search, Add, Edit, Move, Remove, MakeGroup, RemoveGroup, Merge, Import, Export, Info}
+use Rattle.cli_words.specs.declared.command.Command.TheVariants.{Ls, Show, Search, Add, Edit, Move, Remove, MakeGroup, RemoveGroup, Merge, Import, Create, Export, EditFile, Info}
 use Rattle.cli_words.specs.Needs.{generated_by}
 use Rattle.cli_writing.specs.Drawing.{next_bytes}
 use Rattle.cli_changes.specs.Entries.{AfterCommand, after_add_command, after_edit_command, entry_title, time_of, values_of}
@@ -124,7 +124,9 @@ leaves_grown time (RemoveGroup access file group) line otp sources settings id d
     grown d change m.after.doc m.doc (λ ise. remove_group_grows group (bin_id id d) time d m.after isd ise (bin_given id (needs_bin d)) m.is)
 leaves_grown time (Merge access file names from same dry) line otp sources settings id d change isd e h = absurd (true≢false (sym e))
 leaves_grown time (Import access format source from file) line otp sources settings id d change isd e h = absurd (true≢false (sym e))
+leaves_grown time (Create access file name cipher kdf) line otp sources settings id d change isd e h = absurd (true≢false (sym e))
 leaves_grown time (Export access format file) line otp sources settings id d change isd e h = absurd (true≢false (sym e))
+leaves_grown time (EditFile access file asked) line otp sources settings id d change isd e h = absurd (true≢false (sym e))
 leaves_grown time (Info access file) line otp sources settings id d change isd e h = absurd (true≢false (sym e))
 
 -- what is drawn for the id

@@ -7,11 +7,11 @@ use Rattle.command_laws.specs.Growing.{GrowsInCurrent}
 use Rattle.kdbx_frame.specs.declared.settings.Settings.{Settings}
 use Rattle.cli_words.specs.declared.command.Access.{Access}
 use Rattle.cli_words.specs.declared.command.Command.{Command}
-use Rattle.cli_words.specs.declared.command.Command.TheVariants.{Ls, Show, Search, Add, Edit, Move, Remove, MakeGroup, RemoveGroup, Merge, Import, Export, Info}
+use Rattle.cli_words.specs.declared.command.Command.TheVariants.{Ls, Show, Search, Add, Edit, Move, Remove, MakeGroup, RemoveGroup, Merge, Import, Create, Export, EditFile, Info}
 use Rattle.cli_commands.specs.Commands.{Change, change_of}
 
--- A command changes the document that it opens by itself: it is no merge, no import, and does not
--- only read.
+-- A command changes the document that it opens by itself: it is no merge, makes no database, changes
+-- no key, and does not only read.
 abbrev pub edits : Command → Bool
 edits (Ls access file group recursive flat) = false
 edits (Show access file entry clear all attachments names totp) = false
@@ -24,7 +24,9 @@ edits (MakeGroup access file group) = true
 edits (RemoveGroup access file group) = true
 edits (Merge access file names from same dry) = false
 edits (Import access format source from file) = false
+edits (Create access file name cipher kdf) = false
 edits (Export access format file) = false
+edits (EditFile access file change) = false
 edits (Info access file) = false
 
 -- A change leaves another document, which grew in what is current.

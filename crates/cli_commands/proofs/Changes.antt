@@ -20,7 +20,7 @@ use Rattle.cli_changes.specs.Ids.{new_id}
 use Rattle.cli_writing.proofs.Drawn.{next_first}
 use Rattle.cli_lines.specs.Lines.{IsTextLine}
 use Rattle.cli_words.specs.declared.command.Command.{Command}
-use Rattle.cli_words.specs.declared.command.Command.TheVariants.{Ls, Show, Search, Add, Edit, Move, Remove, MakeGroup, RemoveGroup, Merge, Import, Export, Info}
+use Rattle.cli_words.specs.declared.command.Command.TheVariants.{Ls, Show, Search, Add, Edit, Move, Remove, MakeGroup, RemoveGroup, Merge, Import, Create, Export, EditFile, Info}
 use Rattle.cli_commands.specs.declared.output.Change as declared
 use Rattle.cli_commands.specs.Commands.{Change, bin_id, change_by, change_of, change_with, drawn_id, draws_change, draws_id, password_of, some_password, listing_of, makes_node, may_write, merged_change, printed_text}
 use Rattle.cli_printing.specs.Exporting.{exported}
@@ -70,7 +70,9 @@ makes_drawn (MakeGroup access file group) doc e = e
 makes_drawn (RemoveGroup access file group) doc e = cc
 makes_drawn (Merge access file names from same dry) doc e = refl
 makes_drawn (Import access format source from file) doc e = refl
+makes_drawn (Create access file name cipher kdf) doc e = e
 makes_drawn (Export access format file) doc e = refl
+makes_drawn (EditFile access file change) doc e = refl
 makes_drawn (Info access file) doc e = refl
 
 neither : (a b : Bool) → (a || b) ≡ false → (a ≡ false) × (b ≡ false)
@@ -244,7 +246,9 @@ none_with time (Merge access file names from same false) line otp sources settin
 none_with time (Merge access file names from same true) line otp sources settings id doc e =
     merged_none (after_merge file access.quiet true names doc sources) (dry_none file access.quiet names doc sources)
 none_with time (Import access format source from file) line otp sources settings id doc e = cc
+none_with time (Create access file name cipher kdf) line otp sources settings id doc e = cc
 none_with time (Export access format file) line otp sources settings id doc e = printed_none (exported file format doc)
+none_with time (EditFile access file change) line otp sources settings id doc e = cc
 none_with time (Info access file) line otp sources settings id doc e = printed_none (Ok (info_shown settings doc))
 
 none_after : {A : Type 0} (next : A → List ℕ → StreamAnswer Change) → ((a : A) (left : List ℕ) → IfOk (next a left).answer (λ change. change.doc ≡ None))

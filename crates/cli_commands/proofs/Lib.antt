@@ -1,1 +1,2 @@
 pub mod Changes
+mod RootIds

@@ -2,14 +2,16 @@
 use Rattle.std.specs.Prelude.{ℕ, Bool, true, false, not, ◌||◌, if◌then◌else◌, is_some, List, [], codes, Option, None, Some, Result, Ok, Err}
 use Rattle.kdbx_frame.specs.declared.settings.Settings.{Settings}
 use Rattle.vault_model.specs.Db.{NodeId, nil_id}
+use Rattle.vault_model.specs.Tree as tree
 use Rattle.vault_model.specs.Tree.{BareDoc, Tree}
+use Rattle.tree_core.specs.Changes.{is_free}
 use Rattle.tree_core.specs.After.{needs_bin}
-use Rattle.cli_answers.specs.declared.answers.Reason.TheVariants.{NoSuchPath}
+use Rattle.cli_answers.specs.declared.answers.Reason.TheVariants.{IdTaken, NoSuchPath}
 use Rattle.cli_answers.specs.declared.answers.Refusal.{Refusal}
 use Rattle.cli_answers.specs.Messages.{refusal_of}
 use Rattle.cli_answers.specs.Phases.{StreamAnswer, then_left, with_left}
 use Rattle.cli_words.specs.declared.command.Command.{Command}
-use Rattle.cli_words.specs.declared.command.Command.TheVariants.{Ls, Show, Search, Add, Edit, Move, Remove, MakeGroup, RemoveGroup, Merge, Import, Export, Info}
+use Rattle.cli_words.specs.declared.command.Command.TheVariants.{Ls, Show, Search, Add, Edit, Move, Remove, MakeGroup, RemoveGroup, Merge, Import, Create, Export, EditFile, Info}
 use Rattle.outside_core.specs.Results.{◌>>=◌}
 use Rattle.cli_profiles.specs.declared.profiles.PasswordProfile.{PasswordProfile}
 use Rattle.cli_generating.specs.Generated.{generated}
@@ -30,7 +32,7 @@ pub record Change : Type 0 where
   pub text : List ℕ
   pub doc : Option BareDoc
 
--- A command may write a file: its database, or that of what an import makes. A merge does where its
+-- A command may write a file: its database, or one that it makes. A merge does where its
 -- document is another after it, and the others wherever they are carried out.
 abbrev pub may_write : Command → Bool
 may_write (Ls access file group recursive flat) = false
@@ -44,10 +46,13 @@ may_write (MakeGroup access file group) = true
 may_write (RemoveGroup access file group) = true
 may_write (Merge access file names from same dry) = not dry
 may_write (Import access format source from file) = true
+may_write (Create access file name cipher kdf) = true
 may_write (Export access format file) = false
+may_write (EditFile access file change) = true
 may_write (Info access file) = false
 
--- A command may make a node, whose id is drawn: an entry, a group, or the bin of a removal.
+-- A command may make a node, whose id is drawn: an entry, a group, the root of an empty database, or
+-- the bin of a removal.
 abbrev pub draws_id : Command → Bool
 draws_id (Ls access file group recursive flat) = false
 draws_id (Show access file entry clear all attachments names totp) = false
@@ -60,7 +65,9 @@ draws_id (MakeGroup access file group) = true
 draws_id (RemoveGroup access file group) = true
 draws_id (Merge access file names from same dry) = false
 draws_id (Import access format source from file) = false
+draws_id (Create access file name cipher kdf) = true
 draws_id (Export access format file) = false
+draws_id (EditFile access file change) = false
 draws_id (Info access file) = false
 
 -- A command makes a node in this document; a removal does where it needs a bin.
@@ -76,7 +83,9 @@ makes_node (MakeGroup access file group) doc = true
 makes_node (RemoveGroup access file group) doc = needs_bin doc
 makes_node (Merge access file names from same dry) doc = false
 makes_node (Import access format source from file) doc = false
+makes_node (Create access file name cipher kdf) doc = true
 makes_node (Export access format file) doc = false
+makes_node (EditFile access file change) doc = false
 makes_node (Info access file) doc = false
 
 -- The lines of the group that is listed, or that the path names none of the file's groups.
@@ -100,10 +109,41 @@ abbrev pub merged_change : Result AfterMerge Refusal → Result Change Refusal
 merged_change (Ok after) = Ok (record { text = after.text; doc = after.doc })
 merged_change (Err refusal) = Err refusal
 
--- What an import prints; nothing where it is quiet.
+-- A report, which is not printed where a command is quiet.
+abbrev pub text_unless : Bool → List ℕ → List ℕ
+text_unless true text = []
+text_unless false text = text
+
+-- What an import prints.
 abbrev pub imported_text : Bool → List ℕ
-imported_text true = []
-imported_text false = codes "Successfully imported database.\n"
+imported_text quiet = text_unless quiet (codes "Successfully imported database.\n")
+
+-- What is printed of an empty database that was made.
+abbrev pub created_text : Bool → List ℕ
+created_text quiet = text_unless quiet (codes "Successfully created new database.\n")
+
+-- What is printed of a database's file that was changed.
+abbrev pub changed_text : Bool → List ℕ
+changed_text quiet = text_unless quiet (codes "Successfully edited the database.\n")
+
+-- A tree whose root has this id.
+abbrev pub rooted_at : NodeId → Tree → Tree
+rooted_at id (tree.node root group entries groups) = tree.node id group entries groups
+
+-- A document whose root has this id.
+abbrev pub with_root_id : NodeId → BareDoc → BareDoc
+with_root_id id doc = record doc { tree = rooted_at id doc.tree }
+
+-- What making an empty database leaves: its document, whose root has this id.
+abbrev pub created_change : Bool → NodeId → BareDoc → Change
+created_change quiet id doc =
+    record { text = created_text quiet; doc = Some (with_root_id id doc) }
+
+-- The same, or the refusal about its file where the id is taken.
+abbrev pub created_or_refusal : List ℕ → Bool → NodeId → BareDoc → Result Change Refusal
+created_or_refusal file quiet id doc =
+    if is_free id doc then Ok (created_change quiet id doc)
+    else Err (refusal_of (IdTaken id) file)
 
 -- The id of the bin that a removal makes, where it needs one.
 abbrev pub bin_id : NodeId → BareDoc → Option NodeId
@@ -138,8 +178,12 @@ change_with time (Merge access file names from same dry) line otp sources settin
     merged_change (after_merge file access.quiet dry names doc sources)
 change_with time (Import access format source from file) line otp sources settings id doc =
     Ok (record { text = imported_text access.quiet; doc = Some doc })
+change_with time (Create access file name cipher kdf) line otp sources settings id doc =
+    created_or_refusal file access.quiet id doc
 change_with time (Export access format file) line otp sources settings id doc =
     printed_text (exported file format doc)
+change_with time (EditFile access file change) line otp sources settings id doc =
+    Ok (record { text = changed_text access.quiet; doc = Some doc })
 change_with time (Info access file) line otp sources settings id doc =
     printed_text (Ok (info_shown settings doc))
 

@@ -31,7 +31,9 @@ pub(crate) fn makes_node(command: &Command, doc: &Doc) -> bool
         Command::RemoveGroup { .. } => needs_bin(doc),
         Command::Merge { .. } => false,
         Command::Import { .. } => false,
+        Command::Create { .. } => true,
         Command::Export { .. } => false,
+        Command::EditFile { .. } => false,
         Command::Info { .. } => false,
     }
 }

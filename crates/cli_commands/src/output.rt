@@ -10,7 +10,7 @@ use secret_core::Secret;
 /// What a command prints.
 #[derive(Drop)]
 pub enum Output {
-    /// A listing, or the report of an import.
+    /// A listing, or the report of a command that writes its document as it is.
     Listing(Bytes),
     /// What is shown, or the report of a change, in memory that is wiped, since a title may be secret.
     Report(Secret),

@@ -3,6 +3,8 @@ ghost use Rattle.std.specs.Prelude.{◌≡◌, ◌≤◌, ℕ, List, Ok, Some, I
 ghost use Rattle.outside_core.specs.Streams.{LosesPrefix};
 ghost use Rattle.vault_model.specs.SeenDoc.{doc_seen};
 ghost use Rattle.vault_model.specs.Tree.{BareDoc};
+ghost use Rattle.vault_model.specs.SeenNodes.{tree_seen};
+ghost use Rattle.tree_core.specs.Changes as changes;
 ghost use Rattle.tree_core.specs.NewNodes.{lent_value};
 ghost use Rattle.cli_answers.specs.Phases.{IsPlainStop, IsStreamStop, Returns, ReturnsAskedStream, TellsStream};
 ghost use Rattle.std.specs.Str.{is_utf8};
@@ -11,7 +13,7 @@ ghost use Rattle.cli_profiles.specs.Profiles.{IsProfile};
 ghost use Rattle.cli_words.specs.Needs.{generated_by, needs_of};
 ghost use Rattle.cli_printing.specs.Listing.{tree_listed};
 ghost use Rattle.cli_commands.specs.Commands as spec;
-ghost use Rattle.cli_commands.specs.Commands.{change_of, change_with, draws_change, imported_text, listing_of};
+ghost use Rattle.cli_commands.specs.Commands.{change_of, change_with, changed_text, created_change, created_or_refusal, draws_change, imported_text, listing_of, rooted_at, text_unless, with_root_id};
 ghost use Rattle.cli_commands.specs.SeenChange.{change_seen, lent_settings};
 ghost use Rattle.cli_printing.specs.Info.{info_shown};
 
@@ -30,8 +32,9 @@ use kdbx_frame::Settings;
 use outside_core::{Bytes, Dice, NoMemory, Text};
 use secret_core::Secret;
 use std::alloc::Global;
+use tree_steps::is_free;
 use uuid_core::Uuid;
-use vault_model::Doc;
+use vault_model::{Doc, Group};
 
 /// Reports whether a command may write a file.
 pub fn may_write(command: &Command) -> bool
@@ -49,7 +52,9 @@ pub fn may_write(command: &Command) -> bool
         Command::RemoveGroup { .. } => true,
         Command::Merge { dry, .. } => !*dry,
         Command::Import { .. } => true,
+        Command::Create { .. } => true,
         Command::Export { .. } => false,
+        Command::EditFile { .. } => true,
         Command::Info { .. } => false,
     }
 }
@@ -166,20 +171,91 @@ fn describe(alloc: Global, doc: &Doc, settings: Option<&Settings>) -> Result<Sec
     }
 }
 
-// The report of an import, whose document is written as it is.
-fn report_import(alloc: Global, quiet: bool) -> Result<Change, Stop>
+// The change of a command whose document is written as it is, with this report, which is not printed
+// where the command is quiet.
+fn report_written(alloc: Global, quiet: bool, report: &[u8]) -> Result<Change, Stop>
     ensures told { (doc : BareDoc) → Returns (λ change. change_seen change doc) result
-        (Ok (record { text = imported_text quiet; doc = Some doc })) }
+        (Ok (record { text = text_unless quiet report.now; doc = Some doc })) }
     ensures cause { IfErr result IsPlainStop }
 {
     let mut text = Bytes::new(alloc);
     if !quiet {
-        text.add(b"Successfully imported database.\n")?;
+        text.add(report)?;
     }
     Ok(Change {
         output: Output::Listing(text),
         is_written: true,
     })
+}
+
+// Gives the root of a tree another id.
+fn put_root_id(root: &mut Group, id: Uuid)
+    ensures { tree_seen root.new ≡ rooted_at id (tree_seen root.old) }
+{
+    root.id = id;
+}
+
+// Gives the root of a document another id, which is none of its nodes' and of its tombstones'.
+fn set_root_id(doc: &mut Doc, id: Uuid)
+    requires { changes.is_free id (doc_seen doc.old) ≡ true }
+    ensures { doc_seen doc.new ≡ with_root_id id (doc_seen doc.old) }
+{
+    put_root_id(&mut doc.root, id);
+}
+
+// The change of an import.
+fn report_import(alloc: Global, quiet: bool) -> Result<Change, Stop>
+    ensures told { (doc : BareDoc) → Returns (λ change. change_seen change doc) result
+        (Ok (record { text = imported_text quiet; doc = Some doc })) }
+    ensures cause { IfErr result IsPlainStop }
+{
+    report_written(alloc, quiet, b"Successfully imported database.\n")
+}
+
+// The change of a command that changes how its database is sealed.
+fn report_changed(alloc: Global, quiet: bool) -> Result<Change, Stop>
+    ensures told { (doc : BareDoc) → Returns (λ change. change_seen change doc) result
+        (Ok (record { text = changed_text quiet; doc = Some doc })) }
+    ensures cause { IfErr result IsPlainStop }
+{
+    report_written(alloc, quiet, b"Successfully edited the database.\n")
+}
+
+// The change of a command that makes an empty database, whose root gets this id.
+fn report_created(alloc: Global, quiet: bool, id: Uuid, doc: &mut Doc) -> Result<Change, Stop>
+    requires { changes.is_free id (doc_seen doc.old) ≡ true }
+    ensures told { Returns (λ change. change_seen change (doc_seen doc.new)) result
+        (Ok (created_change quiet id (doc_seen doc.old))) }
+    ensures unchanged { IfErr result (λ _. doc_seen doc.new ≡ doc_seen doc.old) }
+    ensures cause { IfErr result IsPlainStop }
+{
+    match report_written(alloc, quiet, b"Successfully created new database.\n") {
+        Ok(change) => {
+            set_root_id(doc, id);
+            Ok(change)
+        }
+        Err(stop) => Err(stop),
+    }
+}
+
+// The same, unless the id is taken.
+fn create_empty(
+    alloc: Global,
+    file: &str,
+    quiet: bool,
+    id: Uuid,
+    doc: &mut Doc,
+) -> Result<Change, Stop>
+    ensures told { Returns (λ change. change_seen change (doc_seen doc.new)) result
+        (created_or_refusal file.now quiet id (doc_seen doc.old)) }
+    ensures unchanged { IfErr result (λ _. doc_seen doc.new ≡ doc_seen doc.old) }
+    ensures cause { IfErr result IsPlainStop }
+{
+    if is_free(doc, id) {
+        report_created(alloc, quiet, id, doc)
+    } else {
+        Err(refused(alloc, Reason::IdTaken(id), file))
+    }
 }
 
 // What a merge is given beside its documents.
@@ -269,7 +345,9 @@ fn change_document<'a>(
             merge_change(merge_into(alloc, doc, input.sources, given))
         }
         Command::Import { access, .. } => report_import(alloc, access.quiet),
+        Command::Create { access, .. } => { create_empty(alloc, given.file, access.quiet, id, doc) }
         Command::Export { format, .. } => printed(export(alloc, doc, *format, given.file)),
+        Command::EditFile { access, .. } => report_changed(alloc, access.quiet),
         Command::Info { .. } => printed(describe(alloc, doc, input.settings)),
     }
 }

@@ -164,9 +164,9 @@ fn open_under<F: FileStore>(
     }
 }
 
-// What a file holds sealed under the composite key of a password and a key file's key, of which
-// there is one at least.
-fn open_sealed<F: FileStore>(
+/// What a file holds sealed under the composite key of a password and a key file's key, of which
+/// there is one at least. The composite key must be cleared and released; after a refusal it was.
+pub fn open_sealed<F: FileStore>(
     alloc: Global,
     files: &mut F,
     name: &str,

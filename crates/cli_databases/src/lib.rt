@@ -4,4 +4,4 @@
 mod databases;
 mod plain;
 
-pub use databases::{Databases, open};
+pub use databases::{Databases, open, open_sealed};

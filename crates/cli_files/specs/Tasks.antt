@@ -4,7 +4,7 @@ use Rattle.std.specs.Prelude.{◌&&◌, ◌||◌, is_some, Bool, true, false, no
 use Rattle.vault_model.specs.Tree.{BareDoc}
 use Rattle.cli_answers.specs.declared.answers.Refusal.{Refusal}
 use Rattle.cli_words.specs.declared.command.Command.{Command}
-use Rattle.cli_words.specs.declared.command.Command.TheVariants.{Ls, Show, Search, Add, Edit, Move, Remove, MakeGroup, RemoveGroup, Merge, Import, Export, Info}
+use Rattle.cli_words.specs.declared.command.Command.TheVariants.{Ls, Show, Search, Add, Edit, Move, Remove, MakeGroup, RemoveGroup, Merge, Import, Create, Export, EditFile, Info}
 use Rattle.cli_lines.specs.Lines.{Lines}
 use Rattle.cli_files.specs.Files.{Databases, Opened}
 
@@ -43,7 +43,9 @@ draws (MakeGroup access file group) = true
 draws (RemoveGroup access file group) = true
 draws (Merge access file names from same dry) = not dry && not access.plain
 draws (Import access format source from file) = not access.plain
+draws (Create access file name cipher kdf) = true
 draws (Export access format file) = false
+draws (EditFile access file change) = not access.plain
 draws (Info access file) = false
 
 -- Whether words are a command that draws.

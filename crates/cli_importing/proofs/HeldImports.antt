@@ -50,13 +50,13 @@ unless_late : (late : Bool) (refusal : Refusal) (made : Result BareDoc Refusal) 
 unless_late true refusal made doc h = cc
 unless_late false refusal made doc h = (refl, h)
 
-in_time : (name : List ℕ) (time : ℕ) (made : Result BareDoc Refusal) (doc : BareDoc) → at_stamp name time made ≡ Ok doc
+pub in_time : (name : List ℕ) (time : ℕ) (made : Result BareDoc Refusal) (doc : BareDoc) → at_stamp name time made ≡ Ok doc
     → (time ≤ last_stamp) × (made ≡ Ok doc)
 in_time name time made doc h =
     let u = unless_late (nat_lt last_stamp time) (refusal_of StampLimit name) made doc h in
     (ltb-false last_stamp time u.0, u.1)
 
-stamped : (name : List ℕ) (time : ℕ) (made : Result BareDoc Refusal) → time ≤ last_stamp → at_stamp name time made ≡ made
+pub stamped : (name : List ℕ) (time : ℕ) (made : Result BareDoc Refusal) → time ≤ last_stamp → at_stamp name time made ≡ made
 stamped name time made h = ap (λ (b : Bool). if b then Err (refusal_of StampLimit name) else made) (le-ltb last_stamp time h)
 
 document_held : (format : ImportFormat) (name : List ℕ) (password : Option (List ℕ)) (time : ℕ) (bytes : List ℕ) (doc : BareDoc)
@@ -86,18 +86,18 @@ some_read (Err stop) format name password time bytes h = tt
 
 -- ---- the new file
 
-absent_by : (name : List ℕ) (file : Option (List ℕ)) (u : Unit {0}) → refuse_file name file ≡ Ok u → file ≡ None
+pub absent_by : (name : List ℕ) (file : Option (List ℕ)) (u : Unit {0}) → refuse_file name file ≡ Ok u → file ≡ None
 absent_by name None u h = refl
 absent_by name (Some bytes) u h = cc
 
-sealing_held : (plain : Bool) (key_file password : Option (List ℕ)) (files : FileMap) (sealing : Option Sealing)
+pub sealing_held : (plain : Bool) (key_file password : Option (List ℕ)) (files : FileMap) (sealing : Option Sealing)
     → sealing_of plain key_file password files ≡ Ok sealing → IsSealingBy plain key_file password files sealing
 sealing_held true key_file password files sealing h = cc
 sealing_held false key_file password files sealing h =
     let k = in_turn (key_of key_file files) (λ key. Ok (Some (new_sealing password key))) sealing h in
     (k.0, (key_held key_file files k.0 k.1.0, let is : sealing ≡ Some (new_sealing password k.0) = cc k.1.1 in is))
 
-sealing_given : (plain : Bool) (key_file password : Option (List ℕ)) (files : FileMap) (sealing : Option Sealing)
+pub sealing_given : (plain : Bool) (key_file password : Option (List ℕ)) (files : FileMap) (sealing : Option Sealing)
     → IsSealingBy plain key_file password files sealing → sealing_of plain key_file password files ≡ Ok sealing
 sealing_given true key_file password files sealing h = ap Ok (sym h)
 sealing_given false key_file password files sealing h =

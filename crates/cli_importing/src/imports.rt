@@ -34,8 +34,8 @@ fn faulty(alloc: Global, name: &str) -> Stop
     }
 }
 
-// Refuses where a file of this name is there.
-fn refuse_existing<F: FileStore>(alloc: Global, files: &mut F, name: &str) -> Result<(), Stop>
+/// Refuses where a file of this name is there, which is not changed.
+pub fn refuse_existing<F: FileStore>(alloc: Global, files: &mut F, name: &str) -> Result<(), Stop>
     ensures told { (m : FileMap) → F.files files.old ≡ Some m
         → Returns (λ u. u) result (refuse_file name.now (finmap.get m name.now)) }
     ensures cause { IfErr result (IsFileStop (name.now ∷ []) (F.faults files.old)
@@ -84,8 +84,9 @@ fn new_settings(alloc: Global) -> Result<Settings, NoMemory>
     })
 }
 
-// What a new file is sealed with, unless it is to be a plain document.
-fn new_sealing<F: FileStore>(
+/// What a new file is sealed with, unless it is to be a plain document. The composite key must be
+/// cleared and released; after a refusal there is none. No file is changed.
+pub fn new_sealing<F: FileStore>(
     alloc: Global,
     files: &mut F,
     access: &Access,

@@ -4,4 +4,4 @@
 mod imports;
 mod sources;
 
-pub use imports::import;
+pub use imports::{import, new_sealing, refuse_existing};

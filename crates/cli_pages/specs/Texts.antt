@@ -228,7 +228,7 @@ whole_text NoKeyFile = codes "'--no-password' needs a key file: -k FILE"
 whole_text NoKeyFileFrom = codes "'--no-password-from' needs '--key-file-from FILE'"
 whole_text (NoNewKey command) = no_new_key command
 whole_text (UnknownImportFormat name) = around (codes "unknown format '") name
-    (codes "': xml or psafe3 or csv or bitwarden")
+    (codes "': xml or psafe3 or csv")
 whole_text (UnknownExportFormat name) = around (codes "unknown format '") name
     (codes "': xml or csv")
 whole_text cause = profile_text cause

@@ -273,7 +273,7 @@ fn add_whole(text: &mut Bytes, cause: &Cause) -> Result<(), NoMemory>
                 text,
                 "unknown format '",
                 name.as_str(),
-                "': xml or psafe3 or csv or bitwarden",
+                "': xml or psafe3 or csv",
             )
         }
         Cause::UnknownExportFormat(name) => {

@@ -1,5 +1,5 @@
 -- What a command asks for.
-use Rattle.std.specs.Prelude.{◌≡◌, ℕ, Bool, false, true, IsSome, ◌&&◌, ◌||◌, not, List, [], ◌∷◌, ◌++◌, Option, None, Some, Result, Ok, Err}
+use Rattle.std.specs.Prelude.{◌≡◌, ℕ, Bool, false, true, IsSome, is_some, ◌&&◌, ◌||◌, not, List, [], ◌∷◌, ◌++◌, Option, None, Some, Result, Ok, Err}
 use Rattle.cli_answers.specs.declared.answers.Refusal.{Refusal}
 use Rattle.cli_profiles.specs.declared.profiles.PasswordProfile.{PasswordProfile}
 use Rattle.cli_words.specs.declared.command.Access.{Access}
@@ -14,12 +14,10 @@ use Rattle.cli_words.specs.declared.command.PasswordChange.{PasswordChange}
 use Rattle.cli_words.specs.declared.command.PasswordChange.TheVariants as password
 use Rattle.kdbx_frame.specs.declared.settings.Cipher.{Cipher}
 
--- What a command asks for: whether it opens its database; the file of that and how it is opened; the
--- files of its sources, how each is opened, and whether each has the password of the database;
--- whether a line of the input is due after those that open databases; and whether one more, a
--- one-time code, is due after it.
+-- What a command asks for: the file of its database and how it is opened; the files of its sources,
+-- how each is opened, and whether each has the password of the database; whether a line of the input
+-- is due after those that open databases; and whether one more, a one-time code, is due after it.
 pub record Needs : Type 0 where
-  pub opens : Bool
   pub access : Access
   pub file : List ℕ
   pub from : Access
@@ -31,7 +29,6 @@ pub record Needs : Type 0 where
 -- What a command asks for that has no sources.
 abbrev pub without_sources : Access → List ℕ → Bool → Needs
 without_sources access file has_line = record {
-  opens = true;
   access = access;
   file = file;
   from = access;
@@ -45,19 +42,16 @@ without_sources access file has_line = record {
 abbrev pub asks_password : Access → Bool
 asks_password access = not (access.plain || access.no_password)
 
--- What a command asks for that creates a database: the line is the password of that.
-abbrev pub creating : Access → List ℕ → Needs
-creating access file =
-    record (without_sources access file (asks_password access)) { opens = false }
-
--- The password of a database becomes another line of the input.
+-- A new password of a database is a line.
 abbrev pub sets_password : PasswordChange → Bool
 sets_password password.Keep = false
 sets_password password.Set = true
 sets_password password.Unset = false
 
 -- What each command asks for. The database that an import opens is its source, and the line after
--- the source's is the password of the new database. A database that is created is not opened.
+-- the source's is the password of the new database. The one that is made empty is not opened, and
+-- its line is the password that it is to have. Where a database's file gets another password, that
+-- is the line after the one that opens it.
 abbrev pub needs_of : Command → Needs
 needs_of (Ls access file group recursive flat) = without_sources access file false
 needs_of (Show access file entry clear all attachments names totp) =
@@ -71,7 +65,6 @@ needs_of (Remove access file entry) = without_sources access file false
 needs_of (MakeGroup access file group) = without_sources access file false
 needs_of (RemoveGroup access file group) = without_sources access file false
 needs_of (Merge access file sources from same dry) = record {
-  opens = true;
   access = access;
   file = file;
   from = from;
@@ -82,7 +75,7 @@ needs_of (Merge access file sources from same dry) = record {
 }
 needs_of (Import access format source from file) =
     without_sources from source (asks_password access)
-needs_of (Create access file name cipher kdf) = creating access file
+needs_of (Create access file name cipher kdf) = without_sources access file false
 needs_of (Export access format file) = without_sources access file false
 needs_of (EditFile access file change) =
     without_sources access file (sets_password change.password)
@@ -112,8 +105,8 @@ import_of (Import access format source from file) = Some (record {
 })
 import_of command = None
 
--- What `db-create` asks for: the file of the new database and how that is opened afterwards; its
--- name; its cipher; and how its key is derived.
+-- What an empty database is made by: how it is opened afterwards, its file and its name, and the
+-- cipher and the key derivation, each where it is asked for.
 pub record CreateNeeds : Type 0 where
   pub access : Access
   pub file : List ℕ
@@ -121,21 +114,31 @@ pub record CreateNeeds : Type 0 where
   pub cipher : Option Cipher
   pub kdf : Option KdfAsked
 
--- What `db-create` asks for; other commands are none.
-abbrev pub creation_of : Command → Option CreateNeeds
-creation_of (Create access file name cipher kdf) = Some (record {
+-- Where the database of a command comes from: it is opened; it is made of what another program has
+-- written; it is made empty; or it is opened, and its file is changed.
+pub data Origin : Type 0 where
+  Opened : Origin
+  Imported : ImportNeeds → Origin
+  Created : CreateNeeds → Origin
+  Changed : FileChange → Origin
+
+-- Where the database of each command comes from.
+abbrev pub origin_of : Command → Origin
+origin_of (Import access format source from file) = Imported (record {
+  format = format;
+  source = source;
+  access = access;
+  file = file;
+})
+origin_of (Create access file name cipher kdf) = Created (record {
   access = access;
   file = file;
   name = name;
   cipher = cipher;
   kdf = kdf;
 })
-creation_of command = None
-
--- What `db-edit` changes; other commands are none.
-abbrev pub edit_file_of : Command → Option FileChange
-edit_file_of (EditFile access file change) = Some change
-edit_file_of command = None
+origin_of (EditFile access file change) = Changed change
+origin_of command = Opened
 
 -- The file of what an import makes, or else the other.
 abbrev pub file_made : Option ImportNeeds → List ℕ → List ℕ
@@ -160,6 +163,28 @@ target_access command = access_made (import_of command) (needs_of command).acces
 abbrev pub HasKey : Access → Type 0
 HasKey access = access.plain ≡ false → access.no_password ≡ true → IsSome access.key_file
 
+-- A database has a password after a change of its file: it is set, or it stays.
+abbrev pub keeps_password : Access → PasswordChange → Bool
+keeps_password access password.Keep = not access.no_password
+keeps_password access password.Set = true
+keeps_password access password.Unset = false
+
+-- And it has a key file: it is set, or it stays.
+abbrev pub keeps_key_file : Access → KeyFileChange → Bool
+keeps_key_file access key_file.Keep = is_some access.key_file
+keeps_key_file access (key_file.Set name) = true
+keeps_key_file access key_file.Unset = false
+
+-- A file that is changed is sealed, and its new key has a password or a key file.
+pub record HasNewKey (access : Access) (change : FileChange) : Type 0 where
+  pub sealed : access.plain ≡ false
+  pub part : keeps_password access change.password || keeps_key_file access change.key_file ≡ true
+
+-- So it is with each command that changes a file.
+abbrev pub HasKeyAfter : Command → Type 0
+HasKeyAfter (EditFile access file change) = HasNewKey access change
+HasKeyAfter command = Unit {0}
+
 -- Each source asks for a line: a password of its own, unless it has the password of the database, or
 -- none.
 abbrev pub asks_passwords_from : Needs → Bool
@@ -172,14 +197,10 @@ pub record HasKeys (needs : Needs) : Type 0 where
   pub sources : HasKey needs.from
   pub same : needs.same ≡ true → needs.from ≡ needs.access
 
--- The database asks for a line where it is opened.
-abbrev pub asks_target_password : Needs → Bool
-asks_target_password needs = needs.opens && asks_password needs.access
-
 -- A line is asked for: by the database, by each of its sources, or after them.
 abbrev pub asks_line : Needs → Bool
 asks_line needs =
-    asks_target_password needs
+    asks_password needs.access
     || (asks_passwords_from needs || (needs.has_line || needs.has_otp))
 
 -- The key file, where one is named.
@@ -200,34 +221,23 @@ source_files from (name ∷ names) = database_files from name ++ source_files fr
 abbrev pub files_of : Needs → List (List ℕ)
 files_of needs = database_files needs.access needs.file ++ source_files needs.from needs.sources
 
--- The files of an import: its source, the new database, and the key file of that; or else those of
--- what a command asks for.
-abbrev pub files_by : Option ImportNeeds → Needs → List (List ℕ)
-files_by (Some import) needs = import.source ∷ import.file ∷ key_files import.access.key_file
-files_by None needs = files_of needs
-
--- The files of a database that is created: its own, and then its key file; or else the others.
-abbrev pub files_made : Option CreateNeeds → List (List ℕ) → List (List ℕ)
-files_made (Some new) files = new.file ∷ key_files new.access.key_file
-files_made None files = files
-
--- The new key file, where one is set.
+-- The key file that a database's file is to have, where one is named.
 abbrev pub new_key_files : KeyFileChange → List (List ℕ)
 new_key_files key_file.Keep = []
 new_key_files (key_file.Set name) = name ∷ []
 new_key_files key_file.Unset = []
 
--- These files, and then the new key file of a change.
-abbrev pub files_changed : Option FileChange → List (List ℕ) → List (List ℕ)
-files_changed (Some change) files = files ++ new_key_files change.key_file
-files_changed None files = files
-
--- The files that a command names.
-abbrev pub files_asked : Command → List (List ℕ)
-files_asked command = files_changed (edit_file_of command)
-    (files_made (creation_of command) (files_by (import_of command) (needs_of command)))
+-- The files of a database by where it comes from. Of an import they are its source, the new
+-- database, and the key file of that; of an empty database its own, and its key file; and of one
+-- whose file is changed those that it is opened by, and the new key file.
+abbrev pub files_by : Origin → Needs → List (List ℕ)
+files_by Opened needs = files_of needs
+files_by (Imported import) needs = import.source ∷ import.file ∷ key_files import.access.key_file
+files_by (Created create) needs = create.file ∷ key_files create.access.key_file
+files_by (Changed change) needs =
+    database_files needs.access needs.file ++ new_key_files change.key_file
 
 -- The files that the words name.
 abbrev pub files_named : Result Command Refusal → List (List ℕ)
-files_named (Ok command) = files_asked command
+files_named (Ok command) = files_by (origin_of command) (needs_of command)
 files_named (Err refusal) = []

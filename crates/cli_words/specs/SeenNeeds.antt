@@ -1,14 +1,15 @@
 -- What is seen of what a command asks for.
 use Rattle.std.specs.Prelude.{Option, option_map}
 use Rattle.cli_words.specs.declared.needs.Needs as declared
-use Rattle.cli_words.specs.declared.needs.CreateNeeds as lent_new
+use Rattle.cli_words.specs.declared.needs.CreateNeeds as made
 use Rattle.cli_words.specs.declared.needs.ImportNeeds as lent
-use Rattle.cli_words.specs.Needs.{CreateNeeds, ImportNeeds, Needs}
+use Rattle.cli_words.specs.declared.needs.Origin as from
+use Rattle.cli_words.specs.declared.needs.Origin.TheVariants as origin
+use Rattle.cli_words.specs.Needs.{CreateNeeds, Changed, Created, Imported, ImportNeeds, Needs, Opened, Origin}
 
 -- the same without the loans
 abbrev pub needs_seen : declared.Needs → Needs
 needs_seen needs = record {
-  opens = needs.opens;
   access = needs.access.now;
   file = needs.file.now;
   from = needs.from.now;
@@ -31,9 +32,9 @@ import_seen needs = record {
 abbrev pub imports_seen : Option lent.ImportNeeds → Option ImportNeeds
 imports_seen = option_map import_seen
 
--- what a new database asks for without the loans
-abbrev pub creation_seen : lent_new.CreateNeeds → CreateNeeds
-creation_seen needs = record {
+-- what an empty database is made by without the loans
+abbrev pub create_seen : made.CreateNeeds → CreateNeeds
+create_seen needs = record {
   access = needs.access.now;
   file = needs.file.now;
   name = needs.name.now;
@@ -41,6 +42,9 @@ creation_seen needs = record {
   kdf = needs.kdf;
 }
 
--- the same where there is a new database
-abbrev pub creations_seen : Option lent_new.CreateNeeds → Option CreateNeeds
-creations_seen = option_map creation_seen
+-- where a database comes from without the loans
+abbrev pub origin_seen : from.Origin → Origin
+origin_seen origin.Opened = Opened
+origin_seen (origin.Imported import) = Imported (import_seen import)
+origin_seen (origin.Created create) = Created (create_seen create)
+origin_seen (origin.Changed change) = Changed change.now

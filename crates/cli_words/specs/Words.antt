@@ -14,7 +14,7 @@ use Rattle.cli_words.specs.declared.command.Command.TheVariants.{Ls, Show, Searc
 use Rattle.cli_words.specs.declared.command.ExportFormat.{ExportFormat}
 use Rattle.cli_words.specs.declared.command.ExportFormat.TheVariants as format
 use Rattle.cli_words.specs.declared.command.ImportFormat.{ImportFormat}
-use Rattle.cli_words.specs.declared.command.ImportFormat.TheVariants.{Xml, Psafe, Csv, Bitwarden}
+use Rattle.cli_words.specs.declared.command.ImportFormat.TheVariants.{Xml, Psafe, Csv}
 use Rattle.cli_saying.specs.declared.names.CommandName.{CommandName}
 use Rattle.cli_saying.specs.declared.names.CommandName.TheVariants as name
 use Rattle.cli_saying.specs.declared.forms.CommandOption.TheVariants as option
@@ -95,8 +95,7 @@ import_format_named name =
     if bytes_eq name (codes "xml") then Some Xml
     else (if bytes_eq name (codes "psafe3") then Some Psafe
     else (if bytes_eq name (codes "csv") then Some Csv
-    else (if bytes_eq name (codes "bitwarden") then Some Bitwarden
-    else None)))
+    else None))
 
 -- The format of what is imported: the plain document where none is named.
 abbrev pub import_format_asked : Option (List ℕ) → Option ImportFormat
@@ -108,7 +107,6 @@ abbrev pub lacks_password : ImportFormat → Bool
 lacks_password Xml = true
 lacks_password Psafe = false
 lacks_password Csv = true
-lacks_password Bitwarden = true
 
 -- How the source of an import is opened: by a password alone, if it has one.
 abbrev pub access_source : Said → ImportFormat → Access
@@ -251,9 +249,13 @@ export_at said positions = None
 abbrev pub is_fit_edit : Said → Bool
 is_fit_edit said = has_file_change said && is_fit_change said
 
+-- How a database is opened whose file is changed: it is no plain document.
+abbrev pub access_sealed : Said → Access
+access_sealed said = record (access_of said) { plain = false }
+
 -- The change of the file of a database.
 abbrev pub edit_file_with : Said → List ℕ → Option Command
-edit_file_with said file = option_map (EditFile (access_of said) file) (change_in said)
+edit_file_with said file = option_map (EditFile (access_sealed said) file) (change_in said)
 
 -- `db-edit DATABASE`
 abbrev pub edit_file_at : Said → List (List ℕ) → Option Command

@@ -54,8 +54,6 @@ pub enum ImportFormat {
     Psafe,
     /// A table of entries.
     Csv,
-    /// An export of Bitwarden that is not encrypted.
-    Bitwarden,
 }
 
 /// The kind of a key derivation, as words ask for it.

@@ -2,7 +2,7 @@
 ghost use Rattle.std.specs.Prelude.{◌≡◌, IfErr, IfOk, IfSome, map, string_bytes};
 ghost use Rattle.cli_answers.specs.Phases.{IsWordsStop, Returns};
 ghost use Rattle.cli_profiles.specs.Profiles.{IsProfile};
-ghost use Rattle.cli_words.specs.Needs.{HasKey, HasKeys, generated_by, needs_of, target_access};
+ghost use Rattle.cli_words.specs.Needs.{HasKeyAfter, HasKey, HasKeys, generated_by, needs_of, target_access};
 ghost use Rattle.cli_saying.specs.declared.forms.CommandOption.TheVariants as option;
 ghost use Rattle.cli_saying.specs.Said.{text_of};
 ghost use Rattle.cli_saying.specs.SaidWords.{Gives, said_seen, text_seen};
@@ -136,7 +136,6 @@ pub fn import_format_named(name: &str) -> Option<ImportFormat>
         "xml" => Some(ImportFormat::Xml),
         "psafe3" => Some(ImportFormat::Psafe),
         "csv" => Some(ImportFormat::Csv),
-        "bitwarden" => Some(ImportFormat::Bitwarden),
         _ => None,
     }
 }
@@ -595,6 +594,7 @@ pub fn read_words(alloc: Global, words: &[String]) -> Result<Command, Stop>
     ensures told { Returns (λ command. command) result (command_of (map string_bytes words.now)) }
     ensures has_key { IfOk result (λ command. HasKeys (needs_of command)) }
     ensures has_target_key { IfOk result (λ command. HasKey (target_access command)) }
+    ensures has_key_after { IfOk result HasKeyAfter }
     ensures has_profile { IfOk result (λ command. IfSome (generated_by command) IsProfile) }
     ensures cause { IfErr result IsWordsStop }
 {

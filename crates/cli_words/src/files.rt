@@ -1,10 +1,10 @@
 //! The commands on the file of a database: `db-create` and `db-edit`.
-ghost use Rattle.std.specs.Prelude.{◌≡◌, IfOk, Some};
+ghost use Rattle.std.specs.Prelude.{◌≡◌, IfOk, Some, false};
 ghost use Rattle.cli_saying.specs.SaidWords.{Gives, said_seen};
 ghost use Rattle.cli_words.specs.Words as spec;
 
 use crate::bases::{access_new, base_of, base_with};
-use crate::command::{Command, KdfAsked};
+use crate::command::{Access, Command, KdfAsked};
 use crate::settings::{change_in, cipher_in, has_file_change, kdf_in};
 use cli_saying::{
     CommandOption, SaidWords, WordsFail, copy_of, is_fit_change, is_fit_new, is_given, text_of,
@@ -72,6 +72,14 @@ fn is_fit_edit(said: &SaidWords<'_, '_>) -> bool
     has_file_change(said) && is_fit_change(said)
 }
 
+// How a database is opened whose file is changed: it is no plain document.
+fn sealed(mut access: Access) -> Access
+    ensures { result ≡ record access { plain = false } }
+{
+    access.plain = false;
+    access
+}
+
 // The command `db-edit` of a file.
 fn edit_file_with(
     alloc: Global,
@@ -84,7 +92,7 @@ fn edit_file_with(
     let change = change_in(alloc, said)?;
     match base_of(alloc, said, file) {
         Ok(base) => Ok(Command::EditFile {
-            access: base.access,
+            access: sealed(base.access),
             file: base.file,
             change,
         }),

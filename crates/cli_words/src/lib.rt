@@ -16,8 +16,8 @@ pub use command::{
 };
 pub use commands::{format_named, has_change, import_format_named, read_words};
 pub use needs::{
-    CreateNeeds, ImportNeeds, Needs, asks_password, asks_passwords_from, asks_target_password,
-    creation_of, edit_file_of, generated_by, import_of, needs_of, target_access, target_of,
+    CreateNeeds, ImportNeeds, Needs, Origin, asks_password, asks_passwords_from, generated_by,
+    import_of, needs_of, origin_of, target_access, target_of,
 };
 pub use profiles::read_profile;
 pub use settings::{

@@ -2,7 +2,7 @@
 ghost use Rattle.std.specs.Prelude.{◌≡◌};
 ghost use Rattle.std.specs.Option.{option_copied};
 ghost use Rattle.cli_words.specs.Needs as spec;
-ghost use Rattle.cli_words.specs.SeenNeeds.{creation_seen, creations_seen, import_seen, imports_seen, needs_seen};
+ghost use Rattle.cli_words.specs.SeenNeeds.{create_seen, import_seen, imports_seen, needs_seen, origin_seen};
 
 use crate::command::{Access, Command, FileChange, ImportFormat, KdfAsked, PasswordChange};
 use cli_profiles::PasswordProfile;
@@ -13,8 +13,6 @@ use outside_core::Text;
 /// and how each is opened, and which lines of the input are due after those that open them.
 #[derive(Clone, Copy)]
 pub struct Needs<'a> {
-    /// Whether the database is opened.
-    pub opens: bool,
     /// How the database is opened.
     pub access: &'a Access,
     /// The file of the database.
@@ -36,7 +34,6 @@ fn without_sources<'a>(access: &'a Access, file: &'a Text, has_line: bool) -> Ne
     ensures { needs_seen result ≡ spec.without_sources access.now file.now has_line }
 {
     Needs {
-        opens: true,
         access,
         file,
         from: access,
@@ -47,27 +44,11 @@ fn without_sources<'a>(access: &'a Access, file: &'a Text, has_line: bool) -> Ne
     }
 }
 
-// What a command asks for that creates a database.
-fn creating<'a>(access: &'a Access, file: &'a Text) -> Needs<'a>
-    ensures { needs_seen result ≡ spec.creating access.now file.now }
-{
-    Needs {
-        opens: false,
-        access,
-        file,
-        from: access,
-        same: false,
-        sources: &[],
-        has_line: asks_password(access),
-        has_otp: false,
-    }
-}
-
-// Reports whether the password of a database becomes another line of the input.
+// Reports whether a new password of a database is a line.
 fn sets_password(change: PasswordChange) -> bool
     ensures { result ≡ spec.sets_password change }
 {
-    matches!(&change, PasswordChange::Set)
+    matches!(change, PasswordChange::Set)
 }
 
 /// What a command asks for.
@@ -90,7 +71,6 @@ pub fn needs_of(command: &Command) -> Needs<'_>
             asked,
             ..
         } => Needs {
-            opens: true,
             access,
             file,
             from: access,
@@ -111,7 +91,6 @@ pub fn needs_of(command: &Command) -> Needs<'_>
             same,
             ..
         } => Needs {
-            opens: true,
             access,
             file,
             from,
@@ -126,7 +105,7 @@ pub fn needs_of(command: &Command) -> Needs<'_>
             from,
             ..
         } => without_sources(from, source, asks_password(access)),
-        Command::Create { access, file, .. } => creating(access, file),
+        Command::Create { access, file, .. } => without_sources(access, file, false),
         Command::Export { access, file, .. } => without_sources(access, file, false),
         Command::EditFile {
             access,
@@ -192,7 +171,7 @@ pub fn import_of(command: &Command) -> Option<ImportNeeds<'_>>
     }
 }
 
-/// What `db-create` asks for.
+/// What an empty database is made by.
 #[derive(Clone, Copy)]
 pub struct CreateNeeds<'a> {
     /// How the new database is opened afterwards.
@@ -207,11 +186,38 @@ pub struct CreateNeeds<'a> {
     pub kdf: Option<KdfAsked>,
 }
 
-/// What `db-create` asks for; other commands are none.
-pub fn creation_of(command: &Command) -> Option<CreateNeeds<'_>>
-    ensures { creations_seen result ≡ spec.creation_of command.now }
+/// Where the database of a command comes from.
+#[derive(Clone, Copy)]
+pub enum Origin<'a> {
+    /// It is opened.
+    Opened,
+    /// It is made of what another program has written.
+    Imported(ImportNeeds<'a>),
+    /// It is made empty.
+    Created(CreateNeeds<'a>),
+    /// It is opened, and its file is changed.
+    Changed(&'a FileChange),
+}
+
+/// Where the database of a command comes from.
+pub fn origin_of(command: &Command) -> Origin<'_>
+    ensures { origin_seen result ≡ spec.origin_of command.now }
 {
     match command {
+        Command::Import {
+            access,
+            format,
+            source,
+            file,
+            ..
+        } => {
+            Origin::Imported(ImportNeeds {
+                format: *format,
+                source,
+                access,
+                file,
+            })
+        }
         Command::Create {
             access,
             file,
@@ -219,7 +225,7 @@ pub fn creation_of(command: &Command) -> Option<CreateNeeds<'_>>
             cipher,
             kdf,
         } => {
-            Some(CreateNeeds {
+            Origin::Created(CreateNeeds {
                 access,
                 file,
                 name,
@@ -227,17 +233,8 @@ pub fn creation_of(command: &Command) -> Option<CreateNeeds<'_>>
                 kdf: *kdf,
             })
         }
-        _ => None,
-    }
-}
-
-/// What `db-edit` changes; other commands are none.
-pub fn edit_file_of(command: &Command) -> Option<&FileChange>
-    ensures { option_copied result ≡ spec.edit_file_of command.now }
-{
-    match command {
-        Command::EditFile { change, .. } => Some(change),
-        _ => None,
+        Command::EditFile { change, .. } => Origin::Changed(change),
+        _ => Origin::Opened,
     }
 }
 
@@ -260,13 +257,6 @@ pub fn target_access(command: &Command) -> &Access
         Command::Import { access, .. } => access,
         _ => needs_of(command).access,
     }
-}
-
-/// Reports whether the database asks for a line where it is opened.
-pub fn asks_target_password(needs: Needs<'_>) -> bool
-    ensures { result ≡ spec.asks_target_password (needs_seen needs.entry) }
-{
-    needs.opens && asks_password(needs.access)
 }
 
 /// Reports whether each source asks for a line: a password of its own, unless it has the password

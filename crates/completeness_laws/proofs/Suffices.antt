@@ -24,8 +24,9 @@ use Rattle.cli_answers.specs.Phases.{StreamAnswer, after_left, then_left, with_l
 use Rattle.cli_codes.specs.Codes.{code_refusal}
 use Rattle.cli_showing.specs.Showing.{code_shown, entry_shown}
 use Rattle.cli_words.specs.declared.command.Command.{Command}
-use Rattle.cli_words.specs.declared.command.Command.TheVariants.{Ls, Show, Search, Add, Edit, Move, Remove, MakeGroup, RemoveGroup, Merge, Import, Export, Info}
-use Rattle.cli_words.specs.Needs.{generated_by, import_of, target_of}
+use Rattle.cli_words.specs.declared.command.Command.TheVariants.{Ls, Show, Search, Add, Edit, Move, Remove, MakeGroup, RemoveGroup, Merge, Import, Create, Export, EditFile, Info}
+use Rattle.cli_words.specs.Needs as from
+use Rattle.cli_words.specs.Needs.{generated_by, origin_of, target_of}
 use Rattle.cli_printing.specs.Listing.{tree_listed}
 use Rattle.cli_writing.specs.Writing.{file_or_refusal}
 use Rattle.cli_sealing.specs.Draws.{after_draws, draws_of}
@@ -33,7 +34,8 @@ use Rattle.cli_sealing.specs.Sealing.{file_by, file_unless, settings_for}
 use Rattle.cli_changes.specs.Entries.{AfterCommand, after_add_command, after_edit_command, time_of, values_of, with_edited_at, with_entry_at}
 use Rattle.cli_changes.specs.Fails.{change_or_refusal}
 use Rattle.cli_changes.specs.Nodes.{after_entry_move, after_group_move, after_mkdir, after_rm, after_rmdir, names_group, with_entry_moved_at, with_group_at, with_group_moved_at, without_entry_at, without_group_at}
-use Rattle.cli_commands.specs.Commands.{Change, bin_id, change_by, change_with, drawn_id, listing_of, makes_node, merged_change, new_document, password_of, printed_text}
+use Rattle.tree_core.specs.Changes.{is_free}
+use Rattle.cli_commands.specs.Commands.{Change, bin_id, change_by, change_with, created_change, created_or_refusal, drawn_id, listing_of, makes_node, merged_change, new_document, password_of, printed_text}
 use Rattle.cli_merging.specs.Merging.{after_merge, after_merged, changes_between, merged_or_refusal}
 use Rattle.call_carrying.specs.Endings.{carried_out, change_of_task, ended_with, ending_with, settings_in}
 use Rattle.keepass_call.proofs.TaskDocs.{task_docs}
@@ -106,6 +108,11 @@ entry_gives file attachments false path clear all names now d can = show_succeed
 checked : (r : Result (Unit {0}) Refusal) (next : Result AfterCommand Refusal) → r ≡ Ok tt → Gives (new_document next) → Gives (new_document (r >>= λ _. next))
 checked r next is gives = (gives.0, ap (λ r. new_document (r >>= λ _. next)) is ∙ gives.1)
 
+-- an empty database whose root's id is free
+created_gives : (file : List ℕ) (quiet : Bool) (id : NodeId) (d : BareDoc) → is_free id d ≡ true → Gives (created_or_refusal file quiet id d)
+created_gives file quiet id d free =
+    gives_so _ _ (ap (λ b. if b then Ok (created_change quiet id d) else Err (refusal_of (IdTaken id) file)) free) (sure _)
+
 pub commands_succeed : CommandsSucceed
 unfolding after_add_command after_edit_command after_mkdir after_rm after_rmdir
 commands_succeed time (Ls access file group recursive flat) line otp sources settings id d within docs can =
@@ -137,8 +144,12 @@ commands_succeed time (Merge access file names from same dry) line otp sources s
     gives_answers time (Merge access file names from same dry) line otp sources settings id d (merges file access.quiet dry names d sources (merge_succeeds d sources docs can))
 commands_succeed time (Import access format source from file) line otp sources settings id d within docs can =
     gives_answers time (Import access format source from file) line otp sources settings id d (sure _)
+commands_succeed time (Create access file name cipher kdf) line otp sources settings id d within docs can =
+    gives_answers time (Create access file name cipher kdf) line otp sources settings id d (created_gives file access.quiet id d can)
 commands_succeed time (Export access format file) line otp sources settings id d within docs can =
     gives_answers time (Export access format file) line otp sources settings id d (prints _ (export_succeeds file format d can))
+commands_succeed time (EditFile access file change) line otp sources settings id d within docs can =
+    gives_answers time (EditFile access file change) line otp sources settings id d (sure _)
 commands_succeed time (Info access file) line otp sources settings id d within docs can =
     gives_answers time (Info access file) line otp sources settings id d (sure _)
 
@@ -163,11 +174,13 @@ ended_gives : (name text : List ℕ) (sealing : Option Sealing) (doc : Option Ba
 ended_gives name text sealing None dice fits = sure _
 ended_gives name text sealing (Some d) dice fits = written_gives name text sealing d dice (fits d refl)
 
--- the commands that open their database have a document; an import does not ask for it
-answers : (time : ℕ) (command : Command) (line otp : Option (List ℕ)) (sources : List BareDoc) (settings : Option Settings) (id : NodeId) (d : BareDoc) → time ≤ last_stamp → (import_of command ≡ None → AreDocs (d ∷ sources))
+-- the commands that open their database have a document; those that make one do not ask for it
+answers : (time : ℕ) (command : Command) (line otp : Option (List ℕ)) (sources : List BareDoc) (settings : Option Settings) (id : NodeId) (d : BareDoc) → time ≤ last_stamp → (origin_of command ≡ from.Opened → AreDocs (d ∷ sources))
     → CanChange time command line otp sources settings id d → Answers time command line otp sources settings id d
 answers time (Import access format source from file) line otp sources settings id d within isd can =
     gives_answers time (Import access format source from file) line otp sources settings id d (sure _)
+answers time (Create access file name cipher kdf) line otp sources settings id d within isd can = gives_answers time (Create access file name cipher kdf) line otp sources settings id d (created_gives file access.quiet id d can)
+answers time (EditFile access file change) line otp sources settings id d within isd can = gives_answers time (EditFile access file change) line otp sources settings id d (sure _)
 answers time (Ls access file group recursive flat) line otp sources settings id d within isd can = commands_succeed time (Ls access file group recursive flat) line otp sources settings id d within (isd refl) can
 answers time (Show access file entry clear all attachments names totp) line otp sources settings id d within isd can = commands_succeed time (Show access file entry clear all attachments names totp) line otp sources settings id d within (isd refl) can
 answers time (Search access file term) line otp sources settings id d within isd can = commands_succeed time (Search access file term) line otp sources settings id d within (isd refl) can

@@ -14,7 +14,7 @@ use Rattle.kdbx_frame.specs.declared.settings.Settings.{Settings}
 use Rattle.kdbx_frame.specs.declared.sealings.Sealing.{Sealing}
 use Rattle.kdbx_seal.specs.Answers.{size_refusal}
 use Rattle.cli_words.specs.declared.command.Command.{Command}
-use Rattle.cli_words.specs.declared.command.Command.TheVariants.{Ls, Show, Search, Add, Edit, Move, Remove, MakeGroup, RemoveGroup, Merge, Import, Export, Info}
+use Rattle.cli_words.specs.declared.command.Command.TheVariants.{Ls, Show, Search, Add, Edit, Move, Remove, MakeGroup, RemoveGroup, Merge, Import, Create, Export, EditFile, Info}
 use Rattle.cli_words.specs.Needs.{generated_by}
 use Rattle.cli_codes.specs.Codes.{code_refusal}
 use Rattle.cli_printing.specs.Listing.{tree_listed}
@@ -23,6 +23,7 @@ use Rattle.cli_sealing.specs.Draws.{draws_of}
 use Rattle.cli_sealing.specs.Sealing.{settings_for}
 use Rattle.cli_changes.specs.Ids.{new_id}
 use Rattle.cli_changes.specs.Nodes.{names_group}
+use Rattle.tree_core.specs.Changes.{is_free}
 use Rattle.cli_commands.specs.Commands.{Change, bin_id, change_with, drawn_id, makes_node, password_of}
 use Rattle.cli_files.specs.Tasks.{Task}
 use Rattle.call_carrying.specs.Endings.{Ending, change_of_task, settings_in}
@@ -77,7 +78,10 @@ CanChange time (RemoveGroup access file group) line otp sources settings id d =
 CanChange time (Merge access file names from same dry) line otp sources settings id d =
     CanBeMerged d sources
 CanChange time (Import access format source from file) line otp sources settings id d = Unit {0}
+CanChange time (Create access file name cipher kdf) line otp sources settings id d =
+    is_free id d ≡ true
 CanChange time (Export access format file) line otp sources settings id d = CanExport format d
+CanChange time (EditFile access file change) line otp sources settings id d = Unit {0}
 CanChange time (Info access file) line otp sources settings id d = Unit {0}
 
 -- Under its condition a command is not refused on a document, at a moment of the calendar.

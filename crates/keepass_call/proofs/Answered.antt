@@ -1,5 +1,5 @@
 -- What a call answers, from its task.
-use Rattle.std.proofs.Common.{◌≡◌, ◌≤◌, ℕ, List, [], ◌∷◌, refl, inl, inr, sym, ◌∙◌, ap, subst, arith, Bool, false, Option, Some, None, Result, Ok, Err}
+use Rattle.std.proofs.Common.{◌≡◌, ◌≤◌, ℕ, List, [], ◌∷◌, ◌++◌, refl, inl, inr, sym, ◌∙◌, ap, subst, arith, Bool, false, Option, Some, None, Result, Ok, Err}
 use Rattle.std.specs.Prelude.{Contains, IfErr, IfOk, OnErr}
 use Rattle.std.proofs.lemmas.List.Elements.{Contains-append_left, Contains-append_right}
 use Rattle.outside_core.specs.Counts.{Increased}
@@ -9,7 +9,10 @@ use Rattle.cli_answers.specs.declared.answers.Stop.TheVariants.{Refused, FileFau
 use Rattle.cli_answers.specs.Phases.{IsCaused, IsCommandStop, IsEarlyStop, IsLeft, Leaves, Stops, StreamAnswer, TellsStream, then_left, with_left}
 use Rattle.cli_files.proofs.FileStops.{rose_before}
 use Rattle.cli_lines.proofs.Inputs.{left_alone}
-use Rattle.cli_words.specs.Needs.{ImportNeeds, Needs, database_files, file_made, files_by, files_named, files_of, import_of, key_files, needs_of, source_files, target_of}
+use Rattle.cli_words.specs.Needs.{Needs, database_files, files_named, files_of, key_files, needs_of, new_key_files, source_files, target_of}
+use Rattle.cli_words.specs.declared.command.Access.{Access}
+use Rattle.cli_words.specs.declared.command.FileChange.{FileChange}
+use Rattle.cli_words.specs.declared.command.Command.TheVariants.{Ls, Show, Search, Add, Edit, Move, Remove, MakeGroup, RemoveGroup, Merge, Import, Create, Export, EditFile, Info}
 use Rattle.cli_profiles.specs.declared.profiles.PasswordProfile.{PasswordProfile}
 use Rattle.cli_words.specs.Words.{command_of, profile_of}
 use Rattle.cli_words.specs.declared.command.Command.{Command}
@@ -170,13 +173,29 @@ opened_named needs name is =
     Contains-append_left (database_files needs.access needs.file) (source_files needs.from needs.sources) name
     (Contains-append_right (key_files needs.access.key_file) (needs.file ∷ []) name (0, omega arith, is))
 
--- So is the file that it shows or writes.
-made_named : (i : Option ImportNeeds) (needs : Needs) (name : List ℕ) → file_made i needs.file ≡ name → Contains (files_by i needs) name
-made_named (Some import) needs name is = (1, omega arith, is)
-made_named None needs name is = opened_named needs name is
+-- So is the file of a database that is changed.
+changed_named : (access : Access) (file : List ℕ) (change : FileChange) (name : List ℕ) → file ≡ name → Contains (database_files access file ++ new_key_files change.key_file) name
+changed_named access file change name is =
+    Contains-append_left (database_files access file) (new_key_files change.key_file) name
+    (Contains-append_right (key_files access.key_file) (file ∷ []) name (0, omega arith, is))
 
+-- So is the file that a command shows or writes.
 target_named : (command : Command) (name : List ℕ) → target_of command ≡ name → Contains (files_named (Ok command)) name
-target_named command name is = made_named (import_of command) (needs_of command) name is
+target_named (Ls access file group recursive flat) name is = opened_named (needs_of (Ls access file group recursive flat)) name is
+target_named (Show access file entry clear all attachments names totp) name is = opened_named (needs_of (Show access file entry clear all attachments names totp)) name is
+target_named (Search access file term) name is = opened_named (needs_of (Search access file term)) name is
+target_named (Add access file entry asked) name is = opened_named (needs_of (Add access file entry asked)) name is
+target_named (Edit access file entry asked) name is = opened_named (needs_of (Edit access file entry asked)) name is
+target_named (Move access file node group) name is = opened_named (needs_of (Move access file node group)) name is
+target_named (Remove access file entry) name is = opened_named (needs_of (Remove access file entry)) name is
+target_named (MakeGroup access file group) name is = opened_named (needs_of (MakeGroup access file group)) name is
+target_named (RemoveGroup access file group) name is = opened_named (needs_of (RemoveGroup access file group)) name is
+target_named (Merge access file names from same dry) name is = opened_named (needs_of (Merge access file names from same dry)) name is
+target_named (Import access format source from file) name is = (1, omega arith, is)
+target_named (Create access file called cipher kdf) name is = (0, omega arith, is)
+target_named (Export access format file) name is = opened_named (needs_of (Export access format file)) name is
+target_named (EditFile access file change) name is = changed_named access file change name is
+target_named (Info access file) name is = opened_named (needs_of (Info access file)) name is
 
 -- A stop of the command that the words are, as a stop of the call.
 pub command_caused : (result : Result Output Stop) (command : Command) (words : Result Command Refusal) (f f' f'' a a' i i' d d' : ℕ) → words ≡ Ok command

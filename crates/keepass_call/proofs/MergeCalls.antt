@@ -36,7 +36,7 @@ use Rattle.cli_answers.specs.Phases.{IsLeft, StreamAnswer, TellsStream, after_le
 use Rattle.cli_answers.specs.declared.answers.Refusal.{Refusal}
 use Rattle.cli_words.specs.declared.command.Access.{Access}
 use Rattle.cli_words.specs.declared.command.Command.{Command}
-use Rattle.cli_words.specs.declared.command.Command.TheVariants.{Ls, Show, Search, Add, Edit, Move, Remove, MakeGroup, RemoveGroup, Merge, Import, Export, Info}
+use Rattle.cli_words.specs.declared.command.Command.TheVariants.{Ls, Show, Search, Add, Edit, Move, Remove, MakeGroup, RemoveGroup, Merge, Import, Create, Export, EditFile, Info}
 use Rattle.cli_words.specs.Needs.{files_named, target_of}
 use Rattle.cli_words.specs.Words.{command_of}
 use Rattle.cli_pages.specs.Pages.{page_of}
@@ -229,7 +229,9 @@ merge_words (MakeGroup access file group) e = absurd (true≢false (sym e))
 merge_words (RemoveGroup access file group) e = absurd (true≢false (sym e))
 merge_words (Merge access file names from same true) e = absurd (true≢false (sym e))
 merge_words (Import access format source from file) e = absurd (true≢false (sym e))
+merge_words (Create access file name cipher kdf) e = absurd (true≢false (sym e))
 merge_words (Export access format file) e = absurd (true≢false (sym e))
+merge_words (EditFile access file change) e = absurd (true≢false (sym e))
 merge_words (Info access file) e = absurd (true≢false (sym e))
 merge_words (Merge access file names from same false) e = record { access = access; file = file; names = names; from = from; same = same; is = refl }
 

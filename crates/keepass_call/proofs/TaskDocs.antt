@@ -17,9 +17,10 @@ use Rattle.cli_words.specs.declared.command.Access.{Access}
 use Rattle.cli_files.specs.Files.{Opened, plain_document}
 use Rattle.cli_databases.specs.Databases.{password_from}
 use Rattle.cli_databases.specs.Held.{HoldAll, HoldDatabases, HoldsBy}
-use Rattle.call_reading.specs.Opening.{HoldImportOrDatabases}
+use Rattle.call_reading.specs.Opening.{HoldByOrigin}
 use Rattle.agreed_laws.specs.Merges.{AreDocs}
-use Rattle.cli_words.specs.Needs.{ImportNeeds, import_of, needs_of}
+use Rattle.cli_words.specs.Needs as from
+use Rattle.cli_words.specs.Needs.{Origin, needs_of, origin_of}
 use Rattle.keepass_call.specs.Held.{IsTask}
 use Rattle.keepass_call.specs.Outcome.{World}
 use Rattle.cli_files.specs.Tasks.{Task, databases_in}
@@ -58,13 +59,13 @@ all_are_docs from same target (name ∷ names) (line ∷ lines) files (doc ∷ d
     subst IsDoc p (subst IsDoc h.0.is (held_is_doc from.plain from.key_file name (password_from same target line) files h.0.opened h.0.holds))
 all_are_docs from same target (name ∷ names) (line ∷ lines) files (doc ∷ docs) h d (inr i) = all_are_docs from same target names lines files docs h.1 d i
 
--- So it is with a task that is no import.
-task_holds : (words : List (List ℕ)) (time : ℕ) (world : World) (task : Task) → import_of task.command ≡ None → IsTask words time world task
+-- So it is with a task whose database is opened as it is.
+task_holds : (words : List (List ℕ)) (time : ℕ) (world : World) (task : Task) → origin_of task.command ≡ from.Opened → IsTask words time world task
     → HoldDatabases (needs_of task.command) task.lines world.files (databases_in task)
 task_holds words time world task none is =
-    subst (λ (i : Option ImportNeeds). HoldImportOrDatabases i (needs_of task.command) task.lines time world.files (databases_in task)) none is.holds
+    subst (λ (o : Origin). HoldByOrigin o (needs_of task.command) task.lines time world.files (databases_in task)) none is.holds
 
-pub task_docs : (words : List (List ℕ)) (time : ℕ) (world : World) (task : Task) → import_of task.command ≡ None → IsTask words time world task
+pub task_docs : (words : List (List ℕ)) (time : ℕ) (world : World) (task : Task) → origin_of task.command ≡ from.Opened → IsTask words time world task
     → AreDocs (task.opened.doc ∷ task.sources)
 task_docs words time world task none is d (inl p) =
     let needs = needs_of task.command in

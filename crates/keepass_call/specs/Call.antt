@@ -46,7 +46,8 @@ pub record IsCall (words : List (List ℕ)) (time result : ℕ) (before now : Se
       (outcome words time world) before now counts counts')
   -- Where the words are to be a command, what is printed at status 0 is made of documents that the
   -- files hold under the lines and the key files that were given, and a file that was written holds
-  -- the document that was made of them, under the same key as before or that of an import.
+  -- the document that was made of them, under the key that the command leaves: the one of before, or
+  -- one that its words ask for.
   pub authentic : AsksCommand words → WhereTold words before (λ world. result ≡ 0
       → IsAuthentic words time world before now)
   -- A merge of copies that are parts of an agreed set is never refused because ids clash or moves

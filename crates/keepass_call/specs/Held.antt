@@ -12,7 +12,7 @@ use Rattle.keepass_call.specs.Outcome.{Counts, Gains, NoFaults, Seen, World, pas
 use Rattle.cli_files.specs.Tasks.{Task, databases_in}
 
 -- The words are the task's command, its lines are those that are due, and the files hold its
--- databases by them, or what an import makes its database of.
+-- databases by them, or what the command makes its database of.
 pub record IsTask (words : List (List ℕ)) (time : ℕ) (world : World) (task : Task) : Type 0 where
   pub is_command : command_of words ≡ Ok task.command
   pub are_lines : (lines_of (needs_of task.command) world.input).answer ≡ Ok task.lines
@@ -27,8 +27,8 @@ pub record IsCarried (words : List (List ℕ)) (time : ℕ) (world : World) (end
 
 -- What was printed is what the command makes of the documents that the files hold; and where it
 -- writes, the file that it is defined to write was written, and holds the document that the same
--- change makes: by itself, or sealed under the composite key that opened the old one or that an
--- import was given.
+-- change makes: by itself, or sealed under the composite key that opened the old one or that the
+-- words ask for.
 pub record IsAuthentic (words : List (List ℕ)) (time : ℕ) (world : World) (before now : Seen) :
     Type 0 where
   pub task : Task

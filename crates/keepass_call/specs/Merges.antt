@@ -13,7 +13,7 @@ use Rattle.kdbx_open.specs.Opening.{FileContents}
 use Rattle.kdbx_open.specs.Sealed.{Sealed}
 use Rattle.kdbx_frame.specs.declared.sealings.Sealing.{Sealing}
 use Rattle.cli_words.specs.declared.command.Command.{Command}
-use Rattle.cli_words.specs.declared.command.Command.TheVariants.{Ls, Show, Search, Add, Edit, Move, Remove, MakeGroup, RemoveGroup, Merge, Import, Export, Info}
+use Rattle.cli_words.specs.declared.command.Command.TheVariants.{Ls, Show, Search, Add, Edit, Move, Remove, MakeGroup, RemoveGroup, Merge, Import, Create, Export, EditFile, Info}
 use Rattle.cli_words.specs.Needs.{needs_of}
 use Rattle.cli_files.specs.Files.{plain_document}
 use Rattle.cli_writing.specs.Writing.{IsSame, Store}
@@ -34,7 +34,9 @@ merges (MakeGroup access file group) = false
 merges (RemoveGroup access file group) = false
 merges (Merge access file names from same dry) = not dry
 merges (Import access format source from file) = false
+merges (Create access file name cipher kdf) = false
 merges (Export access format file) = false
+merges (EditFile access file change) = false
 merges (Info access file) = false
 
 -- ---- parts of an agreed set

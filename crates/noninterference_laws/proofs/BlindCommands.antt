@@ -19,7 +19,7 @@ use Rattle.tree_core.specs.NewNodes.{empty_bin, empty_group}
 use Rattle.tree_core.specs.NewPaths.{after_last, before_last, names_root, new_path}
 use Rattle.cli_answers.specs.declared.answers.Refusal.{Refusal}
 use Rattle.cli_words.specs.declared.command.Command.{Command}
-use Rattle.cli_words.specs.declared.command.Command.TheVariants.{Ls, Show, Search, Add, Edit, Move, Remove, MakeGroup, RemoveGroup, Merge, Import, Export, Info}
+use Rattle.cli_words.specs.declared.command.Command.TheVariants.{Ls, Show, Search, Add, Edit, Move, Remove, MakeGroup, RemoveGroup, Merge, Import, Create, Export, EditFile, Info}
 use Rattle.cli_printing.specs.Listing.{tree_listed}
 use Rattle.cli_changes.specs.Entries.{AfterCommand, entry_title, held_title, time_of}
 use Rattle.cli_changes.specs.Fails.{change_or_refusal}
@@ -321,7 +321,9 @@ module _ (p : BareField → Bool) (titles : ShowsTitles p) where
   change_mask (Edit access file entry asked) is time line otp sources settings id d = cc is
   change_mask (Merge access file names from same dry) is time line otp sources settings id d = cc is
   change_mask (Import access format source from file) is time line otp sources settings id d = cc is
+  change_mask (Create access file name cipher kdf) is time line otp sources settings id d = cc is
   change_mask (Export access format file) is time line otp sources settings id d = cc is
+  change_mask (EditFile access file change) is time line otp sources settings id d = cc is
 
   pub makes_mask : (command : Command) (d : BareDoc) → makes_node command (mask p d) ≡ makes_node command d
   makes_mask (Ls access file group recursive flat) d = refl
@@ -336,7 +338,9 @@ module _ (p : BareField → Bool) (titles : ShowsTitles p) where
   makes_mask (Edit access file entry asked) d = refl
   makes_mask (Merge access file names from same dry) d = refl
   makes_mask (Import access format source from file) d = refl
+  makes_mask (Create access file name cipher kdf) d = refl
   makes_mask (Export access format file) d = refl
+  makes_mask (EditFile access file change) d = refl
 
 pub commands_are_blind : CommandsAreBlind
 commands_are_blind d e alike command is time line otp sources settings id =

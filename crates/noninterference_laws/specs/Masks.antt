@@ -17,7 +17,7 @@ use Rattle.find_references.specs.declared.terms.Term.{Term}
 use Rattle.find_core.specs.Search.{found_in}
 use Rattle.cli_answers.specs.declared.answers.Refusal.{Refusal}
 use Rattle.cli_words.specs.declared.command.Command.{Command}
-use Rattle.cli_words.specs.declared.command.Command.TheVariants.{Ls, Show, Search, Add, Edit, Move, Remove, MakeGroup, RemoveGroup, Merge, Import, Export, Info}
+use Rattle.cli_words.specs.declared.command.Command.TheVariants.{Ls, Show, Search, Add, Edit, Move, Remove, MakeGroup, RemoveGroup, Merge, Import, Create, Export, EditFile, Info}
 use Rattle.cli_printing.specs.Info.{info_shown}
 use Rattle.cli_printing.specs.Listing.{group_lines, tree_listed}
 use Rattle.cli_showing.specs.Showing.{entries_shown, entry_shown}
@@ -129,7 +129,9 @@ reads_no_value (MakeGroup access file group) = true
 reads_no_value (RemoveGroup access file group) = true
 reads_no_value (Merge access file names from same dry) = false
 reads_no_value (Import access format source from file) = false
+reads_no_value (Create access file name cipher kdf) = false
 reads_no_value (Export access format file) = false
+reads_no_value (EditFile access file change) = false
 reads_no_value (Info access file) = true
 
 -- Such a command refuses the same, or prints the same and makes documents that are the same but for

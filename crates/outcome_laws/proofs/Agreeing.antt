@@ -15,7 +15,12 @@ use Rattle.cli_pages.specs.Pages.{page_of}
 use Rattle.cli_answers.specs.Phases.{StreamAnswer, after_left, then_left, with_left}
 use Rattle.cli_words.specs.declared.command.Access.{Access}
 use Rattle.cli_words.specs.declared.command.Command.{Command}
-use Rattle.cli_words.specs.Needs.{ImportNeeds, Needs, database_files, file_made, files_by, files_named, files_of, import_of, key_files, needs_of, source_files, target_of}
+use Rattle.cli_words.specs.declared.command.FileChange.{FileChange}
+use Rattle.cli_words.specs.declared.command.KeyFileChange.{KeyFileChange}
+use Rattle.cli_words.specs.declared.command.KeyFileChange.TheVariants as key_file
+use Rattle.cli_words.specs.declared.command.Command.TheVariants.{Ls, Show, Search, Add, Edit, Move, Remove, MakeGroup, RemoveGroup, Merge, Import, Create, Export, EditFile, Info}
+use Rattle.cli_words.specs.Needs as from
+use Rattle.cli_words.specs.Needs.{CreateNeeds, ImportNeeds, Needs, Origin, database_files, files_by, files_named, files_of, key_files, needs_of, new_key_files, origin_of, source_files, target_of}
 use Rattle.cli_words.specs.Words.{command_of, profile_of}
 use Rattle.cli_profiles.specs.declared.profiles.PasswordProfile.{PasswordProfile}
 use Rattle.cli_generating.specs.Generated.{generated}
@@ -24,9 +29,12 @@ use Rattle.cli_writing.specs.Writing.{NewFile, file_or_refusal, plain_file}
 use Rattle.cli_files.specs.Files.{Opened, key_in, key_of, of_file}
 use Rattle.cli_files.specs.Tasks.{Task, task_with}
 use Rattle.cli_databases.specs.Databases.{database_of, databases_of, docs_from, document_in, held_in, held_under, password_from, plain_of, sealed_in, sources_of, vault_or_refusal}
-use Rattle.cli_importing.specs.Imports.{document_by, imported_of, new_sealing, refuse_file, sealing_of, source_of}
+use Rattle.cli_importing.specs.Imports.{at_stamp, document_by, imported_of, new_sealing, refuse_file, sealing_of, source_of}
+use Rattle.cli_resealing.specs.Asked.{asked_settings, with_resealed}
+use Rattle.cli_resealing.specs.Created.{created_of, empty_document, undrawn_id}
+use Rattle.cli_resealing.specs.Edited.{changed_of, edited_of, key_after, key_made, settings_in, under_key}
 use Rattle.cli_commands.specs.Commands.{Change}
-use Rattle.call_reading.specs.Opening.{databases_by, databases_for, one_database}
+use Rattle.call_reading.specs.Opening.{alone, databases_by, databases_for}
 use Rattle.call_reading.specs.Reading.{task_of}
 use Rattle.call_carrying.specs.Endings.{Ending, carried_out, change_of_task, ended_with, ending_with}
 use Rattle.stream_core.specs.InnerStream.{NoKeystream}
@@ -113,9 +121,47 @@ module _ (F G : FileMap) where
       (ap (refuse_file import.file) (agree import.file (inr (inl refl))))
       (λ x. ap (λ r. r >>= λ sealing. Ok (record { doc = doc; sealing = sealing })) seal))
 
-  by_same : (import : Option ImportNeeds) (needs : Needs) (lines : Lines) (time : ℕ) → AgreeOn (files_by import needs) F G → databases_by import needs lines time F ≡ databases_by import needs lines time G
-  by_same (Some import) needs lines time agree = ap (λ r. r >>= λ opened. Ok (one_database opened)) (import_same import lines time agree)
-  by_same None needs lines time agree = databases_same needs lines agree
+  created_same : (create : CreateNeeds) (lines : Lines) (time : ℕ) → AgreeOn (create.file ∷ key_files create.access.key_file) F G → created_of create lines time F ≡ created_of create lines time G
+  unfolding created_of
+  created_same create lines time agree =
+      let asked = asked_settings create.cipher create.kdf None in
+      let seal = sealing_same create.access.plain create.access.key_file lines.password (λ n i. agree n (inr i)) in
+      bind_same (at_stamp create.file time (Ok (empty_document create.name undrawn_id time))) (at_stamp create.file time (Ok (empty_document create.name undrawn_id time)))
+      (λ doc. refuse_file create.file (map.get F create.file) >>= λ _. (sealing_of create.access.plain create.access.key_file lines.password F >>= λ sealing. with_resealed create.file asked (record { doc = doc; sealing = sealing })))
+      (λ doc. refuse_file create.file (map.get G create.file) >>= λ _. (sealing_of create.access.plain create.access.key_file lines.password G >>= λ sealing. with_resealed create.file asked (record { doc = doc; sealing = sealing })))
+      refl
+      (λ doc. bind_same (refuse_file create.file (map.get F create.file)) (refuse_file create.file (map.get G create.file))
+      (λ _. (sealing_of create.access.plain create.access.key_file lines.password F >>= λ sealing. with_resealed create.file asked (record { doc = doc; sealing = sealing })))
+      (λ _. (sealing_of create.access.plain create.access.key_file lines.password G >>= λ sealing. with_resealed create.file asked (record { doc = doc; sealing = sealing })))
+      (ap (refuse_file create.file) (agree create.file (inl refl)))
+      (λ x. ap (λ r. r >>= λ sealing. with_resealed create.file asked (record { doc = doc; sealing = sealing })) seal))
+
+  after_same : (change : KeyFileChange) (old : Option (List ℕ)) → AgreeOn (new_key_files change) F G → key_after change old F ≡ key_after change old G
+  after_same key_file.Keep old agree = refl
+  after_same (key_file.Set name) old agree = keys_same (Some name) agree
+  after_same key_file.Unset old agree = refl
+
+  edited_same : (needs : Needs) (change : FileChange) (lines : Lines) → AgreeOn (database_files needs.access needs.file ++ new_key_files change.key_file) F G → edited_of needs change lines F ≡ edited_of needs change lines G
+  unfolding edited_of
+  edited_same needs change lines agree =
+      let own = database_files needs.access needs.file in
+      let keys = key_files needs.access.key_file in
+      bind_same (key_of needs.access.key_file F) (key_of needs.access.key_file G)
+      (λ old. sealed_in needs.file F lines.password old >>= λ opened. changed_of needs.file change lines old opened F)
+      (λ old. sealed_in needs.file G lines.password old >>= λ opened. changed_of needs.file change lines old opened G)
+      (keys_same needs.access.key_file (λ n i. agree n (in_front own (new_key_files change.key_file) n (in_front keys (needs.file ∷ []) n i))))
+      (λ old. bind_same (sealed_in needs.file F lines.password old) (sealed_in needs.file G lines.password old)
+      (λ opened. changed_of needs.file change lines old opened F) (λ opened. changed_of needs.file change lines old opened G)
+      (under_same needs.file (composite_key lines.password old)
+      (agree needs.file (in_front own (new_key_files change.key_file) needs.file (in_back keys (needs.file ∷ []) needs.file (inl refl)))))
+      (λ opened. ap (λ r. r >>= λ new. with_resealed needs.file (settings_in change) (under_key (key_made change lines new) opened))
+      (after_same change.key_file old (λ n i. agree n (in_back own (new_key_files change.key_file) n i)))))
+
+  by_same : (origin : Origin) (needs : Needs) (lines : Lines) (time : ℕ) → AgreeOn (files_by origin needs) F G → databases_by origin needs lines time F ≡ databases_by origin needs lines time G
+  by_same from.Opened needs lines time agree = databases_same needs lines agree
+  by_same (from.Imported import) needs lines time agree = ap alone (import_same import lines time agree)
+  by_same (from.Created create) needs lines time agree = ap alone (created_same create lines time agree)
+  by_same (from.Changed change) needs lines time agree = ap alone (edited_same needs change lines agree)
 
   command_same : (time : ℕ) (input : List ℕ) (c : Result Command Refusal) → AgreeOn (files_named c) F G
       → (c >>= λ command. ((lines_of (needs_of command) input).answer >>= λ lines. (databases_for command lines time F >>= λ databases. Ok (task_with command lines databases))))
@@ -125,7 +171,7 @@ module _ (F G : FileMap) where
       bind_same (lines_of (needs_of command) input).answer (lines_of (needs_of command) input).answer
       (λ lines. databases_for command lines time F >>= λ databases. Ok (task_with command lines databases))
       (λ lines. databases_for command lines time G >>= λ databases. Ok (task_with command lines databases))
-      refl (λ lines. ap (λ r. r >>= λ databases. Ok (task_with command lines databases)) (by_same (import_of command) (needs_of command) lines time agree))
+      refl (λ lines. ap (λ r. r >>= λ databases. Ok (task_with command lines databases)) (by_same (origin_of command) (needs_of command) lines time agree))
 
   task_same : (words : List (List ℕ)) (time : ℕ) (input : List ℕ) → AgreeOn (files_named (command_of words)) F G → task_of words time input F ≡ task_of words time input G
   unfolding task_of
@@ -195,10 +241,26 @@ carried_name : (time : ℕ) (task : Task) (dice : List ℕ) → name_in (target_
 unfolding carried_out
 carried_name time task dice = after_name (target_of task.command) task.opened.sealing (change_of_task time task dice).answer (change_of_task time task dice).left
 
-target_named : (import : Option ImportNeeds) (needs : Needs) → IsIn (file_made import needs.file) (files_by import needs)
-target_named (Some import) needs = inr (inl refl)
-target_named None needs =
+opened_target : (needs : Needs) → IsIn needs.file (files_of needs)
+opened_target needs =
     in_front (database_files needs.access needs.file) (source_files needs.from needs.sources) needs.file (in_back (key_files needs.access.key_file) (needs.file ∷ []) needs.file (inl refl))
+
+target_named : (command : Command) → IsIn (target_of command) (files_named (Ok command))
+target_named (Ls access file group recursive flat) = opened_target (needs_of (Ls access file group recursive flat))
+target_named (Show access file entry clear all attachments names totp) = opened_target (needs_of (Show access file entry clear all attachments names totp))
+target_named (Search access file term) = opened_target (needs_of (Search access file term))
+target_named (Add access file entry asked) = opened_target (needs_of (Add access file entry asked))
+target_named (Edit access file entry asked) = opened_target (needs_of (Edit access file entry asked))
+target_named (Move access file node group) = opened_target (needs_of (Move access file node group))
+target_named (Remove access file entry) = opened_target (needs_of (Remove access file entry))
+target_named (MakeGroup access file group) = opened_target (needs_of (MakeGroup access file group))
+target_named (RemoveGroup access file group) = opened_target (needs_of (RemoveGroup access file group))
+target_named (Merge access file names from same dry) = opened_target (needs_of (Merge access file names from same dry))
+target_named (Import access format source from file) = inr (inl refl)
+target_named (Create access file name cipher kdf) = inl refl
+target_named (Export access format file) = opened_target (needs_of (Export access format file))
+target_named (EditFile access file change) = in_front (database_files access file) (new_key_files change.key_file) file (in_back (key_files access.key_file) (file ∷ []) file (inl refl))
+target_named (Info access file) = opened_target (needs_of (Info access file))
 
 ended_file : (left : List ℕ) (answer : Result Ending Refusal) (dice : List ℕ) → (ended left answer dice).file ≡ file_in answer
 ended_file left (Ok ending) dice = refl
@@ -225,7 +287,7 @@ named_by words time world file None has = of (task_of words time world.input wor
         let command = (is_task words time world task is).is_command in
         let name : file.name ≡ target_of task.command = ap (name_in (target_of task.command)) (sym h) ∙ carried_name time task world.dice in
         subst (λ (c : Result Command Refusal). IsIn file.name (files_named c)) (sym command)
-        (subst (λ (n : List ℕ). IsIn n (files_named (Ok task.command))) (sym name) (target_named (import_of task.command) (needs_of task.command)))
+        (subst (λ (n : List ℕ). IsIn n (files_named (Ok task.command))) (sym name) (target_named task.command))
 
 named_in : (words : List (List ℕ)) (time : ℕ) (world : World) (file : NewFile) → (page : Option (List ℕ)) → file_in (page_or_answer page words time world).answer ≡ Some file
     → IsIn file.name (files_named (command_of words))

@@ -23,7 +23,6 @@ fn import_name(format: ImportFormat) -> &'static str {
         ImportFormat::Xml => "xml",
         ImportFormat::Psafe => "psafe3",
         ImportFormat::Csv => "csv",
-        ImportFormat::Bitwarden => "bitwarden",
     }
 }
 

@@ -5,7 +5,8 @@ use Rattle.cli_databases.specs.SeenOpened.{databases_seen}
 use Rattle.cli_lines.specs.SeenLines.{lines_seen}
 use Rattle.cli_words.specs.SeenNeeds.{needs_seen}
 use Rattle.cli_words.specs.Words.{command_of}
-use Rattle.call_reading.proofs.ReadTasks.{asked_needs, at_words, database_refused, has_file_by_needs, input_early, lines_by_needs, lines_refused, needs_leave, needs_left, sealed_for, stops_left, task_by_needs, words_early, words_leave, words_refused}
+use Rattle.call_reading.proofs.ReadTasks.{asked_needs, at_words, database_refused, has_file_by_needs, input_early, lines_by_needs, lines_refused, needs_leave, needs_left, stops_left, task_by_needs, words_early, words_leave, words_refused}
+use Rattle.call_reading.proofs.Opened.{sealed_command}
 use Rattle.call_reading.proofs.reading.read_task.Goals as goal
 
 pub open_for-requires-clause-lines : goal.open_for-requires-clause-lines
@@ -61,7 +62,7 @@ returns-clause-left g c = λ i isS.
 
 pub returns-clause-sealed : goal.returns-clause-sealed
 returns-clause-sealed g c =
-    sealed_for c.in_ok-command.command (lines_seen c.in-Ok.lines) c.args.now (databases_seen c.in-Ok-open_for.databases) c.in-Ok-open_for.ensures.some_file
+    sealed_command c.in_ok-command.command (lines_seen c.in-Ok.lines) c.args.now (databases_seen c.in-Ok-open_for.databases) c.in_ok-command.ensures.has_key_after c.in-Ok-open_for.ensures.some_file
 
 pub returns-in-Err-open_for-clause-left : goal.returns-in-Err-open_for-clause-left
 returns-in-Err-open_for-clause-left g c = λ i isS.

@@ -1,5 +1,5 @@
 use Rattle.std.specs.Prelude.{map, string_bytes}
-use Rattle.cli_words.proofs.Keys.{has_key, has_profile, has_target_key}
+use Rattle.cli_words.proofs.Keys.{has_key, has_key_after, has_profile, has_target_key}
 use Rattle.cli_words.proofs.commands.read_words.Goals as goal
 
 pub returns-in-Ok-clause-has_key : goal.returns-in-Ok-clause-has_key
@@ -10,3 +10,6 @@ returns-in-Ok-clause-has_target_key c = has_target_key (map string_bytes c.args.
 
 pub returns-in-Ok-clause-has_profile : goal.returns-in-Ok-clause-has_profile
 returns-in-Ok-clause-has_profile c = has_profile (map string_bytes c.args.words.now) c.in-Ok.command c.in-Ok.ensures
+
+pub returns-in-Ok-clause-has_key_after : goal.returns-in-Ok-clause-has_key_after
+returns-in-Ok-clause-has_key_after c = has_key_after (map string_bytes c.args.words.now) c.in-Ok.command c.in-Ok.ensures

@@ -1,0 +1,4 @@
+pub mod Asked
+pub mod Created
+pub mod Edited
+pub mod Held
