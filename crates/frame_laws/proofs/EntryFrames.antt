@@ -32,7 +32,7 @@ use Rattle.growth_laws.proofs.Stays.{entry_is}
 use Rattle.growth_laws.proofs.Steps.{change_root, own_row, root_same, take_root}
 use Rattle.frame_laws.specs.Frame.{no_node, only, either}
 use Rattle.frame_laws.specs.Entries.{EditFrames, EditsEntry, EntryMoves, MoveEntryFrames}
-use Rattle.frame_laws.proofs.Fields.{drops, fields_flags, fields_given, fields_gone, fields_hidden, fields_others}
+use Rattle.frame_laws.proofs.Fields.{fields_flags, fields_given, fields_gone, fields_hidden, fields_others, trimmed}
 use Rattle.frame_laws.proofs.Finds.{SameRows, change_same, lists_found, own_lists, own_lists_row, put_lists, put_same, row_now, row_was, same_at, same_but, same_more, same_then, take_lists, take_same}
 
 -- ---- an entry that a path names
@@ -95,7 +95,6 @@ edit_frames path values now d e isd ise h =
         let old = row_was held.group (changed_entry u k) d.tree f.group f.there keeps entry_rows entry_rows_all entries_rows (u, x) (own_row u held.entry f.group f.own) in
         let rises_before = rising u x d isd old in
         let rises_after = rising u (k x) e ise row in
-        let cut = drops d.meta.settings.value.history_items d.meta.settings.value.history_size (rising_versions x) in
         record {
           entry = u;
           named = named;
@@ -116,8 +115,7 @@ edit_frames path values now d e isd ise h =
             gone = fields_gone d.meta.settings.value.protect values x.current.mark.content.fields rises_before rises_after;
             flags = fields_flags d.meta.settings.value.protect values x.current.mark.content.fields rises_before rises_after;
             hidden = fields_hidden d.meta.settings.value.protect values x.current.mark.content.fields rises_before rises_after;
-            dropped = cut.dropped;
-            history = cut.is;
+            history = trimmed d.meta.settings.value.history_items d.meta.settings.value.history_size (rising_versions x);
           };
           rest = same_but (only u) no_node no_node d e isd ise
               (same_at held.group (changed_entry u k) d.tree f.group f.there keeps (only u) no_node no_node (sym (root_same held.group (changed_entry u k) d.tree f.group f.there keeps)) (change_same u k f.group));

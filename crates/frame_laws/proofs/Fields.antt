@@ -2,7 +2,7 @@
 use Rattle.std.proofs.Common.{◌≡◌, ◌≤◌, ◌+◌, ◌++◌, Bool, true, false, cond, inl, inr, List, [], ◌∷◌, Option, None, Some, codes, ℕ, refl, sym, ap, subst, ◌∙◌, arith}
 use Rattle.std.proofs.lemmas.Option.{same_Some}
 use Rattle.std.proofs.lemmas.Slice.Eq.{bytes_eq-Decides}
-use Rattle.std.specs.Prelude.{ℤ, ◌&&◌, is_some, length}
+use Rattle.std.specs.Prelude.{ℤ, ◌&&◌, is_some}
 use Rattle.std.specs.List.{list_all}
 use Rattle.std.specs.Ordering.{is_eq, is_lt}
 use Rattle.std.specs.Str.{bytes_eq}
@@ -17,11 +17,11 @@ use Rattle.vault_model.specs.Unite.{by_order}
 use Rattle.vault_model.proofs.Orders.{bytes_order}
 use Rattle.vault_model.proofs.Tests.{and_true, apart, decide, is_false, none_of}
 use Rattle.merge_core.proofs.Unite.{tie, ties}
-use Rattle.tree_core.specs.Histories.{is_within, versions_size, within_limits}
+use Rattle.tree_core.specs.Histories.{within_limits}
 use Rattle.tree_core.specs.NewNodes.{GivenValues, edited_fields, field, with_given, with_otp, with_value, with_values, without_field}
 use Rattle.tree_core.proofs.Counted.{one_if}
 use Rattle.tree_core.proofs.Options.{never}
-use Rattle.frame_laws.specs.Entries.{HasFlag, HasValue, field_of, given_value, is_given_otp, is_key, is_taken_away}
+use Rattle.frame_laws.specs.Entries.{HasFlag, HasValue, IsTrimmed, field_of, given_value, is_given_otp, is_key, is_taken_away, is_within_limits}
 
 -- ---- one key
 
@@ -564,16 +564,26 @@ module _ (p : Protection) (v : GivenValues) (fs : List F) (before : rises (λ (f
 
 -- ---- the history
 
--- What a limit drops.
-pub record Drops (items size : ℤ) (vs : List BareVersion) : Type 0 where
-  pub dropped : List BareVersion
-  pub is : vs ≡ dropped ++ within_limits items size vs
+-- none of no versions
+no_version : {A : Type 0} (front : List BareVersion) (v : BareVersion) (back : List BareVersion) → [] ≡ front ++ v ∷ back → A
+no_version [] v back same = cc same
+no_version (w ∷ front) v back same = cc same
 
-pub drops : (items size : ℤ) (vs : List BareVersion) → Drops items size vs
-drops items size [] = record { dropped = []; is = refl }
-drops items size (v ∷ vs) = at (drops items size vs) (is_within (length (v ∷ vs)) items && is_within (versions_size (v ∷ vs)) size) refl
+abbrev tail_of : List BareVersion → List BareVersion
+tail_of [] = []
+tail_of (v ∷ vs) = vs
+
+pub trimmed : (items size : ℤ) (vs : List BareVersion) → IsTrimmed items size vs (within_limits items size vs)
+trimmed items size [] = record { dropped = []; is = refl; needed = λ front v back same. no_version front v back same }
+trimmed items size (v ∷ vs) = at (trimmed items size vs) (is_within_limits items size (v ∷ vs)) refl
   where
-    at : Drops items size vs → (b : Bool) → (is_within (length (v ∷ vs)) items && is_within (versions_size (v ∷ vs)) size) ≡ b → Drops items size (v ∷ vs)
-    at rest true e = record { dropped = []; is = sym (ap (λ b. cond b (v ∷ vs) (within_limits items size vs)) e) }
-    at rest false e =
-        record { dropped = v ∷ rest.dropped; is = ap (λ ws. v ∷ ws) rest.is ∙ ap (λ ws. v ∷ (rest.dropped ++ ws)) (sym (ap (λ b. cond b (v ∷ vs) (within_limits items size vs)) e)) }
+    at : IsTrimmed items size vs (within_limits items size vs) → (b : Bool) → is_within_limits items size (v ∷ vs) ≡ b
+        → IsTrimmed items size (v ∷ vs) (cond b (v ∷ vs) (within_limits items size vs))
+    at rest true e = record { dropped = []; is = refl; needed = λ front w back same. no_version front w back same }
+    at rest false e = record { dropped = v ∷ rest.dropped; is = ap (λ ws. v ∷ ws) rest.is; needed = needed }
+      where
+        needed : (front : List BareVersion) (w : BareVersion) (back : List BareVersion) → (v ∷ rest.dropped) ≡ front ++ w ∷ back → is_within_limits items size (w ∷ back ++ within_limits items size vs) ≡ false
+        needed [] w back same =
+            subst (λ ws. is_within_limits items size (ws ++ within_limits items size vs) ≡ false) same
+            (sym (ap (λ ws. is_within_limits items size (v ∷ ws)) rest.is) ∙ e)
+        needed (u ∷ front) w back same = rest.needed front w back (ap tail_of same)

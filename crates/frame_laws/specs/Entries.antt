@@ -1,5 +1,5 @@
 -- What each command changes, and that all else is as before.
-use Rattle.std.specs.Prelude.{◌≡◌, ◌≤◌, ◌<◌, ◌&&◌, ℕ, Bool, true, false, cond, List, [], ◌∷◌, ◌++◌, Option, None, Some, Ok, codes, find, is_some}
+use Rattle.std.specs.Prelude.{◌≡◌, ◌≤◌, ◌<◌, ◌&&◌, ℕ, ℤ, Bool, true, false, cond, List, [], ◌∷◌, ◌++◌, length, Option, None, Some, Ok, codes, find, is_some}
 use Rattle.std.specs.Ordering.{eq_by_cmp}
 use Rattle.vault_model.specs.Bare.{BareField}
 use Rattle.vault_model.specs.Db.{NodeId}
@@ -11,7 +11,7 @@ use Rattle.vault_model.specs.Shape.{BareVersion, EntryRecord, no_children}
 use Rattle.vault_model.specs.Tree.{BareDoc, IsDoc}
 use Rattle.tree_core.specs.After.{after_add, after_edit, after_make_group, after_move_entry}
 use Rattle.tree_core.specs.Finding.{entry_found, group_found, without_slashes}
-use Rattle.tree_core.specs.Histories.{rising_versions}
+use Rattle.tree_core.specs.Histories.{is_within, rising_versions, versions_size}
 use Rattle.tree_core.specs.NewNodes.{GivenValues, new_entry, new_fields}
 use Rattle.tree_core.specs.NewPaths.{after_last, before_last}
 use Rattle.frame_laws.specs.Frame.{HasLostEntry, HasNewEntry, HasNewGroup, AreSameBut, children_of, entry_of, group_of, no_node, only, either}
@@ -59,9 +59,21 @@ pub record HasFlag (key : List ℕ) (hidden : Bool) (fields : List BareField) : 
 
 -- ---- edit
 
--- What an edit makes of an entry.
-pub record IsEditedEntry (values : GivenValues) (now : ℕ) (before after : EntryRecord)
-    : Type 0 where
+-- Versions are within the limits of a history: so many versions, and bytes.
+abbrev pub is_within_limits : (items size : ℤ) → List BareVersion → Bool
+is_within_limits items size vs = is_within (length vs) items && is_within (versions_size vs) size
+
+-- What the limits of a history leave of versions in rising order: all but the oldest, and none is
+-- dropped without need, since with it and those after it the limits would be passed.
+pub record IsTrimmed (items size : ℤ) (versions kept : List BareVersion) : Type 0 where
+  pub dropped : List BareVersion
+  pub is : versions ≡ dropped ++ kept
+  pub needed : (front : List BareVersion) (v : BareVersion) (back : List BareVersion)
+      → dropped ≡ front ++ v ∷ back → is_within_limits items size (v ∷ back ++ kept) ≡ false
+
+-- What an edit makes of an entry, where histories have these limits.
+pub record IsEditedEntry (values : GivenValues) (items size : ℤ) (now : ℕ)
+    (before after : EntryRecord) : Type 0 where
   -- it is where it was, and its previous parent is as before
   pub placed : after.placed ≡ before.placed
   pub previous : after.previous ≡ before.previous
@@ -93,8 +105,7 @@ pub record IsEditedEntry (values : GivenValues) (now : ℕ) (before after : Entr
   pub hidden : (text : List ℕ) → values.otp ≡ Some text → is_taken_away (codes "otp") text ≡ false
       → HasFlag (codes "otp") true after.current.mark.content.fields
   -- its history are the versions that it had, but for the oldest ones that its limits drop
-  pub dropped : List BareVersion
-  pub history : rising_versions before ≡ dropped ++ after.history
+  pub history : IsTrimmed items size (rising_versions before) after.history
 
 -- An edit changes the one entry that the path names.
 pub record EditsEntry (path : List ℕ) (values : GivenValues) (now : ℕ) (d e : BareDoc) : Type 0
@@ -105,7 +116,8 @@ pub record EditsEntry (path : List ℕ) (values : GivenValues) (now : ℕ) (d e 
     pub after : EntryRecord
     pub was : entry_of d entry ≡ Some before
     pub is : entry_of e entry ≡ Some after
-    pub edited : IsEditedEntry values now before after
+    pub edited : IsEditedEntry values d.meta.settings.value.history_items
+        d.meta.settings.value.history_size now before after
     pub rest : AreSameBut (only entry) no_node no_node d e
     pub tombs : e.tombs ≡ d.tombs
     pub meta : e.meta ≡ d.meta

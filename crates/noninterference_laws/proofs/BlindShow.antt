@@ -4,6 +4,7 @@ use Rattle.std.specs.Fmt.{decimal}
 use Rattle.std.specs.List.{filter, flat_map, list_all, list_any}
 use Rattle.std.specs.Prelude.{if◌then◌else◌}
 use Rattle.std.specs.Str.{bytes_eq}
+use Rattle.std.proofs.lemmas.Slice.Eq.{bytes_eq-Decides}
 use Rattle.outside_core.specs.Results.{◌>>=◌}
 use Rattle.vault_model.specs.Bare.{BareAttachment, BareField}
 use Rattle.vault_model.specs.Db.{NodeId}
@@ -19,7 +20,7 @@ use Rattle.find_references.specs.declared.fail.FindFail.{FindFail}
 use Rattle.cli_answers.specs.declared.answers.Refusal.{Refusal}
 use Rattle.cli_showing.specs.Refusals.{found_or_refusal}
 use Rattle.cli_showing.specs.Showing.{attachment_line, entry_or_refusal, entry_shown, entry_text, field_of, id_and_tags, others_shown, value_shown, whole_entry, with_attachments, with_fields, with_fields_shown, with_key, with_keys, with_value, with_value_of}
-use Rattle.noninterference_laws.specs.Masks.{ShowIsBlind, ShowsTitles, has_no_reference, is_marked, is_plain_byte, mask, mask_attachment, mask_entry, mask_field, mask_row, shows_no_reference}
+use Rattle.noninterference_laws.specs.Masks.{ShowIsBlind, ShowsTitles, has_no_reference, is_marked, is_plain_byte, is_shown, mask, mask_attachment, mask_entry, mask_field, mask_row, shows_no_reference}
 use Rattle.noninterference_laws.proofs.BlindCommands.{entry_named_mask, mask_held, on_ok}
 
 pub marked_titles : ShowsTitles is_marked
@@ -70,36 +71,51 @@ hide_flag f = at (is_marked f)
     at true = refl
     at false = refl
 
-abbrev is_shown_plain : BareField → Bool
-is_shown_plain f = f.hidden || has_no_reference f.value
+-- A value is marked hidden, or has no reference.
+abbrev is_plain : BareField → Bool
+is_plain f = f.hidden || has_no_reference f.value
+
+-- So it is of the fields that have names of their own.
+abbrev is_named_plain : BareField → Bool
+is_named_plain f = is_other f || is_plain f
 
 abbrev shown_by : BareDoc → Bool → List ℕ → Result (List ℕ) FindFail
 shown_by doc hidden value = if hidden && not false then Ok (codes "PROTECTED") else resolved doc value
 
-value_same : (d : BareDoc) (f : BareField) → is_shown_plain f ≡ true → value_shown (mask is_marked d) false (hide f) ≡ value_shown d false f
+value_same : (d : BareDoc) (f : BareField) → is_plain f ≡ true → value_shown (mask is_marked d) false (hide f) ≡ value_shown d false f
 value_same d f plain = hide_cases f
     (λ q. ap (λ b. shown_by (mask is_marked d) b (hide f).value) (hide_flag f ∙ q) ∙ sym (ap (λ b. shown_by d b f.value) q))
     (λ q same.
     ap (value_shown (mask is_marked d) false) same ∙ ap (λ b. shown_by (mask is_marked d) b f.value) q
     ∙ plain_resolved (mask is_marked d) d f.value (sym (ap (λ b. b || has_no_reference f.value) q) ∙ plain) ∙ sym (ap (λ b. shown_by d b f.value) q))
 
-with_value_same : (d : BareDoc) (f : BareField) (text : List ℕ) → is_shown_plain f ≡ true → with_value (mask is_marked d) false (hide f) text ≡ with_value d false f text
+with_value_same : (d : BareDoc) (f : BareField) (text : List ℕ) → is_plain f ≡ true → with_value (mask is_marked d) false (hide f) text ≡ with_value d false f text
 with_value_same d f text plain = ap (λ r. r >>= λ value. Ok ((text ++ value) ++ codes "\n")) (value_same d f plain)
 
 -- the field of a key, hidden or not
 abbrev SameOf : BareDoc → Option BareField → Option BareField → Type 0
 SameOf d o o' = (text : List ℕ) → with_value_of (mask is_marked d) false o' text ≡ with_value_of d false o text
 
-field_same : (d : BareDoc) (key : List ℕ) (fs : List BareField) → list_all is_shown_plain fs ≡ true → SameOf d (field_of key fs) (field_of key (map hide fs))
-field_same d key [] all text = refl
-field_same d key (f ∷ fs) all text =
-    let parts = and_true (is_shown_plain f) (list_all is_shown_plain fs) all in
+-- A key is one of those.
+abbrev is_name : List ℕ → Bool
+is_name key = list_any (bytes_eq key) named_keys
+
+-- the field of such a key
+named_field : (key : List ℕ) (f : BareField) → is_name key ≡ true → is_named_plain f ≡ true → bytes_eq key f.key ≡ true → is_plain f ≡ true
+named_field key f name plain same =
+    let here = subst (λ (k : List ℕ). is_name k ≡ true) ((bytes_eq-Decides key f.key).0 same) name in
+    sym (ap (λ b. not b || is_plain f) here) ∙ plain
+
+field_same : (d : BareDoc) (key : List ℕ) → is_name key ≡ true → (fs : List BareField) → list_all is_named_plain fs ≡ true → SameOf d (field_of key fs) (field_of key (map hide fs))
+field_same d key name [] all text = refl
+field_same d key name (f ∷ fs) all text =
+    let parts = and_true (is_named_plain f) (list_all is_named_plain fs) all in
     let k = ap (λ k. with_value_of (mask is_marked d) false (cond (bytes_eq key k) (Some (hide f)) (field_of key (map hide fs))) text) (hide_key f) in
-    k ∙ of (bytes_eq key f.key) parts.0 (field_same d key fs parts.1 text)
+    k ∙ of (bytes_eq key f.key) (named_field key f name parts.0) (field_same d key name fs parts.1 text)
   where
-    of : (b : Bool) → is_shown_plain f ≡ true → with_value_of (mask is_marked d) false (field_of key (map hide fs)) text ≡ with_value_of d false (field_of key fs) text
+    of : (b : Bool) → (b ≡ true → is_plain f ≡ true) → with_value_of (mask is_marked d) false (field_of key (map hide fs)) text ≡ with_value_of d false (field_of key fs) text
         → with_value_of (mask is_marked d) false (cond b (Some (hide f)) (field_of key (map hide fs))) text ≡ with_value_of d false (cond b (Some f) (field_of key fs)) text
-    of true plain rest = with_value_same d f text plain
+    of true plain rest = with_value_same d f text (plain refl)
     of false plain rest = rest
 
 -- one step and then the next, where both are the same
@@ -110,16 +126,17 @@ bind_same {A = A} {B = B} {E = E} r r' next next' e h = ap (λ t. t >>= next') e
     of (Ok x) = h x
     of (Err e) = refl
 
-keys_same : (d : BareDoc) (fs : List BareField) → list_all is_shown_plain fs ≡ true → (keys : List (List ℕ)) (text : List ℕ) → with_keys (mask is_marked d) false (map hide fs) keys text ≡ with_keys d false fs keys text
-keys_same d fs all [] text = refl
-keys_same d fs all (key ∷ keys) text =
+keys_same : (d : BareDoc) (fs : List BareField) → list_all is_named_plain fs ≡ true → (keys : List (List ℕ)) → list_all is_name keys ≡ true → (text : List ℕ) → with_keys (mask is_marked d) false (map hide fs) keys text ≡ with_keys d false fs keys text
+keys_same d fs all [] names text = refl
+keys_same d fs all (key ∷ keys) names text =
+    let parts = and_true (is_name key) (list_all is_name keys) names in
     bind_same (with_value_of d false (field_of key fs) (with_key key text)) (with_value_of (mask is_marked d) false (field_of key (map hide fs)) (with_key key text))
-    (with_keys d false fs keys) (with_keys (mask is_marked d) false (map hide fs) keys) (field_same d key fs all (with_key key text)) (keys_same d fs all keys)
+    (with_keys d false fs keys) (with_keys (mask is_marked d) false (map hide fs) keys) (field_same d key parts.0 fs all (with_key key text)) (keys_same d fs all keys parts.1)
 
-fields_same : (d : BareDoc) (fs : List BareField) → list_all is_shown_plain fs ≡ true → (text : List ℕ) → with_fields (mask is_marked d) false (map hide fs) text ≡ with_fields d false fs text
+fields_same : (d : BareDoc) (fs : List BareField) → list_all is_plain fs ≡ true → (text : List ℕ) → with_fields (mask is_marked d) false (map hide fs) text ≡ with_fields d false fs text
 fields_same d [] all text = refl
 fields_same d (f ∷ fs) all text =
-    let parts = and_true (is_shown_plain f) (list_all is_shown_plain fs) all in
+    let parts = and_true (is_plain f) (list_all is_plain fs) all in
     ap (λ k. with_value (mask is_marked d) false (hide f) (with_key k text) >>= with_fields (mask is_marked d) false (map hide fs)) (hide_key f)
     ∙ bind_same (with_value d false f (with_key f.key text)) (with_value (mask is_marked d) false (hide f) (with_key f.key text))
     (with_fields d false fs) (with_fields (mask is_marked d) false (map hide fs)) (with_value_same d f (with_key f.key text) parts.0) (fields_same d fs parts.1)
@@ -134,18 +151,46 @@ others_same (f ∷ fs) =
     of rest true = ap (λ xs. hide f ∷ xs) rest
     of rest false = rest
 
-others_plain : (fs : List BareField) → list_all is_shown_plain fs ≡ true → list_all is_shown_plain (filter is_other fs) ≡ true
+others_plain : (fs : List BareField) → list_all is_plain fs ≡ true → list_all is_plain (filter is_other fs) ≡ true
 others_plain [] all = refl
-others_plain (f ∷ fs) all = of (others_plain fs (and_true (is_shown_plain f) (list_all is_shown_plain fs) all).1) (is_other f)
+others_plain (f ∷ fs) all = of (others_plain fs (and_true (is_plain f) (list_all is_plain fs) all).1) (is_other f)
   where
-    of : list_all is_shown_plain (filter is_other fs) ≡ true → (b : Bool) → list_all is_shown_plain (cond b (f ∷ filter is_other fs) (filter is_other fs)) ≡ true
+    of : list_all is_plain (filter is_other fs) ≡ true → (b : Bool) → list_all is_plain (cond b (f ∷ filter is_other fs) (filter is_other fs)) ≡ true
     of rest true =
-        let parts = and_true (is_shown_plain f) (list_all is_shown_plain fs) all in
-        and_both (is_shown_plain f) (list_all is_shown_plain (filter is_other fs)) parts.0 rest
+        let parts = and_true (is_plain f) (list_all is_plain fs) all in
+        and_both (is_plain f) (list_all is_plain (filter is_other fs)) parts.0 rest
     of rest false = rest
 
-shown_same : (d : BareDoc) (all : Bool) (fs : List BareField) → list_all is_shown_plain fs ≡ true → (text : List ℕ) → with_fields (mask is_marked d) false (others_shown all (map hide fs)) text ≡ with_fields d false (others_shown all fs) text
-shown_same d true fs plain text = ap (λ gs. with_fields (mask is_marked d) false gs text) (others_same fs) ∙ fields_same d (filter is_other fs) (others_plain fs plain) text
+-- what is so of each field, and so of all
+all_so : (p q : BareField → Bool) → ((f : BareField) → p f ≡ true → q f ≡ true) → (fs : List BareField) → list_all p fs ≡ true → list_all q fs ≡ true
+all_so p q so [] all = refl
+all_so p q so (f ∷ fs) all = let parts = and_true (p f) (list_all p fs) all in and_both (q f) (list_all q fs) (so f parts.0) (all_so p q so fs parts.1)
+
+-- A value that is shown has no reference.
+abbrev is_shown_plain : (all : Bool) → BareField → Bool
+is_shown_plain all f = not (is_shown all f) || has_no_reference f.value
+
+-- so of all fields it has none where it is not hidden
+all_plain : (f : BareField) → is_shown_plain true f ≡ true → is_plain f ≡ true
+all_plain f = by f.hidden (has_no_reference f.value)
+  where
+    by : (hidden plain : Bool) → (not (not hidden && true) || plain) ≡ true → (hidden || plain) ≡ true
+    by true plain h = refl
+    by false plain h = h
+
+-- and of the fields that have names of their own
+named_plain : (all : Bool) (f : BareField) → is_shown_plain all f ≡ true → is_named_plain f ≡ true
+named_plain all f = by all (is_other f) f.hidden (has_no_reference f.value)
+  where
+    by : (all other hidden plain : Bool) → (not (not hidden && (all || not other)) || plain) ≡ true → (other || (hidden || plain)) ≡ true
+    by all true hidden plain h = refl
+    by all false true plain h = refl
+    by true false false plain h = h
+    by false false false plain h = h
+
+shown_same : (d : BareDoc) (all : Bool) (fs : List BareField) → list_all (is_shown_plain all) fs ≡ true → (text : List ℕ) → with_fields (mask is_marked d) false (others_shown all (map hide fs)) text ≡ with_fields d false (others_shown all fs) text
+shown_same d true fs plain text = ap (λ gs. with_fields (mask is_marked d) false gs text) (others_same fs)
+    ∙ fields_same d (filter is_other fs) (others_plain fs (all_so (is_shown_plain true) is_plain all_plain fs plain)) text
 shown_same d false fs plain text = refl
 
 -- ---- attachments
@@ -167,7 +212,7 @@ attachments_same false e text = refl
 
 -- ---- an entry
 
-text_same : (d : BareDoc) (all attachments : Bool) (e : NodeId × EntryRecord) → shows_no_reference e.1 ≡ true → entry_text (mask is_marked d) false all attachments [] (mask_row is_marked e) ≡ entry_text d false all attachments [] e
+text_same : (d : BareDoc) (all attachments : Bool) (e : NodeId × EntryRecord) → shows_no_reference all e.1 ≡ true → entry_text (mask is_marked d) false all attachments [] (mask_row is_marked e) ≡ entry_text d false all attachments [] e
 text_same d all attachments e plain =
     bind_same (whole_entry d false all e) (whole_entry (mask is_marked d) false all (mask_row is_marked e))
     (λ text. Ok (with_attachments attachments e.1 text)) (λ text. Ok (with_attachments attachments (mask_entry is_marked e.1) text))
@@ -175,7 +220,7 @@ text_same d all attachments e plain =
     (λ text. Ok (text ++ id_and_tags e)) (λ text. Ok (text ++ id_and_tags e))
     (bind_same (with_keys d false (fields_of e.1) named_keys []) (with_keys (mask is_marked d) false (map hide (fields_of e.1)) named_keys [])
     (with_fields d false (others_shown all (fields_of e.1))) (with_fields (mask is_marked d) false (others_shown all (map hide (fields_of e.1))))
-    (keys_same d (fields_of e.1) plain named_keys []) (shown_same d all (fields_of e.1) plain))
+    (keys_same d (fields_of e.1) (all_so (is_shown_plain all) is_named_plain (named_plain all) (fields_of e.1) plain) named_keys refl []) (shown_same d all (fields_of e.1) plain))
     (λ text. refl))
     (λ text. ap Ok (attachments_same attachments e.1 text))
 
@@ -183,15 +228,15 @@ abbrev shown_of : List ℕ → (all attachments : Bool) → BareDoc → Result H
 shown_of file all attachments doc r = entry_or_refusal file r >>= λ entry. found_or_refusal file (entry_text doc false all attachments [] entry)
 
 -- No value that is shown of the entry that was found has a reference.
-abbrev ShowsPlain : Result Holding TreeFail → Type 0
-ShowsPlain r = (held : Holding) → r ≡ Ok held → shows_no_reference held.entry.1 ≡ true
+abbrev ShowsPlain : (all : Bool) → Result Holding TreeFail → Type 0
+ShowsPlain all r = (held : Holding) → r ≡ Ok held → shows_no_reference all held.entry.1 ≡ true
 
-entry_same : (file : List ℕ) (all attachments : Bool) (d : BareDoc) (r : Result Holding TreeFail) → ShowsPlain r
+entry_same : (file : List ℕ) (all attachments : Bool) (d : BareDoc) (r : Result Holding TreeFail) → ShowsPlain all r
     → shown_of file all attachments (mask is_marked d) (on_ok (mask_held is_marked marked_titles) r) ≡ shown_of file all attachments d r
 entry_same file all attachments d (Ok held) plain = ap (found_or_refusal file) (text_same d all attachments held.entry (plain held refl))
 entry_same file all attachments d (Err why) plain = refl
 
-show_mask : (file : List ℕ) (all attachments : Bool) (path : List ℕ) (d : BareDoc) → ShowsPlain (entry_named path d)
+show_mask : (file : List ℕ) (all attachments : Bool) (path : List ℕ) (d : BareDoc) → ShowsPlain all (entry_named path d)
     → entry_shown file false all attachments [] path (mask is_marked d) ≡ entry_shown file false all attachments [] path d
 unfolding entry_shown
 show_mask file all attachments path d plain =
@@ -199,30 +244,33 @@ show_mask file all attachments path d plain =
 
 -- ---- the same of the other document
 
-plain_hide : (fs : List BareField) → list_all is_shown_plain (map hide fs) ≡ list_all is_shown_plain fs
-plain_hide [] = refl
-plain_hide (f ∷ fs) = λ i. one i && plain_hide fs i
+plain_hide : (all : Bool) (fs : List BareField) → list_all (is_shown_plain all) (map hide fs) ≡ list_all (is_shown_plain all) fs
+plain_hide all [] = refl
+plain_hide all (f ∷ fs) = λ i. one i && plain_hide all fs i
   where
-    one : is_shown_plain (hide f) ≡ is_shown_plain f
-    one = hide_cases f (λ q. ap (λ b. b || has_no_reference (hide f).value) (hide_flag f ∙ q) ∙ sym (ap (λ b. b || has_no_reference f.value) q)) (λ q same. ap is_shown_plain same)
+    marked : (g : BareField) → g.hidden ≡ true → is_shown_plain all g ≡ true
+    marked g q = ap (λ b. not (not b && (all || not (is_other g))) || has_no_reference g.value) q
+
+    one : is_shown_plain all (hide f) ≡ is_shown_plain all f
+    one = hide_cases f (λ q. marked (hide f) (hide_flag f ∙ q) ∙ sym (marked f q)) (λ q same. ap (is_shown_plain all) same)
 
 abbrev held_in : Holding → Result Holding TreeFail → Holding
 held_in held (Ok other) = other
 held_in held (Err why) = held
 
-to_mask : (r : Result Holding TreeFail) → ShowsPlain r → ShowsPlain (on_ok (mask_held is_marked marked_titles) r)
-to_mask (Ok held) plain other is =
-    subst (λ (h : Holding). shows_no_reference h.entry.1 ≡ true) (ap (held_in held) is) (plain_hide (fields_of held.entry.1) ∙ plain held refl)
-to_mask (Err why) plain other is = cc is
+to_mask : (all : Bool) (r : Result Holding TreeFail) → ShowsPlain all r → ShowsPlain all (on_ok (mask_held is_marked marked_titles) r)
+to_mask all (Ok held) plain other is =
+    subst (λ (h : Holding). shows_no_reference all h.entry.1 ≡ true) (ap (held_in held) is) (plain_hide all (fields_of held.entry.1) ∙ plain held refl)
+to_mask all (Err why) plain other is = cc is
 
-from_mask : (r : Result Holding TreeFail) → ShowsPlain (on_ok (mask_held is_marked marked_titles) r) → ShowsPlain r
-from_mask (Ok held) plain other is =
-    subst (λ (h : Holding). shows_no_reference h.entry.1 ≡ true) (ap (held_in held) is) (sym (plain_hide (fields_of held.entry.1)) ∙ plain (mask_held is_marked marked_titles held) refl)
-from_mask (Err why) plain other is = cc is
+from_mask : (all : Bool) (r : Result Holding TreeFail) → ShowsPlain all (on_ok (mask_held is_marked marked_titles) r) → ShowsPlain all r
+from_mask all (Ok held) plain other is =
+    subst (λ (h : Holding). shows_no_reference all h.entry.1 ≡ true) (ap (held_in held) is) (sym (plain_hide all (fields_of held.entry.1)) ∙ plain (mask_held is_marked marked_titles held) refl)
+from_mask all (Err why) plain other is = cc is
 
 pub show_is_blind : ShowIsBlind
-show_is_blind d e alike path plain file all attachments =
-    let masked = subst ShowsPlain (sym (entry_named_mask is_marked marked_titles path d)) (to_mask (entry_named path d) plain) in
-    let other = subst (λ (x : BareDoc). ShowsPlain (entry_named path x)) alike masked in
-    let plain_e = from_mask (entry_named path e) (subst ShowsPlain (entry_named_mask is_marked marked_titles path e) other) in
+show_is_blind d e alike path file all attachments plain =
+    let masked = subst (ShowsPlain all) (sym (entry_named_mask is_marked marked_titles path d)) (to_mask all (entry_named path d) plain) in
+    let other = subst (λ (x : BareDoc). ShowsPlain all (entry_named path x)) alike masked in
+    let plain_e = from_mask all (entry_named path e) (subst (ShowsPlain all) (entry_named_mask is_marked marked_titles path e) other) in
     sym (show_mask file all attachments path d plain) ∙ ap (entry_shown file false all attachments [] path) alike ∙ show_mask file all attachments path e plain_e

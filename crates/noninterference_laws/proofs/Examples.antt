@@ -28,9 +28,9 @@ abbrev held_or : Holding → Result Holding TreeFail → Holding
 held_or held (Ok h) = h
 held_or held (Err why) = held
 
-shows_plain : (held : Holding) → entry_named (codes "Bank") one ≡ Ok held → shows_no_reference held.entry.1 ≡ true
+shows_plain : (held : Holding) → entry_named (codes "Bank") one ≡ Ok held → shows_no_reference true held.entry.1 ≡ true
 unfolding entry_found reference_at
-shows_plain held is = subst (λ (h : Holding). shows_no_reference h.entry.1 ≡ true) (ap (held_or held) is) refl
+shows_plain held is = subst (λ (h : Holding). shows_no_reference true h.entry.1 ≡ true) (ap (held_or held) is) refl
 
 abbrev terms_or : List Term → Result (List Term) FindFail → List Term
 terms_or terms (Ok ts) = ts

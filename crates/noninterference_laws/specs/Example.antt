@@ -35,12 +35,12 @@ one = database_with (codes "first")
 abbrev pub other : BareDoc
 other = database_with (codes "second")
 
--- They are not the same, and look alike; no value of the entry that is not hidden has a reference;
--- and a search for its title looks at no hidden value.
+-- They are not the same, and look alike; no value of the entry that is shown has a reference; and a
+-- search for its title looks at no hidden value.
 pub record ExampleDatabases : Type 0 where
   pub apart : one ≢ other
   pub alike : LookAlike is_secret one other
   pub marked : LookAlike is_marked one other
   pub plain : (held : Holding) → entry_named (codes "Bank") one ≡ Ok held
-      → shows_no_reference held.entry.1 ≡ true
+      → shows_no_reference true held.entry.1 ≡ true
   pub searched : LooksAtNoSecret (codes "bank") one

@@ -159,19 +159,24 @@ is_plain_byte (reference r) = false
 abbrev pub has_no_reference : List ℕ → Bool
 has_no_reference text = list_all is_plain_byte (pieces 0 text)
 
--- no value of an entry that is not marked hidden has a reference
-abbrev pub shows_no_reference : EntryRecord → Bool
-shows_no_reference e =
-    list_all (λ (f : BareField). f.hidden || has_no_reference f.value) (fields_of e)
+-- The value of a field is shown: one that is not marked hidden, of the fields that have names of
+-- their own, or of all fields.
+abbrev pub is_shown : (all : Bool) → BareField → Bool
+is_shown all f = not f.hidden && (all || not (is_other f))
+
+-- no value of an entry that is shown has a reference
+abbrev pub shows_no_reference : (all : Bool) → EntryRecord → Bool
+shows_no_reference all e =
+    list_all (λ (f : BareField). not (is_shown all f) || has_no_reference f.value) (fields_of e)
 
 -- Where two documents are the same but for values that are marked hidden and the bytes of
--- attachments, and no other value of the entry that a path names has a reference, `show` prints the
--- same of it, or refuses the same, unless hidden values or single fields are asked for.
+-- attachments, and no value that is shown of the entry that a path names has a reference, `show`
+-- prints the same of it, or refuses the same, unless hidden values or single fields are asked for.
 abbrev pub ShowIsBlind : Type 0
-ShowIsBlind = (d e : BareDoc) → LookAlike is_marked d e → (path : List ℕ)
+ShowIsBlind = (d e : BareDoc) → LookAlike is_marked d e → (path file : List ℕ)
+    (all attachments : Bool)
     → ((held : Holding) → entry_named path d ≡ Ok held
-    → shows_no_reference held.entry.1 ≡ true)
-    → (file : List ℕ) (all attachments : Bool)
+    → shows_no_reference all held.entry.1 ≡ true)
     → entry_shown file false all attachments [] path d
     ≡ entry_shown file false all attachments [] path e
 

@@ -15,8 +15,8 @@ pub fn screens()
 /// On such documents `ls`, `db-info`, `mv`, `rm`, `mkdir` and `rmdir` refuse the same, or they
 /// print the same and make documents that are the same but for what is hidden; and each makes a
 /// node of the one document where it does of the other. So does `show` print the same, unless
-/// hidden values, single fields or a one-time code are asked for or a value that is not hidden has
-/// a reference.
+/// hidden values, single fields or a one-time code are asked for or a value that is shown has a
+/// reference.
 pub fn commands()
     ensures same { CommandsAreBlind }
     ensures draws { DrawsAreBlind }

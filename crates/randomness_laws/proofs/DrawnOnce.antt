@@ -11,16 +11,18 @@ use Rattle.kdbx_seal.specs.declared.fail.SealFail.{SealFail}
 use Rattle.cli_answers.specs.declared.answers.Refusal.{Refusal}
 use Rattle.cli_answers.specs.Phases.{StreamAnswer, after_left, then_left, with_left}
 use Rattle.cli_changes.specs.Ids.{new_id}
+use Rattle.cli_generating.specs.Generated.{generated}
+use Rattle.gen_core.specs.Chosen.{chosen}
 use Rattle.cli_profiles.specs.declared.profiles.PasswordProfile.{PasswordProfile}
 use Rattle.cli_words.specs.Needs.{generated_by, target_of}
 use Rattle.cli_writing.specs.Drawing.{next_bytes}
 use Rattle.cli_writing.specs.Writing.{NewFile, plain_file}
 use Rattle.cli_sealing.specs.Draws.{after_draws, draws_of}
 use Rattle.cli_sealing.specs.Sealing.{file_by, file_unless, sealed_file, settings_for}
-use Rattle.cli_commands.specs.Commands.{Change, change_by, change_with, drawn_id, makes_node, password_of}
+use Rattle.cli_commands.specs.Commands.{Change, change_by, change_with, drawn_id, makes_node, password_of, some_password}
 use Rattle.cli_files.specs.Tasks.{Task}
 use Rattle.call_carrying.specs.Endings.{Ending, carried_out, change_of_task, ended_with, ending_with, settings_in}
-use Rattle.randomness_laws.specs.Pieces.{CallsDrawOnce, DrawsFewBytes, FilesAreOfPieces, IdsAreOfPieces, PasswordsAreOfPieces, TasksDrawOnce, after_id, all_left, all_pieces, change_pieces, id_pieces, password_most, password_pieces, sealing_pieces, task_pieces, written_pieces}
+use Rattle.randomness_laws.specs.Pieces.{Call, CallsDrawOnce, DrawsFewBytes, FilesAreOfPieces, IdsAreOfPieces, PasswordsAreOfPieces, PrintedAreOfPieces, TasksDrawOnce, after_id, all_left, all_pieces, call_left, call_pieces, task_call, change_pieces, password_call, id_pieces, password_most, password_pieces, sealing_pieces, task_pieces, written_pieces}
 use Rattle.randomness_laws.proofs.Choices.{made_with, password_cut, password_left, password_len}
 use Rattle.randomness_laws.proofs.Cuts.{concat_append, cut_is, cut_len, lens, lens_most, next_is, next_len, pieces_cut}
 
@@ -111,8 +113,8 @@ module _ (time : ℕ) (task : Task) (dice : List ℕ) where
   abbrev profile : Option PasswordProfile
   profile = generated_by task.command
 
-  abbrev chosen : List (List ℕ)
-  chosen = password_pieces profile after
+  abbrev passwords : List (List ℕ)
+  passwords = password_pieces profile after
 
   abbrev rest : List (List ℕ)
   rest = change_pieces task.opened.sealing taken.answer taken.left
@@ -128,20 +130,20 @@ module _ (time : ℕ) (task : Task) (dice : List ℕ) where
   taken_left = ap (λ (t : StreamAnswer Change). t.left) taken_is ∙ password_left profile task.lines.more made after
 
   -- the password and what comes after it
-  later_len : length (concat (chosen ++ rest)) ≡ length (concat chosen) + length (concat rest)
-  later_len = ap length (concat_append chosen rest) ∙ length-append (concat chosen) (concat rest)
+  later_len : length (concat (passwords ++ rest)) ≡ length (concat passwords) + length (concat rest)
+  later_len = ap length (concat_append passwords rest) ∙ length-append (concat passwords) (concat rest)
 
-  all_len : length (concat (task_pieces time task dice)) ≡ length (concat ids) + length (concat (chosen ++ rest))
-  all_len = ap length (concat_append ids (chosen ++ rest)) ∙ length-append (concat ids) (concat (chosen ++ rest))
+  all_len : length (concat (task_pieces time task dice)) ≡ length (concat ids) + length (concat (passwords ++ rest))
+  all_len = ap length (concat_append ids (passwords ++ rest)) ∙ length-append (concat ids) (concat (passwords ++ rest))
 
-  password_is : after ≡ concat chosen ++ taken.left
-  password_is = password_cut profile task.lines.more after ∙ ap (λ xs. concat chosen ++ xs) (sym taken_left)
+  password_is : after ≡ concat passwords ++ taken.left
+  password_is = password_cut profile task.lines.more after ∙ ap (λ xs. concat passwords ++ xs) (sym taken_left)
 
-  later_cut : length (concat rest) ≤ length taken.left → after ≡ concat (chosen ++ rest) ++ (carried_out time task dice).left
+  later_cut : length (concat rest) ≤ length taken.left → after ≡ concat (passwords ++ rest) ++ (carried_out time task dice).left
   unfolding carried_out
   later_cut most =
-      password_is ∙ ap (λ xs. concat chosen ++ xs) (change_cut (target_of task.command) task.opened.sealing taken.answer taken.left most)
-      ∙ sym (append_assoc (concat chosen) (concat rest) (carried_out time task dice).left) ∙ ap (λ xs. xs ++ (carried_out time task dice).left) (sym (concat_append chosen rest))
+      password_is ∙ ap (λ xs. concat passwords ++ xs) (change_cut (target_of task.command) task.opened.sealing taken.answer taken.left most)
+      ∙ sym (append_assoc (concat passwords) (concat rest) (carried_out time task dice).left) ∙ ap (λ xs. xs ++ (carried_out time task dice).left) (sym (concat_append passwords rest))
 
   task_cut : length (concat (task_pieces time task dice)) ≤ length dice → dice ≡ concat (task_pieces time task dice) ++ (carried_out time task dice).left
   task_cut most =
@@ -149,10 +151,10 @@ module _ (time : ℕ) (task : Task) (dice : List ℕ) where
       let later = later_len in
       let id = id_cut makes dice (omega (arith, all, most)) in
       let first = ap length id ∙ length-append (concat ids) after in
-      let second = ap length password_is ∙ length-append (concat chosen) taken.left in
+      let second = ap length password_is ∙ length-append (concat passwords) taken.left in
       id ∙ ap (λ xs. concat ids ++ xs) (later_cut (omega (arith, all, later, first, second, most)))
-      ∙ sym (append_assoc (concat ids) (concat (chosen ++ rest)) (carried_out time task dice).left)
-      ∙ ap (λ xs. xs ++ (carried_out time task dice).left) (sym (concat_append ids (chosen ++ rest)))
+      ∙ sym (append_assoc (concat ids) (concat (passwords ++ rest)) (carried_out time task dice).left)
+      ∙ ap (λ xs. xs ++ (carried_out time task dice).left) (sym (concat_append ids (passwords ++ rest)))
 
   task_len : length (concat (task_pieces time task dice)) ≤ 192 + password_most profile
   task_len =
@@ -169,13 +171,18 @@ tasks_draw_once time task dice most = task_cut time task dice most
 pub draws_few_bytes : DrawsFewBytes
 draws_few_bytes time task dice = task_len time task dice
 
+-- one call
+call_draws_once : (c : Call) (dice : List ℕ) → length (concat (call_pieces c dice)) ≤ length dice → dice ≡ concat (call_pieces c dice) ++ call_left c dice
+call_draws_once (task_call time task) dice most = tasks_draw_once time task dice most
+call_draws_once (password_call profile) dice most = password_cut (Some profile) None dice
+
 pub calls_draw_once : CallsDrawOnce
 calls_draw_once [] dice most = refl
 calls_draw_once (c ∷ cs) dice most =
-    let first = task_pieces c.time c.task dice in
-    let left = (carried_out c.time c.task dice).left in
+    let first = call_pieces c dice in
+    let left = call_left c dice in
     let both = ap length (concat_append first (all_pieces cs left)) ∙ length-append (concat first) (concat (all_pieces cs left)) in
-    let here = tasks_draw_once c.time c.task dice (omega (arith, both, most)) in
+    let here = call_draws_once c dice (omega (arith, both, most)) in
     let len = ap length here ∙ length-append (concat first) left in
     here ∙ ap (λ xs. concat first ++ xs) (calls_draw_once cs left (omega (arith, both, len, most)))
     ∙ sym (append_assoc (concat first) (concat (all_pieces cs left)) (all_left cs left)) ∙ ap (λ xs. xs ++ all_left cs left) (sym (concat_append first (all_pieces cs left)))
@@ -193,6 +200,22 @@ passwords_are_of_pieces time task profile dice change is h =
     let m = made_with profile task.lines.more (made time task dice) (after_id b dice) change
     (ap (λ p. (then_left (password_of p task.lines.more (after_id b dice)) (λ password left. with_left (made time task dice password) left)).answer) (sym is) ∙ so) in
     record { id = id_in b dice; drawn = id_drawn b dice; password = m.password; chooses = m.chooses; makes = m.makes }
+
+-- a password as what is made of it
+abbrev as_made : Option (List ℕ) → Result (List ℕ) Refusal
+as_made None = Ok []
+as_made (Some password) = Ok password
+
+abbrev password_in : Result (List ℕ) Refusal → List ℕ
+password_in (Ok password) = password
+password_in (Err refusal) = []
+
+pub printed_are_of_pieces : PrintedAreOfPieces
+printed_are_of_pieces profile dice password is =
+    let left = (generated profile.alphabet profile.length dice).left in
+    let m = made_with profile None as_made dice password
+    (ap (λ a. (then_left (some_password (with_left a left)) (λ password left. with_left (as_made password) left)).answer) is) in
+    m.chooses ∙ ap (λ r. chosen (password_in r) []) m.makes
 
 abbrev bytes_in : Option NewFile → List ℕ
 bytes_in None = []

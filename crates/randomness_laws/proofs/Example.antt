@@ -23,6 +23,8 @@ use Rattle.kdbx_seal.specs.Answers.{size_refusal}
 use Rattle.kdbx_seal.specs.Made.{hash_kept, made_file}
 use Rattle.kdbx_seal.specs.PayloadMade.{written_keystream}
 use Rattle.kdbx_seal.specs.declared.fail.SealFail.{SealFail}
+use Rattle.gen_core.specs.Chosen.{choose, next}
+use Rattle.cli_generating.specs.Generated.{generated}
 use Rattle.cli_answers.specs.Phases.{StreamAnswer, then_left, with_left}
 use Rattle.cli_answers.specs.declared.answers.Refusal.{Refusal}
 use Rattle.cli_writing.specs.Drawing.{next_bytes}
@@ -33,8 +35,8 @@ use Rattle.cli_commands.specs.Commands.{Change}
 use Rattle.call_carrying.specs.Endings.{Ending, carried_out, change_of_task, ending_with}
 use Rattle.file_limits.specs.Example.{settings}
 use Rattle.file_limits.proofs.Example.{fits_so}
-use Rattle.randomness_laws.specs.Example.{ExampleDraws, rising, sealed_making, sealing, two_calls, plain_making}
-use Rattle.randomness_laws.specs.Pieces.{all_pieces, task_pieces}
+use Rattle.randomness_laws.specs.Example.{ExampleDraws, plain_making, rising, sealed_making, sealing, three_calls, two_letters}
+use Rattle.randomness_laws.specs.Pieces.{all_pieces, task_call, password_call, task_pieces}
 
 abbrev dice : List ℕ
 dice = rising 180 0
@@ -104,15 +106,23 @@ pieces : task_pieces 50 sealed_making dice ≡ first_pieces
 unfolding needed_version after_mkdir group_found has_group_path next_bytes
 pieces = refl
 
-second_pieces : task_pieces 60 plain_making (rising 24 156) ≡ rising 16 156 ∷ []
-unfolding after_mkdir group_found has_group_path next_bytes
-second_pieces = refl
+-- a password, of what the first call leaves
+prints : (generated two_letters.alphabet two_letters.length (rising 24 156)).answer ≡ Ok (codes "ab")
+unfolding choose next
+prints = refl
 
-both : all_pieces two_calls dice ≡ first_pieces ++ (rising 16 156 ∷ [])
-both =
-    ap (λ p. p ++ (task_pieces 60 plain_making (carried_out 50 sealed_making dice).left ++ [])) pieces
-    ∙ ap (λ l. first_pieces ++ (task_pieces 60 plain_making l ++ [])) left_is
-    ∙ ap (λ p. first_pieces ++ (p ++ [])) second_pieces
+later_pieces : all_pieces (password_call two_letters ∷ task_call 60 plain_making ∷ []) (rising 24 156) ≡ rising 2 156 ∷ rising 16 158 ∷ []
+unfolding after_mkdir group_found has_group_path next_bytes choose next
+later_pieces = refl
+
+abbrev later : List ℕ → List (List ℕ)
+later left = all_pieces (password_call two_letters ∷ task_call 60 plain_making ∷ []) left
+
+three : all_pieces three_calls dice ≡ first_pieces ++ (rising 2 156 ∷ rising 16 158 ∷ [])
+three =
+    ap (λ p. p ++ later (carried_out 50 sealed_making dice).left) pieces
+    ∙ ap (λ l. first_pieces ++ later l) left_is
+    ∙ ap (λ p. first_pieces ++ p) later_pieces
 
 makes : (change_of_task 50 sealed_making dice).answer ≡ Ok change
 unfolding after_mkdir group_found has_group_path next_bytes
@@ -125,12 +135,13 @@ writes = refl
 pub example_draws : ExampleDraws
 example_draws =
     let first : length (concat (task_pieces 50 sealed_making dice)) ≡ 156 = ap (λ p. length (concat p)) pieces in
-    let all : length (concat (all_pieces two_calls dice)) ≡ 172 = ap (λ p. length (concat p)) both in
+    let all : length (concat (all_pieces three_calls dice)) ≡ 174 = ap (λ p. length (concat p)) three in
     record {
       pieces = pieces;
       enough = omega (arith, first);
-      both = both;
+      three = three;
       more = omega (arith, all);
+      prints = prints;
       draws = refl;
       change = change;
       doc = doc;

@@ -1,17 +1,19 @@
--- A plain and a sealed database in which a group is made, so that each law but that of passwords
--- speaks of something.
+-- A plain and a sealed database in which a group is made, and a password that is printed, so that each
+-- law but that of a command's password speaks of something.
 use Rattle.std.specs.Prelude.{◌≡◌, ◌≤◌, ◌+◌, ℕ, zero, suc, Bool, true, false, List, [], ◌∷◌, length, Option, None, Some, Ok, codes}
 use Rattle.std.specs.List.{concat}
 use Rattle.vault_model.specs.Tree.{BareDoc}
 use Rattle.merge_core.specs.Example.{as_it_was}
 use Rattle.kdbx_frame.specs.declared.sealings.Sealing.{Sealing}
+use Rattle.cli_generating.specs.Generated.{generated}
+use Rattle.cli_profiles.specs.declared.profiles.PasswordProfile.{PasswordProfile}
 use Rattle.cli_words.specs.declared.command.Command.TheVariants.{MakeGroup}
 use Rattle.cli_words.specs.Needs.{target_of}
 use Rattle.cli_commands.specs.Commands.{Change, makes_node}
 use Rattle.cli_files.specs.Tasks.{Task}
 use Rattle.call_carrying.specs.Endings.{Ending, carried_out, change_of_task}
 use Rattle.file_limits.specs.Example.{composite, settings}
-use Rattle.randomness_laws.specs.Pieces.{Call, all_pieces, task_pieces}
+use Rattle.randomness_laws.specs.Pieces.{Call, all_pieces, task_call, password_call, task_pieces}
 
 -- a file is sealed with these settings under this key
 abbrev pub sealing : Sealing
@@ -41,22 +43,28 @@ abbrev pub rising : ℕ → ℕ → List ℕ
 rising zero n = []
 rising (suc k) n = n ∷ rising k (n + 1)
 
--- one in the sealed database, and then one in the plain one
-abbrev pub two_calls : List Call
-two_calls = record { time = 50; task = sealed_making } ∷ record { time = 60; task = plain_making }
-    ∷ []
+-- a password of two letters
+abbrev pub two_letters : PasswordProfile
+two_letters = record { length = 2; alphabet = codes "ab" }
+
+-- one in the sealed database, then a password, and then one in the plain database
+abbrev pub three_calls : List Call
+three_calls =
+    task_call 50 sealed_making ∷ password_call two_letters ∷ task_call 60 plain_making ∷ []
 
 -- Of 180 bytes the first call draws six pieces, which are no part of each other, and of the 24 that it
--- leaves the second draws one. What the first call ends with is a sealed file.
+-- leaves the second and the third draw one each. What the first call ends with is a sealed file.
 pub record ExampleDraws : Type 0 where
   pub pieces : task_pieces 50 sealed_making (rising 180 0)
       ≡ rising 16 0 ∷ rising 32 16 ∷ rising 32 48 ∷ rising 12 80 ∷ rising 64 92 ∷ [] ∷ []
   pub enough : length (concat (task_pieces 50 sealed_making (rising 180 0)))
       ≤ length (rising 180 0)
-  pub both : all_pieces two_calls (rising 180 0)
+  pub three : all_pieces three_calls (rising 180 0)
       ≡ rising 16 0 ∷ rising 32 16 ∷ rising 32 48 ∷ rising 12 80 ∷ rising 64 92 ∷ []
-      ∷ rising 16 156 ∷ []
-  pub more : length (concat (all_pieces two_calls (rising 180 0))) ≤ length (rising 180 0)
+      ∷ rising 2 156 ∷ rising 16 158 ∷ []
+  pub more : length (concat (all_pieces three_calls (rising 180 0))) ≤ length (rising 180 0)
+  pub prints : (generated two_letters.alphabet two_letters.length (rising 24 156)).answer
+      ≡ Ok (codes "ab")
   pub draws : makes_node sealed_making.command as_it_was ≡ true
   pub change : Change
   pub doc : BareDoc

@@ -84,21 +84,30 @@ task_pieces time task dice =
 
 -- ---- many calls
 
--- A call that draws: its moment and its task.
-pub record Call : Type 0 where
-  pub time : ℕ
-  pub task : Task
+-- A call that draws: one that carries out a task at a moment, or one that prints a password.
+pub data Call : Type 0 where
+  task_call : ℕ → Task → Call
+  password_call : PasswordProfile → Call
+
+-- The pieces that a call draws.
+abbrev pub call_pieces : Call → List ℕ → List (List ℕ)
+call_pieces (task_call time task) dice = task_pieces time task dice
+call_pieces (password_call profile) dice = password_pieces (Some profile) dice
+
+-- What a call leaves of the dice.
+abbrev pub call_left : Call → List ℕ → List ℕ
+call_left (task_call time task) dice = (carried_out time task dice).left
+call_left (password_call profile) dice = (generated profile.alphabet profile.length dice).left
 
 -- The pieces of calls one after another, each of which goes on with what the one before left.
 abbrev pub all_pieces : List Call → List ℕ → List (List ℕ)
 all_pieces [] dice = []
-all_pieces (c ∷ cs) dice =
-    task_pieces c.time c.task dice ++ all_pieces cs (carried_out c.time c.task dice).left
+all_pieces (c ∷ cs) dice = call_pieces c dice ++ all_pieces cs (call_left c dice)
 
 -- What such calls leave of the dice.
 abbrev pub all_left : List Call → List ℕ → List ℕ
 all_left [] dice = dice
-all_left (c ∷ cs) dice = all_left cs (carried_out c.time c.task dice).left
+all_left (c ∷ cs) dice = all_left cs (call_left c dice)
 
 -- ---- laws
 
@@ -141,6 +150,12 @@ PasswordsAreOfPieces = (time : ℕ) (task : Task) (profile : PasswordProfile) (d
     (change : Change) → generated_by task.command ≡ Some profile
     → (change_of_task time task dice).answer ≡ Ok change
     → IsOfPassword time task profile dice change
+
+-- A password that is printed is chosen by its piece, to its last byte.
+abbrev pub PrintedAreOfPieces : Type 0
+PrintedAreOfPieces = (profile : PasswordProfile) (dice password : List ℕ)
+    → (generated profile.alphabet profile.length dice).answer ≡ Ok password
+    → choose profile.alphabet profile.length [] (password_piece profile dice) ≡ chosen password []
 
 -- The file that a task writes is sealed with its pieces: it is the file of draws that are these
 -- pieces.
