@@ -32,13 +32,13 @@ pub item_placed : (now : ℕ) (folders : List Data) (before : List EntryTexts) (
     → GivesId before (given_id item) (texts_of folders item) id after → qs ≡ ps ++ p ∷ []
     → p.moment ≡ now → p.names ≡ item_groups folders item → item_row now id item ≡ Ok (entry_row p.entry)
     → PlacedNext now folders before item (all_seen ps) (all_seen qs) after
-item_placed now folders before item ps qs p id after given is moment names row = record {
+item_placed now folders before item ps qs p id after given_member is moment names row = record {
   entry = placed_seen p;
-  is = ap (λ (u : NodeId). item_row now u item >>= λ (r : NodeId × EntryRecord). let made : Result Placed BitwardenFail = Ok (record { now = now; names = item_groups folders item; row = r }) in made) (sym given.id)
+  is = ap (λ (u : NodeId). item_row now u item >>= λ (r : NodeId × EntryRecord). let made : Result Placed BitwardenFail = Ok (record { now = now; names = item_groups folders item; row = r }) in made) (sym given_member.id)
       ∙ ap (λ (x : Result (NodeId × EntryRecord) BitwardenFail). x >>= λ (r : NodeId × EntryRecord). let made : Result Placed BitwardenFail = Ok (record { now = now; names = item_groups folders item; row = r }) in made) row
       ∙ (λ i. let made : Result Placed BitwardenFail = Ok (record { now = sym moment i; names = sym names i; row = entry_row p.entry }) in made);
   placed = ap all_seen is ∙ map-append placed_seen ps (p ∷ []);
-  counted = given.counted;
+  counted = given_member.counted;
 }
 
 -- What is placed so far, with the items that are left, is all, where those before were counted.

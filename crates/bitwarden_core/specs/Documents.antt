@@ -29,7 +29,8 @@ as_export (Err refusal) = Err (of_tree refusal)
 -- then each entry is put into its group.
 abbrev pub placed_document : ℕ → List Data → List Placed → BareDoc
 placed_document now folders placed = record (document_of now []) {
-  tree = with_all_placed placed (with_paths now (map folder_names folders) (document_of now []).tree);
+  tree = with_all_placed placed
+      (with_paths now (map folder_names folders) (document_of now []).tree);
 }
 
 -- The document of an export that is as it has to be.

@@ -35,7 +35,8 @@ pub record PlacedNext (now : ℕ) (folders : List Data) (before : List EntryText
 -- An item more is placed, or is refused.
 abbrev pub Places : ℕ → List Data → List EntryTexts → Data → List Placed → List Placed → NameCounts
     → Result (Unit {0}) BitwardenFail → Type 0
-Places now folders before item old new after (Ok u) = PlacedNext now folders before item old new after
+Places now folders before item old new after (Ok u) =
+    PlacedNext now folders before item old new after
 Places now folders before item old new after (Err refusal) =
     Fails (meaning_of refusal) (placed_item now folders before item)
 

@@ -4,7 +4,7 @@ ghost use Rattle.std.specs.Prelude.{◌≡◌, ◌==◌, IfOk, filter, map};
 ghost use Rattle.std.specs.List.{find, slice_split};
 ghost use Rattle.bitwarden_core.specs.Folders as spec;
 ghost use Rattle.bitwarden_forms.specs.Kinds as kinds_spec;
-ghost use Rattle.bitwarden_forms.specs.Seen.{lent};
+ghost use Rattle.bitwarden_forms.specs.Seen.{lent_value};
 ghost use Rattle.serde_json.specs.View.{view};
 
 use bitwarden_forms::{has_id, text};
@@ -48,7 +48,7 @@ fn names_in(alloc: Global, path: &str) -> Result<List<Text>, NoMemory>
 
 // The first of some folders that has this id.
 fn find_folder<'a>(folders: &'a [Value], id: &str) -> Option<&'a Value>
-    ensures { lent result ≡ find (kinds_spec.has_id id.now) (map view folders.now) }
+    ensures { lent_value result ≡ find (kinds_spec.has_id id.now) (map view folders.now) }
 {
     for folder in folders {
         if has_id(folder, id) {
@@ -60,7 +60,7 @@ fn find_folder<'a>(folders: &'a [Value], id: &str) -> Option<&'a Value>
 
 // The first of some folders that an item names, if it names one.
 fn folder_of<'a>(folders: &'a [Value], item: &Value) -> Option<&'a Value>
-    ensures { lent result ≡ spec.folder_of (map view folders.now) (view item.now) }
+    ensures { lent_value result ≡ spec.folder_of (map view folders.now) (view item.now) }
 {
     match item.get("folderId").and_then(Value::as_str) {
         Some(id) => find_folder(folders, id),

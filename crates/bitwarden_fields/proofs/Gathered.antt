@@ -3,7 +3,7 @@ use Rattle.std.proofs.Common.{◌≡◌, ℕ, zero, suc, ◌+◌, ◌-◌, ◌<�
 use Rattle.std.proofs.Math.Seq.{drop-cons}
 use Rattle.std.proofs.lemmas.List.{drop-map}
 use Rattle.std.specs.List.{enumerate_from}
-use Rattle.bitwarden_fields.specs.Keys.{first_free, has_key, numbered, with_field, with_fields}
+use Rattle.bitwarden_fields.specs.Keys.{first_free, has_key, numbered_key, with_field, with_fields}
 use Rattle.bitwarden_fields.specs.Said.{address_field}
 use Rattle.serde_json.specs.View.{view}
 use Rattle.serde_json.specs.declared.value.Value.{Value}
@@ -16,14 +16,14 @@ with_both (f ∷ a) b s = with_both a b (with_field f s)
 
 -- ---- free keys
 
-pub is_free : (n number : ℕ) (fields : List BareField) (key : List ℕ) → 0 < n → has_key fields (numbered key number) ≡ false → first_free n number fields key ≡ numbered key number
+pub is_free : (n number : ℕ) (fields : List BareField) (key : List ℕ) → 0 < n → has_key fields (numbered_key key number) ≡ false → first_free n number fields key ≡ numbered_key key number
 is_free zero number fields key some other = absurd (omega (arith, some))
-is_free (suc n) number fields key some other = ap (λ b. cond b (first_free n (suc number) fields key) (numbered key number)) other
+is_free (suc n) number fields key some other = ap (λ b. cond b (first_free n (suc number) fields key) (numbered_key key number)) other
 
-pub is_taken : (n number : ℕ) (fields : List BareField) (key : List ℕ) → 0 < n → has_key fields (numbered key number) ≡ true → first_free n number fields key ≡ first_free (n - 1) (number + 1) fields key
+pub is_taken : (n number : ℕ) (fields : List BareField) (key : List ℕ) → 0 < n → has_key fields (numbered_key key number) ≡ true → first_free n number fields key ≡ first_free (n - 1) (number + 1) fields key
 is_taken zero number fields key some other = absurd (omega (arith, some))
 is_taken (suc n) number fields key some other =
-    ap (λ b. cond b (first_free n (suc number) fields key) (numbered key number)) other
+    ap (λ b. cond b (first_free n (suc number) fields key) (numbered_key key number)) other
     ∙ ap (λ m. first_free m (suc number) fields key) (let same : n ≡ suc n - 1 = omega arith in same)
     ∙ ap (λ m. first_free (suc n - 1) m fields key) (let same : suc number ≡ number + 1 = omega arith in same)
 

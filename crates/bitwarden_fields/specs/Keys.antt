@@ -11,15 +11,15 @@ abbrev pub has_key : List BareField → List ℕ → Bool
 has_key fields key = list_any (λ (field : BareField). bytes_eq field.key key) fields
 
 -- a key with a number after it
-abbrev pub numbered : List ℕ → ℕ → List ℕ
-numbered key number = key ++ codes " " ++ decimal number
+abbrev pub numbered_key : List ℕ → ℕ → List ℕ
+numbered_key key number = key ++ codes " " ++ decimal number
 
 -- the first key with a number from this one on that no field has, among so many and one more
 abbrev pub first_free : ℕ → ℕ → List BareField → List ℕ → List ℕ
-first_free zero number fields key = numbered key number
+first_free zero number fields key = numbered_key key number
 first_free (suc n) number fields key =
-    if has_key fields (numbered key number) then first_free n (suc number) fields key
-    else numbered key number
+    if has_key fields (numbered_key key number) then first_free n (suc number) fields key
+    else numbered_key key number
 
 -- A key that no field has: this one, or else the first with a number from 2 on. Of one more than
 -- there are fields one is free.

@@ -4,7 +4,7 @@ use Rattle.std.specs.List.{enumerate_from, starts_with}
 use Rattle.std.specs.Str.{bytes_eq}
 use Rattle.bitwarden_forms.specs.Json.{text, values}
 use Rattle.bitwarden_forms.specs.Kinds.{holds}
-use Rattle.bitwarden_fields.specs.Keys.{numbered, put_all, with_fields}
+use Rattle.bitwarden_fields.specs.Keys.{numbered_key, put_all, with_fields}
 use Rattle.serde_json.specs.Data.{Data, Members, array, boolean, member, no_members, null, number, object, string}
 use Rattle.serde_json.specs.Find.{as_number, as_object, as_u64, get}
 use Rattle.vault_model.specs.Bare.{BareField}
@@ -34,7 +34,7 @@ first_text (address ∷ rest) = address_text address
 
 -- the field of the address of this number
 abbrev pub address_field : ℕ × Data → BareField
-address_field row = field (numbered (codes "URL") row.0) (address_text row.1) false
+address_field row = field (numbered_key (codes "URL") row.0) (address_text row.1) false
 
 -- the fields of the addresses after the first, which have the numbers from 2 on
 abbrev pub more_addresses : List Data → List BareField

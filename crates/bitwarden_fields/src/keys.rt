@@ -36,8 +36,8 @@ fn has_key(fields: &[TextField], key: &str) -> bool
 }
 
 /// A key with a number after it.
-pub(crate) fn numbered(alloc: Global, key: &str, number: u64) -> Result<Text, NoMemory>
-    ensures { IfOk result (λ text. text ≡ spec.numbered key.now number) }
+pub(crate) fn numbered_key(alloc: Global, key: &str, number: u64) -> Result<Text, NoMemory>
+    ensures { IfOk result (λ text. text ≡ spec.numbered_key key.now number) }
 {
     let mut digits = Buffer::new();
     let mut text = String::from_str(alloc, key)?;
@@ -53,13 +53,13 @@ fn first_free(alloc: Global, fields: &[TextField], key: &str) -> Result<Text, No
 {
     let end = fields.len() as u64 + 2;
     for number in 2..end {
-        let text = numbered(alloc, key, number)?;
+        let text = numbered_key(alloc, key, number)?;
         if !has_key(fields, text.as_str()) {
             return Ok(text);
         }
         drop(text);
     }
-    numbered(alloc, key, end)
+    numbered_key(alloc, key, end)
 }
 
 // A key that no field has: this one, or else the first with a number from 2 on.

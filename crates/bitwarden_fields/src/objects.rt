@@ -4,7 +4,7 @@ ghost use Rattle.std.specs.Prelude.{◌≡◌, OnOk};
 ghost use Rattle.bitwarden_fields.specs.Keys.{with_fields};
 ghost use Rattle.bitwarden_fields.specs.Said as spec;
 ghost use Rattle.bitwarden_fields.specs.Seen.{fields_seen};
-ghost use Rattle.bitwarden_forms.specs.Seen.{lent};
+ghost use Rattle.bitwarden_forms.specs.Seen.{lent_value};
 ghost use Rattle.serde_json.specs.View.{members_view, view};
 
 use crate::fields::TextField;
@@ -68,7 +68,7 @@ pub(crate) fn add_object(
     is_card: bool,
 ) -> Result<(), NoMemory>
     ensures { OnOk result (fields_seen fields.new.items
-        ≡ with_fields (spec.object_fields is_card (lent object.entry))
+        ≡ with_fields (spec.object_fields is_card (lent_value object.entry))
         (fields_seen fields.old.items)) }
 {
     match object {

@@ -5,13 +5,13 @@ ghost use Rattle.std.specs.List.{list_all};
 ghost use Rattle.bitwarden_fields.specs.Keys.{with_fields};
 ghost use Rattle.bitwarden_fields.specs.Said as spec;
 ghost use Rattle.bitwarden_fields.specs.Seen.{fields_seen};
-ghost use Rattle.bitwarden_forms.specs.Seen.{lent};
+ghost use Rattle.bitwarden_forms.specs.Seen.{lent_value};
 ghost use Rattle.serde_json.specs.View.{view};
 ghost use Rattle.vault_model.specs.Proper.{is_text_field};
 ghost use Rattle.vault_model.specs.Seen.{bare_field};
 
 use crate::fields::TextField;
-use crate::keys::{add_field, by_key, numbered};
+use crate::keys::{add_field, by_key, numbered_key};
 use crate::objects::add_object;
 use bitwarden_forms::{text, values};
 use outside_core::{List, NoMemory};
@@ -21,14 +21,14 @@ use vault_model::Field;
 
 /// The login of an item, if it has one.
 pub fn login_of(item: &Value) -> Option<&Value>
-    ensures { lent result ≡ spec.login_of (view item.now) }
+    ensures { lent_value result ≡ spec.login_of (view item.now) }
 {
     item.get("login")
 }
 
 /// The first address of a login, empty where there is none.
 pub fn first_address<'a>(login: Option<&'a Value>) -> &'a str
-    ensures { result.now ≡ spec.first_text (spec.addresses_of (lent login.entry)) }
+    ensures { result.now ≡ spec.first_text (spec.addresses_of (lent_value login.entry)) }
 {
     match values(login, "uris") {
         [address, ..] => text(Some(address), "uri"),
@@ -46,7 +46,7 @@ fn add_address(
     ensures { OnOk result (fields_seen fields.new.items ≡ with_fields
         (spec.address_field (number, view address.now) ∷ []) (fields_seen fields.old.items)) }
 {
-    let key = numbered(alloc, "URL", number)?;
+    let key = numbered_key(alloc, "URL", number)?;
     add_field(
         alloc,
         fields,
@@ -104,7 +104,7 @@ fn add_account(
     login: Option<&Value>,
 ) -> Result<(), NoMemory>
     ensures { OnOk result (fields_seen fields.new.items
-        ≡ with_fields (spec.account_fields password.now (lent login.entry))
+        ≡ with_fields (spec.account_fields password.now (lent_value login.entry))
         (fields_seen fields.old.items)) }
 {
     add_field(alloc, fields, "UserName", text(login, "username"), false)?;
@@ -120,7 +120,7 @@ fn add_login(
     login: Option<&Value>,
 ) -> Result<(), NoMemory>
     ensures { OnOk result (fields_seen fields.new.items
-        ≡ with_fields (spec.login_fields password.now (lent login.entry))
+        ≡ with_fields (spec.login_fields password.now (lent_value login.entry))
         (fields_seen fields.old.items)) }
 {
     add_account(alloc, fields, password, login)?;

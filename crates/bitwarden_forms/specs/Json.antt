@@ -19,16 +19,16 @@ not_null (array items) = Some (array items)
 not_null (object members) = Some (object members)
 
 -- the member of a name, where it is there and not null
-abbrev pub given : List ℕ → Data → Option Data
-given name value = option_and_then not_null (get name value)
+abbrev pub given_member : List ℕ → Data → Option Data
+given_member name value = option_and_then not_null (get name value)
 
 -- the member of a name of a value, where both are there
-abbrev pub inner : List ℕ → Option Data → Option Data
-inner name value = option_and_then (get name) value
+abbrev pub inner_member : List ℕ → Option Data → Option Data
+inner_member name value = option_and_then (get name) value
 
 -- the text of a member
 abbrev pub text : List ℕ → Option Data → List ℕ
-text name value = unwrap_or (option_and_then as_str (inner name value)) []
+text name value = unwrap_or (option_and_then as_str (inner_member name value)) []
 
 -- the values in a list; none where a value is no list
 abbrev pub elements : Data → List Data
@@ -36,4 +36,4 @@ elements value = list_of (unwrap_or (as_array value) no_items)
 
 -- the values in a list that is a member
 abbrev pub values : List ℕ → Option Data → List Data
-values name value = unwrap_or (option_map elements (inner name value)) []
+values name value = unwrap_or (option_map elements (inner_member name value)) []

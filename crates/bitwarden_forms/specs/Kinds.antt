@@ -7,7 +7,7 @@ use Rattle.serde_json.specs.Find.{as_array, as_number, as_object, as_str, get}
 use Rattle.uuid.specs.Text.{parsed}
 use Rattle.vault_model.specs.Db.{NodeId, nil_id}
 use Rattle.bitwarden_forms.specs.Dates.{date}
-use Rattle.bitwarden_forms.specs.Json.{given, list_of, text}
+use Rattle.bitwarden_forms.specs.Json.{given_member, list_of, text}
 
 -- ---- kinds
 
@@ -23,7 +23,7 @@ none_or test (Some x) = test x
 
 -- a member is missing, null or of this kind
 abbrev pub fits : (Data → Bool) → List ℕ → Data → Bool
-fits kind name value = none_or kind (given name value)
+fits kind name value = none_or kind (given_member name value)
 
 -- a text
 abbrev pub is_text : Data → Bool

@@ -6,5 +6,5 @@ use Rattle.serde_json.specs.View.{view}
 use Rattle.serde_json.specs.declared.value.Value.{Value}
 
 -- the value that is lent, if one is
-abbrev pub lent : Option (Bor Value) → Option Data
-lent = option_map (λ (value : Bor Value). view value.now)
+abbrev pub lent_value : Option (Bor Value) → Option Data
+lent_value = option_map (λ (value : Bor Value). view value.now)

@@ -2,15 +2,15 @@
 
 ghost use Rattle.std.specs.Prelude.{◌≡◌, map};
 ghost use Rattle.bitwarden_forms.specs.Json as spec;
-ghost use Rattle.bitwarden_forms.specs.Seen.{lent};
+ghost use Rattle.bitwarden_forms.specs.Seen.{lent_value};
 ghost use Rattle.serde_json.specs.View.{view};
 
 use serde_json::Value;
 
 /// The member of a name, where it is there and not null.
-pub(crate) fn given<'a>(value: &'a Value, name: &str) -> Option<&'a Value>
-    ensures { lent result
-        ≡ spec.given name.now (view value.now) }
+pub(crate) fn given_member<'a>(value: &'a Value, name: &str) -> Option<&'a Value>
+    ensures { lent_value result
+        ≡ spec.given_member name.now (view value.now) }
 {
     match value.get(name) {
         Some(Value::Null) => None,
@@ -20,9 +20,9 @@ pub(crate) fn given<'a>(value: &'a Value, name: &str) -> Option<&'a Value>
 }
 
 /// The member of a name of a value, where both are there.
-pub fn inner<'a>(value: Option<&'a Value>, name: &str) -> Option<&'a Value>
-    ensures { lent result
-        ≡ spec.inner name.now (lent value.entry) }
+pub fn inner_member<'a>(value: Option<&'a Value>, name: &str) -> Option<&'a Value>
+    ensures { lent_value result
+        ≡ spec.inner_member name.now (lent_value value.entry) }
 {
     match value {
         Some(value) => value.get(name),
@@ -32,9 +32,11 @@ pub fn inner<'a>(value: Option<&'a Value>, name: &str) -> Option<&'a Value>
 
 /// The text of a member of a value, which is empty where it is missing or none.
 pub fn text<'a>(value: Option<&'a Value>, name: &str) -> &'a str
-    ensures { result.now ≡ spec.text name.now (lent value.entry) }
+    ensures { result.now ≡ spec.text name.now (lent_value value.entry) }
 {
-    inner(value, name).and_then(Value::as_str).unwrap_or("")
+    inner_member(value, name)
+        .and_then(Value::as_str)
+        .unwrap_or("")
 }
 
 // The values in a list.
@@ -50,9 +52,9 @@ fn elements(value: &Value) -> &[Value]
 /// The values in a list that is a member of a value; none where it is missing or no list.
 pub fn values<'a>(value: Option<&'a Value>, name: &str) -> &'a [Value]
     ensures { map view result.now
-        ≡ spec.values name.now (lent value.entry) }
+        ≡ spec.values name.now (lent_value value.entry) }
 {
-    match inner(value, name) {
+    match inner_member(value, name) {
         Some(member) => elements(member),
         None => &[],
     }

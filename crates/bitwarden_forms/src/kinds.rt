@@ -6,7 +6,7 @@ ghost use Rattle.bitwarden_forms.specs.Kinds as spec;
 ghost use Rattle.serde_json.specs.View.{view};
 
 use crate::dates::date;
-use crate::json::{given, text};
+use crate::json::{given_member, text};
 use serde_json::Value;
 use uuid_core::Uuid;
 
@@ -34,7 +34,7 @@ fn is_date(value: &Value) -> bool
 fn fits_text(value: &Value, name: &str) -> bool
     ensures { result ≡ spec.fits spec.is_text name.now (view value.now) }
 {
-    match given(value, name) {
+    match given_member(value, name) {
         Some(member) => member.is_string(),
         None => true,
     }
@@ -44,7 +44,7 @@ fn fits_text(value: &Value, name: &str) -> bool
 fn fits_number(value: &Value, name: &str) -> bool
     ensures { result ≡ spec.fits spec.is_number name.now (view value.now) }
 {
-    match given(value, name) {
+    match given_member(value, name) {
         Some(member) => member.is_number(),
         None => true,
     }
@@ -54,7 +54,7 @@ fn fits_number(value: &Value, name: &str) -> bool
 fn fits_object(value: &Value, name: &str) -> bool
     ensures { result ≡ spec.fits spec.is_object name.now (view value.now) }
 {
-    match given(value, name) {
+    match given_member(value, name) {
         Some(member) => member.is_object(),
         None => true,
     }
@@ -64,7 +64,7 @@ fn fits_object(value: &Value, name: &str) -> bool
 pub(crate) fn fits_list(value: &Value, name: &str) -> bool
     ensures { result ≡ spec.fits spec.is_list name.now (view value.now) }
 {
-    match given(value, name) {
+    match given_member(value, name) {
         Some(member) => member.is_array(),
         None => true,
     }
@@ -74,7 +74,7 @@ pub(crate) fn fits_list(value: &Value, name: &str) -> bool
 fn fits_date(value: &Value, name: &str) -> bool
     ensures { result ≡ spec.fits spec.is_date name.now (view value.now) }
 {
-    match given(value, name) {
+    match given_member(value, name) {
         Some(member) => is_date(member),
         None => true,
     }
@@ -84,7 +84,7 @@ fn fits_date(value: &Value, name: &str) -> bool
 fn fits_id(value: &Value, name: &str) -> bool
     ensures { result ≡ spec.fits spec.is_id name.now (view value.now) }
 {
-    match given(value, name) {
+    match given_member(value, name) {
         Some(member) => id_in(member).is_some(),
         None => true,
     }
@@ -127,7 +127,7 @@ fn fits_folder_id(folders: &[Value], value: &Value, name: &str) -> bool
     ensures { result ≡ spec.fits (spec.is_folder_id (map view folders.now)) name.now
         (view value.now) }
 {
-    match given(value, name) {
+    match given_member(value, name) {
         Some(member) => is_folder_id(folders, member),
         None => true,
     }
@@ -161,7 +161,7 @@ fn are_addresses(value: &Value) -> bool
 fn fits_addresses(value: &Value, name: &str) -> bool
     ensures { result ≡ spec.fits (spec.is_list_of spec.is_address) name.now (view value.now) }
 {
-    match given(value, name) {
+    match given_member(value, name) {
         Some(member) => are_addresses(member),
         None => true,
     }
@@ -182,7 +182,7 @@ fn is_login(value: &Value) -> bool
 fn fits_login(value: &Value, name: &str) -> bool
     ensures { result ≡ spec.fits spec.is_login name.now (view value.now) }
 {
-    match given(value, name) {
+    match given_member(value, name) {
         Some(member) => is_login(member),
         None => true,
     }
@@ -219,7 +219,7 @@ fn are_custom_fields(value: &Value) -> bool
 fn fits_custom_fields(value: &Value, name: &str) -> bool
     ensures { result ≡ spec.fits (spec.is_list_of spec.is_custom_field) name.now (view value.now) }
 {
-    match given(value, name) {
+    match given_member(value, name) {
         Some(member) => are_custom_fields(member),
         None => true,
     }
@@ -254,7 +254,7 @@ fn fits_earlier_passwords(value: &Value, name: &str) -> bool
     ensures { result ≡ spec.fits (spec.is_list_of spec.is_earlier_password) name.now
         (view value.now) }
 {
-    match given(value, name) {
+    match given_member(value, name) {
         Some(member) => are_earlier_passwords(member),
         None => true,
     }

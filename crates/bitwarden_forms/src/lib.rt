@@ -10,5 +10,5 @@ mod kinds;
 pub use dates::date;
 pub use export::{folders_of, items_of, read_export};
 pub use fails::BitwardenFail;
-pub use json::{inner, text, values};
+pub use json::{inner_member, text, values};
 pub use kinds::{given_id, has_id};

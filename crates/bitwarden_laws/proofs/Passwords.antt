@@ -7,7 +7,7 @@ use Rattle.std.specs.Prelude.{codes, nat_le, Some}
 use Rattle.std.specs.Str.{bytes_eq}
 use Rattle.std.specs.declared.cmp.Ordering.{Ordering}
 use Rattle.std.specs.declared.cmp.Ordering.TheVariants.{Equal, Greater, Less}
-use Rattle.bitwarden_fields.specs.Keys.{first_free, free_key, has_key, numbered, put_all, with_field, with_fields}
+use Rattle.bitwarden_fields.specs.Keys.{first_free, free_key, has_key, numbered_key, put_all, with_field, with_fields}
 use Rattle.bitwarden_fields.specs.Said.{addresses_of, code_field, custom_field, field, fields_of, first_text, login_of, more_addresses, objects_fields, said_fields}
 use Rattle.bitwarden_forms.specs.Json.{text, values}
 use Rattle.bitwarden_forms.specs.declared.fails.BitwardenFail.{BitwardenFail}
@@ -44,7 +44,7 @@ append_assoc : (a b c : List ℕ) → (a ++ b) ++ c ≡ a ++ (b ++ c)
 append_assoc [] b c = refl
 append_assoc (x ∷ a) b c = ap (λ l. x ∷ l) (append_assoc a b c)
 
-numbered_space : (key : List ℕ) (number : ℕ) → has_space (numbered key number) ≡ true
+numbered_space : (key : List ℕ) (number : ℕ) → has_space (numbered_key key number) ≡ true
 numbered_space key number = ap has_space (append_assoc key (codes " ") (decimal number)) ∙ space_after key (decimal number)
 
 either_space : (b : Bool) (x y : List ℕ) → has_space x ≡ true → has_space y ≡ true → has_space (cond b x y) ≡ true
@@ -54,7 +54,7 @@ either_space false x y p q = q
 free_space : (n number : ℕ) (fields : List BareField) (key : List ℕ) → has_space (first_free n number fields key) ≡ true
 free_space zero number fields key = numbered_space key number
 free_space (suc n) number fields key =
-    either_space (has_key fields (numbered key number)) (first_free n (suc number) fields key) (numbered key number) (free_space n (suc number) fields key) (numbered_space key number)
+    either_space (has_key fields (numbered_key key number)) (first_free n (suc number) fields key) (numbered_key key number) (free_space n (suc number) fields key) (numbered_space key number)
 
 -- ---- one field that stands under its key alone
 

@@ -2,7 +2,7 @@ use Rattle.std.proofs.Common.{◌≡◌, List, ◌++◌, sym, ap, ◌∙◌, ℕ
 use Rattle.std.proofs.lemmas.Result.{on_ok_weaker}
 use Rattle.std.specs.Prelude.{codes}
 use Rattle.bitwarden_forms.specs.Json.{text}
-use Rattle.bitwarden_forms.specs.Seen.{lent}
+use Rattle.bitwarden_forms.specs.Seen.{lent_value}
 use Rattle.bitwarden_fields.specs.Keys.{with_fields}
 use Rattle.bitwarden_fields.specs.Said.{account_fields, addresses_of, code_field, more_addresses}
 use Rattle.bitwarden_fields.specs.Seen.{fields_seen}
@@ -13,7 +13,7 @@ use Rattle.bitwarden_fields.proofs.said.add_login.Goals as goal
 pub returns : goal.returns
 returns c =
     let before = fields_seen c.args.fields.now.items in
-    let login = lent c.args.login in
+    let login = lent_value c.args.login in
     let account = account_fields c.args.password.now login in
     let more = more_addresses (addresses_of login) in
     let code = code_field (text (codes "totp") login) in
