@@ -178,16 +178,50 @@ read_profile() {
   if [ -z "$left" ]; then because 'no characters are left: --exclude has all of them'; fi
 }
 
-# Looks for options that do not go together, formats that are unknown, and an edit of nothing.
+# Looks at what is said of the key of a new database, and of the key of one that is changed: a part may not be both set and unset,
+# and one must be left.
+read_new_key() {
+  local word
+  case $command in
+    import | db-create)
+      for word in set-password set-key-file cipher kdf; do
+        if is_given plain && is_given "$word"; then because "'--$word' does not go with '--plain'"; fi
+      done
+      if ! is_given plain && ! is_given set-password && ! is_given set-key-file; then
+        because "$command needs a key for the new database: -p, --set-key-file FILE, or --plain for none"
+      fi
+      ;;
+    db-edit)
+      for word in password key-file; do
+        if is_given "set-$word" && is_given "unset-$word"; then because "'--set-$word' does not go with '--unset-$word'"; fi
+      done
+      if ! is_given set-password && { is_given no-password || is_given unset-password; } &&
+        ! is_given set-key-file && { ! is_given key-file || is_given unset-key-file; }; then
+        because 'neither a password nor a key file is left: give -p or --set-key-file FILE'
+      fi
+      ;;
+  esac
+}
+
+# Looks at what is said of the costs of a key derivation: they need one that has them, and are numbers.
+read_costs() {
+  local word
+  for word in rounds memory lanes; do
+    if ! is_given "$word"; then continue; fi
+    if ! is_given kdf; then
+      because "'--$word' needs '--kdf'"
+    elif [ "$word" != rounds ] && [ "${given[kdf]}" = aes ]; then
+      because "'--$word' needs '--kdf argon2d' or '--kdf argon2id'"
+    elif [[ ! ${given[$word]} =~ ^[0-9]{1,10}$ ]]; then
+      because "unknown number '${given[$word]}' of '--$word': one to ten digits"
+    fi
+  done
+}
+
+# Looks for options that do not go together, values that are unknown, and an edit of nothing.
 read_options() {
   local word
-  if [ "$command" = import ]; then
-    if is_given plain && is_given set-password; then because "'--plain' makes an export without a password; '--set-password' does not go with it"; fi
-    if is_given plain && is_given set-key-file; then because "'--plain' makes an export without a key file; '--set-key-file' does not go with it"; fi
-    if ! is_given plain && ! is_given set-password && ! is_given set-key-file; then
-      because 'import needs a key for the new database: -p, --set-key-file FILE, or --plain for none'
-    fi
-  fi
+  read_new_key
   for word in no-password key-file no-password-from key-file-from same-credentials; do
     if is_given plain && is_given "$word"; then because "'--$word' does not go with '--plain': an XML export has no key"; fi
   done
@@ -196,9 +230,12 @@ read_options() {
   done
   if is_given no-password && ! is_given key-file; then because "'--no-password' needs a key file: -k FILE"; fi
   if is_given no-password-from && ! is_given key-file-from; then because "'--no-password-from' needs '--key-file-from FILE'"; fi
-  if is_given format && [[ " ${command_formats[$command]} " != *" ${given[format]} "* ]]; then
-    because "unknown format '${given[format]}': ${command_formats[$command]// / or }"
-  fi
+  for word in format cipher kdf version; do
+    if is_given "$word" && [[ " ${option_choices[$command $word]} " != *" ${given[$word]} "* ]]; then
+      because "unknown $word '${given[$word]}': ${option_choices[$command $word]// / or }"
+    fi
+  done
+  read_costs
   for word in all show-attachments; do
     if is_given totp && is_given "$word"; then because "'--totp' does not go with '--$word'"; fi
   done
@@ -206,6 +243,10 @@ read_options() {
   if [ "$command" = edit ] && ! is_given title && ! is_given username && ! is_given url && ! is_given notes && ! is_given password-prompt \
     && ! is_given generate && ! is_given otp; then
     because 'nothing to change: give -t, -u, --url, --notes, -p, -g or --otp'
+  fi
+  if [ "$command" = db-edit ]; then
+    for word in set-password set-key-file unset-password unset-key-file cipher kdf version; do if is_given "$word"; then return; fi; done
+    because 'nothing to change: give -p, --set-key-file, --unset-password, --unset-key-file, --cipher, --kdf or --version'
   fi
 }
 
@@ -306,14 +347,16 @@ add_database() {
 files_of() {
   local source key=${given[key-file]-}
   files=() databases=() sizes=() target=${positions[0]-}
-  if [ "$command" = generate ]; then return; fi
-  if [ "$command" = import ]; then
-    target=${positions[1]}
-    add_database "${positions[0]}"
-    if is_given set-key-file; then files+=("${given[set-key-file]}"); fi
-    return
-  fi
-  add_database "${positions[0]}" "$key"
+  case $command in
+    generate) return ;;
+    import)
+      target=${positions[1]}
+      add_database "${positions[0]}"
+      ;;
+    db-create) ;;
+    *) add_database "${positions[0]}" "$key" ;;
+  esac
+  if is_given set-key-file; then files+=("${given[set-key-file]}"); fi
   if [ "$command" != merge ]; then return; fi
   if ! is_given same-credentials; then key=${given[key-file-from]-}; fi
   for source in "${positions[@]:1}"; do add_database "$source" "$key"; done
@@ -330,7 +373,8 @@ lines_of() {
     if is_given set-password; then lines+=("New password of ${positions[1]}"); fi
     return
   fi
-  if ! is_given plain && ! is_given no-password; then lines+=("Password of ${positions[0]}"); fi
+  if [ "$command" != db-create ] && ! is_given plain && ! is_given no-password; then lines+=("Password of ${positions[0]}"); fi
+  if is_given set-password; then lines+=("New password of ${positions[0]}"); fi
   if [ "$command" = merge ] && ! is_given plain && ! is_given same-credentials && ! is_given no-password-from; then
     for source in "${positions[@]:1}"; do lines+=("Password of $source"); done
   fi
