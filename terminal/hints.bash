@@ -103,14 +103,36 @@ find_limit() {
     text="AES-KDF asks for $number rounds, and at most 4294967296 are made: lower them in the program that wrote the file"
   elif [ "$(first_bytes 4)" = 50575333 ]; then
     text='the file of Password Safe asks for more than 67108864 iterations: lower them in Password Safe'
+  elif [ "$subject" = "${positions[0]-}" ] && is_given kdf; then
+    text=$(asked_limit)
   fi
   found[found]=$text
   [ -n "$text" ]
 }
 
-# How much memory the key derivation of a file takes.
+# Which cost of a key derivation that the words ask for is out of its limits.
+asked_limit() {
+  local rounds=${given[rounds]-10} memory=${given[memory]-65536} lanes=${given[lanes]-2}
+  # A leading zero would make an octal number of them.
+  rounds=$((10#$rounds)) memory=$((10#$memory)) lanes=$((10#$lanes))
+  if [ "${given[kdf]}" = aes ]; then
+    if [ "$rounds" -gt 4294967296 ]; then printf 'AES-KDF makes at most 4294967296 rounds: lower --rounds'; fi
+  elif [ "$rounds" -lt 1 ] || [ "$rounds" -gt 4294967295 ]; then
+    printf 'Argon2 makes 1 to 4294967295 passes: see --rounds'
+  elif [ "$lanes" -lt 1 ] || [ "$lanes" -gt 1024 ]; then
+    printf 'Argon2 has 1 to 1024 lanes: see --lanes'
+  elif [ "$memory" -lt $((8 * lanes)) ] || [ "$memory" -gt 1048576 ]; then
+    printf 'Argon2 takes 8 KiB for each lane at least, and 1048576 KiB at most: see --memory'
+  fi
+}
+
+# How much memory the key derivation of a file takes, or the one that the words ask for.
 find_memory() {
   local subject number
+  if [[ ${given[kdf]-} = argon2* ]]; then
+    found[found]="Argon2 of $(quoted "$target") takes $((10#${given[memory]-65536} / 1024)) MiB: close other programs, see 'ulimit -v', or lower --memory"
+    return
+  fi
   for subject in "${files[@]}"; do
     number=$(kdf_number M)
     if [ -n "$number" ]; then
@@ -123,13 +145,14 @@ find_memory() {
 
 # What the line is that is missing on standard input.
 find_line() {
-  local number line
+  local number line how=''
   number=${refusal##*: line } number=${number%% *}
   line=${due_lines[number - 1]-}
   if [ -z "$line" ]; then return 1; fi
+  if is_new "$line"; then how=' twice alike'; fi
   line=${line,}
   if [ "${#lines[@]}" -gt 0 ]; then
-    found[found]="nothing was typed for the $line"
+    found[found]="nothing was typed$how for the $line"
   else
     found[found]="line $number of standard input is to be the $line; --tty asks for it at the terminal"
   fi
@@ -164,6 +187,7 @@ holds() {
     limit) find_limit ;;
     line) find_line ;;
     memory) find_memory ;;
+    argon) [[ ${given[kdf]-} = argon2* ]] || { ! is_given kdf && [ -n "$(kdf_number M)" ]; } ;;
     near) find_near ;;
     number)
       found[found]=${positions[2]-}

@@ -121,10 +121,10 @@ is_drafted() {
 }
 
 # What the program is doing: how many of its databases it has opened is seen by how much it has read, and that it writes
-# by its draft.
+# by its draft. One that opens none makes one.
 doing() {
   local place count=0 total=0 read
-  if is_drafted; then
+  if [ "${#databases[@]}" = 0 ] || is_drafted; then
     printf 'writing %s ..' "$(shown "$target")"
     return
   fi
@@ -178,14 +178,57 @@ ask() {
   local line
   for line in "${lines[@]}"; do
     asking=1
-    tell "$(shown "$line") (not shown): "
-    LC_ALL=C grep -a -m 1 '' <&8 >&6 2>/dev/null 4>&- &
-    if ! wait $!; then
-      tell $'\n'
-      break
+    if is_new "$line"; then
+      ask_new "$line" 4>&- &
+    else
+      tell "$(shown "$line") (not shown): "
+      LC_ALL=C grep -a -m 1 '' <&8 >&6 2>/dev/null 4>&- &
     fi
+    wait $!
+    case $? in
+      0) ;;
+      2) break ;;
+      *)
+        tell $'\n'
+        break
+        ;;
+    esac
     asking=''
   done
+  asking=''
+}
+
+# Whether a line is the new password of a database, which nothing opens any more where it was typed wrong.
+is_new() {
+  case $command in import | db-create | db-edit) [[ $1 = 'New password of '* ]] ;; *) false ;; esac
+}
+
+# Asks for the new password of a database, and hands it on once it was typed twice alike, or is empty and said to be so. Its
+# status is 2 where it was neither three times. What is typed is in a process of its own, which ends here.
+ask_new() {
+  local LC_ALL=C try typed='' again=''
+  trap - EXIT HUP INT QUIT TERM
+  for try in 1 2 3; do
+    tell "$(shown "$1") (not shown): "
+    read_typed typed || return 1
+    if [ -n "$typed" ]; then
+      tell 'Repeat: '
+      read_typed again || return 1
+      if [ "$typed" = "$again" ]; then break; fi
+      tell $'The two passwords differ.\n'
+    else
+      tell 'An empty password? [y/N]: '
+      read_typed again || return 1
+      case $again in [Yy] | [Yy][Ee][Ss]) break ;; esac
+    fi
+    if [ "$try" = 3 ]; then return 2; fi
+  done
+  printf '%s\n' "$typed" >&6
+}
+
+# Reads a line that is typed into a variable. Fails at the end of the input.
+read_typed() {
+  IFS= read -r "$1" <&8 || [ -n "${!1}" ]
 }
 
 # Opens what stands between the program and the terminal: 6 takes the lines that are asked for, and the program reads them
@@ -264,17 +307,24 @@ refuse_at_once() {
   exit "$status"
 }
 
-# Refuses in the program's words what names a file that is not there, or is to be made and is there.
+# Refuses in the program's words, and in its order, what names a file that is not there, or is to be made and is there.
 test_files() {
-  local file
-  for file in "${files[@]}"; do
+  local place file
+  for place in "${!files[@]}"; do
+    if [ "$place" = "${#databases[@]}" ]; then test_new; fi
+    file=${files[place]}
     if ! [ -e "$file" ]; then
       refuse_at_once "keepass: $file: no such file" 7
     elif ! [ -f "$file" ] || ! [ -r "$file" ]; then
       refuse_at_once "keepass: $file: file fault" 7
     fi
   done
-  if { [ "$command" = import ] || [ "$command" = db-create ]; } && [ -e "$target" ]; then refuse_at_once "keepass: $target: file exists" 2; fi
+  test_new
+}
+
+# Refuses a new database under the name of a file.
+test_new() {
+  case $command in import | db-create) if [ -f "$target" ]; then refuse_at_once "keepass: $target: file exists" 2; fi ;; esac
 }
 
 # Reads the words, and takes out what belongs to the script: `--tty`, and the `-` of an export to the terminal. Sets
@@ -308,7 +358,7 @@ overview() {
   local name
   printf 'keepass COMMAND [OPTION..] DATABASE ..\n\n'
   printf '    keepass ls -R family.kdbx    lists all groups and entries\n\n'
-  for name in $command_order; do printf '%-8s  %s\n' "$name" "${command_briefs[$name]}"; done
+  for name in $command_order; do printf '%-9s  %s\n' "$name" "${command_briefs[$name]}"; done
   printf '\nkeepass COMMAND --help describes one command, keepass --help all of them, and\n'
   printf 'man keepass has more, with examples.\n'
 }
@@ -379,6 +429,9 @@ at_terminal() {
     due_lines=("${lines[@]}")
     if [ "$command" = export ] && [ -t 1 ] && [ -z "$is_shown" ]; then
       refuse_at_once 'keepass: output: every password would stand on the screen' 1
+    fi
+    if [ "$command" = db-edit ] && [ "${given[set-key-file]-}" -ef "$target" ]; then
+      refuse_at_once "keepass: $target: a database cannot be its own key file" 1
     fi
     if [ -z "$tty" ] && ! [ -t 0 ]; then lines=(); fi
     if [ "${#lines[@]}" -gt 0 ]; then test_files; fi

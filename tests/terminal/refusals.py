@@ -77,6 +77,8 @@ def files(folder, data, examples):
     made("FAST", "fast.kdbx", fast)
     made("COPY", "copy.kdbx", fast)
     made("OLD", "old.kdbx", old)
+    made("ARGON", "argon.kdbx", argon)
+    made("LATER", "later.kdbx", read(f"{data}/keepassxc-4.1-aes-argon2d.kdbx"))
     made("SAFE", "safe.psafe3", safe)
     made("PLAIN", "family.xml", family)
     made("SPACED", "my vault.xml", family)
@@ -159,7 +161,21 @@ ROWS = [
     ("generate -L 0", [], 1, "wrong words", ["unknown length '0': 1 to 4096"]),
     ("generate -n -x 0123456789", [], 1, "wrong words", ["no characters are left: --exclude has all of them"]),
     ("generate FAST", [], 1, "wrong words", ["one word too many: 'FAST'; generate takes only options"]),
-    ("db-create -p FRESH", [], 1, "wrong words", ["unknown command 'db-create': 'import' makes databases, of an XML export or a table"]),
+    ("create -p FRESH", [], 1, "wrong words", ["unknown command 'create': 'db-create' makes an empty database, 'import' one of another file"]),
+    ("passwd FAST", [], 1, "wrong words", ["unknown command 'passwd': 'db-edit -p' gives a database another password"]),
+    ("edit-db -p FAST", [], 1, "wrong words", ["unknown command 'edit-db': 'db-edit' changes a file's key or settings"]),
+    ("db-create -p -t 1000 FRESH", [], 1, "wrong words",
+     ["db-create takes no option '-t': costs are given as numbers: --kdf KDF --rounds NUMBER --memory KIB --lanes NUMBER"]),
+    ("db-create -k KEY FRESH", [], 1, "wrong words", ["db-create takes no option '-k': a new database gets a key file by --set-key-file FILE"]),
+    ("db-create FRESH", [], 1, "wrong words", None),
+    ("db-create --plain -p FRESH", [], 1, "wrong words", None),
+    ("db-create -p --lanes 4 FRESH", [], 1, "wrong words", None),
+    ("db-edit --plain -p PLAIN", [], 1, "wrong words", ["db-edit takes no option '--plain': an XML export has neither a key nor settings"]),
+    ("db-edit FAST", [], 1, "wrong words", None),
+    ("db-edit -p --unset-password FAST", [], 1, "wrong words", None),
+    ("db-edit --unset-password FAST", [], 1, "wrong words", None),
+    ("db-edit --kdf argon2 FAST", [], 1, "wrong words", None),
+    ("db-edit --kdf aes --memory 65536 FAST", [], 1, "wrong words", None),
     ("open FAST", [], 1, "wrong words", ["unknown command 'open': each call opens the database itself, and nothing stays open"]),
     ("attachment-export FAST Bank a b", [], 1, "wrong words",
      ["unknown command 'attachment-export': keepass has no such command; 'export' prints attachments too"]),
@@ -203,6 +219,8 @@ ROWS = [
     ("clip -t soon FAST Bank", [], 1, "wrong words", ["'-t' takes a number of seconds"]),
     ("export FAST", [], 1, "every password would stand on the screen",
      ["send it to a file: keepass export FAST >FILE; or give - after DATABASE to see it here"]),
+    ("db-edit --set-key-file FAST FAST", [], 1, "a database cannot be its own key file",
+     ["its bytes are others once it is written, and nothing would open it: choose a file that stays as it is"]),
     ("ls --plain \udcff", [], 1, "not UTF-8", ["the words of a call are UTF-8: choose a UTF-8 locale, or rename the file"]),
     ("search --plain PLAIN +", [], 1, "empty term at *",
      ["a term has a text after its sign or its field; keepass ls -Rf --plain PLAIN lists everything"]),
@@ -240,6 +258,15 @@ ROWS = [
     ("search --plain PLAIN zebra", [], 2, "no results",
      ["a term is a part of title, user name, URL, notes or tags, and all must match; keepass ls -Rf --plain PLAIN lists everything"]),
     ("import -p TABLE FAST", [], 2, "file exists", ["import makes new files alone: choose another name, or merge into the file that is there"]),
+    ("db-create -p FAST", [], 2, "file exists",
+     ["db-create makes new files alone: choose another name, or change the key of the file that is there by db-edit"]),
+    ("db-create -p --set-key-file NONE FAST", [], 2, "file exists", None),
+    ("db-edit --version 3.1 ARGON", [PASSWORD], 2, "needs version 4.0", ["Argon2 came with KDBX 4.0: leave --version out, or give --kdf aes besides"]),
+    ("db-edit --version 3.1 --kdf argon2id OLD", [PASSWORD], 2, "needs version 4.0", ["Argon2 came with KDBX 4.0: leave --version out, or give --kdf aes besides"]),
+    ("db-edit --version 3.1 FAST", [PASSWORD], 2, "needs version 4.0",
+     ["public data of the header and items of groups and entries, which came with KDBX 4.0, are in FAST: leave --version out"]),
+    ("db-edit --version 4.0 LATER", [PASSWORD], 2, "needs version 4.1",
+     ["what came with KDBX 4.1 is in LATER, as the group that a moved entry came from or a group's tags: leave --version out"]),
 
     # Wrong keys and damage.
     ("ls FAST", ["wrong"], 3, "damaged or wrong key: *", [WRONG.format("FAST", "header")]),
@@ -319,6 +346,9 @@ ROWS = [
     ("ls --plain NONE", [], 7, "no such file", ["check the name, and the folder that the call was made in"]),
     ("merge -s FAST NONE", [], 7, "no such file", ["check the name, and the folder that the call was made in"]),
     ("ls -k NONE FAST", [], 7, "no such file", ["check the name, and the folder that the call was made in"]),
+    ("db-edit -p --set-key-file NONE FAST", [], 7, "no such file", ["check the name, and the folder that the call was made in"]),
+    ("db-create -p --set-key-file FOLDER FRESH", [], 7, "file fault", ["it is a folder, and a file is needed"]),
+    ("db-create -p FAR", ["x", "x"], 7, "file fault", ["there is no folder FARFOLDER: make it first"]),
     ("ls FOLDER", [], 7, "file fault", ["it is a folder, and a file is needed"]),
     ("ls --plain PIPE", [], 7, "file fault", ["it is a pipe, and a file is needed: write it into a file first"]),
     ("ls --plain /dev/null", [], 7, "file fault", ["it is a device or a socket, and a file is needed"]),
@@ -330,12 +360,23 @@ ROWS = [
     ("ls ROUNDS", ["x"], 8, "limit passed",
      ["AES-KDF asks for 8589934592 rounds, and at most 4294967296 are made: lower them in the program that wrote the file"]),
     ("ls LANES", ["x"], 8, "limit passed", ["Argon2 asks for 1025 lanes, and at most 1024 are taken: lower it in the program that wrote the file"]),
+    ("db-edit -p MEMORY", ["x", "y", "y"], 8, "limit passed",
+     ["Argon2 asks for 2048 MiB of memory, and at most 1024 are taken: lower it in the program that wrote the file"]),
+    ("db-edit --kdf aes --rounds 4294967297 FAST", [PASSWORD], 8, "limit passed", ["AES-KDF makes at most 4294967296 rounds: lower --rounds"]),
+    ("db-edit --kdf argon2d --rounds 0 FAST", [PASSWORD], 8, "limit passed", ["Argon2 makes 1 to 4294967295 passes: see --rounds"]),
+    ("db-edit --kdf argon2id --lanes 0 FAST", [PASSWORD], 8, "limit passed", ["Argon2 has 1 to 1024 lanes: see --lanes"]),
+    ("db-edit --kdf argon2id --memory 0000000008 FAST", [PASSWORD], 8, "limit passed",
+     ["Argon2 takes 8 KiB for each lane at least, and 1048576 KiB at most: see --memory"]),
+    ("db-create -p --kdf argon2id --memory 1048577 FRESH", ["x", "x"], 8, "limit passed",
+     ["Argon2 takes 8 KiB for each lane at least, and 1048576 KiB at most: see --memory"]),
     ("import --plain --format psafe3 SAFEMANY FRESH", ["x"], 8, "limit passed",
      ["the file of Password Safe asks for more than 67108864 iterations: lower them in Password Safe"]),
     ("ls --plain DEEP", [], 8, "limit passed",
      ["at most 128 levels of groups, 256 open elements, 262144 groups, entries and older versions, times up to 9999: shorten the histories"]),
     ("ls FAST", [None], 12, "line 1 missing", ["nothing was typed for the password of FAST"]),
     ("add -p FAST New", [PASSWORD, None], 12, "line 2 missing", ["nothing was typed for the new password of the entry"]),
+    ("db-create -p FRESH", [None], 12, "line 1 missing", ["nothing was typed twice alike for the new password of FRESH"]),
+    ("db-edit -p FAST", [PASSWORD, "new", None], 12, "line 2 missing", ["nothing was typed twice alike for the new password of FAST"]),
 ]
 
 # Calls whose standard input or output is no terminal: (words, standard input, standard output, status, TEXT, hints).

@@ -242,7 +242,7 @@ help =
     ++ codes "   4  The file or a one-time code is malformed, or a line of the input is not\n"
     ++ codes "      UTF-8.\n"
     ++ codes "   5  The file has a version, a cipher or a compression that is not supported,\n"
-    ++ codes "      or is an encrypted export, or a one-time code is of an unknown kind.\n"
+    ++ codes "      or a one-time code is of an unknown kind.\n"
     ++ codes "   6  The databases cannot be merged.\n"
     ++ codes "   7  A file is missing, or could not be read or written.\n"
     ++ codes "   8  A limit was passed.\n"

@@ -244,7 +244,7 @@ Exit status:
    4  The file or a one-time code is malformed, or a line of the input is not
       UTF-8.
    5  The file has a version, a cipher or a compression that is not supported,
-      or is an encrypted export, or a one-time code is of an unknown kind.
+      or a one-time code is of an unknown kind.
    6  The databases cannot be merged.
    7  A file is missing, or could not be read or written.
    8  A limit was passed.
