@@ -77,10 +77,10 @@ pub says : (d : BareDoc) → IsDoc d → IsWritable d → plain_document (plain_
 unfolding plain_document
 says d isd w = says_document Plain NoKeystream None (hash_if None refl) d (doc_good d isd w)
 
-abbrev opened_as : BareDoc → Opened
+abbrev pub opened_as : BareDoc → Opened
 opened_as d = record { doc = d; sealing = None }
 
-is_plain : (files : FileMap) (name : List ℕ) (d : BareDoc) → IsDoc d → IsWritable d → nat_le (length (plain_bytes d)) 10000 ≡ true → get files name ≡ Some (plain_bytes d)
+pub is_plain : (files : FileMap) (name : List ℕ) (d : BareDoc) → IsDoc d → IsWritable d → nat_le (length (plain_bytes d)) 10000 ≡ true → get files name ≡ Some (plain_bytes d)
     → IsPlain name files (opened_as d)
 is_plain files name d isd w short found =
     let low = leb-true (length (plain_bytes d)) 10000 short in
@@ -93,7 +93,7 @@ is_plain files name d isd w short found =
     }
 
 -- the file that was put there last, and those before it
-put_last : (files : FileMap) (name bytes : List ℕ) (other : List ℕ) → get (insert files name bytes) other ≡ cond (is_id other name) (Some bytes) (get files other)
+pub put_last : (files : FileMap) (name bytes : List ℕ) (other : List ℕ) → get (insert files name bytes) other ≡ cond (is_id other name) (Some bytes) (get files other)
 put_last files name bytes other = get-insert bytes_order.total files name bytes other
 
 abbrev first_two : FileMap

@@ -1,0 +1,219 @@
+-- Calls over plain files meet the premises of laws.
+use Rattle.std.proofs.Common.{◌≡◌, ℕ, true, false, inl, inr, List, [], ◌∷◌, Option, Some, None, Result, Ok, Err, length, codes, nat_le, nat_lt, refl, sym, ap, subst, ◌∙◌, arith}
+use Rattle.std.proofs.lemmas.Option.{same_Some}
+use Rattle.std.specs.Fmt.{digits}
+use Rattle.std.specs.FinMap.{empty, get, get-empty}
+use Rattle.std.specs.Option.{unwrap_or}
+use Rattle.base64.specs.Rfc4648.{encode_symbols}
+use Rattle.stream_core.specs.InnerStream.{NoKeystream}
+use Rattle.markup_grammar.specs.Escapes.{escaped_byte}
+use Rattle.vault_model.specs.Join.{IsIn}
+use Rattle.vault_model.specs.Tree.{BareDoc}
+use Rattle.vault_model.specs.declared.forms.DocForm.TheVariants.{Plain}
+use Rattle.merge_core.specs.Example.{as_it_was, root}
+use Rattle.tree_core.specs.Finding.{group_found, has_entry_path}
+use Rattle.doc_spelling.specs.Moments.{moment_at, month_from, year_from}
+use Rattle.doc_spelling.specs.Ranges.{IsWritable, are_bytes, tree_nodes}
+use Rattle.doc_write.specs.Written.{write_outcome, written_len}
+use Rattle.doc_write.specs.declared.writing.WriteFail.{WriteFail}
+use Rattle.gen_core.specs.Chosen.{choose, next}
+use Rattle.cli_answers.specs.Phases.{StreamAnswer, then_left, with_left}
+use Rattle.cli_answers.specs.Texts.{version}
+use Rattle.cli_answers.specs.declared.answers.Refusal.{Refusal}
+use Rattle.cli_codes.specs.Codes.{EPOCH}
+use Rattle.cli_words.specs.declared.command.Command.TheVariants.{Ls, Show}
+use Rattle.cli_writing.specs.Drawing.{next_bytes}
+use Rattle.cli_writing.specs.Writing.{NewFile, file_or_refusal}
+use Rattle.cli_changes.specs.Entries.{after_add_command}
+use Rattle.cli_commands.specs.Commands.{Change, printed_text}
+use Rattle.cli_showing.specs.Showing.{code_shown}
+use Rattle.cli_printing.specs.Listing.{group_lines}
+use Rattle.cli_lines.specs.Lines.{Lines}
+use Rattle.cli_files.specs.Tasks.{Task}
+use Rattle.file_limits.proofs.Example.{written_so}
+use Rattle.call_carrying.specs.Endings.{Ending, carried_out, change_of_task, ending_with}
+use Rattle.call_reading.specs.Reading.{left_of}
+use Rattle.keepass_call.specs.Held.{IsCarried, IsTask}
+use Rattle.keepass_call.specs.Outcome.{answer_of, ended, outcome}
+use Rattle.keepass_call.proofs.HeldTasks.{is_given}
+use Rattle.call_examples.specs.Files.{plain_bytes, three_files, world_of}
+use Rattle.call_examples.proofs.Files.{found_first, found_second, is_plain, opened_as, plain_first, put_last}
+use Rattle.randomness_laws.specs.Example.{rising}
+use Rattle.completeness_laws.specs.Conditions.{CanBeCarried, FitsFile}
+use Rattle.law_examples.specs.Calls.{ExampleCalls, ExampleOutcomes, ExamplePassword, add_generated, adding, coded_file, first_file, list_first, show_code, two_characters, with_dice}
+use Rattle.law_examples.specs.Commands.{coded, plainly}
+use Rattle.law_examples.proofs.Commands.{coded_doc, example_code}
+
+-- the lines of a call that asks for none
+abbrev no_lines : Lines
+no_lines = record { password = None; sources = []; more = None; otp = None }
+
+ok_is : (a b : Change) → ◌≡◌ {A = Result Change Refusal} (Ok a) (Ok b) → a ≡ b
+ok_is a b h = cc h
+
+-- what a command prints that writes nothing
+nothing_written : (r : Result (List ℕ) Refusal) (change : Change) → printed_text r ≡ Ok change → change.doc ≡ None
+nothing_written (Ok text) change is = ap (λ (c : Change). c.doc) (sym (ok_is (record { text = text; doc = None }) change is))
+nothing_written (Err refusal) change is = cc is
+
+never : {A : Type 0} (o : Option BareDoc) (d : BareDoc) → o ≡ None → o ≡ Some d → A
+never o d none some = cc (sym none ∙ some)
+
+-- ---- a listing
+
+abbrev list_task : Task
+list_task = record {
+  command = Ls plainly (codes "a.xml") None false false;
+  lines = no_lines;
+  opened = opened_as as_it_was;
+  sources = [];
+}
+
+list_carried : CanBeCarried list_first 50 (world_of three_files)
+list_carried = record {
+  task = list_task;
+  is_task = record { is_command = refl; are_lines = refl; holds = record { target = plain_first; sources = tt } };
+  in_calendar = omega arith;
+  password = None;
+  chosen = refl;
+  can = (as_it_was.tree, refl);
+  fits = λ change d is writes. never change.doc d (nothing_written (Ok (group_lines false false [] as_it_was.tree)) change is) writes;
+}
+
+-- ---- a code
+
+write_coded : IsWritable coded
+unfolding are_bytes
+write_coded = record { fits = refl; nodes = omega arith; pool = omega arith }
+
+short_coded : nat_le (length (plain_bytes coded)) 10000 ≡ true
+unfolding escaped_byte moment_at year_from month_from digits encode_symbols
+short_coded = refl
+
+abbrev code_task : Task
+code_task = record {
+  command = Show plainly (codes "a.xml") (codes "Bank") false false false (codes "Title" ∷ []) true;
+  lines = no_lines;
+  opened = opened_as coded;
+  sources = [];
+}
+
+code_carried : CanBeCarried show_code EPOCH (world_of coded_file)
+code_carried = record {
+  task = code_task;
+  is_task = record {
+    is_command = refl;
+    are_lines = refl;
+    holds = record {
+      target = is_plain coded_file (codes "a.xml") coded coded_doc write_coded short_coded (put_last empty (codes "a.xml") (plain_bytes coded) (codes "a.xml"));
+      sources = tt;
+    };
+  };
+  in_calendar = omega arith;
+  password = None;
+  chosen = refl;
+  can = example_code;
+  fits = λ change d is writes. never change.doc d (nothing_written (code_shown (codes "a.xml") (codes "Title" ∷ []) (codes "Bank") EPOCH coded) change is) writes;
+}
+
+-- ---- an entry with a generated password
+
+abbrev dice : List ℕ
+dice = rising 18 0
+
+abbrev task : Task
+task = adding two_characters
+
+-- the change, and the document that is written
+abbrev change_in : Result Change Refusal → Change
+change_in (Ok change) = change
+change_in (Err refusal) = record { text = []; doc = None }
+
+abbrev change : Change
+change = change_in (change_of_task 50 task dice).answer
+
+abbrev doc : BareDoc
+doc = unwrap_or change.doc as_it_was
+
+makes : (change_of_task 50 task dice).answer ≡ Ok change
+unfolding after_add_command group_found has_entry_path next_bytes choose next
+makes = refl
+
+writes : change.doc ≡ Some doc
+unfolding after_add_command group_found has_entry_path next_bytes choose next
+writes = refl
+
+few_nodes : nat_lt 262144 (tree_nodes doc.tree) ≡ false
+unfolding after_add_command group_found has_entry_path next_bytes choose next
+few_nodes = refl
+
+short_text : nat_le (written_len Plain NoKeystream None doc) 10000 ≡ true
+unfolding after_add_command group_found has_entry_path next_bytes choose next escaped_byte moment_at year_from month_from digits encode_symbols
+short_text = refl
+
+written : write_outcome Plain NoKeystream None doc ≡ Ok (plain_bytes doc)
+written = written_so Plain NoKeystream None doc few_nodes short_text
+
+fits : (new : Change) (d : BareDoc) → (change_of_task 50 task dice).answer ≡ Ok new → new.doc ≡ Some d → FitsFile None d (change_of_task 50 task dice).left
+fits new d is has =
+    let same = ok_is change new (sym makes ∙ is) in
+    subst (λ (e : BareDoc). FitsFile None e (change_of_task 50 task dice).left)
+    (same_Some doc d (sym writes ∙ ap (λ (c : Change). c.doc) same ∙ has)) (plain_bytes doc, written)
+
+is_adding : IsTask add_generated 50 with_dice task
+is_adding = record { is_command = refl; are_lines = refl; holds = record { target = plain_first; sources = tt } }
+
+add_carried : CanBeCarried add_generated 50 with_dice
+unfolding group_found has_entry_path next_bytes choose next
+add_carried = record {
+  task = task;
+  is_task = is_adding;
+  in_calendar = omega arith;
+  password = Some (codes "qr");
+  chosen = refl;
+  can = record { group = root; named = refl; free_path = refl; free_id = refl };
+  fits = fits;
+}
+
+pub example_calls : ExampleCalls
+example_calls = record { list = list_carried; code = code_carried; add = add_carried }
+
+pub example_password : ExamplePassword
+example_password = record { generates = refl; change = change; makes = makes }
+
+-- ---- what calls result in
+
+abbrev new_file : NewFile
+new_file = record { name = codes "a.xml"; bytes = plain_bytes doc }
+
+-- what the call comes to, by what is written of its document
+abbrev ends_by : Result (List ℕ) WriteFail → StreamAnswer Ending
+ends_by outcome = then_left (with_left (file_or_refusal (codes "a.xml") outcome) []) (λ file left. with_left (Ok (ending_with change.text file)) left)
+
+carried : carried_out 50 task dice ≡ ends_by (Ok (plain_bytes doc))
+unfolding carried_out after_add_command group_found has_entry_path next_bytes choose next
+carried = ap ends_by written
+
+is_carried : IsCarried add_generated 50 with_dice (ending_with change.text new_file)
+is_carried = record { task = task; is_task = is_adding; gives = ap (λ (a : StreamAnswer Ending). a.answer) carried }
+
+file_written : (outcome add_generated 50 with_dice).file ≡ Some new_file
+file_written = ap (λ r. (ended (left_of add_generated with_dice.input) r (answer_of add_generated 50 with_dice).left).file)
+    (is_given add_generated 50 with_dice (ending_with change.text new_file) is_carried)
+
+same_first : (name : List ℕ) → IsIn name (codes "a.xml" ∷ []) → get three_files name ≡ get first_file name
+same_first name (inl same) =
+    subst (λ (n : List ℕ). get three_files n ≡ get first_file n) same
+    (found_first ∙ sym (put_last empty (codes "a.xml") (plain_bytes as_it_was) (codes "a.xml")))
+same_first name (inr no_more) = absurd no_more
+
+pub example_outcomes : ExampleOutcomes
+example_outcomes = record {
+  agree = same_first;
+  has_second = found_second;
+  lacks_second = put_last empty (codes "a.xml") (plain_bytes as_it_was) (codes "b.xml") ∙ get-empty _ (codes "b.xml");
+  file = new_file;
+  writes = file_written;
+  page = version;
+  asks = refl;
+}
