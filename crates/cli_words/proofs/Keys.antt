@@ -240,13 +240,17 @@ edit_file_key said h file = by (is_fit_edit said) refl
     made : is_fit_edit said ≡ true → (change : Option FileChange) → change_in said ≡ change → IfKey (option_map (EditFile (access_sealed said) file) change)
     made fit None e = tt
     made fit (Some change) e =
-        let c = changed_by said (cipher_in said) (kdf_in said) (version_in said) change e in
-        (opened (access_sealed said) h.sealed file (sets_password change.password), h.sealed, tt, record {
-          sealed = refl;
-          part = ap (λ p. keeps_password (access_sealed said) p || keeps_key_file (access_sealed said) change.key_file) (sym c.0)
-              ∙ ap (λ k. keeps_password (access_sealed said) (password_change said) || keeps_key_file (access_sealed said) k) (sym c.1)
-              ∙ part_kept said fit;
-        })
+        let c = changed_by said (cipher_in said) (kdf_in said) (version_in said) change e in (
+          opened (access_sealed said) h.sealed file (sets_password change.password),
+          h.sealed,
+          tt,
+          record {
+            sealed = refl;
+            part = ap (λ p. keeps_password (access_sealed said) p || keeps_key_file (access_sealed said) change.key_file) (sym c.0)
+                ∙ ap (λ k. keeps_password (access_sealed said) (password_change said) || keeps_key_file (access_sealed said) k) (sym c.1)
+                ∙ part_kept said fit;
+          },
+        )
 
     by : (b : Bool) → is_fit_edit said ≡ b → IfKey (if b then edit_file_with said file else None)
     by false e = tt

@@ -65,11 +65,7 @@ fn changed_version(
 }
 
 // The version of a file whose settings are changed, or the refusal of the change.
-#[tactic(
-    auto,
-    unfolding(crate::specs::Changed::version_after),
-    using(crate::proofs::Orders::ordered)
-)]
+#[tactic(auto, unfolding(crate::specs::Changed::version_after), using(crate::proofs::Orders::ordered))]
 fn version_of(
     settings: &Settings,
     change: &SettingsChange,
