@@ -1,11 +1,11 @@
 -- Key derivations that stand for those that are asked for.
 use Rattle.std.proofs.Common.{◌≡◌, ◌≤◌, ◌<◌, ◌*◌, ℕ, List, inl, inr, refl, sym, ◌∙◌, ap, cond, arith, Bool, true, false, length, Option, Some, None, Result, Ok, Err}
-use Rattle.std.specs.Prelude.{◌||◌, ◌⊎◌, nat_lt, replicate}
+use Rattle.std.specs.Prelude.{◌||◌, nat_lt, replicate}
 use Rattle.std.proofs.lemmas.Bool.{ltb-false}
 use Rattle.argon_core.specs.declared.params.ArgonKind.{ArgonKind}
 use Rattle.outside_core.specs.Results.{◌>>=◌}
 use Rattle.key_core.specs.declared.kdf.Kdf.{Kdf}
-use Rattle.key_core.specs.declared.kdf.Kdf.TheVariants.{Aes, Argon}
+use Rattle.key_core.specs.declared.kdf.Kdf.TheVariants.{Argon}
 use Rattle.key_core.specs.declared.kdf.KdfFail.{KdfFail}
 use Rattle.key_core.specs.declared.kdf.KdfFail.TheVariants as kdf
 use Rattle.key_core.specs.declared.kdf.KdfField.{KdfField}

@@ -1,5 +1,5 @@
 -- What such a database is and what its files hold, both ways.
-use Rattle.std.proofs.Common.{◌≡◌, ◌≤◌, ℕ, List, refl, sym, ◌∙◌, ap, subst, Bool, true, false, Option, Some, None, Result, Ok, Err}
+use Rattle.std.proofs.Common.{◌≡◌, ℕ, List, sym, ◌∙◌, ap, subst, false, Option, Some, None, Result, Ok, Err}
 use Rattle.std.specs.FinMap as finmap
 use Rattle.outside_core.specs.Files.{FileMap}
 use Rattle.outside_core.specs.Results.{◌>>=◌}
@@ -23,7 +23,7 @@ use Rattle.cli_importing.proofs.HeldImports.{absent_by, in_time, sealing_given, 
 use Rattle.cli_resealing.specs.Asked.{asked_settings, resealed, with_resealed}
 use Rattle.cli_resealing.specs.Created.{created_of, empty_document, undrawn_id}
 use Rattle.cli_resealing.specs.Edited.{changed_of, edited_of, key_after, key_made, settings_in, under_key}
-use Rattle.cli_resealing.specs.Held.{GivesKeyAfter, HoldsCreated, HoldsEdited, IsNewSealing}
+use Rattle.cli_resealing.specs.Held.{GivesKeyAfter, HoldsCreated, HoldsEdited}
 
 -- ---- how a file is sealed
 
@@ -45,20 +45,20 @@ pub created_held : (create : CreateNeeds) (lines : Lines) (time : ℕ) (files : 
 unfolding created_of
 created_held create lines time files opened h =
     let empty = empty_document create.name undrawn_id time in
-    let d = in_turn (at_stamp create.file time (Ok empty)) _ opened h in
-    let f = in_turn (refuse_file create.file (finmap.get files create.file)) _ opened d.1.1 in
-    let s = in_turn (sealing_of create.access.plain create.access.key_file lines.password files)
-    (λ sealing. with_resealed create.file (asked_settings create.cipher create.kdf None) (record { doc = d.0; sealing = sealing })) opened f.1.1 in
+    let f = in_turn (refuse_file create.file (finmap.get files create.file)) _ opened h in
+    let s = in_turn (sealing_of create.access.plain create.access.key_file lines.password files) _ opened f.1.1 in
+    let d = in_turn (at_stamp create.file time (Ok empty))
+    (λ doc. with_resealed create.file (asked_settings create.cipher create.kdf None) (record { doc = doc; sealing = s.0 })) opened s.1.1 in
     let t = in_time create.file time (Ok empty) d.0 d.1.0 in
     let is : empty ≡ d.0 = cc t.1 in
-    let same = same_document create.file (asked_settings create.cipher create.kdf None) (record { doc = d.0; sealing = s.0 }) opened s.1.1 in
+    let same = same_document create.file (asked_settings create.cipher create.kdf None) (record { doc = d.0; sealing = s.0 }) opened d.1.1 in
     record {
       in_time = t.0;
       is_empty = same ∙ sym is;
       absent = absent_by create.file (finmap.get files create.file) f.0 f.1.0;
       sealing = s.0;
       sealed = sealing_held create.access.plain create.access.key_file lines.password files s.0 s.1.0;
-      changed = subst (λ (doc : BareDoc). with_resealed create.file (asked_settings create.cipher create.kdf None) (record { doc = doc; sealing = s.0 }) ≡ Ok opened) (sym same) s.1.1;
+      changed = subst (λ (doc : BareDoc). with_resealed create.file (asked_settings create.cipher create.kdf None) (record { doc = doc; sealing = s.0 }) ≡ Ok opened) (sym same) d.1.1;
     }
 
 pub created_given : (create : CreateNeeds) (lines : Lines) (time : ℕ) (files : FileMap) (opened : Opened)
@@ -66,12 +66,14 @@ pub created_given : (create : CreateNeeds) (lines : Lines) (time : ℕ) (files :
 unfolding created_of
 created_given create lines time files opened h =
     let asked = asked_settings create.cipher create.kdf None in
-    ap (λ r. r >>= λ doc. refuse_file create.file (finmap.get files create.file) >>= λ u. sealing_of create.access.plain create.access.key_file lines.password files >>= λ sealing. with_resealed create.file asked (record { doc = doc; sealing = sealing }))
-    (stamped create.file time (Ok (empty_document create.name undrawn_id time)) h.in_time ∙ ap Ok (sym h.is_empty))
-    ∙ ap (λ r. r >>= λ u. sealing_of create.access.plain create.access.key_file lines.password files >>= λ sealing. with_resealed create.file asked (record { doc = opened.doc; sealing = sealing }))
+    let empty = empty_document create.name undrawn_id time in
+    let next = at_stamp create.file time (Ok empty) in
+    ap (λ r. r >>= λ u. sealing_of create.access.plain create.access.key_file lines.password files >>= λ sealing. next >>= λ doc. with_resealed create.file asked (record { doc = doc; sealing = sealing }))
     (ap (refuse_file create.file) h.absent)
-    ∙ ap (λ r. r >>= λ sealing. with_resealed create.file asked (record { doc = opened.doc; sealing = sealing }))
+    ∙ ap (λ r. r >>= λ sealing. next >>= λ doc. with_resealed create.file asked (record { doc = doc; sealing = sealing }))
     (sealing_given create.access.plain create.access.key_file lines.password files h.sealing h.sealed)
+    ∙ ap (λ r. r >>= λ doc. with_resealed create.file asked (record { doc = doc; sealing = h.sealing }))
+    (stamped create.file time (Ok empty) h.in_time ∙ ap Ok (sym h.is_empty))
     ∙ h.changed
 
 -- ---- a file that is changed

@@ -1,5 +1,5 @@
 -- Whether such a database is sealed.
-use Rattle.std.proofs.Common.{◌≡◌, ℕ, List, refl, sym, ◌∙◌, ap, Bool, true, false, Option, Some, None, Result, Ok, Err}
+use Rattle.std.proofs.Common.{◌≡◌, ℕ, List, refl, sym, ◌∙◌, ap, true, Option, Some, None, Result, Ok, Err}
 use Rattle.std.specs.Prelude.{is_some, not, option_map}
 use Rattle.outside_core.specs.Results.{◌>>=◌}
 use Rattle.vault_model.specs.Tree.{BareDoc}

@@ -32,8 +32,8 @@ empty_document (Some name) root now = record {
 -- asked for.
 unfoldable pub created_of : CreateNeeds → Lines → ℕ → FileMap → Result Opened Refusal
 created_of create lines time files = do
-  doc ← at_stamp create.file time (Ok (empty_document create.name undrawn_id time))
   _ ← refuse_file create.file (map.get files create.file)
   sealing ← sealing_of create.access.plain create.access.key_file lines.password files
+  doc ← at_stamp create.file time (Ok (empty_document create.name undrawn_id time))
   with_resealed create.file (asked_settings create.cipher create.kdf None)
       (record { doc = doc; sealing = sealing })

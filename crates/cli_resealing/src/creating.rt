@@ -23,6 +23,7 @@ use cli_files::{Opened, bytes_in};
 use cli_importing::{new_sealing, refuse_existing};
 use cli_lines::Lines;
 use cli_words::CreateNeeds;
+use kdbx_frame::release_key;
 use outside_core::{FileStore, NoMemory, Text};
 use std::alloc::Global;
 use uuid_core::Uuid;
@@ -153,15 +154,15 @@ pub fn create<F: FileStore>(
         files.new }
 {
     let file = create.file.as_str();
-    let doc = empty_at(alloc, create.name, file, now)?;
-    if let Err(stop) = refuse_existing(alloc, files, file) {
-        drop(doc);
-        return Err(stop);
-    }
-    match new_sealing(alloc, files, create.access, bytes_in(&lines.password)) {
-        Ok(sealing) => with_asked(alloc, file, Opened { doc, sealing }, asked_of(create)),
+    refuse_existing(alloc, files, file)?;
+    let sealing = match new_sealing(alloc, files, create.access, bytes_in(&lines.password)) {
+        Ok(sealing) => sealing,
+        Err(stop) => return Err(stop),
+    };
+    match empty_at(alloc, create.name, file, now) {
+        Ok(doc) => with_asked(alloc, file, Opened { doc, sealing }, asked_of(create)),
         Err(stop) => {
-            drop(doc);
+            release_key(sealing);
             Err(stop)
         }
     }

@@ -124,17 +124,14 @@ module _ (F G : FileMap) where
   created_same : (create : CreateNeeds) (lines : Lines) (time : ℕ) → AgreeOn (create.file ∷ key_files create.access.key_file) F G → created_of create lines time F ≡ created_of create lines time G
   unfolding created_of
   created_same create lines time agree =
-      let asked = asked_settings create.cipher create.kdf None in
+      let made = λ (sealing : Option Sealing). at_stamp create.file time (Ok (empty_document create.name undrawn_id time))
+          >>= λ doc. with_resealed create.file (asked_settings create.cipher create.kdf None) (record { doc = doc; sealing = sealing }) in
       let seal = sealing_same create.access.plain create.access.key_file lines.password (λ n i. agree n (inr i)) in
-      bind_same (at_stamp create.file time (Ok (empty_document create.name undrawn_id time))) (at_stamp create.file time (Ok (empty_document create.name undrawn_id time)))
-      (λ doc. refuse_file create.file (map.get F create.file) >>= λ _. (sealing_of create.access.plain create.access.key_file lines.password F >>= λ sealing. with_resealed create.file asked (record { doc = doc; sealing = sealing })))
-      (λ doc. refuse_file create.file (map.get G create.file) >>= λ _. (sealing_of create.access.plain create.access.key_file lines.password G >>= λ sealing. with_resealed create.file asked (record { doc = doc; sealing = sealing })))
-      refl
-      (λ doc. bind_same (refuse_file create.file (map.get F create.file)) (refuse_file create.file (map.get G create.file))
-      (λ _. (sealing_of create.access.plain create.access.key_file lines.password F >>= λ sealing. with_resealed create.file asked (record { doc = doc; sealing = sealing })))
-      (λ _. (sealing_of create.access.plain create.access.key_file lines.password G >>= λ sealing. with_resealed create.file asked (record { doc = doc; sealing = sealing })))
+      bind_same (refuse_file create.file (map.get F create.file)) (refuse_file create.file (map.get G create.file))
+      (λ _. (sealing_of create.access.plain create.access.key_file lines.password F >>= made))
+      (λ _. (sealing_of create.access.plain create.access.key_file lines.password G >>= made))
       (ap (refuse_file create.file) (agree create.file (inl refl)))
-      (λ x. ap (λ r. r >>= λ sealing. with_resealed create.file asked (record { doc = doc; sealing = sealing })) seal))
+      (λ x. ap (λ r. r >>= made) seal)
 
   after_same : (change : KeyFileChange) (old : Option (List ℕ)) → AgreeOn (new_key_files change) F G → key_after change old F ≡ key_after change old G
   after_same key_file.Keep old agree = refl

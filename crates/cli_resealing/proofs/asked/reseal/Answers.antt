@@ -4,7 +4,7 @@ use Rattle.vault_model.specs.declared.forms.FileVersion.{FileVersion}
 use Rattle.kdbx_settings.specs.Changed.{changed_settings}
 use Rattle.cli_answers.specs.Messages.{refusal_of}
 use Rattle.cli_answers.specs.declared.answers.Reason.{Reason}
-use Rattle.cli_resealing.specs.Asked.{asked_settings, settings_answer}
+use Rattle.cli_resealing.specs.Asked.{asked_settings}
 use Rattle.cli_resealing.proofs.Costs.{refused_as, refused_so, settled_as}
 use Rattle.cli_resealing.proofs.asked.reseal.Goals as goal
 

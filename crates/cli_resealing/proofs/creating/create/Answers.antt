@@ -1,22 +1,22 @@
 use Rattle.std.proofs.Common.{◌∷◌, [], option_map}
+use Rattle.cli_words.specs.Needs.{key_files}
+use Rattle.cli_files.proofs.FileStops.{later_at_files}
 use Rattle.vault_model.specs.SeenDoc.{doc_seen}
 use Rattle.cli_lines.specs.SeenLines.{lines_seen}
-use Rattle.cli_words.specs.Needs.{key_files}
 use Rattle.cli_words.specs.SeenNeeds.{create_seen}
-use Rattle.cli_files.proofs.FileStops.{later_at_files}
 use Rattle.cli_resealing.specs.Asked.{asked_settings}
 use Rattle.cli_resealing.proofs.Somes.{asked_same, some_created}
 use Rattle.cli_resealing.proofs.creating.create.Goals as goal
 
-pub returns-in-Ok-clause-some_file : goal.returns-in-Ok-clause-some_file
-returns-in-Ok-clause-some_file g c =
-    some_created (create_seen c.args.create) (lines_seen c.args.lines.now) c.args.now (doc_seen c.in_ok-doc.doc) c.as_str-file.result.now
+pub returns-in-Ok-empty_at-clause-some_file : goal.returns-in-Ok-empty_at-clause-some_file
+returns-in-Ok-empty_at-clause-some_file g c =
+    some_created (create_seen c.args.create) (lines_seen c.args.lines.now) c.args.now (doc_seen c.in-Ok-empty_at.doc) c.as_str-file.result.now
     (option_map (λ w. w.now) c.bytes_in.result) c.in-Ok.sealing
     (asked_settings c.asked_of.result.cipher c.asked_of.result.kdf c.asked_of.result.version) c.with_asked.result
-    c.as_str-file.ensures c.in_ok-doc.ensures.told c.bytes_in.ensures c.in-Ok.ensures.some_file
+    c.as_str-file.ensures c.in-Ok-empty_at.ensures.told c.bytes_in.ensures c.in-Ok.ensures.some_file
     (asked_same _ _ _ _ _ _ c.asked_of.ensures.cipher c.asked_of.ensures.kdf c.asked_of.ensures.version) c.with_asked.ensures.told
 
-pub returns-in-Err-new_sealing-clause-cause : goal.returns-in-Err-new_sealing-clause-cause
-returns-in-Err-new_sealing-clause-cause g c =
-    later_at_files (c.args.create.file.now ∷ []) (key_files c.args.create.access.now.key_file) _ _ _ _ _ _ c.in-Err-new_sealing.stop
-    c.in_default.ensures.leaves.faults c.in_default.ensures.leaves.absences c.in-Err-new_sealing.ensures.cause
+pub returns-in-Err-clause-cause : goal.returns-in-Err-clause-cause
+returns-in-Err-clause-cause g c =
+    later_at_files (c.args.create.file.now ∷ []) (key_files c.args.create.access.now.key_file) _ _ _ _ _ _ c.in-Err.stop
+    c.in_ok-refuse_existing.ensures.leaves.faults c.in_ok-refuse_existing.ensures.leaves.absences c.in-Err.ensures.cause
