@@ -67,15 +67,10 @@ declare -gA command_briefs=(
 # The commands in the order of the help.
 command_order='ls show search add edit mv rm mkdir rmdir merge import db-create export db-edit db-info generate clip'
 
-# The values of the options that have a few alone: of a command and an option.
-declare -gA option_choices=(
-  ['import format']='xml psafe3 csv bitwarden'
-  ['db-create cipher']='aes twofish chacha20'
-  ['db-create kdf']='aes argon2d argon2id'
-  ['export format']='xml csv'
-  ['db-edit cipher']='aes twofish chacha20'
-  ['db-edit kdf']='aes argon2d argon2id'
-  ['db-edit version']='3.1 4.0 4.1'
+# The formats of the commands that have one.
+declare -gA command_formats=(
+  ['import']='xml psafe3 csv bitwarden'
+  ['export']='xml csv'
 )
 
 # Commands of other programs.
@@ -208,13 +203,18 @@ hint_rows=(
   $'4\x1fnot UTF-8 at *\x1f\x1f\x1fsave the table in UTF-8, or convert it: iconv -f WINDOWS-1252 -t UTF-8 {file} >NEW.csv'
   $'4\x1fno Title column\x1f\x1f\x1fthe first row names the columns, with commas between them: Title, and any of Group, Username, Password, URL, Notes, Last Modified, Created'
   $'4\x1fbad row *\x1f\x1f\x1fthis row after the first has more or fewer fields than the first, or a time that is not as 2026-11-28T12:34:56Z; blank lines do not count'
+  $'4\x1fbad JSON\x1f\x1f\x1f{file} is no JSON: in Bitwarden choose Tools > Export vault, and .json as the format'
+  $'4\x1fbad folder *\x1f\x1f\x1fthe folder of this number has no id or no name: export the vault again'
+  $'4\x1fbad item *\x1f\x1f\x1fthe item of this number is malformed, or its folder is not there: export the vault again, or mend the item'
   $'4\x1fline * is not UTF-8\x1f\x1f\x1fpasswords are typed in UTF-8: choose a UTF-8 locale'
   $'4\x1fduplicate id *\x1f\x1fpsafe3\x1ftwo records have one id: delete one of them in Password Safe, or make it anew there'
   $'4\x1fnil id at *\x1f\x1fpsafe3\x1fthe record of this number has no id: make it anew in Password Safe'
+  $'4\x1fnil id at *\x1fimport\x1fnot-markup\x1fthe item of this number has the id of zeros: delete it there, or make it anew'
   $'4\x1fbad field at *\x1f\x1f\x1fthe file of Password Safe is malformed: open it in Password Safe and save it again, or use a backup'
   $'4\x1f*\x1f\x1f\x1f{file} is malformed: open it in the program that wrote it and save it again, or use a backup'
   $'5\x1fcompressed\x1f\x1fkdbx\x1fswitch compression off once and save the file. In KeePassXC: Database > Database Settings > General, untick \'Enable compression\';\x1fin KeePass 2: File > Database Settings > Compression, choose \'None\'. Or without a window, in python3 with pykeepass:\x1f  import getpass, pykeepass; kp = pykeepass.PyKeePass({python}, getpass.getpass())\x1f  kp.kdbx.header.value.dynamic_header.compression_flags.data.compression = False\x1f  del kp.kdbx.header[\'data\']; kp.save()'
   $'5\x1fcompressed\x1f\x1f\x1fattachments in this XML are compressed: export it again, with keepass or from a database without compression'
+  $'5\x1fencrypted export\x1f\x1f\x1fin Bitwarden choose Tools > Export vault, and .json as the format, not .json (Encrypted)'
   $'5\x1fversion *\x1f\x1f\x1fKDBX 3.1, 4.0 and 4.1 are read: save {file} as KDBX 4 with the program that wrote it'
   $'5\x1funknown *\x1f\x1f\x1fchoose AES-256, Twofish or ChaCha20 as cipher, and AES-KDF, Argon2d or Argon2id as key derivation, in the program that wrote it'
   $'5\x1f*\x1f\x1f\x1fsave {file} anew with KeePassXC or KeePass 2, with Argon2 or AES-KDF as key derivation'

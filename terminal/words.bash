@@ -178,50 +178,80 @@ read_profile() {
   if [ -z "$left" ]; then because 'no characters are left: --exclude has all of them'; fi
 }
 
-# Looks at what is said of the key of a new database, and of the key of one that is changed: a part may not be both set and unset,
-# and one must be left.
-read_new_key() {
-  local word
-  case $command in
-    import | db-create)
-      for word in set-password set-key-file cipher kdf; do
-        if is_given plain && is_given "$word"; then because "'--$word' does not go with '--plain'"; fi
-      done
-      if ! is_given plain && ! is_given set-password && ! is_given set-key-file; then
-        because "$command needs a key for the new database: -p, --set-key-file FILE, or --plain for none"
-      fi
-      ;;
-    db-edit)
-      for word in password key-file; do
-        if is_given "set-$word" && is_given "unset-$word"; then because "'--set-$word' does not go with '--unset-$word'"; fi
-      done
-      if ! is_given set-password && { is_given no-password || is_given unset-password; } &&
-        ! is_given set-key-file && { ! is_given key-file || is_given unset-key-file; }; then
-        because 'neither a password nor a key file is left: give -p or --set-key-file FILE'
-      fi
-      ;;
-  esac
-}
-
-# Looks at what is said of the costs of a key derivation: they need one that has them, and are numbers.
-read_costs() {
+# Looks at a key derivation and its costs: those of Argon2 need one of its kinds, and each is one to ten digits.
+read_kdf() {
   local word
   for word in rounds memory lanes; do
-    if ! is_given "$word"; then continue; fi
-    if ! is_given kdf; then
-      because "'--$word' needs '--kdf'"
-    elif [ "$word" != rounds ] && [ "${given[kdf]}" = aes ]; then
-      because "'--$word' needs '--kdf argon2d' or '--kdf argon2id'"
-    elif [[ ! ${given[$word]} =~ ^[0-9]{1,10}$ ]]; then
-      because "unknown number '${given[$word]}' of '--$word': one to ten digits"
+    if is_given "$word" && ! is_given kdf; then because "'--$word' needs '--kdf'"; fi
+  done
+  if ! is_given kdf; then return; fi
+  case ${given[kdf]} in
+    aes)
+      for word in memory lanes; do
+        if is_given "$word"; then because "'--$word' needs '--kdf argon2d' or '--kdf argon2id'"; fi
+      done
+      ;;
+    argon2d | argon2id) ;;
+    *) because "unknown key derivation '${given[kdf]}': aes or argon2d or argon2id" ;;
+  esac
+  for word in rounds memory lanes; do
+    if is_given "$word" && [[ ! ${given[$word]} =~ ^[0-9]{1,10}$ ]]; then
+      because "'--$word' needs one to ten digits: '${given[$word]}'"
     fi
   done
 }
 
-# Looks for options that do not go together, values that are unknown, and an edit of nothing.
+# Looks at what is said of a file's settings: cipher, key derivation and version.
+read_settings() {
+  if is_given cipher; then
+    case ${given[cipher]} in
+      aes | twofish | chacha20) ;;
+      *) because "unknown cipher '${given[cipher]}': aes or twofish or chacha20" ;;
+    esac
+  fi
+  read_kdf
+  if is_given version; then
+    case ${given[version]} in
+      3.1 | 4.0 | 4.1) ;;
+      *) because "unknown version '${given[version]}': 3.1 or 4.0 or 4.1" ;;
+    esac
+  fi
+}
+
+# Looks at the key of a new file, and whether one without a key has settings.
+read_new_key() {
+  local word
+  if is_given plain && is_given set-password; then because "'--set-password' does not go with '--plain': an XML export has no key"; fi
+  if is_given plain && is_given set-key-file; then because "'--set-key-file' does not go with '--plain': an XML export has no key"; fi
+  if ! is_given plain && ! is_given set-password && ! is_given set-key-file; then
+    because "$command needs a key for the new database: -p, --set-key-file FILE, or --plain for none"
+  fi
+  for word in cipher kdf; do
+    if is_given plain && is_given "$word"; then because "'--$word' does not go with '--plain'"; fi
+  done
+}
+
+# Looks at the parts of a key that is changed, and whether anything is.
+read_change() {
+  local word given_words="${!given[*]}"
+  for word in password key-file; do
+    if is_given "set-$word" && is_given "unset-$word"; then because "'--set-$word' does not go with '--unset-$word'"; fi
+  done
+  if ! is_given set-password && ! is_given set-key-file && { is_given no-password || is_given unset-password; } &&
+    { ! is_given key-file || is_given unset-key-file; }; then
+    because 'no key is left: a database needs a password or a key file'
+  fi
+  read_settings
+  case " $given_words " in
+    *' set-password '* | *' unset-password '* | *' set-key-file '* | *' unset-key-file '* | *' cipher '* | *' kdf '* | *' version '*) ;;
+    *) because 'nothing to change: give another key, --cipher, --kdf or --version' ;;
+  esac
+}
+
+# Looks for options that do not go together, formats that are unknown, and an edit of nothing.
 read_options() {
   local word
-  read_new_key
+  if [ "$command" = import ] || [ "$command" = db-create ]; then read_new_key; fi
   for word in no-password key-file no-password-from key-file-from same-credentials; do
     if is_given plain && is_given "$word"; then because "'--$word' does not go with '--plain': an XML export has no key"; fi
   done
@@ -230,23 +260,20 @@ read_options() {
   done
   if is_given no-password && ! is_given key-file; then because "'--no-password' needs a key file: -k FILE"; fi
   if is_given no-password-from && ! is_given key-file-from; then because "'--no-password-from' needs '--key-file-from FILE'"; fi
-  for word in format cipher kdf version; do
-    if is_given "$word" && [[ " ${option_choices[$command $word]} " != *" ${given[$word]} "* ]]; then
-      because "unknown $word '${given[$word]}': ${option_choices[$command $word]// / or }"
-    fi
-  done
-  read_costs
+  if is_given format && [[ " ${command_formats[$command]} " != *" ${given[format]} "* ]]; then
+    because "unknown format '${given[format]}': ${command_formats[$command]// / or }"
+  fi
   for word in all show-attachments; do
     if is_given totp && is_given "$word"; then because "'--totp' does not go with '--$word'"; fi
   done
+  case $command in
+    db-create) read_settings ;;
+    db-edit) read_change ;;
+  esac
   read_profile
   if [ "$command" = edit ] && ! is_given title && ! is_given username && ! is_given url && ! is_given notes && ! is_given password-prompt \
     && ! is_given generate && ! is_given otp; then
     because 'nothing to change: give -t, -u, --url, --notes, -p, -g or --otp'
-  fi
-  if [ "$command" = db-edit ]; then
-    for word in set-password set-key-file unset-password unset-key-file cipher kdf version; do if is_given "$word"; then return; fi; done
-    because 'nothing to change: give -p, --set-key-file, --unset-password, --unset-key-file, --cipher, --kdf or --version'
   fi
 }
 
@@ -347,15 +374,14 @@ add_database() {
 files_of() {
   local source key=${given[key-file]-}
   files=() databases=() sizes=() target=${positions[0]-}
-  case $command in
-    generate) return ;;
-    import)
-      target=${positions[1]}
-      add_database "${positions[0]}"
-      ;;
-    db-create) ;;
-    *) add_database "${positions[0]}" "$key" ;;
-  esac
+  if [ "$command" = generate ]; then return; fi
+  if [ "$command" = import ]; then
+    target=${positions[1]}
+    add_database "${positions[0]}"
+    if is_given set-key-file; then files+=("${given[set-key-file]}"); fi
+    return
+  fi
+  if [ "$command" != db-create ]; then add_database "${positions[0]}" "$key"; fi
   if is_given set-key-file; then files+=("${given[set-key-file]}"); fi
   if [ "$command" != merge ]; then return; fi
   if ! is_given same-credentials; then key=${given[key-file-from]-}; fi

@@ -10,8 +10,9 @@ top = os.path.dirname(os.path.dirname(os.path.dirname(os.path.abspath(__file__))
 table = tomllib.load(open(f"{top}/docs/commands.toml", "rb"))
 OPTIONS = table["options"]
 CREDENTIALS = ["key-file", "no-password"]
-EVERYWHERE = ["plain", "quiet"]
 COMMANDS = {command["name"]: command for command in table["commands"]}
+FILE_CHANGES = ("other-password", "set-key-file", "unset-password", "unset-key-file", "cipher", "kdf", "file-version")
+COSTS = ("rounds", "memory", "lanes")
 CHANGES = ("title", "username", "url", "notes", "password-prompt", "generate", "otp")
 PROFILE = ("length", "lower", "upper", "numeric", "special", "exclude")
 CLASSES = {"lower": string.ascii_lowercase, "upper": string.ascii_uppercase, "numeric": string.digits, "special": string.punctuation}
@@ -29,8 +30,13 @@ def has_credentials(command):
     return has_database(command) and COMMANDS[command].get("credentials", True)
 
 
+def has_plain(command):
+    return has_database(command) and COMMANDS[command].get("plain", True)
+
+
 def taken_by(command):
-    return COMMANDS[command]["options"] + CREDENTIALS * has_credentials(command) + EVERYWHERE * has_database(command)
+    return (COMMANDS[command]["options"] + CREDENTIALS * has_credentials(command) + ["plain"] * has_plain(command)
+            + ["quiet"] * has_database(command))
 
 
 def of_name(command, long_name):
@@ -111,6 +117,32 @@ def profile(given):
     return int(length), "".join(characters)
 
 
+def derivation(given):
+    """The key derivation that is asked for, with its costs: its name, rounds or passes, KiB and lanes."""
+    if "kdf" not in given:
+        if any(name in given for name in COSTS):
+            raise Wrong
+        return None
+    is_aes = given["kdf"] == "aes"
+    if is_aes and ("memory" in given or "lanes" in given):
+        raise Wrong
+    costs = [given.get(name, usual) for name, usual in zip(COSTS, ("100000" if is_aes else "10", "65536", "2"))]
+    if not all(re.fullmatch("[0-9]{1,10}", cost) for cost in costs):
+        raise Wrong
+    return given["kdf"], *map(int, costs)
+
+
+def check_change(given):
+    """What a file is changed to: something, no part of the key both set and unset, and one of them left."""
+    if not any(name in given for name in FILE_CHANGES):
+        raise Wrong
+    if ("other-password" in given and "unset-password" in given) or ("set-key-file" in given and "unset-key-file" in given):
+        raise Wrong
+    password = "other-password" in given or not ("unset-password" in given or "no-password" in given)
+    if not password and not ("set-key-file" in given or ("key-file" in given and "unset-key-file" not in given)):
+        raise Wrong
+
+
 def read(words):
     try:
         return command_of(words)
@@ -157,8 +189,16 @@ def command_of(words):
             raise Wrong
         lines = (1 if given.get("import-format") == "psafe3" else 0) + (1 if set_password else 0)
         return {"command": command, "given": given, "positions": positions, "lines": lines}
+    kdf = derivation(given)
+    if command == "db-create":
+        set_password = "first-password" in given
+        if plain == (set_password or "set-key-file" in given) or (plain and ("cipher" in given or kdf)):
+            raise Wrong
+        return {"command": command, "given": given, "positions": positions, "lines": int(set_password), "kdf": kdf}
     if not opens(plain, "no-password" in given, "key-file" in given):
         raise Wrong
+    if command == "db-edit":
+        check_change(given)
     from_given = "no-password-from" in given, "key-file-from" in given
     if same and (plain or any(from_given)):
         raise Wrong
@@ -167,8 +207,8 @@ def command_of(words):
     lines = 0 if plain or "no-password" in given else 1
     if command == "merge" and not (plain or same or "no-password-from" in given):
         lines += len(positions) - 1
-    lines += ("password-prompt" in given) + ("otp" in given)
-    return {"command": command, "given": given, "positions": positions, "lines": lines, "generated": generated}
+    lines += ("password-prompt" in given) + ("otp" in given) + ("other-password" in given)
+    return {"command": command, "given": given, "positions": positions, "lines": lines, "generated": generated, "kdf": kdf}
 
 
 def access(name, plain, quiet, key_file, no_password):
@@ -182,7 +222,13 @@ def profile_parts(generated):
     return [] if generated is None else [f"length={generated[0]}", f"alphabet={generated[1]}"]
 
 
-def own_parts(command, given, positions, generated):
+def settings_parts(given, kdf):
+    """The parts of a line for a cipher and a key derivation."""
+    names = ("kdf", "rounds", "memory", "lanes")
+    return ([f"cipher={given['cipher']}"] if "cipher" in given else []) + [f"{name}={part}" for name, part in zip(names, kdf or ())]
+
+
+def own_parts(command, given, positions, generated, kdf):
     """The parts of a line that only this command has."""
     def flags(*names):
         return [name for name in names if name in given]
@@ -208,8 +254,14 @@ def own_parts(command, given, positions, generated):
     if command == "import":
         form = given.get("import-format", "xml")
         return access(positions[0], form != "psafe3", quiet, None, False) + [f"format={form}"]
+    if command == "db-create":
+        return texts("name") + settings_parts(given, kdf)
     if command == "export":
         return [f"format={given.get('format', 'xml')}"]
+    if command == "db-edit":
+        version = [f"version={given['file-version']}"] if "file-version" in given else []
+        password = ["set-password"] if "other-password" in given else flags("unset-password")
+        return password + (texts("set-key-file") or flags("unset-key-file")) + settings_parts(given, kdf) + version
     names = {"search": ["term"], "mv": ["node", "group"], "rm": ["entry"], "mkdir": ["group"], "rmdir": ["group"], "db-info": []}
     return [f"{name}={word}" for name, word in zip(names[command], positions[1:], strict=True)]
 
@@ -227,4 +279,6 @@ def line(words):
     opened = access(positions[0], plain, quiet, given.get("key-file"), "no-password" in given)
     if command == "import":
         opened = access(positions[1], plain, quiet, given.get("set-key-file"), not plain and "set-password" not in given)
-    return "".join(part + "\t" for part in [command] + opened + own_parts(command, given, positions, generated))
+    if command == "db-create":
+        opened = access(positions[0], plain, quiet, given.get("set-key-file"), not plain and "first-password" not in given)
+    return "".join(part + "\t" for part in [command] + opened + own_parts(command, given, positions, generated, found.get("kdf")))

@@ -82,10 +82,10 @@ abbrev pub spaced_ids : List (List ℕ) → List ℕ
 spaced_ids [] = []
 spaced_ids (id ∷ ids) = codes " " ++ hyphenated_text lower id ++ spaced_ids ids
 
--- The version that is needed.
-abbrev pub needs_version_text : NeededVersion → List ℕ
-needs_version_text needed.V40 = codes "needs version 4.0"
-needs_version_text needed.V41 = codes "needs version 4.1"
+-- The name of a version that is needed.
+abbrev pub needed_text : NeededVersion → List ℕ
+needed_text needed.V40 = codes "4.0"
+needed_text needed.V41 = codes "4.1"
 
 -- What an answer says of its subject: numbers in decimal, ids in lower case with hyphens, bytes in
 -- lower-case hexadecimal.
@@ -101,7 +101,7 @@ reason_text (IdTaken id) = codes "id taken " ++ hyphenated_text lower id
 reason_text (NoAttribute name) = codes "no attribute " ++ name
 reason_text NoResult = codes "no results"
 reason_text FileExists = codes "file exists"
-reason_text (NeedsVersion version) = needs_version_text version
+reason_text (NeedsVersion version) = codes "needs version " ++ needed_text version
 reason_text (DamagedOrWrongKey kept found) = codes "damaged or wrong key: kept "
     ++ encode_lower kept ++ codes " found " ++ encode_lower found
 reason_text (DamagedBlock number) = codes "damaged block " ++ decimal number

@@ -3,7 +3,7 @@ ghost use Rattle.std.specs.Prelude.{◌≡◌, ◌++◌, IfOk, OnOk, codes, stri
 ghost use Rattle.std.specs.Fmt.{decimal};
 ghost use Rattle.hex.specs.Hex.{encode_lower};
 ghost use Rattle.uuid.specs.Text.{hyphenated_text, lower};
-ghost use Rattle.cli_answers.specs.Messages.{status_of, reason_text, error_line, refusal_of, needs_version_text, spaced_ids, Refuses};
+ghost use Rattle.cli_answers.specs.Messages.{status_of, reason_text, error_line, refusal_of, needed_text, spaced_ids, Refuses};
 
 use outside_core::{Bytes, List, NoMemory, Text};
 use std::alloc::{AllocError, Global};
@@ -345,14 +345,23 @@ fn no_attribute(alloc: Global, name: &str) -> Result<String, AllocError>
     format!(in alloc; "no attribute {name}")
 }
 
-// The version that is needed.
-fn needs_version(alloc: Global, version: NeededVersion) -> Result<String, AllocError>
-    ensures { IfOk result (λ text. string_bytes text ≡ needs_version_text version) }
+// The name of a version that is needed.
+fn name_of_version(version: NeededVersion) -> &'static str
+    ensures { result.now ≡ needed_text version }
 {
     match version {
-        NeededVersion::V40 => String::from_str(alloc, "needs version 4.0"),
-        NeededVersion::V41 => String::from_str(alloc, "needs version 4.1"),
+        NeededVersion::V40 => "4.0",
+        NeededVersion::V41 => "4.1",
     }
+}
+
+// The version that is needed.
+fn needs_version(alloc: Global, version: NeededVersion) -> Result<String, AllocError>
+    ensures { IfOk result (λ text. string_bytes text
+        ≡ codes "needs version " ++ needed_text version) }
+{
+    let name = name_of_version(version);
+    format!(in alloc; "needs version {name}")
 }
 
 // Adds ids, each after a space.

@@ -18,36 +18,14 @@ use Rattle.cli_words.specs.declared.command.Command.{Command}
 use Rattle.cli_words.specs.declared.command.Command.TheVariants.{Add, Edit}
 use Rattle.cli_words.specs.declared.command.ExportFormat.{ExportFormat}
 use Rattle.cli_words.specs.declared.command.ImportFormat.{ImportFormat}
-use Rattle.cli_words.specs.Words.{access_of, asked_of, asked_with, command_at, command_by, command_in, command_saying, export_as, export_at, format_asked, format_named, has_change, import_as, import_at, import_format_asked, import_format_named, is_mergeable, merge_at, merge_of, profile_at, profile_by, profile_of, profile_saying, show_of}
+use Rattle.cli_words.specs.Words.{access_of, asked_of, asked_with, command_at, command_by, command_in, command_saying, create_at, edit_file_at, export_as, export_at, format_asked, format_named, has_change, import_as, import_at, import_format_asked, import_format_named, is_mergeable, merge_at, merge_of, profile_at, profile_by, profile_of, profile_saying, show_of}
 use Rattle.cli_causes.specs.declared.cause.Cause.{Cause}
-use Rattle.cli_causes.specs.declared.cause.Cause.TheVariants.{FewPositions, NeedsGenerate, NoKeyFile, NoKeyFileFrom, NoNewKey, NotTogether, NotWithPlain, NotWithSame, NothingToChange, UnknownExportFormat, UnknownImportFormat, UnknownLength}
-use Rattle.cli_causes.specs.Causes.{alphabet_cause, cause_from, cause_of, change_cause, credentials_cause, due_cause, export_format_cause, extra_cause, fewest, first_of, generated_cause, import_format_cause, length_cause, most, name_cause, new_key_cause, own_cause, positions_cause, profile_cause, profile_option_cause, said_cause, word_cause}
-
--- ---- tests
-
-some_or : {A : Type 0} (a b : Option A) → is_some (option_or a b) ≡ (is_some a || is_some b)
-some_or None b = refl
-some_or (Some x) b = refl
-
-some_if : {A : Type 0} (met : Bool) (x : A) → is_some (if met then Some x else None) ≡ met
-some_if true x = refl
-some_if false x = refl
-
-none_if : {A B : Type 0} (met : Bool) (x : A) (y : B) → is_some (if met then None else Some x) ≡ not (is_some (if met then Some y else None))
-none_if true x y = refl
-none_if false x y = refl
-
-some_mapped : {A B : Type 0} (f : A → B) (o : Option A) → is_some (option_map f o) ≡ is_some o
-some_mapped f None = refl
-some_mapped f (Some x) = refl
-
-or_false : (b : Bool) → (b || false) ≡ b
-or_false true = refl
-or_false false = refl
-
-or_true : (b : Bool) → (b || true) ≡ true
-or_true true = refl
-or_true false = refl
+use Rattle.cli_causes.specs.declared.cause.Cause.TheVariants.{FewPositions, NeedsGenerate, NoKeyFile, NoKeyFileFrom, NotTogether, NotWithPlain, NotWithSame, NothingToChange, UnknownExportFormat, UnknownImportFormat, UnknownLength}
+use Rattle.cli_causes.specs.Files.{new_key_cause}
+use Rattle.cli_causes.specs.First.{first_of}
+use Rattle.cli_causes.proofs.FileCauses.{create_agrees, edit_file_agrees, fits_new}
+use Rattle.cli_causes.proofs.Tests.{or_false, or_true, some_if, some_mapped, some_or}
+use Rattle.cli_causes.specs.Causes.{alphabet_cause, cause_from, cause_of, change_cause, credentials_cause, due_cause, export_format_cause, extra_cause, fewest, generated_cause, import_format_cause, length_cause, most, name_cause, own_cause, positions_cause, profile_cause, profile_option_cause, said_cause, word_cause}
 
 -- ---- what opens databases
 
@@ -78,16 +56,6 @@ fits false false k true false false = refl
 fits false false k false true true = refl
 fits false false k false true false = refl
 fits false false k false false f = refl
-
-fits_new : (p w k : Bool)
-    → is_some (if p then first_of ((w, NotWithPlain option.SetPassword) ∷ (k, NotWithPlain option.SetKeyFile) ∷ []) else first_of ((not (w || k), NoNewKey) ∷ []))
-    ≡ not (if p then not (w || k) else (w || k))
-fits_new true true k = refl
-fits_new true false true = refl
-fits_new true false false = refl
-fits_new false true k = refl
-fits_new false false true = refl
-fits_new false false false = refl
 
 -- ---- formats
 
@@ -298,14 +266,20 @@ agrees name.Merge said positions = merge_agrees said positions
 agrees name.Import said [] = refl
 agrees name.Import said (a ∷ []) = refl
 agrees name.Import said (a ∷ b ∷ []) =
-    import_formats said a b (new_key_cause said) (text_of option.ImportFormat said)
-    (fits_new (is_given option.Plain said) (is_given option.SetPassword said) (is_given option.SetKeyFile said))
+    import_formats said a b (new_key_cause name.Import said) (text_of option.ImportFormat said)
+    (fits_new name.Import (is_given option.Plain said) (is_given option.SetPassword said) (is_given option.SetKeyFile said))
     ∙ ap not (sym (or_false (is_some (import_at said (a ∷ b ∷ [])))))
 agrees name.Import said (a ∷ b ∷ c ∷ rest) = one_more name.Import said (a ∷ b ∷ c ∷ rest) (omega arith) refl
+agrees name.Create said [] = refl
+agrees name.Create said (a ∷ []) = create_agrees said a ∙ ap not (sym (or_false (is_some (create_at said (a ∷ [])))))
+agrees name.Create said (a ∷ b ∷ rest) = one_more name.Create said (a ∷ b ∷ rest) (omega arith) refl
 agrees name.Export said [] = refl
 agrees name.Export said (a ∷ []) =
     export_formats said a (text_of option.Format said) ∙ ap not (sym (or_false (is_some (export_at said (a ∷ [])))))
 agrees name.Export said (a ∷ b ∷ rest) = one_more name.Export said (a ∷ b ∷ rest) (omega arith) refl
+agrees name.EditFile said [] = refl
+agrees name.EditFile said (a ∷ []) = edit_file_agrees said a ∙ ap not (sym (or_false (is_some (edit_file_at said (a ∷ [])))))
+agrees name.EditFile said (a ∷ b ∷ rest) = one_more name.EditFile said (a ∷ b ∷ rest) (omega arith) refl
 agrees name.Info said [] = refl
 agrees name.Info said (a ∷ []) = refl
 agrees name.Info said (a ∷ b ∷ rest) = one_more name.Info said (a ∷ b ∷ rest) (omega arith) refl

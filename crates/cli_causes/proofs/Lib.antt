@@ -1,2 +1,4 @@
 pub mod Agreeing
+pub mod FileCauses
 pub mod Steps
+pub mod Tests

@@ -1,6 +1,6 @@
 -- Why words are no command and ask for no password: the first word from the left that is wrong, and else the first of what
 -- all of them lack or what does not go together.
-use Rattle.std.specs.Prelude.{ℕ, Bool, not, ◌&&◌, ◌||◌, ◌==◌, nat_lt, if◌then◌else◌, is_some, length, drop, List, [], ◌∷◌, codes, slice_get, Option, None, Some, option_map, unwrap_or}
+use Rattle.std.specs.Prelude.{ℕ, not, ◌&&◌, ◌==◌, nat_lt, if◌then◌else◌, is_some, length, drop, List, [], ◌∷◌, codes, slice_get, Option, None, Some, option_map, unwrap_or}
 use Rattle.std.specs.Option.{option_map_or, option_or}
 use Rattle.cli_saying.specs.declared.names.CommandName.{CommandName}
 use Rattle.cli_saying.specs.declared.names.CommandName.TheVariants as name
@@ -12,8 +12,10 @@ use Rattle.cli_saying.specs.Prefixes.{after_sign, before_sign, strip_prefix}
 use Rattle.cli_saying.specs.Said.{Said, is_given, is_option, nothing_said, text_of, with_word}
 use Rattle.cli_profiles.specs.Profiles.{alphabet_of, length_named}
 use Rattle.cli_words.specs.Words.{format_named, has_change, import_format_named}
+use Rattle.cli_causes.specs.Files.{create_cause, edit_file_cause, new_key_cause}
+use Rattle.cli_causes.specs.First.{first_of}
 use Rattle.cli_causes.specs.declared.cause.Cause.{Cause}
-use Rattle.cli_causes.specs.declared.cause.Cause.TheVariants.{NoCommand, OptionFirst, UnknownCommand, UnknownOption, UnknownLetter, UnknownWord, TakesNoValue, LetterTakesNoValue, OptionTwice, FlagsTwice, JoinedValue, NoValue, OptionAsValue, FewPositions, ExtraPosition, ManySources, NotWithPlain, NotWithSame, NotTogether, NoKeyFile, NoKeyFileFrom, NoNewKey, UnknownImportFormat, UnknownExportFormat, NothingToChange, NeedsGenerate, UnknownLength, NoCharacters}
+use Rattle.cli_causes.specs.declared.cause.Cause.TheVariants.{NoCommand, OptionFirst, UnknownCommand, UnknownOption, UnknownLetter, UnknownWord, TakesNoValue, LetterTakesNoValue, OptionTwice, FlagsTwice, JoinedValue, NoValue, OptionAsValue, FewPositions, ExtraPosition, ManySources, NotWithPlain, NotWithSame, NotTogether, NoKeyFile, NoKeyFileFrom, UnknownImportFormat, UnknownExportFormat, NothingToChange, NeedsGenerate, UnknownLength, NoCharacters}
 
 -- ---- a word that is wrong
 
@@ -99,7 +101,9 @@ due_cause previous due = option_map (λ option. NoValue previous) due
 abbrev pub fewest : CommandName → ℕ
 fewest name.Ls = 1
 fewest name.Move = 3
+fewest name.Create = 1
 fewest name.Export = 1
+fewest name.EditFile = 1
 fewest name.Info = 1
 fewest name.Generate = 0
 fewest command = 2
@@ -120,11 +124,6 @@ abbrev pub positions_cause : CommandName → List (List ℕ) → Option Cause
 positions_cause command positions = if nat_lt (length positions) (fewest command)
     then Some (FewPositions command)
     else option_map (extra_cause command) (slice_get positions (most command))
-
--- The first of some tests that is met, with its cause.
-abbrev pub first_of : List (Bool × Cause) → Option Cause
-first_of [] = None
-first_of ((met, cause) ∷ rest) = if met then Some cause else first_of rest
 
 -- What goes with no plain document, since that has no key, and is given beside it.
 abbrev pub plain_cause : Said → Option Cause
@@ -156,16 +155,6 @@ sealed_cause said = first_of (
 abbrev pub credentials_cause : Said → Option Cause
 credentials_cause said =
     if is_given option.Plain said then plain_cause said else sealed_cause said
-
--- What opens a new database does not fit it.
-abbrev pub new_key_cause : Said → Option Cause
-new_key_cause said = if is_given option.Plain said
-    then first_of ((is_given option.SetPassword said, NotWithPlain option.SetPassword)
-    ∷ (is_given option.SetKeyFile said, NotWithPlain option.SetKeyFile) ∷ [])
-    else first_of ((
-      not (is_given option.SetPassword said || is_given option.SetKeyFile said),
-      NoNewKey,
-    ) ∷ [])
 
 -- A format that is unknown, if one is named.
 abbrev pub import_format_cause : Option (List ℕ) → Option Cause
@@ -236,8 +225,11 @@ own_cause name.Show said = show_cause said
 own_cause name.Add said = generated_cause said
 own_cause name.Edit said = option_or (generated_cause said) (change_cause said)
 own_cause name.Import said =
-    option_or (new_key_cause said) (import_format_cause (text_of option.ImportFormat said))
+    option_or (new_key_cause name.Import said)
+    (import_format_cause (text_of option.ImportFormat said))
+own_cause name.Create said = create_cause said
 own_cause name.Export said = export_format_cause (text_of option.Format said)
+own_cause name.EditFile said = edit_file_cause said
 own_cause name.Generate said = profile_cause said
 own_cause command said = None
 

@@ -48,8 +48,8 @@ pub enum Cause {
     NoKeyFile,
     /// The sources have no password, and no key file of theirs is named.
     NoKeyFileFrom,
-    /// An import is given no key for the new database.
-    NoNewKey,
+    /// The command is given no key for its new database.
+    NoNewKey(CommandName),
     /// An import has no format of this name.
     UnknownImportFormat(Text),
     /// An export has no format of this name.
@@ -62,4 +62,20 @@ pub enum Cause {
     UnknownLength(Text),
     /// No character is left of which a password could be made.
     NoCharacters,
+    /// No cipher has this name.
+    UnknownCipher(Text),
+    /// No key derivation has this name.
+    UnknownKdf(Text),
+    /// No version of the format of files has this name.
+    UnknownVersion(Text),
+    /// This cost of a key derivation is no number of one to ten digits.
+    UnknownCost(CommandOption, Text),
+    /// This option is a cost of a key derivation, and none is named.
+    NeedsKdf(CommandOption),
+    /// This option is a cost of Argon2, and another key derivation is named.
+    NeedsArgon(CommandOption),
+    /// A change of a file leaves neither a password nor a key file.
+    NoKeyLeft,
+    /// A change of a file is given nothing to change.
+    NoFileChange,
 }

@@ -3,6 +3,7 @@
 
 mod cause;
 mod causes;
+mod files;
 mod generating;
 mod whole;
 

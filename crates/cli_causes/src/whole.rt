@@ -5,9 +5,10 @@ ghost use Rattle.cli_causes.specs.Causes as spec;
 ghost use Rattle.cli_saying.specs.SaidWords.{said_seen, text_seen};
 
 use crate::cause::Cause;
+use crate::files::{create_cause, edit_file_cause, new_key_cause};
 use crate::generating::{generated_cause, profile_cause};
 use cli_saying::{CommandName, CommandOption, SaidWords, is_given, text_of};
-use cli_words::has_change;
+use cli_words::{format_named, has_change, import_format_named};
 use outside_core::{NoMemory, Text};
 use std::alloc::Global;
 
@@ -16,7 +17,11 @@ fn fewest(command: CommandName) -> usize
     ensures { result ≡ spec.fewest command }
 {
     match command {
-        CommandName::Ls | CommandName::Export | CommandName::Info => 1,
+        CommandName::Ls
+        | CommandName::Create
+        | CommandName::Export
+        | CommandName::EditFile
+        | CommandName::Info => 1,
         CommandName::Move => 3,
         CommandName::Generate => 0,
         _ => 2,
@@ -111,34 +116,15 @@ fn credentials_cause(said: &SaidWords<'_, '_>) -> Option<Cause>
     }
 }
 
-// What opens a new database does not fit it.
-fn new_key_cause(said: &SaidWords<'_, '_>) -> Option<Cause>
-    ensures { result ≡ spec.new_key_cause (said_seen said.now) }
-{
-    let has_password = is_given(said, CommandOption::SetPassword);
-    let has_key_file = is_given(said, CommandOption::SetKeyFile);
-    if is_given(said, CommandOption::Plain) {
-        if has_password {
-            Some(Cause::NotWithPlain(CommandOption::SetPassword))
-        } else if has_key_file {
-            Some(Cause::NotWithPlain(CommandOption::SetKeyFile))
-        } else {
-            None
-        }
-    } else if has_password || has_key_file {
-        None
-    } else {
-        Some(Cause::NoNewKey)
-    }
-}
-
 // A format of an import that is unknown.
 fn import_format_cause(alloc: Global, name: Option<&str>) -> Result<Option<Cause>, NoMemory>
     ensures { IfOk result (λ cause. cause ≡ spec.import_format_cause (text_seen name.entry)) }
 {
     match name {
-        None | Some("xml" | "psafe3" | "csv") => Ok(None),
-        Some(name) => Ok(Some(Cause::UnknownImportFormat(Text::of(alloc, name)?))),
+        Some(name) if import_format_named(name).is_none() => {
+            Ok(Some(Cause::UnknownImportFormat(Text::of(alloc, name)?)))
+        }
+        _ => Ok(None),
     }
 }
 
@@ -147,8 +133,10 @@ fn export_format_cause(alloc: Global, name: Option<&str>) -> Result<Option<Cause
     ensures { IfOk result (λ cause. cause ≡ spec.export_format_cause (text_seen name.entry)) }
 {
     match name {
-        None | Some("xml" | "csv") => Ok(None),
-        Some(name) => Ok(Some(Cause::UnknownExportFormat(Text::of(alloc, name)?))),
+        Some(name) if format_named(name).is_none() => {
+            Ok(Some(Cause::UnknownExportFormat(Text::of(alloc, name)?)))
+        }
+        _ => Ok(None),
     }
 }
 
@@ -200,11 +188,13 @@ fn own_cause(
         CommandName::Show => Ok(show_cause(said)),
         CommandName::Add => generated_cause(alloc, said),
         CommandName::Edit => edit_cause(alloc, said),
-        CommandName::Import => match new_key_cause(said) {
+        CommandName::Import => match new_key_cause(command, said) {
             Some(cause) => Ok(Some(cause)),
             None => import_format_cause(alloc, text_of(said, CommandOption::ImportFormat)),
         },
+        CommandName::Create => create_cause(alloc, said),
         CommandName::Export => export_format_cause(alloc, text_of(said, CommandOption::Format)),
+        CommandName::EditFile => edit_file_cause(alloc, said),
         CommandName::Generate => profile_cause(alloc, said),
         _ => Ok(None),
     }

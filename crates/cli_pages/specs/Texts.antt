@@ -6,10 +6,10 @@ use Rattle.strsim.specs.Edits.{levenshtein_row}
 use Rattle.cli_saying.specs.declared.names.CommandName.{CommandName}
 use Rattle.cli_saying.specs.declared.names.CommandName.TheVariants as name
 use Rattle.cli_saying.specs.declared.forms.CommandOption.{CommandOption}
-use Rattle.cli_saying.specs.declared.forms.CommandOption.TheVariants.{Recursive, Flat, Quiet, Plain, NoPassword, KeyFile, Title, User, Url, Notes, EntryPassword, SameCredentials, DryRun, KeyFileFrom, NoPasswordFrom, Clear, All, Attachments, Format, Attribute, SetPassword, SetKeyFile, Totp, Generate, Length, Lower, Upper, Numeric, Special, Exclude, Otp}
+use Rattle.cli_saying.specs.declared.forms.CommandOption.TheVariants.{Recursive, Flat, Quiet, Plain, NoPassword, KeyFile, Title, User, Url, Notes, EntryPassword, SameCredentials, DryRun, KeyFileFrom, NoPasswordFrom, Clear, All, Attachments, Format, Attribute, SetPassword, SetKeyFile, Totp, Generate, Length, Lower, Upper, Numeric, Special, Exclude, Otp, Cipher, Kdf, Rounds, Memory, Lanes, UnsetPassword, UnsetKeyFile, FileVersion, DatabaseName}
 use Rattle.cli_saying.specs.Options.{form_of, name_option}
 use Rattle.cli_causes.specs.declared.cause.Cause.{Cause}
-use Rattle.cli_causes.specs.declared.cause.Cause.TheVariants.{NoCommand, OptionFirst, UnknownCommand, UnknownOption, UnknownLetter, UnknownWord, TakesNoValue, LetterTakesNoValue, OptionTwice, FlagsTwice, JoinedValue, NoValue, OptionAsValue, FewPositions, ExtraPosition, ManySources, NotWithPlain, NotWithSame, NotTogether, NoKeyFile, NoKeyFileFrom, NoNewKey, UnknownImportFormat, UnknownExportFormat, NeedsGenerate, UnknownLength, NoCharacters}
+use Rattle.cli_causes.specs.declared.cause.Cause.TheVariants.{NoCommand, OptionFirst, UnknownCommand, UnknownOption, UnknownLetter, UnknownWord, TakesNoValue, LetterTakesNoValue, OptionTwice, FlagsTwice, JoinedValue, NoValue, OptionAsValue, FewPositions, ExtraPosition, ManySources, NotWithPlain, NotWithSame, NotTogether, NoKeyFile, NoKeyFileFrom, NoNewKey, UnknownImportFormat, UnknownExportFormat, NeedsGenerate, UnknownLength, NoCharacters, UnknownCipher, UnknownKdf, UnknownVersion, UnknownCost, NeedsKdf, NeedsArgon, NoKeyLeft, NoFileChange}
 
 -- ---- commands and options
 
@@ -26,7 +26,9 @@ command_text name.MakeGroup = codes "mkdir"
 command_text name.RemoveGroup = codes "rmdir"
 command_text name.Merge = codes "merge"
 command_text name.Import = codes "import"
+command_text name.Create = codes "db-create"
 command_text name.Export = codes "export"
+command_text name.EditFile = codes "db-edit"
 command_text name.Info = codes "db-info"
 command_text name.Generate = codes "generate"
 
@@ -43,7 +45,9 @@ positions_text name.MakeGroup = codes "DATABASE GROUP"
 positions_text name.RemoveGroup = codes "DATABASE GROUP"
 positions_text name.Merge = codes "TARGET SOURCE..."
 positions_text name.Import = codes "SOURCE DATABASE"
+positions_text name.Create = codes "DATABASE"
 positions_text name.Export = codes "DATABASE"
+positions_text name.EditFile = codes "DATABASE"
 positions_text name.Info = codes "DATABASE"
 positions_text name.Generate = codes "only options"
 
@@ -51,8 +55,8 @@ positions_text name.Generate = codes "only options"
 abbrev pub commands : List CommandName
 commands =
     name.Ls ∷ name.Show ∷ name.Search ∷ name.Add ∷ name.Edit ∷ name.Move ∷ name.Remove
-    ∷ name.MakeGroup ∷ name.RemoveGroup ∷ name.Merge ∷ name.Import ∷ name.Export ∷ name.Info
-    ∷ name.Generate ∷ []
+    ∷ name.MakeGroup ∷ name.RemoveGroup ∷ name.Merge ∷ name.Import ∷ name.Create ∷ name.Export
+    ∷ name.EditFile ∷ name.Info ∷ name.Generate ∷ []
 
 -- The options, whichever command takes them.
 abbrev pub options : List CommandOption
@@ -60,7 +64,8 @@ options =
     Recursive ∷ Flat ∷ Quiet ∷ Plain ∷ NoPassword ∷ KeyFile ∷ Title ∷ User ∷ Url ∷ Notes
     ∷ EntryPassword ∷ SameCredentials ∷ DryRun ∷ KeyFileFrom ∷ NoPasswordFrom ∷ Clear ∷ All
     ∷ Attachments ∷ Format ∷ Attribute ∷ SetPassword ∷ SetKeyFile ∷ Totp ∷ Generate ∷ Length
-    ∷ Lower ∷ Upper ∷ Numeric ∷ Special ∷ Exclude ∷ Otp ∷ []
+    ∷ Lower ∷ Upper ∷ Numeric ∷ Special ∷ Exclude ∷ Otp ∷ Cipher ∷ Kdf ∷ Rounds ∷ Memory ∷ Lanes
+    ∷ UnsetPassword ∷ UnsetKeyFile ∷ FileVersion ∷ DatabaseName ∷ []
 
 -- The long name of an option.
 abbrev pub option_text : CommandOption → List ℕ
@@ -173,13 +178,44 @@ abbrev pub not_together : CommandOption → CommandOption → List ℕ
 not_together option other = about_option option (codes "' does not go with '--")
     ++ around [] (option_text other) (codes "'")
 
+-- A cost of a key derivation that is no number of one to ten digits.
+abbrev pub unknown_cost : CommandOption → List ℕ → List ℕ
+unknown_cost option text =
+    about_option option (codes "' needs one to ten digits: ") ++ around (codes "'") text (codes "'")
+
+-- Nothing is changed, or no key is left.
+abbrev pub nothing_text : Cause → List ℕ
+nothing_text NoKeyLeft = codes "no key is left: a database needs a password or a key file"
+nothing_text NoFileChange =
+    codes "nothing to change: give another key, --cipher, --kdf or --version"
+nothing_text cause = codes "nothing to change: give -t, -u, --url, --notes, -p, -g or --otp"
+
+-- What is said of the settings of a file.
+abbrev pub settings_text : Cause → List ℕ
+settings_text (UnknownCipher name) = around (codes "unknown cipher '") name
+    (codes "': aes or twofish or chacha20")
+settings_text (UnknownKdf name) = around (codes "unknown key derivation '") name
+    (codes "': aes or argon2d or argon2id")
+settings_text (UnknownVersion name) = around (codes "unknown version '") name
+    (codes "': 3.1 or 4.0 or 4.1")
+settings_text (UnknownCost option text) = unknown_cost option text
+settings_text (NeedsKdf option) = about_option option (codes "' needs '--kdf'")
+settings_text (NeedsArgon option) =
+    about_option option (codes "' needs '--kdf argon2d' or '--kdf argon2id'")
+settings_text cause = nothing_text cause
+
 -- What does not go together beside what opens databases, and what is said of generated passwords.
 abbrev pub profile_text : Cause → List ℕ
 profile_text (NotTogether option other) = not_together option other
 profile_text (NeedsGenerate option) = about_option option (codes "' needs '--generate'")
 profile_text (UnknownLength text) = around (codes "unknown length '") text (codes "': 1 to 4096")
 profile_text NoCharacters = codes "no characters are left: --exclude has all of them"
-profile_text cause = codes "nothing to change: give -t, -u, --url, --notes, -p, -g or --otp"
+profile_text cause = settings_text cause
+
+-- A command that is given no key for its new database.
+abbrev pub no_new_key : CommandName → List ℕ
+no_new_key command = command_text command
+    ++ codes " needs a key for the new database: -p, --set-key-file FILE, or --plain for none"
 
 -- What all words lack together, or what does not go together.
 abbrev pub whole_text : Cause → List ℕ
@@ -190,10 +226,9 @@ whole_text (NotWithSame option) =
     about_option option (codes "' does not go with '--same-credentials'")
 whole_text NoKeyFile = codes "'--no-password' needs a key file: -k FILE"
 whole_text NoKeyFileFrom = codes "'--no-password-from' needs '--key-file-from FILE'"
-whole_text NoNewKey =
-    codes "import needs a key for the new database: -p, --set-key-file FILE, or --plain for none"
+whole_text (NoNewKey command) = no_new_key command
 whole_text (UnknownImportFormat name) = around (codes "unknown format '") name
-    (codes "': xml or psafe3 or csv")
+    (codes "': xml or psafe3 or csv or bitwarden")
 whole_text (UnknownExportFormat name) = around (codes "unknown format '") name
     (codes "': xml or csv")
 whole_text cause = profile_text cause

@@ -22,7 +22,8 @@ fn positions_text(command: CommandName) -> &'static str
         CommandName::MakeGroup | CommandName::RemoveGroup => "DATABASE GROUP",
         CommandName::Merge => "TARGET SOURCE...",
         CommandName::Import => "SOURCE DATABASE",
-        CommandName::Export | CommandName::Info => "DATABASE",
+        CommandName::Create | CommandName::Export | CommandName::EditFile | CommandName::Info =>
+            "DATABASE",
         CommandName::Generate => "only options",
     }
 }
@@ -174,6 +175,62 @@ fn add_not_together(
     add_around(text, "", option_text(other), "'")
 }
 
+// Adds that a cost of a key derivation is no number of one to ten digits.
+fn add_unknown_cost(text: &mut Bytes, option: CommandOption, cost: &str) -> Result<(), NoMemory>
+    ensures { OnOk result (text.new ≡ text.old ++ spec.unknown_cost option cost.now) }
+{
+    add_about(text, option, "' needs one to ten digits: ")?;
+    add_around(text, "'", cost, "'")
+}
+
+// Adds that nothing is changed, or that no key is left.
+fn add_nothing(text: &mut Bytes, cause: &Cause) -> Result<(), NoMemory>
+    ensures { OnOk result (text.new ≡ text.old ++ spec.nothing_text cause.now) }
+{
+    match cause {
+        Cause::NoKeyLeft => text.add(b"no key is left: a database needs a password or a key file"),
+        Cause::NoFileChange => {
+            text.add(b"nothing to change: give another key, --cipher, --kdf or --version")
+        }
+        _ => text.add(b"nothing to change: give -t, -u, --url, --notes, -p, -g or --otp"),
+    }
+}
+
+// Adds what is said of the settings of a file.
+fn add_settings(text: &mut Bytes, cause: &Cause) -> Result<(), NoMemory>
+    ensures { OnOk result (text.new ≡ text.old ++ spec.settings_text cause.now) }
+{
+    match cause {
+        Cause::UnknownCipher(name) => {
+            let names = "': aes or twofish or chacha20";
+            add_around(text, "unknown cipher '", name.as_str(), names)
+        }
+        Cause::UnknownKdf(name) => {
+            let names = "': aes or argon2d or argon2id";
+            add_around(text, "unknown key derivation '", name.as_str(), names)
+        }
+        Cause::UnknownVersion(name) => {
+            let names = "': 3.1 or 4.0 or 4.1";
+            add_around(text, "unknown version '", name.as_str(), names)
+        }
+        Cause::UnknownCost(option, cost) => add_unknown_cost(text, *option, cost.as_str()),
+        Cause::NeedsKdf(option) => add_about(text, *option, "' needs '--kdf'"),
+        Cause::NeedsArgon(option) => {
+            let kinds = "' needs '--kdf argon2d' or '--kdf argon2id'";
+            add_about(text, *option, kinds)
+        }
+        _ => add_nothing(text, cause),
+    }
+}
+
+// Adds that a command is given no key for its new database.
+fn add_no_new_key(text: &mut Bytes, command: CommandName) -> Result<(), NoMemory>
+    ensures { OnOk result (text.new ≡ text.old ++ spec.no_new_key command) }
+{
+    text.add(command_text(command).as_bytes())?;
+    text.add(b" needs a key for the new database: -p, --set-key-file FILE, or --plain for none")
+}
+
 // Adds what does not go together beside what opens databases, and what is said of generated
 // passwords.
 fn add_profile(text: &mut Bytes, cause: &Cause) -> Result<(), NoMemory>
@@ -186,7 +243,7 @@ fn add_profile(text: &mut Bytes, cause: &Cause) -> Result<(), NoMemory>
             add_around(text, "unknown length '", length.as_str(), "': 1 to 4096")
         }
         Cause::NoCharacters => text.add(b"no characters are left: --exclude has all of them"),
-        _ => text.add(b"nothing to change: give -t, -u, --url, --notes, -p, -g or --otp"),
+        _ => add_settings(text, cause),
     }
 }
 
@@ -210,15 +267,13 @@ fn add_whole(text: &mut Bytes, cause: &Cause) -> Result<(), NoMemory>
         }
         Cause::NoKeyFile => text.add(b"'--no-password' needs a key file: -k FILE"),
         Cause::NoKeyFileFrom => text.add(b"'--no-password-from' needs '--key-file-from FILE'"),
-        Cause::NoNewKey => text.add(
-            b"import needs a key for the new database: -p, --set-key-file FILE, or --plain for none",
-        ),
+        Cause::NoNewKey(command) => add_no_new_key(text, *command),
         Cause::UnknownImportFormat(name) => {
             add_around(
                 text,
                 "unknown format '",
                 name.as_str(),
-                "': xml or psafe3 or csv",
+                "': xml or psafe3 or csv or bitwarden",
             )
         }
         Cause::UnknownExportFormat(name) => {

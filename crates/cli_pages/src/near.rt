@@ -9,7 +9,7 @@ use std::alloc::Global;
 use strsim::levenshtein;
 
 /// The commands.
-const COMMANDS: [CommandName; 14] = [
+const COMMANDS: [CommandName; 16] = [
     CommandName::Ls,
     CommandName::Show,
     CommandName::Search,
@@ -21,13 +21,15 @@ const COMMANDS: [CommandName; 14] = [
     CommandName::RemoveGroup,
     CommandName::Merge,
     CommandName::Import,
+    CommandName::Create,
     CommandName::Export,
+    CommandName::EditFile,
     CommandName::Info,
     CommandName::Generate,
 ];
 
 /// The options, whichever command takes them.
-const OPTIONS: [CommandOption; 31] = [
+const OPTIONS: [CommandOption; 40] = [
     CommandOption::Recursive,
     CommandOption::Flat,
     CommandOption::Quiet,
@@ -59,6 +61,15 @@ const OPTIONS: [CommandOption; 31] = [
     CommandOption::Special,
     CommandOption::Exclude,
     CommandOption::Otp,
+    CommandOption::Cipher,
+    CommandOption::Kdf,
+    CommandOption::Rounds,
+    CommandOption::Memory,
+    CommandOption::Lanes,
+    CommandOption::UnsetPassword,
+    CommandOption::UnsetKeyFile,
+    CommandOption::FileVersion,
+    CommandOption::DatabaseName,
 ];
 
 /// The name of a command.
@@ -77,7 +88,9 @@ pub(crate) fn command_text(command: CommandName) -> &'static str
         CommandName::RemoveGroup => "rmdir",
         CommandName::Merge => "merge",
         CommandName::Import => "import",
+        CommandName::Create => "db-create",
         CommandName::Export => "export",
+        CommandName::EditFile => "db-edit",
         CommandName::Info => "db-info",
         CommandName::Generate => "generate",
     }
@@ -120,6 +133,15 @@ pub(crate) fn option_text(option: CommandOption) -> &'static str
         CommandOption::Special => "special",
         CommandOption::Exclude => "exclude",
         CommandOption::Otp => "otp",
+        CommandOption::Cipher => "cipher",
+        CommandOption::Kdf => "kdf",
+        CommandOption::Rounds => "rounds",
+        CommandOption::Memory => "memory",
+        CommandOption::Lanes => "lanes",
+        CommandOption::UnsetPassword => "unset-password",
+        CommandOption::UnsetKeyFile => "unset-key-file",
+        CommandOption::FileVersion => "version",
+        CommandOption::DatabaseName => "name",
     }
 }
 

@@ -107,8 +107,8 @@ fn asked_of(alloc: Global, said: &SaidWords<'_, '_>) -> Result<Asked, WordsFail>
     }
 }
 
-// The format of a name.
-fn format_named(name: &str) -> Option<ExportFormat>
+/// The format of a name.
+pub fn format_named(name: &str) -> Option<ExportFormat>
     ensures { result ≡ spec.format_named name.now }
 {
     match name {
@@ -128,8 +128,8 @@ fn format_asked(name: Option<&str>) -> Option<ExportFormat>
     }
 }
 
-// The format of this name in which something is imported.
-fn import_format_named(name: &str) -> Option<ImportFormat>
+/// The format of this name in which something is imported.
+pub fn import_format_named(name: &str) -> Option<ImportFormat>
     ensures { result ≡ spec.import_format_named name.now }
 {
     match name {

@@ -14,7 +14,7 @@ pub use command::{
     Access, Asked, Command, ExportFormat, FileChange, ImportFormat, KdfAsked, KdfKind,
     KeyFileChange, PasswordChange,
 };
-pub use commands::{has_change, read_words};
+pub use commands::{format_named, has_change, import_format_named, read_words};
 pub use needs::{
     CreateNeeds, ImportNeeds, Needs, asks_password, asks_passwords_from, asks_target_password,
     creation_of, edit_file_of, generated_by, import_of, needs_of, target_access, target_of,

@@ -8,7 +8,7 @@ mod written;
 
 use crate::written::{written, written_profile};
 use cli_answers::Stop;
-use cli_words::{read_profile, read_words};
+use cli_words::{Command, read_profile, read_words};
 use std::alloc::{AllocError, Global};
 use std::io::{self, BufRead, BufReader};
 
@@ -34,17 +34,29 @@ fn answer_profile(rt: &impl Print, alloc: Global, words: &[String]) -> io::Resul
     }
 }
 
+// Prints a command and what it says.
+fn answer_command(rt: &impl Print, alloc: Global, command: &Command) -> io::Result<()> {
+    let parts = written(alloc, command)?;
+    println!(rt; "{}", parts.as_str())
+}
+
+// Prints what these words are.
+fn answer_words(rt: &impl Print, alloc: Global, words: &[String]) -> io::Result<()> {
+    match read_words(alloc, words) {
+        Ok(command) => {
+            let answered = answer_command(rt, alloc, &command);
+            drop(command);
+            answered
+        }
+        Err(Stop::Refused(_)) => answer_profile(rt, alloc, words),
+        Err(_) => println!(rt; "out of memory"),
+    }
+}
+
 // Prints what becomes of a line of the input.
 fn answer(rt: &impl Print, alloc: Global, line: &str) -> io::Result<()> {
     let words = words_of(alloc, line)?;
-    match read_words(alloc, words.as_slice()) {
-        Ok(command) => {
-            let parts = written(alloc, &command)?;
-            println!(rt; "{}", parts.as_str())
-        }
-        Err(Stop::Refused(_)) => answer_profile(rt, alloc, words.as_slice()),
-        Err(_) => println!(rt; "out of memory"),
-    }
+    answer_words(rt, alloc, words.as_slice())
 }
 
 fn main(rt: HostRuntime) -> io::Result<()> {

@@ -58,9 +58,14 @@ impl Parts {
         Ok(())
     }
 
+    /// A name with its number, in decimal.
+    pub fn number(&mut self, alloc: Global, name: &str, number: u64) -> Result<(), AllocError> {
+        self.text(name, format!(in alloc; "{number}")?.as_str())
+    }
+
     /// How a password is generated.
     pub fn profile(&mut self, alloc: Global, profile: &PasswordProfile) -> Result<(), AllocError> {
-        self.text("length", format!(in alloc; "{}", profile.length)?.as_str())?;
+        self.number(alloc, "length", u64::from(profile.length))?;
         self.text("alphabet", profile.alphabet.as_str())
     }
 

@@ -2,7 +2,11 @@
 
 use crate::parts::Parts;
 use cli_profiles::PasswordProfile;
-use cli_words::{Asked, Command, ExportFormat, ImportFormat, target_access, target_of};
+use cli_words::{
+    Asked, Command, ExportFormat, FileChange, ImportFormat, KdfAsked, KdfKind, KeyFileChange,
+    PasswordChange, target_access, target_of,
+};
+use kdbx_frame::{Cipher, FileVersion};
 use std::alloc::{AllocError, Global};
 
 // The name of a format.
@@ -19,6 +23,34 @@ fn import_name(format: ImportFormat) -> &'static str {
         ImportFormat::Xml => "xml",
         ImportFormat::Psafe => "psafe3",
         ImportFormat::Csv => "csv",
+        ImportFormat::Bitwarden => "bitwarden",
+    }
+}
+
+// The name of a cipher.
+fn cipher_name(cipher: Cipher) -> &'static str {
+    match cipher {
+        Cipher::Aes => "aes",
+        Cipher::Twofish => "twofish",
+        Cipher::ChaCha => "chacha20",
+    }
+}
+
+// The name of a key derivation.
+fn kdf_name(kind: KdfKind) -> &'static str {
+    match kind {
+        KdfKind::Aes => "aes",
+        KdfKind::Argon2d => "argon2d",
+        KdfKind::Argon2id => "argon2id",
+    }
+}
+
+// The name of a version.
+fn version_name(version: FileVersion) -> &'static str {
+    match version {
+        FileVersion::V31 => "3.1",
+        FileVersion::V40 => "4.0",
+        FileVersion::V41 => "4.1",
     }
 }
 
@@ -36,7 +68,9 @@ fn name_of(command: &Command) -> &'static str {
         Command::RemoveGroup { .. } => "rmdir",
         Command::Merge { .. } => "merge",
         Command::Import { .. } => "import",
+        Command::Create { .. } => "db-create",
         Command::Export { .. } => "export",
+        Command::EditFile { .. } => "db-edit",
         Command::Info { .. } => "db-info",
     }
 }
@@ -140,6 +174,61 @@ fn add_other(parts: &mut Parts, command: &Command) -> Result<(), AllocError> {
     }
 }
 
+// A cipher and a key derivation, where they are asked for.
+fn add_settings(
+    parts: &mut Parts,
+    alloc: Global,
+    cipher: Option<Cipher>,
+    kdf: Option<KdfAsked>,
+) -> Result<(), AllocError> {
+    if let Some(cipher) = cipher {
+        parts.text("cipher", cipher_name(cipher))?;
+    }
+    if let Some(kdf) = kdf {
+        parts.text("kdf", kdf_name(kdf.kind))?;
+        parts.number(alloc, "rounds", kdf.rounds)?;
+        parts.number(alloc, "memory", kdf.kib)?;
+        parts.number(alloc, "lanes", kdf.lanes)?;
+    }
+    Ok(())
+}
+
+// What the file of a database is changed to.
+fn add_change(parts: &mut Parts, alloc: Global, change: &FileChange) -> Result<(), AllocError> {
+    match change.password {
+        PasswordChange::Keep => {}
+        PasswordChange::Set => parts.flag("set-password", true)?,
+        PasswordChange::Unset => parts.flag("unset-password", true)?,
+    }
+    match &change.key_file {
+        KeyFileChange::Keep => {}
+        KeyFileChange::Set(name) => parts.text("set-key-file", name.as_str())?,
+        KeyFileChange::Unset => parts.flag("unset-key-file", true)?,
+    }
+    add_settings(parts, alloc, change.cipher, change.kdf)?;
+    match change.version {
+        Some(version) => parts.text("version", version_name(version)),
+        None => Ok(()),
+    }
+}
+
+// The same of those that make or change a file.
+fn add_files(parts: &mut Parts, alloc: Global, command: &Command) -> Result<(), AllocError> {
+    match command {
+        Command::Create {
+            name,
+            cipher,
+            kdf,
+            ..
+        } => {
+            parts.option("name", name)?;
+            add_settings(parts, alloc, *cipher, *kdf)
+        }
+        Command::EditFile { change, .. } => add_change(parts, alloc, change),
+        _ => Ok(()),
+    }
+}
+
 /// A command as a line: its name, the database that it shows or writes, and what else it says.
 pub(crate) fn written(alloc: Global, command: &Command) -> Result<Parts, AllocError> {
     let mut parts = Parts::new(alloc, name_of(command))?;
@@ -147,6 +236,7 @@ pub(crate) fn written(alloc: Global, command: &Command) -> Result<Parts, AllocEr
     add_reading(&mut parts, command)?;
     add_changing(&mut parts, alloc, command)?;
     add_other(&mut parts, command)?;
+    add_files(&mut parts, alloc, command)?;
     Ok(parts)
 }
 
