@@ -67,15 +67,10 @@ declare -gA command_briefs=(
 # The commands in the order of the help.
 command_order='ls show search add edit mv rm mkdir rmdir merge import db-create export db-edit db-info generate clip'
 
-# The values of the options that have a few alone: of a command and an option.
-declare -gA option_choices=(
-  ['import format']='xml psafe3 csv'
-  ['db-create cipher']='aes twofish chacha20'
-  ['db-create kdf']='aes argon2d argon2id'
-  ['export format']='xml csv'
-  ['db-edit cipher']='aes twofish chacha20'
-  ['db-edit kdf']='aes argon2d argon2id'
-  ['db-edit version']='3.1 4.0 4.1'
+# The formats of the commands that have one.
+declare -gA command_formats=(
+  ['import']='xml psafe3 csv'
+  ['export']='xml csv'
 )
 
 # Commands of other programs.
@@ -135,7 +130,6 @@ declare -gA foreign_options=(
   ['db-edit --plain']='an XML export has neither a key nor settings'
   ['db-edit --name']='the name of a database is given to it by db-create alone'
   ['import -f']='the format is --format FORMAT'
-  ['db-create --decryption-time']='--kdf and its costs say how long opening takes'
   ['export -o']='the output goes to a file by >FILE'
   ['export --output']='the output goes to a file by >FILE'
   ['-o']='the output goes to a file by >FILE'

@@ -100,6 +100,7 @@ def commands(extras):
     extras.give("w.kdbx")
     extras.row("a database under a password", ["edit", "-q", "-u", "me", "w.kdbx", "Bank"], "w.kdbx", b"family\n")
     extras.row("two lines of input", ["edit", "-q", "-p", "w.kdbx", "Bank"], "w.kdbx", b"family\nnew\n")
+    extras.row("another key", ["db-edit", "-q", "-p", "w.kdbx"], "w.kdbx", b"family\nnew\n")
     for name in ("two words.xml", "-x.xml", "é.xml", "two\nlines.xml", "end\n", "back\\slash\\012.xml", "'\"$x.xml", "#.xml"):
         extras.anew(name)
         extras.row(f"the name {name!r}", ["edit", "--plain", "-q", "-u", "me", "--", name, "Bank"], name)

@@ -142,6 +142,11 @@ keys_of_files() {
     else
       echo 'skipped: keys and settings in KeePassXC, which is not installed'
     fi
+    if [ -n "$(command -v mcs)" ] && [ -e /usr/lib/keepass2/KeePass.exe ]; then
+      many_times 'keys and settings, in KeePass 2' "$with_pykeepass" "$keys/others" "$program" keepass2 "$1"
+    else
+      echo 'skipped: keys and settings in KeePass 2; keepass2 or mono-mcs is not installed'
+    fi
     "$with_pykeepass" "$changing/make" sealed large.kdbx "$secret"
     printf '%s\nnew\n' "$secret" >input.txt
     on_a_full_disk 'db-edit: a full disk' large.kdbx 5m db-edit -p disk/FILE

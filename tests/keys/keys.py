@@ -5,7 +5,7 @@ afterwards, or why it is refused; and, by what was drawn, every byte of the file
 
     keys.py WORD...    does what the program does with these words of db-edit and db-create, so that the tests can be tried on it;
                        words of other commands are given to the program that the variable KEEPASS names"""
-import base64, collections, os, re, struct, sys, time, uuid
+import base64, collections, os, struct, sys, time, uuid
 from xml.etree import ElementTree
 
 sys.dont_write_bytecode = True
@@ -200,7 +200,7 @@ VALUED = {"set-key-file", "cipher", "kdf", "rounds", "memory", "lanes", "version
 
 
 def parted(words):
-    """The options of a command with their values, and its file, in words whose options are right."""
+    """The options of a command with their values, and its file, in words that are right."""
     rest, given, positions = list(words[1:]), {}, []
     while rest:
         word = rest.pop(0)
@@ -217,22 +217,6 @@ def parted(words):
         else:
             positions.append(word)
     return given, *positions
-
-
-def fits(command, given):
-    """Whether options that are right go together, and are numbers where they are to be."""
-    costs = [name for name in ("rounds", "memory", "lanes") if name in given]
-    if any(not re.fullmatch("[0-9]{1,10}", given[name]) for name in costs) or costs and "kdf" not in given:
-        return False
-    if given.get("kdf") == "aes" and costs not in ([], ["rounds"]):
-        return False
-    set_parts = {name for name in ("password", "key-file") if f"set-{name}" in given}
-    if command == "db-create":
-        return "plain" in given and not set_parts | {"cipher", "kdf"} & set(given) or "plain" not in given and bool(set_parts)
-    unset = {name for name in ("password", "key-file") if f"unset-{name}" in given}
-    before = {name for name, held in (("password", "no-password" not in given), ("key-file", "key-file" in given)) if held}
-    changes = set_parts | unset | {"cipher", "kdf", "version"} & set(given)
-    return "plain" not in given and bool(before) and not set_parts & unset and bool(set_parts | before - unset) and bool(changes)
 
 
 # ---- in the place of the program
@@ -310,7 +294,6 @@ def stand_in(words):
     try:
         refuse_if(reading.read(words) is None, 1, "wrong words")
         given, file = parted(words)
-        refuse_if(not fits(words[0], given), 1, "wrong words")
         subjects.append("input")
         said = {"db-edit": edit_file, "db-create": create_file}[words[0]](given, file, subjects)
     except (Refused, opening.Refused) as refused:
