@@ -213,7 +213,7 @@ ROWS = [
     ("ls --recursive --recursive FAST", [], 1, "wrong words", ["'--recursive' is given twice"]),
     ("ls -é FAST", [], 1, "wrong words", ["ls takes no option '-é'"]),
     ("ls --zebra -R -R FAST", [], 1, "wrong words", ["ls takes no option '--zebra'"]),
-    ("import --format chrome -p PLAIN FRESH", [], 1, "wrong words", ["unknown format 'chrome': xml or psafe3 or csv or bitwarden"]),
+    ("import --format chrome -p PLAIN FRESH", [], 1, "wrong words", ["unknown format 'chrome': xml or psafe3 or csv"]),
     ("export -f yaml FAST", [], 1, "wrong words", ["unknown format 'yaml': xml or csv"]),
     ("clip FAST", [], 1, "wrong words", ["clip needs DATABASE ENTRY [FIELD]"]),
     ("clip -t soon FAST Bank", [], 1, "wrong words", ["'-t' takes a number of seconds"]),
