@@ -14,7 +14,7 @@ use Rattle.cli_words.specs.declared.command.Command.TheVariants.{EditFile}
 use Rattle.cli_words.specs.declared.command.KdfAsked.{KdfAsked}
 use Rattle.cli_words.specs.declared.command.KdfKind.{KdfKind}
 use Rattle.cli_words.specs.Settings.{change_in, change_with, cipher_in, cipher_named, cost_or, has_argon_cost, has_file_change, if_named, is_argon, kdf_asked, kdf_in, kdf_named, kdf_of, kdf_with, usual_rounds, version_in, version_named}
-use Rattle.cli_words.specs.Words.{access_of, create_at, create_with, edit_file_at}
+use Rattle.cli_words.specs.Words.{access_sealed, create_at, create_with, edit_file_at}
 use Rattle.kdbx_frame.specs.declared.settings.Cipher.{Cipher}
 use Rattle.vault_model.specs.declared.forms.FileVersion.{FileVersion}
 use Rattle.cli_causes.specs.declared.cause.Cause.{Cause}
@@ -201,5 +201,5 @@ edit_file_agrees said file =
     (some_or (version_cause (text_of option.FileVersion said)) (file_change_cause said)
     ∙ ap₂ (λ (a b : Bool). a || b) (versions (text_of option.FileVersion said)) (no_change (has_file_change said))))
     ∙ in_change (has_file_change said) (is_fit_change said) (not (is_some (cipher_in said)) || not (is_some (kdf_in said))) (not (is_some (version_in said)))
-    (option_map (EditFile (access_of said) file) (change_in said))
-    (all_known said (cipher_in said) (kdf_in said) (version_in said) ∙ ap not (sym (some_mapped (EditFile (access_of said) file) (change_in said))))
+    (option_map (EditFile (access_sealed said) file) (change_in said))
+    (all_known said (cipher_in said) (kdf_in said) (version_in said) ∙ ap not (sym (some_mapped (EditFile (access_sealed said) file) (change_in said))))
