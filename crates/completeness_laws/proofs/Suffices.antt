@@ -19,6 +19,8 @@ use Rattle.merge_changes.specs.Equality.{same_doc}
 use Rattle.kdbx_frame.specs.declared.settings.Settings.{Settings}
 use Rattle.kdbx_frame.specs.declared.sealings.Sealing.{Sealing}
 use Rattle.kdbx_seal.specs.Made.{made_file}
+use Rattle.cli_answers.specs.Messages.{refusal_of}
+use Rattle.cli_answers.specs.declared.answers.Reason.TheVariants.{IdTaken}
 use Rattle.cli_answers.specs.declared.answers.Refusal.{Refusal}
 use Rattle.cli_answers.specs.Phases.{StreamAnswer, after_left, then_left, with_left}
 use Rattle.cli_codes.specs.Codes.{code_refusal}
