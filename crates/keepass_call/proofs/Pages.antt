@@ -86,7 +86,9 @@ no_profile name words profile command h c = by (with_words name words nothing_sa
     at said true n.RemoveGroup positions h c = cc h
     at said true n.Merge positions h c = cc h
     at said true n.Import positions h c = cc h
+    at said true n.Create positions h c = cc h
     at said true n.Export positions h c = cc h
+    at said true n.EditFile positions h c = cc h
     at said true n.Info positions h c = cc h
 
     by : (said : Option Said) → option_and_then (profile_saying name) said ≡ Some profile → option_and_then (command_saying name) said ≡ Some command → ⊥
