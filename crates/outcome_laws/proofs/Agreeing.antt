@@ -125,7 +125,7 @@ module _ (F G : FileMap) where
   unfolding created_of
   created_same create lines time agree =
       let made = λ (sealing : Option Sealing). at_stamp create.file time (Ok (empty_document create.name undrawn_id time))
-          >>= λ doc. with_resealed create.file (asked_settings create.cipher create.kdf None) (record { doc = doc; sealing = sealing }) in
+      >>= λ doc. with_resealed create.file (asked_settings create.cipher create.kdf None) (record { doc = doc; sealing = sealing }) in
       let seal = sealing_same create.access.plain create.access.key_file lines.password (λ n i. agree n (inr i)) in
       bind_same (refuse_file create.file (map.get F create.file)) (refuse_file create.file (map.get G create.file))
       (λ _. (sealing_of create.access.plain create.access.key_file lines.password F >>= made))
