@@ -62,7 +62,6 @@ where_no_new_key_can_be() {
   chmod 755 . program
   chmod 555 work
   kept 'db-edit: a folder that may not be written' 7 "$fault" work as_user ./program db-edit -p work/FILE
-  kept 'db-edit: a limit comes before that' 8 'keepass: work/FILE: limit passed' work as_user ./program db-edit -p --kdf argon2d --lanes 0 work/FILE
   chmod 755 work
   # What is left of a call that was cut off is no obstacle, and a link stays.
   printf 'left over' >work/.FILE.0123456789abcdef.keepass

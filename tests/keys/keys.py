@@ -173,6 +173,7 @@ def empty_document(identity, name, now):
     """The document that `db-create` makes: a root group alone. A name is that of the database too."""
     document = importing.Tree(now).document
     document["Root"]["UUID"] = identity
+    document["Root"]["Times"]["LastModificationTime"] = now
     if name is not None:
         document["Root"]["Name"] = name
         document["Meta"] |= {"DatabaseName": name, "DatabaseNameChanged": now}
