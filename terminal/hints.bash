@@ -205,7 +205,7 @@ holds() {
 subject_of() {
   local name
   subject=
-  for name in words input memory output "${files[@]}" "${positions[@]}"; do
+  for name in words input memory output clip "${files[@]}" "${positions[@]}"; do
     if [[ $refusal == "keepass: $name: "* && ${#name} -gt ${#subject} ]]; then subject=$name; fi
   done
 }

@@ -146,8 +146,11 @@ def files(folder, data, examples):
 
 LIST = "keepass --help lists them"
 SHOW = "show DATABASE ENTRY"
-PATHS = "keepass ls -Rf {0} lists the paths; a path is whole, and case counts"
+PATHS = "keepass ls -Rf {0} lists the paths; a path is whole, and case counts; one with / at its end is a group's, and ls lists groups"
 WRONG = "wrong password, or {0} needs a key file too: -k FILE. If both are right, the {1} was changed: use a backup"
+WRONG_MERGE = ("wrong password (with -s the sources have that of TARGET), or {0} needs a key file too: -k FILE if it is TARGET, "
+               "--key-file-from FILE if it is a source. If both are right, the {1}: use a backup")
+MAKE_KEY = "check the name, and the folder that the call was made in; a new key file is made first: head -c 32 /dev/urandom >FILE"
 BACKUP = "the password is right, and the file is damaged: use a backup"
 MALFORMED = "{0} is malformed: open it in the program that wrote it and save it again, or use a backup"
 
@@ -167,6 +170,12 @@ ROWS = [
     ("db-create -p -t 1000 FRESH", [], 1, "wrong words",
      ["db-create takes no option '-t': costs are given as numbers: --kdf KDF --rounds NUMBER --memory KIB --lanes NUMBER"]),
     ("db-create -k KEY FRESH", [], 1, "wrong words", ["db-create takes no option '-k': a new database gets a key file by --set-key-file FILE"]),
+    ("db-create -p --version 4.1 FRESH", [], 1, "wrong words",
+     ["db-create takes no option '--version': a new file is KDBX 4.0; 'db-edit --version' gives it another version"]),
+    ("import -p --version 4.0 PLAIN FRESH", [], 1, "wrong words",
+     ["import takes no option '--version': a new file is KDBX 4.0, or 4.1 where that is needed; 'db-edit --version' gives it another version"]),
+    ("totp FAST Bank", [], 1, "wrong words", ["unknown command 'totp': 'show -t' shows a one-time code"]),
+    ("version", [], 1, "wrong words", ["unknown command 'version': keepass --version prints the version"]),
     ("db-create FRESH", [], 1, "wrong words", ["db-create needs a key for the new database: -p, --set-key-file FILE, or --plain for none"]),
     ("db-create --plain -p FRESH", [], 1, "wrong words", ["'--set-password' does not go with '--plain': an XML export has no key"]),
     ("db-create -p --lanes 4 FRESH", [], 1, "wrong words", ["'--lanes' needs '--kdf'"]),
@@ -240,6 +249,8 @@ ROWS = [
     ("rmdir --plain PLAIN Bank", [], 2, "not found", ["rmdir removes groups, and rm entries; keepass ls -R --plain PLAIN lists everything; case counts"]),
     ("add --plain PLAIN Home/Wifi", [], 2, "not found",
      ["keepass mkdir --plain PLAIN GROUP makes the group first; keepass ls -R --plain PLAIN lists all"]),
+    ("rm --plain PLAIN Work", [], 2, "not found",
+     ["keepass ls -Rf --plain PLAIN lists the paths; one with / at its end is a group's, and rmdir removes groups; case counts"]),
     ("rm --plain PLAIN Work/", [], 2, "not found", ["a path that ends with / is a group's, and rmdir removes groups"]),
     ("mv --plain PLAIN Bank Home", [], 2, "not found",
      ["keepass ls -Rf --plain PLAIN lists the paths; a group's has a / at its end as NODE; case counts"]),
@@ -273,7 +284,9 @@ ROWS = [
     ("ls -k OTHERKEY FAST", [PASSWORD], 3, "damaged or wrong key: *",
      ["wrong password or wrong key file. If both are right, the header was changed: use a backup"]),
     ("ls KEYED", [PASSWORD], 3, "damaged or wrong key: *", [WRONG.format("KEYED", "header")]),
-    ("merge -d FAST COPY", [PASSWORD, "wrong"], 3, "damaged or wrong key: *", [WRONG.format("COPY", "header")]),
+    ("merge -d FAST COPY", [PASSWORD, "wrong"], 3, "damaged or wrong key: *", [WRONG_MERGE.format("COPY", "header was changed")]),
+    ("merge -s FAST KEYED", [PASSWORD], 3, "damaged or wrong key: *", [WRONG_MERGE.format("KEYED", "header was changed")]),
+    ("merge FAST OLD", [PASSWORD, "wrong"], 3, "wrong key or damaged", [WRONG_MERGE.format("OLD", "file is damaged")]),
     ("ls OLD", ["wrong"], 3, "wrong key or damaged",
      ["wrong password, or OLD needs a key file too: -k FILE. If both are right, the file is damaged: use a backup"]),
     ("ls HEADER", [PASSWORD], 3, "damaged or wrong key: *", ["the header is damaged, whatever the password: use a backup"]),
@@ -346,7 +359,8 @@ ROWS = [
     ("ls --plain NONE", [], 7, "no such file", ["check the name, and the folder that the call was made in"]),
     ("merge -s FAST NONE", [], 7, "no such file", ["check the name, and the folder that the call was made in"]),
     ("ls -k NONE FAST", [], 7, "no such file", ["check the name, and the folder that the call was made in"]),
-    ("db-edit -p --set-key-file NONE FAST", [], 7, "no such file", ["check the name, and the folder that the call was made in"]),
+    ("db-edit -p --set-key-file NONE FAST", [], 7, "no such file", [MAKE_KEY]),
+    ("db-create --set-key-file NONE FRESH", [], 7, "no such file", [MAKE_KEY]),
     ("db-create -p --set-key-file FOLDER FRESH", [], 7, "file fault", ["it is a folder, and a file is needed"]),
     ("db-create -p FAR", ["x", "x"], 7, "file fault", ["there is no folder FARFOLDER: make it first"]),
     ("ls FOLDER", [], 7, "file fault", ["it is a folder, and a file is needed"]),
