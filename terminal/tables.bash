@@ -213,7 +213,6 @@ hint_rows=(
   $'4\x1fline * is not UTF-8\x1f\x1f\x1fpasswords are typed in UTF-8: choose a UTF-8 locale'
   $'4\x1fduplicate id *\x1f\x1fpsafe3\x1ftwo records have one id: delete one of them in Password Safe, or make it anew there'
   $'4\x1fnil id at *\x1f\x1fpsafe3\x1fthe record of this number has no id: make it anew in Password Safe'
-  $'4\x1fnil id at *\x1fimport\x1fnot-markup\x1fthe item of this number has the id of zeros: delete it there, or make it anew'
   $'4\x1fbad field at *\x1f\x1f\x1fthe file of Password Safe is malformed: open it in Password Safe and save it again, or use a backup'
   $'4\x1f*\x1f\x1f\x1f{file} is malformed: open it in the program that wrote it and save it again, or use a backup'
   $'5\x1fcompressed\x1f\x1fkdbx\x1fswitch compression off once and save the file. In KeePassXC: Database > Database Settings > General, untick \'Enable compression\';\x1fin KeePass 2: File > Database Settings > Compression, choose \'None\'. Or without a window, in python3 with pykeepass:\x1f  import getpass, pykeepass; kp = pykeepass.PyKeePass({python}, getpass.getpass())\x1f  kp.kdbx.header.value.dynamic_header.compression_flags.data.compression = False\x1f  del kp.kdbx.header[\'data\']; kp.save()'
