@@ -35,7 +35,7 @@ _keepass() {
     return
   fi
   case "$command $before" in
-    'import --format') COMPREPLY=($(compgen -W 'xml psafe3 csv' -- "$word")); return ;;
+    'import --format') COMPREPLY=($(compgen -W 'xml psafe3 csv bitwarden' -- "$word")); return ;;
     'db-create --cipher') COMPREPLY=($(compgen -W 'aes twofish chacha20' -- "$word")); return ;;
     'db-create --kdf') COMPREPLY=($(compgen -W 'aes argon2d argon2id' -- "$word")); return ;;
     'export -f' | 'export --format') COMPREPLY=($(compgen -W 'xml csv' -- "$word")); return ;;

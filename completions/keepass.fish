@@ -149,7 +149,7 @@ complete -c keepass -n '__fish_seen_subcommand_from merge' -l plain -d 'The data
 complete -c keepass -n '__fish_seen_subcommand_from merge' -l quiet -s q -d 'Nothing is reported.'
 complete -c keepass -n __fish_use_subcommand -a import -d 'make a database of another file'
 complete -c keepass -n '__fish_seen_subcommand_from import' -l help -d 'How the command is called.'
-complete -c keepass -n '__fish_seen_subcommand_from import' -l format -x -a 'xml psafe3 csv' -d 'What SOURCE is: a document as XML (xml, the default), a file of Password Safe 3 (psafe3), or a table (csv).'
+complete -c keepass -n '__fish_seen_subcommand_from import' -l format -x -a 'xml psafe3 csv bitwarden' -d 'What SOURCE is: a document as XML (xml, the default), a file of Password Safe 3 (psafe3), a table (csv), or an unencrypted export of Bitwarden in JSON (bitwarden).'
 complete -c keepass -n '__fish_seen_subcommand_from import' -l set-password -s p -d 'DATABASE gets a password: the line of standard input after the one of SOURCE, if that has one.'
 complete -c keepass -n '__fish_seen_subcommand_from import' -l set-key-file -r -F -d 'DATABASE is opened with this key file from now on.'
 complete -c keepass -n '__fish_seen_subcommand_from import' -l plain -d 'The database is a plain XML export, which has no password and no key file.'

@@ -158,15 +158,50 @@ find_line() {
   fi
 }
 
-# A file of a near name in the same folder.
+# The name of a file without its ending.
+stem_of() {
+  case $1 in ?*.*) printf '%s' "${1%.*}" ;; *) printf '%s' "$1" ;; esac
+}
+
+# Whether a word is another one with two neighbours in the place of one another.
+is_swapped() {
+  local place
+  if [ "${#1}" != "${#2}" ]; then return 1; fi
+  for ((place = 0; place + 1 < ${#1}; place++)); do
+    if [ "${1:0:place}${1:place+1:1}${1:place:1}${1:place+2}" = "$2" ]; then return; fi
+  done
+  return 1
+}
+
+# Whether the stems of two files are near: each has three characters or more, and at most two of them differ, fewer than half;
+# one, or where both begin alike two. Two neighbours that are swapped count as one.
+is_near_stem() {
+  local one=$1 two=$2 far short=$((${#1} < ${#2} ? ${#1} : ${#2}))
+  if [ "$short" -lt 3 ] || [ $((${#one} - ${#two})) -gt 2 ] || [ $((${#two} - ${#one})) -gt 2 ]; then return 1; fi
+  if is_swapped "$one" "$two"; then far=1; else far=$(distance "$one" "$two"); fi
+  [ "$far" -le 2 ] && [ $((far * 2)) -lt "$short" ] && { [ "$far" -le 1 ] || [ "${one:0:1}" = "${two:0:1}" ]; }
+}
+
+# A file of a near name in the same folder. Endings do not make a name near; of several that are, the nearest whole one is meant.
 find_near() {
-  local folder='' name=${subject##*/} other names=() near
+  local folder='' name=${subject##*/} other names=() near='' far least=100
   if [ "$name" != "$subject" ]; then folder=${subject%/*}/; fi
   for other in "$folder"*; do if [ -f "$other" ]; then names+=("${other##*/}"); fi; done
-  if [ "${#names[@]}" -gt 200 ] || [ -z "$name" ]; then return 1; fi
-  near=$(nearest "$name" "${names[@]}")
+  if [ "${#names[@]}" -gt 200 ] || [ "${#name}" -gt 40 ]; then return 1; fi
+  for other in "${names[@]}"; do
+    if ! is_near_stem "$(stem_of "$name")" "$(stem_of "$other")"; then continue; fi
+    far=$(distance "$name" "$other")
+    if [ "$far" -lt "$least" ]; then least=$far near=$other; fi
+  done
   found[near]=$(quoted "$folder$near")
   [ -n "$near" ]
+}
+
+# How many KiB Argon2 takes where the words name fewer than those of 1 MiB.
+find_memory_asked() {
+  if ! is_given memory; then return 1; fi
+  found[found]=$((10#${given[memory]}))
+  [ "${found[found]}" -lt 1024 ]
 }
 
 # Whether what a row of the table names is so.
@@ -187,6 +222,7 @@ holds() {
     limit) find_limit ;;
     line) find_line ;;
     memory) find_memory ;;
+    memory-asked) find_memory_asked ;;
     argon) [[ ${given[kdf]-} = argon2* ]] || { ! is_given kdf && [ -n "$(kdf_number M)" ]; } ;;
     near) find_near ;;
     number)
@@ -210,7 +246,7 @@ subject_of() {
   done
 }
 
-# Shows what can be done about a refusal, in a line or several.
+# Shows what can be done about a refusal, or what else was perhaps meant by a call that is carried out, in a line or several.
 hint() {
   local row fields subject line
   local -A found=()

@@ -69,7 +69,7 @@ command_order='ls show search add edit mv rm mkdir rmdir merge import db-create 
 
 # The formats of the commands that have one.
 declare -gA command_formats=(
-  ['import']='xml psafe3 csv'
+  ['import']='xml psafe3 csv bitwarden'
   ['export']='xml csv'
 )
 
@@ -153,6 +153,7 @@ declare -gA foreign_options=(
 
 # What can be done about refusals: status, text, commands, case and lines.
 hint_rows=(
+  $'0\x1fSuccessfully *\x1fdb-create db-edit\x1fmemory-asked\x1fArgon2 of {database} takes {found} KiB: --memory is a number of KiB, as 65536 for 64 MiB'
   $'1\x1fempty term at *\x1f\x1f\x1fa term has a text after its sign or its field; keepass ls -Rf {opened}{database} lists everything'
   $'1\x1fnot UTF-8\x1f\x1f\x1fthe words of a call are UTF-8: choose a UTF-8 locale, or rename the file'
   $'1\x1fevery password would stand on the screen\x1f\x1f\x1fsend it to a file: keepass export {opened}{database} >FILE; or give - after DATABASE to see it here'
@@ -198,11 +199,11 @@ hint_rows=(
   $'4\x1fnot a KDBX file\x1f\x1fpsafe3\x1fa file of Password Safe: keepass import --format psafe3 -p {file} NEW.kdbx makes a database of it'
   $'4\x1fnot a KDBX file\x1f\x1fmarkup\x1fan XML export is opened with --plain'
   $'4\x1fnot a KDBX file\x1f\x1f\x1f{file} is no database of KeePass: check the name'
-  $'4\x1fnot a psafe3 file\x1f\x1f\x1f{file} is no file of Password Safe 3; --format says what it is: xml, psafe3 or csv'
-  $'4\x1fmalformed text at *\x1fimport\x1fkdbx\x1f{file} is a database already: import takes an XML export, a file of Password Safe 3 or a table'
+  $'4\x1fnot a psafe3 file\x1f\x1f\x1f{file} is no file of Password Safe 3; --format says what it is: xml, psafe3, csv or bitwarden'
+  $'4\x1fmalformed text at *\x1fimport\x1fkdbx\x1f{file} is a database already: import takes an XML export, a file of Password Safe 3, a table or an export of Bitwarden'
   $'4\x1fmalformed text at *\x1f\x1fkdbx\x1f{file} is a database and no XML export: leave --plain out'
   $'4\x1fmalformed text at *\x1f\x1fpsafe3\x1fa file of Password Safe: give --format psafe3'
-  $'4\x1fmalformed text at 0\x1fimport\x1fnot-markup\x1f{file} is no XML export; --format says what it is: xml, psafe3 or csv'
+  $'4\x1fmalformed text at 0\x1fimport\x1fnot-markup\x1f{file} is no XML export; --format says what it is: xml, psafe3, csv or bitwarden'
   $'4\x1fmalformed text at *\x1f\x1f\x1fthe XML is cut off or broken at this byte: export it again, or use a backup'
   $'4\x1fends early at *\x1f\x1f\x1f{file} is cut off at this byte: copy it again, or use a backup'
   $'4\x1fno binary *\x1f\x1f\x1fan attachment is missing, as KeePassXC leaves them out of its exports: export the database with keepass'
@@ -210,11 +211,17 @@ hint_rows=(
   $'4\x1fnot UTF-8 at *\x1f\x1f\x1fsave the table in UTF-8, or convert it: iconv -f WINDOWS-1252 -t UTF-8 {file} >NEW.csv'
   $'4\x1fno Title column\x1f\x1f\x1fthe first row names the columns, with commas between them: Title, and any of Group, Username, Password, URL, Notes, Last Modified, Created'
   $'4\x1fbad row *\x1f\x1f\x1fthis row after the first has more or fewer fields than the first, or a time that is not as 2026-11-28T12:34:56Z; blank lines do not count'
+  $'4\x1fbad JSON\x1f\x1f\x1f{file} is no export of Bitwarden in JSON; --format says what it is: xml, psafe3, csv or bitwarden'
+  $'4\x1fbad folder *\x1f\x1f\x1fthe folder of this number in the export has no id or no name: export it again from Bitwarden'
+  $'4\x1fbad item *\x1f\x1f\x1fthe item of this number in the export is malformed, or in a folder that is not there: export it again from Bitwarden'
   $'4\x1fline * is not UTF-8\x1f\x1f\x1fpasswords are typed in UTF-8: choose a UTF-8 locale'
   $'4\x1fduplicate id *\x1f\x1fpsafe3\x1ftwo records have one id: delete one of them in Password Safe, or make it anew there'
+  $'4\x1fduplicate id *\x1fimport\x1fnot-markup\x1ftwo items have one id: delete one of them in Bitwarden, or make it anew there, and export it again'
   $'4\x1fnil id at *\x1f\x1fpsafe3\x1fthe record of this number has no id: make it anew in Password Safe'
+  $'4\x1fnil id at *\x1fimport\x1fnot-markup\x1fthe item of this number has the id of zeros: make it anew in Bitwarden, and export it again'
   $'4\x1fbad field at *\x1f\x1f\x1fthe file of Password Safe is malformed: open it in Password Safe and save it again, or use a backup'
   $'4\x1f*\x1f\x1f\x1f{file} is malformed: open it in the program that wrote it and save it again, or use a backup'
+  $'5\x1fencrypted export\x1f\x1f\x1fexport it again from Bitwarden with the file format .json, without encryption, and delete the file once it is imported'
   $'5\x1fcompressed\x1f\x1fkdbx\x1fswitch compression off once and save the file. In KeePassXC: Database > Database Settings > General, untick \'Enable compression\';\x1fin KeePass 2: File > Database Settings > Compression, choose \'None\'. Or without a window, in python3 with pykeepass:\x1f  import getpass, pykeepass; kp = pykeepass.PyKeePass({python}, getpass.getpass())\x1f  kp.kdbx.header.value.dynamic_header.compression_flags.data.compression = False\x1f  del kp.kdbx.header[\'data\']; kp.save()'
   $'5\x1fcompressed\x1f\x1f\x1fattachments in this XML are compressed: export it again, with keepass or from a database without compression'
   $'5\x1fversion *\x1f\x1f\x1fKDBX 3.1, 4.0 and 4.1 are read: save {file} as KDBX 4 with the program that wrote it'

@@ -278,6 +278,8 @@ run() {
   refusal=$refusal$(cat <&7)
   # Where the output could not be written there may be no line.
   if [ -n "$refusal" ] || [ "$status" = 10 ]; then refuse; fi
+  # What was asked for may be another thing than what was meant.
+  if [ "$status" = 0 ] && [ -n "$hints" ] && is_given memory; then refusal='Successfully ..' hint >&2; fi
 }
 
 # Gives a file that was replaced what the old one had, after a call with this status.

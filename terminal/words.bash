@@ -62,18 +62,16 @@ option_row() {
   return 1
 }
 
-# What is said of an option that the command does not take: `keepassxc-cli` may have it, or another is near.
+# What is said of an option that the command does not take: `keepassxc-cli` may have it, another is near, or its page has all.
 no_option() {
-  local row names=() foreign=${foreign_options[$command $1]-${foreign_options[$1]-}}
+  local row names=() near='' foreign=${foreign_options[$command $1]-${foreign_options[$1]-}}
   if [ -n "$foreign" ]; then
     because "$command takes no option '$1': $foreign"
     return
   fi
   for row in ${option_rows[$command]}; do names+=("--${row%%:*}"); done
-  case $1 in
-    --*) because "$command takes no option '$1'$(suggestion "$1" "${names[@]}")" ;;
-    *) because "$command takes no option '$1'" ;;
-  esac
+  case $1 in --*) near=$(suggestion "$1" "${names[@]}") ;; esac
+  because "$command takes no option '$1'${near:-; keepass $command --help lists its options}"
 }
 
 # Keeps the option of `row` with its value, which is empty for a flag: once, unless it may be repeated.
@@ -178,6 +176,15 @@ read_profile() {
   if [ -z "$left" ]; then because 'no characters are left: --exclude has all of them'; fi
 }
 
+# What a cost of a key derivation counts.
+cost_unit() {
+  case $1 in
+    memory) printf 'KiB, as 65536 for 64 MiB' ;;
+    rounds) printf 'rounds of AES or passes of Argon2' ;;
+    lanes) printf 'lanes' ;;
+  esac
+}
+
 # Looks at a key derivation and its costs: those of Argon2 need one of its kinds, and each is one to ten digits.
 read_kdf() {
   local word
@@ -196,7 +203,7 @@ read_kdf() {
   esac
   for word in rounds memory lanes; do
     if is_given "$word" && [[ ! ${given[$word]} =~ ^[0-9]{1,10}$ ]]; then
-      because "'--$word' needs one to ten digits: '${given[$word]}'"
+      because "'--$word' needs a number of $(cost_unit "$word"), in one to ten digits: '${given[$word]}'"
     fi
   done
 }
@@ -244,6 +251,7 @@ read_change() {
   read_settings
   case " $given_words " in
     *' set-password '* | *' unset-password '* | *' set-key-file '* | *' unset-key-file '* | *' cipher '* | *' kdf '* | *' version '*) ;;
+    *' key-file '*) because 'nothing to change: --set-key-file sets a key file, -k only opens with one' ;;
     *) because 'nothing to change: give another key, --cipher, --kdf or --version' ;;
   esac
 }
@@ -291,6 +299,8 @@ read_words() {
   if [ -z "$command" ] || [ -z "${command_briefs[$command]-}" ]; then
     if [ -n "$command" ] && [ -n "${foreign_commands[$command]-}" ]; then
       because "unknown command '$command': ${foreign_commands[$command]}"
+    elif [[ $command = -v || $command = -V || $command = -version ]]; then
+      because "a command comes first, before '$command'; keepass --version prints the version"
     elif [[ $command = -* ]]; then
       because "a command comes first, before '$command'; keepass --help lists them"
     elif [ -f "$command" ]; then

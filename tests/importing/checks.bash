@@ -120,7 +120,7 @@ sealed_imports() {
   if [ -n "$(command -v keepassxc-cli)" ]; then others+=(keepassxc); else echo 'skipped: imports in KeePassXC, which is not installed'; fi
   if /usr/bin/python3 -c 'import pykeepass' 2>/dev/null; then others+=(pykeepass); fi
   compared 'a known new database' "$importing/sealed"
-  cp "$1/gorilla.psafe3" "$1/keepassxc-export.xml" "$1/keepassxc-4.1-export.xml" "$top/examples/family.xml" .
+  cp "$1/gorilla.psafe3" "$1/keepassxc-export.xml" "$1/keepassxc-4.1-export.xml" "$top/examples/family.xml" "$importing/bitwarden.json" .
   "$importing/make" rows 500 table.csv
   while IFS=$'\x1f' read -r form source line password key; do
     compared "$source in a database, ${password:+by a password} $key" "$importing/sealed" "$program" "$form" "$source" "$line" "$password" "$key"
@@ -137,6 +137,8 @@ xml keepassxc-4.1-export.xml   key-32.key
 xml keepassxc-4.1-export.xml  one_two_three_é 
 csv table.csv  pw 
 csv table.csv   key-2.keyx
+bitwarden bitwarden.json  pw 
+bitwarden bitwarden.json  pw key-2.keyx
 psafe3 gorilla.psafe3 correct_horse pw 
 psafe3 gorilla.psafe3 correct_horse correct_horse key-64.key
 ROWS
@@ -164,6 +166,37 @@ exported_again() {
   rm -f FILE AGAIN again.csv
 }
 
+# merged_with_itself: an export of Bitwarden that is imported twice, and merged with the other import and with itself.
+merged_with_itself() {
+  rm -f FILE AGAIN
+  : >input.txt
+  works 'an export of Bitwarden' 'Successfully imported database.' "$program" import --plain --format bitwarden "$importing/bitwarden.json" FILE
+  cp FILE AGAIN
+  works 'an export of Bitwarden, merged with itself' 'Database was not modified by merge operation.' "$program" merge --plain FILE AGAIN
+  cmp -s FILE AGAIN
+  judged 'an export of Bitwarden stays as it is in a merge with itself' $?
+  rm -f FILE AGAIN
+}
+
+# columns_passed_over: what is printed of columns of which nothing is imported, which is nothing with -q.
+columns_passed_over() {
+  local said
+  printf 'Tags,Title, Reprompt ,"a\nb",Title,Password\n1,2,3,4,5,6\n' >columns.csv
+  said=$'Column passed over: Tags\nColumn passed over: Title\nColumn passed over:  Reprompt \nColumn passed over: a\nb\nSuccessfully imported database.'
+  rm -f FILE
+  : >input.txt
+  works 'columns that are passed over' "$said" "$program" import --plain --format csv columns.csv FILE
+  rm -f FILE
+  works 'columns that are passed over, quietly' '' "$program" import -q --plain --format csv columns.csv FILE
+  rm -f FILE
+  if [ -n "$with_pykeepass" ]; then
+    printf 'pw\n' >input.txt
+    works 'columns that are passed over, of a database' "$said" "$program" import -p --format csv columns.csv FILE
+  fi
+  : >input.txt
+  rm -f FILE columns.csv
+}
+
 # imported_files DATA: all of it.
 imported_files() {
   local seed=$RANDOM
@@ -171,7 +204,10 @@ imported_files() {
   import_refusals "$1"
   compared 'imports by hand' "$importing/against" "$program" table
   many_times 'each byte of a file of Password Safe' "$importing/against" "$program" bytes
-  many_times "drawn sources, seed $seed" "$importing/against" "$program" random "$seed" 600
+  compared 'an export of Bitwarden with all kinds of items' "$importing/against" "$program" file bitwarden "$importing/bitwarden.json"
+  merged_with_itself
+  columns_passed_over
+  many_times "drawn sources, seed $seed" "$importing/against" "$program" random "$seed" 900
   compared 'a file of Password Gorilla' "$importing/against" "$program" file psafe3 "$1/gorilla.psafe3" 'correct horse'
   compared 'an export of KeePassXC, imported' "$importing/against" "$program" file xml "$1/keepassxc-export.xml"
   compared 'an export of KeePassXC with what KDBX 4.1 added, imported' "$importing/against" "$program" file xml "$1/keepassxc-4.1-export.xml"

@@ -7,7 +7,7 @@ and files of Password Safe by psafe.py.
                                    of the table with its entry's id and its root's time of change put in
     importing.py import WORD...    does what the program does with these words (those of --plain alone), so that the tests can be tried
                                    on it"""
-import hashlib, os, re, sys, time, types, uuid
+import hashlib, itertools, json, math, os, re, sys, time, types, uuid
 
 sys.dont_write_bytecode = True
 here = os.path.dirname(os.path.realpath(__file__))
@@ -21,7 +21,8 @@ exec(compile(open(model.__file__, encoding="utf-8").read(), model.__file__, "exe
 Refused, LAST, NIL = model.Refused, model.LAST, model.NIL
 ROOT = uuid.UUID("6b5f0f1e-9d1c-4c3a-8f57-0d2c1e4a7b90")
 ENTRIES = uuid.UUID("2f0c7a54-31b8-4e6d-9a02-c47d5e8190ab")
-FORMATS = "xml", "psafe3", "csv"
+FORMATS = "xml", "psafe3", "csv", "bitwarden"
+HIDDEN = "Password", "PasswordHistory", "otp"
 UNIX = 62_135_596_800
 sys.setrecursionlimit(10_000)  # a tree of the model is walked by recursion
 FILE_LIMIT, LINE_LIMIT = 134_217_728, 4096
@@ -43,10 +44,9 @@ def entry_name(names, fields, number):
     return b"".join(b"%d:%s" % (len(text), text) for text in texts) + b"%d" % number
 
 
-def new_entry(identity, fields, created, modified, now):
-    """An entry of fields by their keys."""
+def new_entry(identity, fields, created, modified, now, hidden=HIDDEN):
+    """An entry of fields by their keys, of which these are hidden."""
     times = {"LastModificationTime": modified, "CreationTime": created, "LastAccessTime": now, "ExpiryTime": now, "LocationChanged": now}
-    hidden = ("Password", "PasswordHistory", "otp")
     return {"UUID": identity, "IconID": 0, "CustomIconUUID": None, "ForegroundColor": "", "BackgroundColor": "", "OverrideURL": "",
             "Tags": "", "QualityCheck": True, "PreviousParentGroup": NIL, "Times": times | {"Expires": False, "UsageCount": 0},
             "String": {key: {"Key": key, "Value": text, "hidden": key in hidden} for key, text in fields.items()}, "Binary": {},
@@ -75,12 +75,18 @@ class Tree:
             group = below
         return group
 
-    def add(self, names, identity, fields, created, modified):
-        """Adds an entry, which is counted; its id is that of its name where it has none."""
+    def add(self, names, identity, fields, created, modified, hidden=HIDDEN, earlier=()):
+        """Adds an entry, which is counted; its id is that of its name where it has none. Earlier passwords, with their dates, are versions of
+        its history."""
         texts = entry_name(names, fields, 0)
         self.seen[texts] = self.seen.get(texts, 0) + 1
         identity = identity or named_id(ENTRIES, entry_name(names, fields, self.seen[texts]))
-        self.group(names)["Entry"].append(new_entry(identity, fields, created, modified, self.now))
+        entry = new_entry(identity, fields, created, modified, self.now, hidden)
+        for date, password in earlier:
+            version = new_entry(identity, fields | {"Password": password}, created, date, self.now, hidden)
+            del version["History"]
+            entry["History"]["Entry"].append(version)
+        self.group(names)["Entry"].append(entry)
 
     def whole(self):
         """The document, whose ids must differ, and whose groups may not be too deep. No recursion walks them, since there may be any number
@@ -186,22 +192,38 @@ def one_time(text):
     return {"otp": text if text.startswith("otpauth://") else "otpauth://totp/?secret=" + text} if text else {}
 
 
+def iso(text):
+    """The time that a text is, if it is one."""
+    read = model.rules.time(text) if re.fullmatch(r"[0-9T:Z-]{20}", text) else None
+    return None if read is None else model.reading.value("CreationTime", model.rules.time, None, types.SimpleNamespace(value=read))
+
+
 def moment(text, now, number):
     """A time of a row, or now where it is empty."""
     if text == "":
         return now
-    read = model.rules.time(text) if re.fullmatch(r"[0-9T:Z-]{20}", text) else None
+    read = iso(text)
     model.refuse_if(read is None, 4, f"bad row {number}")
-    return model.reading.value("CreationTime", model.rules.time, None, types.SimpleNamespace(value=read))
+    return read
+
+
+def columns_of(data):
+    """The names of a table's columns, its other rows, and the place of the column of each meaning: of several the last."""
+    head, *rows = rows_of(data.decode().removeprefix("\ufeff")) or [[]]
+    return head, rows, {meaning(name): place for place, name in enumerate(head) if meaning(name)}
+
+
+def passed_over(form, data):
+    """The names of the columns of a source that are passed over."""
+    head, _, places = columns_of(data) if form == "csv" else ([], [], {})
+    return [name for place, name in enumerate(head) if place not in places.values()]
 
 
 def of_table(data, line, now):
     try:
-        text = data.decode("utf-8")
+        head, rows, places = columns_of(data)
     except UnicodeDecodeError as error:
         raise Refused(4, f"not UTF-8 at {error.start}")
-    head, *rows = rows_of(text.removeprefix("\ufeff")) or [[]]
-    places = {meaning(name): place for place, name in enumerate(head) if meaning(name)}
     model.refuse_if("Title" not in places and "URL" not in places, 4, "no Title column")
     tree = Tree(now)
     for number, row in enumerate(rows, 1):
@@ -213,6 +235,148 @@ def of_table(data, line, now):
         fields = {"Title": title, "UserName": said["Username"], "Password": said["Password"], "URL": said["URL"], "Notes": said["Notes"]}
         fields |= one_time(said["otp"])
         tree.add(names[names[:1] == ["Root"] :], None, fields, created, modified)
+    return tree.whole()
+
+
+# ---- Bitwarden
+
+LEVELS_OF_JSON = 127
+HYPHENATED = "-".join(f"[0-9A-Fa-f]{{{digits}}}" for digits in (8, 4, 4, 4, 12))
+IDENTITY = re.compile(rf"(?:urn:uuid:)?{HYPHENATED}|\{{{HYPHENATED}\}}|[0-9A-Fa-f]{{32}}")
+
+
+def number_of(text):
+    """A number, which must be within the range of binary floats of 64 bits."""
+    read = float(text)
+    if math.isinf(read):
+        raise ValueError
+    return int(text) if re.fullmatch("-?[0-9]{1,19}", text) else read
+
+
+def no_constant(text):
+    raise ValueError
+
+
+def levels_of(text):
+    """How many lists and objects of a JSON text lie within one another."""
+    level = most = 0
+    for sign in re.findall(r"[\[{\]}]", re.sub(r'"(?:[^"\\]|\\.)*"', "", text, flags=re.DOTALL)):
+        level += 1 if sign in "[{" else -1
+        most = max(most, level)
+    return most
+
+
+def json_of(data):
+    """The value of a JSON text. Neither one half of a letter of two halves is allowed in it, nor too many levels."""
+    try:
+        text = data.decode()
+        if levels_of(text) > LEVELS_OF_JSON:
+            raise ValueError
+        value = json.loads(text, parse_int=number_of, parse_float=number_of, parse_constant=no_constant)
+        json.dumps(value, ensure_ascii=False).encode()
+    except (ValueError, RecursionError):
+        raise Refused(4, "bad JSON")
+    return value
+
+
+def is_text(value):
+    return isinstance(value, str)
+
+
+def is_number(value):
+    return isinstance(value, (int, float)) and not isinstance(value, bool)
+
+
+def is_object(value):
+    return isinstance(value, dict)
+
+
+def date_of(text):
+    """The time that a date is, if it is one; a fraction of a second is dropped."""
+    parts = re.fullmatch(r"(.{19})(?:\.[0-9]+)?Z", text, re.ASCII | re.DOTALL)
+    return iso(parts[1] + "Z") if parts else None
+
+
+def is_date(value):
+    return is_text(value) and date_of(value) is not None
+
+
+def is_id(value):
+    return is_text(value) and IDENTITY.fullmatch(value) is not None
+
+
+def list_of(kind):
+    return lambda value: isinstance(value, list) and all(map(kind, value))
+
+
+def object_of(**kinds):
+    """An object whose members of these names are of their kinds; each may be missing, or null."""
+    return lambda value: is_object(value) and all(value.get(name) is None or kind(value[name]) for name, kind in kinds.items())
+
+
+LOGIN = object_of(username=is_text, password=is_text, totp=is_text, uris=list_of(object_of(uri=is_text)))
+CUSTOM = object_of(name=is_text, value=is_text, type=is_number)
+EARLIER = object_of(lastUsedDate=is_date, password=is_text)
+
+
+def checked(values, kind, text):
+    """The values of a list that is a member, each of its kind; the first that is not is refused by its number from 1."""
+    model.refuse_if(values is not None and not isinstance(values, list), 4, f"{text} 0")
+    for number, value in enumerate(values or [], 1):
+        model.refuse_if(not kind(value), 4, f"{text} {number}")
+    return values or []
+
+
+def said_of(item):
+    """The fields of an item, each with whether it is hidden, under the keys that the item says."""
+    login = item.get("login") or {}
+    addresses = [address.get("uri") for address in login.get("uris") or []]
+    yield from (("Title", item.get("name"), False), ("UserName", login.get("username"), False), ("Password", login.get("password"), True),
+                ("URL", addresses[0] if addresses else "", False), ("Notes", item.get("notes"), False))
+    yield from ((f"URL {number}", address, False) for number, address in enumerate(addresses[1:], 2))
+    yield from ((key, text, True) for key, text in one_time(login.get("totp")).items())
+    for custom in item.get("fields") or []:
+        yield custom.get("name"), custom.get("value"), type(custom.get("type")) is int and custom["type"] == 1
+    for name, secret in ("card", ("number", "code")), ("identity", ()):
+        yield from ((key, text, key in secret) for key, text in sorted((item.get(name) or {}).items()) if is_text(text))
+
+
+def fields_of(item):
+    """The fields of an item by their keys, and the keys of those that are hidden. Of a key that stands already the first that is free with a
+    number is taken."""
+    fields, hidden = {}, []
+    for key, text, is_hidden in said_of(item):
+        key = key or ""
+        if key in fields:
+            key = next(numbered for number in itertools.count(2) if (numbered := f"{key} {number}") not in fields)
+        fields[key] = text or ""
+        hidden += [key] if is_hidden else []
+    return fields, hidden
+
+
+def of_bitwarden(data, line, now):
+    export = json_of(data)
+    model.refuse_if(not is_object(export), 4, "bad JSON")
+    model.refuse_if(export.get("encrypted") is True, 5, "encrypted export")
+    folders = checked(export.get("folders"), lambda one: is_object(one) and is_text(one.get("id")) and is_text(one.get("name")), "bad folder")
+    paths = {one["id"]: [name for name in one["name"].split("/") if name] for one in reversed(folders)}
+    is_item = object_of(id=is_id, folderId=lambda one: is_text(one) and one in paths, name=is_text, notes=is_text, login=LOGIN, fields=list_of(CUSTOM),
+                        card=is_object, identity=is_object, creationDate=is_date, revisionDate=is_date, passwordHistory=list_of(EARLIER))
+    items = checked(export.get("items"), is_item, "bad item")
+    ids = [uuid.UUID(one["id"]).bytes if one.get("id") is not None else None for one in items]
+    model.refuse_if(NIL in ids, 4, f"nil id at {ids.index(NIL) + 1 if NIL in ids else ''}")
+    tree = Tree(now)
+    for folder in folders:
+        tree.group([name for name in folder["name"].split("/") if name])
+    for identity, item in zip(ids, items):
+        def date(value, name):
+            return now if value.get(name) is None else date_of(value[name])
+
+        earlier = sorted({(date(one, "lastUsedDate"), one.get("password") or "") for one in item.get("passwordHistory") or []})
+        modified = max([date(item, "revisionDate"), *(used + 1 for used, _ in earlier)])
+        model.refuse_if(modified > LAST, 8, "limit passed")
+        fields, hidden = fields_of(item)
+        tree.add(paths.get(item.get("folderId"), []), identity, fields, date(item, "creationDate"), modified, hidden, earlier)
     return tree.whole()
 
 
@@ -231,9 +395,14 @@ def imported(form, data, line, now):
     model.refuse_if(len(data) > FILE_LIMIT, 8, "limit passed")
     model.refuse_if(form != "xml" and now > LAST, 8, "limit passed")
     try:
-        return {"xml": of_document, "psafe3": of_psafe, "csv": of_table}[form](data, line, now)
+        return {"xml": of_document, "psafe3": of_psafe, "csv": of_table, "bitwarden": of_bitwarden}[form](data, line, now)
     except psafe.Refused as refused:
         raise Refused(refused.status, refused.text)
+
+
+def report(form, data):
+    """What is printed of an import that is carried out."""
+    return "".join(f"Column passed over: {name}\n" for name in passed_over(form, data)) + "Successfully imported database.\n"
 
 
 # ---- known texts
@@ -309,7 +478,7 @@ def stand_in(words):
     except Refused as refused:
         sys.stderr.write(f"keepass: {'words' if refused.status == 9 else subject}: {refused.text}\n")
         return refused.status
-    sys.stdout.write("" if said.quiet else "Successfully imported database.\n")
+    sys.stdout.write("" if said.quiet else report(said.form, data))
     return 0
 
 

@@ -166,7 +166,7 @@ merged_files() {
   local seed=$RANDOM
   compared 'merges by hand' "$merging/against" "$program" table
   many_times "drawn families, seed $seed" "$merging/families" "$program" "$seed" 1000
-  many_times "drawn histories, seed $seed" "$merging/histories" "$program" "$seed" 300
+  many_times "drawn histories, seed $seed" "$merging/histories" "$program" "$seed" 1000
   merge_refusals "$1"
   merges_at_the_limits
   : >input.txt

@@ -126,6 +126,12 @@ def files(folder, data, examples):
     made("NOTITLE", "notitle.csv", b"group,notes\na,b\n")
     made("BADROW", "badrow.csv", b"Title,URL\na,b\nc\n")
     made("TABLE", "table.csv", b"Title\nBank\n")
+    made("LOCKEDEXPORT", "locked.json", b'{"encrypted": true, "data": "2.a|b|c"}')
+    made("BADFOLDER", "folder.json", b'{"folders": [{"id": "1"}]}')
+    made("BADITEM", "item.json", b'{"items": [{"name": "a"}, {"folderId": "1"}]}')
+    identity = "05050505-0505-0505-0505-050505050505"
+    made("ITEMTWICE", "twice.json", ('{"items": [{"id": "' + identity + '"}, {"id": "' + identity + '"}]}').encode())
+    made("ITEMNIL", "nil.json", ('{"items": [{"id": "' + identity.replace("5", "0") + '"}]}').encode())
     made("ONE", "one.xml", xml(group(1, "Root", entry(2, "Bank"))))
     made("TWO", "two.xml", xml(group(1, "Root", group(2, "Bank"))))
     early, late = "2026-01-01T00:00:00Z", "2026-01-02T00:00:00Z"
@@ -140,6 +146,13 @@ def files(folder, data, examples):
     NAMES["FRESH"] = f"{folder}/new.kdbx"
     NAMES["NONE"] = f"{folder}/nothing-like-it"
     NAMES["NEAR"] = f"{folder}/fsat.kdbx"
+    # Names of which the ending, one letter or half of the stem alone is that of a file that is there, and two of which more is.
+    made("ONELETTER", "x.kdbx", fast)
+    NAMES["LETTER"] = f"{folder}/y.kdbx"
+    NAMES["HALF"] = f"{folder}/faxx.kdbx"
+    NAMES["OTHERENDED"] = f"{folder}/mine.kdbx"
+    NAMES["UNENDED"] = f"{folder}/fast"
+    NAMES["LATERKDB"] = f"{folder}/latr.kdb"
     NAMES["FAR"] = f"{folder}/no/such/new.xml"
     NAMES["FARFOLDER"] = f"{folder}/no/such/"
 
@@ -181,17 +194,23 @@ ROWS = [
     ("db-create -p --lanes 4 FRESH", [], 1, "wrong words", ["'--lanes' needs '--kdf'"]),
     ("db-edit --plain -p PLAIN", [], 1, "wrong words", ["db-edit takes no option '--plain': an XML export has neither a key nor settings"]),
     ("db-edit FAST", [], 1, "wrong words", ["nothing to change: give another key, --cipher, --kdf or --version"]),
+    ("db-edit -k KEY FAST", [], 1, "wrong words", ["nothing to change: --set-key-file sets a key file, -k only opens with one"]),
     ("db-edit -p --unset-password FAST", [], 1, "wrong words", ["'--set-password' does not go with '--unset-password'"]),
     ("db-edit --unset-password FAST", [], 1, "wrong words", ["no key is left: a database needs a password or a key file"]),
     ("db-edit --kdf argon2 FAST", [], 1, "wrong words", ["unknown key derivation 'argon2': aes or argon2d or argon2id"]),
     ("db-edit --kdf aes --memory 65536 FAST", [], 1, "wrong words", ["'--memory' needs '--kdf argon2d' or '--kdf argon2id'"]),
+    ("db-edit --kdf argon2id --memory 64M FAST", [], 1, "wrong words",
+     ["'--memory' needs a number of KiB, as 65536 for 64 MiB, in one to ten digits: '64M'"]),
+    ("db-create -p --kdf argon2d --lanes two FRESH", [], 1, "wrong words", ["'--lanes' needs a number of lanes, in one to ten digits: 'two'"]),
+    ("-v", [], 1, "wrong words", ["a command comes first, before '-v'; keepass --version prints the version"]),
+    ("-version", [], 1, "wrong words", ["a command comes first, before '-version'; keepass --version prints the version"]),
     ("open FAST", [], 1, "wrong words", ["unknown command 'open': each call opens the database itself, and nothing stays open"]),
     ("attachment-export FAST Bank a b", [], 1, "wrong words",
      ["unknown command 'attachment-export': keepass has no such command; 'export' prints attachments too"]),
     ("ls --recurse FAST", [], 1, "wrong words", ["ls takes no option '--recurse'; did you mean '--recursive'?"]),
     ("ls -R -R FAST", [], 1, "wrong words", ["'--recursive' is given twice"]),
     ("ls -R=yes FAST", [], 1, "wrong words", ["'-R' takes no value"]),
-    ("ls -Rz FAST", [], 1, "wrong words", ["ls takes no option '-z'"]),
+    ("ls -Rz FAST", [], 1, "wrong words", ["ls takes no option '-z'; keepass ls --help lists its options"]),
     ("ls --recursive=yes FAST", [], 1, "wrong words", ["'--recursive' takes no value"]),
     ("ls", [], 1, "wrong words", ["ls needs DATABASE [GROUP]"]),
     ("ls FAST Work Mail", [], 1, "wrong words", ["one word too many: 'Mail'; ls takes DATABASE [GROUP]"]),
@@ -220,9 +239,9 @@ ROWS = [
     ("merge --plain -s PLAIN SPACED", [], 1, "wrong words", ["'--same-credentials' does not go with '--plain': an XML export has no key"]),
     ("ls -RR FAST", [], 1, "wrong words", ["a flag of '-RR' is given twice"]),
     ("ls --recursive --recursive FAST", [], 1, "wrong words", ["'--recursive' is given twice"]),
-    ("ls -é FAST", [], 1, "wrong words", ["ls takes no option '-é'"]),
-    ("ls --zebra -R -R FAST", [], 1, "wrong words", ["ls takes no option '--zebra'"]),
-    ("import --format chrome -p PLAIN FRESH", [], 1, "wrong words", ["unknown format 'chrome': xml or psafe3 or csv"]),
+    ("ls -é FAST", [], 1, "wrong words", ["ls takes no option '-é'; keepass ls --help lists its options"]),
+    ("ls --zebra -R -R FAST", [], 1, "wrong words", ["ls takes no option '--zebra'; keepass ls --help lists its options"]),
+    ("import --format chrome -p PLAIN FRESH", [], 1, "wrong words", ["unknown format 'chrome': xml or psafe3 or csv or bitwarden"]),
     ("export -f yaml FAST", [], 1, "wrong words", ["unknown format 'yaml': xml or csv"]),
     ("clip FAST", [], 1, "wrong words", ["clip needs DATABASE ENTRY [FIELD]"]),
     ("clip -t soon FAST Bank", [], 1, "wrong words", ["'-t' takes a number of seconds"]),
@@ -311,9 +330,9 @@ ROWS = [
     ("ls --plain FAST", [], 4, "malformed text at *", ["FAST is a database and no XML export: leave --plain out"]),
     ("ls --plain CUTXML", [], 4, "malformed text at *", ["the XML is cut off or broken at this byte: export it again, or use a backup"]),
     ("import --plain FAST FRESH", [], 4, "malformed text at *",
-     ["FAST is a database already: import takes an XML export, a file of Password Safe 3 or a table"]),
+     ["FAST is a database already: import takes an XML export, a file of Password Safe 3, a table or an export of Bitwarden"]),
     ("import --plain SAFE FRESH", [], 4, "malformed text at *", ["a file of Password Safe: give --format psafe3"]),
-    ("import --plain TABLE FRESH", [], 4, "malformed text at 0", ["TABLE is no XML export; --format says what it is: xml, psafe3 or csv"]),
+    ("import --plain TABLE FRESH", [], 4, "malformed text at 0", ["TABLE is no XML export; --format says what it is: xml, psafe3, csv or bitwarden"]),
     ("ls --plain NILID", [], 4, "nil id at *", [MALFORMED.format("NILID")]),
     ("ls --plain NOBINARY", [], 4, "no binary 7",
      ["an attachment is missing, as KeePassXC leaves them out of its exports: export the database with keepass"]),
@@ -324,16 +343,28 @@ ROWS = [
     ("import --plain --format psafe3 SAFEFIELD FRESH", ["pw"], 4, "bad field at *",
      ["the file of Password Safe is malformed: open it in Password Safe and save it again, or use a backup"]),
     ("import --plain --format psafe3 TABLE FRESH", ["x"], 4, "not a psafe3 file",
-     ["TABLE is no file of Password Safe 3; --format says what it is: xml, psafe3 or csv"]),
+     ["TABLE is no file of Password Safe 3; --format says what it is: xml, psafe3, csv or bitwarden"]),
     ("import --plain --format csv LATIN FRESH", [], 4, "not UTF-8 at *",
      ["save the table in UTF-8, or convert it: iconv -f WINDOWS-1252 -t UTF-8 LATIN >NEW.csv"]),
     ("import --plain --format csv NOTITLE FRESH", [], 4, "no Title column",
      ["the first row names the columns, with commas between them: Title, and any of Group, Username, Password, URL, Notes, Last Modified, Created"]),
     ("import --plain --format csv BADROW FRESH", [], 4, "bad row 2",
      ["this row after the first has more or fewer fields than the first, or a time that is not as 2026-11-28T12:34:56Z; blank lines do not count"]),
+    ("import --plain --format bitwarden TABLE FRESH", [], 4, "bad JSON",
+     ["TABLE is no export of Bitwarden in JSON; --format says what it is: xml, psafe3, csv or bitwarden"]),
+    ("import --plain --format bitwarden BADFOLDER FRESH", [], 4, "bad folder 1",
+     ["the folder of this number in the export has no id or no name: export it again from Bitwarden"]),
+    ("import --plain --format bitwarden BADITEM FRESH", [], 4, "bad item 2",
+     ["the item of this number in the export is malformed, or in a folder that is not there: export it again from Bitwarden"]),
+    ("import --plain --format bitwarden ITEMTWICE FRESH", [], 4, "duplicate id 05050505-0505-0505-0505-050505050505",
+     ["two items have one id: delete one of them in Bitwarden, or make it anew there, and export it again"]),
+    ("import --plain --format bitwarden ITEMNIL FRESH", [], 4, "nil id at 1",
+     ["the item of this number has the id of zeros: make it anew in Bitwarden, and export it again"]),
     ("ls FAST", [b"\xff"], 4, "line 1 is not UTF-8", ["passwords are typed in UTF-8: choose a UTF-8 locale"]),
 
     # What is not supported.
+    ("import --plain --format bitwarden LOCKEDEXPORT FRESH", [], 5, "encrypted export",
+     ["export it again from Bitwarden with the file format .json, without encryption, and delete the file once it is imported"]),
     ("ls COMPRESSED", [PASSWORD], 5, "compressed",
      ["switch compression off once and save the file. In KeePassXC: Database > Database Settings > General, untick 'Enable compression';",
       "in KeePass 2: File > Database Settings > Compression, choose 'None'. Or without a window, in python3 with pykeepass:",
@@ -355,6 +386,11 @@ ROWS = [
 
     # Files, limits and streams.
     ("ls NEAR", [], 7, "no such file", ["did you mean FAST?"]),
+    ("ls UNENDED", [], 7, "no such file", ["did you mean FAST?"]),
+    ("ls LATERKDB", [], 7, "no such file", ["did you mean LATER?"]),
+    ("ls OTHERENDED", [], 7, "no such file", ["check the name, and the folder that the call was made in"]),
+    ("ls LETTER", [], 7, "no such file", ["check the name, and the folder that the call was made in"]),
+    ("ls HALF", [], 7, "no such file", ["check the name, and the folder that the call was made in"]),
     ("show Bank FAST", [], 7, "no such file", ["DATABASE comes first: keepass show FAST Bank"]),
     ("ls --plain NONE", [], 7, "no such file", ["check the name, and the folder that the call was made in"]),
     ("merge -s FAST NONE", [], 7, "no such file", ["check the name, and the folder that the call was made in"]),
@@ -403,6 +439,7 @@ REDIRECTED = [
 
 # Hints that no call here gives, and why.
 UNTYPED = {
+    (0, "Successfully *", "memory-asked"): "it is typed with the new passwords",
     (2, "id taken *", ""): "the id is drawn",
     (2, "no attribute *", "number"): "it is typed with the other calls of clip",
     (3, "wrong key or damaged", "kdbx-4"): "its MACs would have to be right",

@@ -2,23 +2,23 @@
 use Rattle.std.proofs.Common.{◌≡◌, ℕ, ◌+◌, ◌-◌, ◌^◌, ◌<◌, List, [], ◌∷◌, ◌++◌, Result, Ok, Err, length, map, get_or, drop, refl, sym, ap, subst, ◌∙◌, arith, append_assoc, append-nil}
 use Rattle.std.proofs.lemmas.List.{drop_more, length-append, map-append}
 use Rattle.bitwarden_core.specs.Folders.{item_groups}
-use Rattle.bitwarden_core.specs.Placing.{placed_item, placed_items, texts_of}
-use Rattle.bitwarden_core.specs.Steps.{PlacedNext, PlacesNext, all_seen, placed_seen, with_placed}
-use Rattle.bitwarden_core.specs.declared.placed.PlacedItem.{PlacedItem}
+use Rattle.bitwarden_core.specs.Placing.{entry_place, placed_item, placed_items, texts_of, with_places}
+use Rattle.bitwarden_core.specs.Steps.{PlacedNext, PlacesNext, all_seen}
 use Rattle.bitwarden_forms.specs.Kinds.{given_id}
 use Rattle.bitwarden_forms.specs.Refusals.{meaning_of}
 use Rattle.bitwarden_forms.specs.declared.fails.BitwardenFail.{BitwardenFail}
-use Rattle.bitwarden_items.specs.Versions.{item_row}
+use Rattle.bitwarden_items.specs.Versions.{entry_modified, in_time, item_row, modified_at}
 use Rattle.import_ids.specs.Counts.{GivesId, HasCounted}
 use Rattle.import_ids.specs.Names.{EntryTexts}
 use Rattle.import_ids.specs.declared.counts.NameCounts.{NameCounts}
+use Rattle.import_tree.specs.SeenDrafts.{placed_seen}
 use Rattle.import_tree.specs.Trees.{Placed}
+use Rattle.import_tree.specs.declared.drafts.ImportedPlace.{ImportedPlace}
 use Rattle.outside_core.specs.Results.{◌>>=◌, Fails, Meaning, exact, free, never}
 use Rattle.serde_json.specs.Data.{Data}
 use Rattle.serde_json.specs.View.{view}
 use Rattle.serde_json.specs.declared.value.Value.{Value}
 use Rattle.vault_model.specs.Db.{NodeId}
-use Rattle.vault_model.specs.SeenNodes.{entry_row}
 use Rattle.vault_model.specs.Shape.{EntryRecord}
 
 -- a refusal of the first of two computations is one of both
@@ -28,27 +28,35 @@ fails_then free x f h = tt
 fails_then never x f h = h
 
 -- one item is placed
-pub item_placed : (now : ℕ) (folders : List Data) (before : List EntryTexts) (item : Data) (ps qs : List PlacedItem) (p : PlacedItem) (id : NodeId) (after : NameCounts)
+pub item_placed : (now : ℕ) (folders : List Data) (before : List EntryTexts) (item : Data) (ps qs : List ImportedPlace) (p : ImportedPlace) (names : List (List ℕ)) (id : NodeId) (after : NameCounts)
     → GivesId before (given_id item) (texts_of folders item) id after → qs ≡ ps ++ p ∷ []
-    → p.moment ≡ now → p.names ≡ item_groups folders item → item_row now id item ≡ Ok (entry_row p.entry)
+    → names ≡ item_groups folders item → entry_place now names id item ≡ Ok (placed_seen p)
     → PlacedNext now folders before item (all_seen ps) (all_seen qs) after
-item_placed now folders before item ps qs p id after given_member is moment names row = record {
+item_placed now folders before item ps qs p names id after given_member is lead place = record {
   entry = placed_seen p;
-  is = ap (λ (u : NodeId). item_row now u item >>= λ (r : NodeId × EntryRecord). let made : Result Placed BitwardenFail = Ok (record { now = now; names = item_groups folders item; row = r }) in made) (sym given_member.id)
-      ∙ ap (λ (x : Result (NodeId × EntryRecord) BitwardenFail). x >>= λ (r : NodeId × EntryRecord). let made : Result Placed BitwardenFail = Ok (record { now = now; names = item_groups folders item; row = r }) in made) row
-      ∙ (λ i. let made : Result Placed BitwardenFail = Ok (record { now = sym moment i; names = sym names i; row = entry_row p.entry }) in made);
+  is = ap (λ (u : NodeId). entry_place now (item_groups folders item) u item) (sym given_member.id)
+      ∙ ap (λ (ns : List (List ℕ)). entry_place now ns id item) (sym lead) ∙ place;
   placed = ap all_seen is ∙ map-append placed_seen ps (p ∷ []);
   counted = given_member.counted;
 }
+
+-- the id of an item's entry is the one that it was given
+row_of : (r : Result ℕ BitwardenFail) (id : NodeId) (made : ℕ → EntryRecord) (row : NodeId × EntryRecord)
+    → (r >>= λ (m : ℕ). let row_made : Result (NodeId × EntryRecord) BitwardenFail = Ok (id, made m) in row_made) ≡ Ok row → row.0 ≡ id
+row_of (Ok m) id made row e = let same : (id, made m) ≡ row = cc e in ap (λ (r : NodeId × EntryRecord). r.0) (sym same)
+row_of (Err refusal) id made row e = absurd (cc e)
+
+pub entry_id : (now : ℕ) (id : NodeId) (item : Data) (row : NodeId × EntryRecord) → item_row now id item ≡ Ok row → row.0 ≡ id
+entry_id now id item row e = row_of (in_time (modified_at now item)) id (entry_modified now item) row e
 
 -- What is placed so far, with the items that are left, is all, where those before were counted.
 pub record Placing (now : ℕ) (folders : List Data) (total : Result (List Placed) BitwardenFail) (all : ℕ) (placed : List Placed) (left : List Data) (counts : NameCounts) : Type 0 where
   pub before : List EntryTexts
   pub counted : HasCounted counts before
   pub many : length before + length left ≡ all
-  pub total_is : with_placed placed (placed_items now folders before left) ≡ total
+  pub total_is : with_places placed (placed_items now folders before left) ≡ total
 
-after_one : (placed : List Placed) (p : Placed) (rest : Result (List Placed) BitwardenFail) → with_placed placed (rest >>= λ more. Ok (p ∷ more)) ≡ with_placed (placed ++ p ∷ []) rest
+after_one : (placed : List Placed) (p : Placed) (rest : Result (List Placed) BitwardenFail) → with_places placed (rest >>= λ more. Ok (p ∷ more)) ≡ with_places (placed ++ p ∷ []) rest
 after_one placed p (Ok more) = ap (λ (ps : List Placed). let made : Result (List Placed) BitwardenFail = Ok ps in made) (sym (append_assoc placed (p ∷ []) more))
 after_one placed p (Err e) = refl
 
@@ -69,9 +77,9 @@ module _ (now : ℕ) (folders : List Data) (total : Result (List Placed) Bitward
         before = so_far.before ++ texts_of folders item ∷ [];
         counted = step.counted;
         many = omega (arith, many, longer);
-        total_is = ap (λ (ps : List Placed). with_placed ps rest) step.placed
+        total_is = ap (λ (ps : List Placed). with_places ps rest) step.placed
             ∙ sym (after_one placed step.entry rest)
-            ∙ ap (λ (x : Result Placed BitwardenFail). with_placed placed (x >>= λ p. rest >>= λ more. Ok (p ∷ more))) (sym step.is)
+            ∙ ap (λ (x : Result Placed BitwardenFail). with_places placed (x >>= λ p. rest >>= λ more. Ok (p ∷ more))) (sym step.is)
             ∙ so_far.total_is;
       }
 

@@ -1,13 +1,11 @@
 -- The document of an export of Bitwarden.
-use Rattle.std.specs.Prelude.{ℕ, List, [], map, Result, Ok, Err}
-use Rattle.bitwarden_core.specs.Folders.{folder_names}
-use Rattle.bitwarden_core.specs.Groups.{with_paths}
-use Rattle.bitwarden_core.specs.Placing.{placed_items}
-use Rattle.bitwarden_forms.specs.Exports.{export_of, folders_in, items_in}
+use Rattle.std.specs.Prelude.{ℕ, List, Result, Ok, Err}
+use Rattle.bitwarden_core.specs.Placing.{export_places}
+use Rattle.bitwarden_forms.specs.Exports.{export_of}
 use Rattle.bitwarden_forms.specs.declared.fails.BitwardenFail.{BitwardenFail}
 use Rattle.bitwarden_forms.specs.declared.fails.BitwardenFail.TheVariants as fail
 use Rattle.import_tree.specs.Outcome.{sound_document}
-use Rattle.import_tree.specs.Trees.{Placed, document_of, with_all_placed}
+use Rattle.import_tree.specs.Trees.{placed_document}
 use Rattle.import_tree.specs.declared.fails.TreeFail.{TreeFail}
 use Rattle.import_tree.specs.declared.fails.TreeFail.TheVariants as tree
 use Rattle.outside_core.specs.Results.{◌>>=◌}
@@ -25,19 +23,11 @@ abbrev pub as_export : {A : Type 0} → Result A TreeFail → Result A Bitwarden
 as_export (Ok x) = Ok x
 as_export (Err refusal) = Err (of_tree refusal)
 
--- The document of folders and of entries at a moment: each folder gives a group, in their order, and
--- then each entry is put into its group.
-abbrev pub placed_document : ℕ → List Data → List Placed → BareDoc
-placed_document now folders placed = record (document_of now []) {
-  tree = with_all_placed placed
-      (with_paths now (map folder_names folders) (document_of now []).tree);
-}
-
 -- The document of an export that is as it has to be.
 abbrev pub document_at : ℕ → Data → Result BareDoc BitwardenFail
 document_at now export = do
-  placed ← placed_items now (folders_in export) [] (items_in export)
-  as_export (sound_document (placed_document now (folders_in export) placed))
+  places ← export_places now export
+  as_export (sound_document (placed_document now places))
 
 -- The document of an unencrypted export of Bitwarden at a moment, or the first reason why there is
 -- none.

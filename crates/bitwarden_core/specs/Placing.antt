@@ -1,7 +1,9 @@
--- The entries of an export under their ids, each with the groups that it is in.
-use Rattle.std.specs.Prelude.{ℕ, List, [], ◌∷◌, ◌++◌, Some, Result, Ok, codes}
-use Rattle.bitwarden_core.specs.Folders.{item_groups}
+-- The places of the tree that an export gives: those of its folders, and then those of its entries,
+-- under their ids.
+use Rattle.std.specs.Prelude.{ℕ, List, [], ◌∷◌, ◌++◌, Some, Result, Ok, codes, map}
+use Rattle.bitwarden_core.specs.Folders.{folder_names, item_groups}
 use Rattle.bitwarden_fields.specs.Said.{addresses_of, first_text, login_of}
+use Rattle.bitwarden_forms.specs.Exports.{folders_in, items_in}
 use Rattle.bitwarden_forms.specs.Json.{text}
 use Rattle.bitwarden_forms.specs.Kinds.{given_id}
 use Rattle.bitwarden_forms.specs.declared.fails.BitwardenFail.{BitwardenFail}
@@ -27,11 +29,16 @@ texts_of folders item = record {
 abbrev pub item_id : List Data → List EntryTexts → Data → NodeId
 item_id folders before item = id_after before (given_id item) (texts_of folders item)
 
+-- the entry of an item under an id, in the group to which names lead
+abbrev pub entry_place : ℕ → List (List ℕ) → NodeId → Data → Result Placed BitwardenFail
+entry_place now names id item = do
+  row ← item_row now id item
+  Ok (record { now = now; names = names; rows = row ∷ [] })
+
 -- the entry of an item, where those before it have these texts
 abbrev pub placed_item : ℕ → List Data → List EntryTexts → Data → Result Placed BitwardenFail
-placed_item now folders before item = do
-  row ← item_row now (item_id folders before item) item
-  Ok (record { now = now; names = item_groups folders item; row = row })
+placed_item now folders before item =
+    entry_place now (item_groups folders item) (item_id folders before item) item
 
 -- the entries of items, one after another, where those before them have these texts
 abbrev pub placed_items : ℕ → List Data → List EntryTexts → List Data
@@ -41,3 +48,19 @@ placed_items now folders before (item ∷ items) = do
   placed ← placed_item now folders before item
   rest ← placed_items now folders (before ++ texts_of folders item ∷ []) items
   Ok (placed ∷ rest)
+
+-- the group of a folder, with nothing in it
+abbrev pub folder_place : ℕ → Data → Placed
+folder_place now folder = record { now = now; names = folder_names folder; rows = [] }
+
+-- places, and those of a result after them
+abbrev pub with_places : List Placed → Result (List Placed) BitwardenFail
+    → Result (List Placed) BitwardenFail
+with_places places rest = rest >>= λ more. Ok (places ++ more)
+
+-- The places of an export at a moment: the group of each folder, in their order, and then each entry
+-- in its group.
+abbrev pub export_places : ℕ → Data → Result (List Placed) BitwardenFail
+export_places now export =
+    with_places (map (folder_place now) (folders_in export))
+    (placed_items now (folders_in export) [] (items_in export))

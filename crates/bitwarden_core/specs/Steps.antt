@@ -1,28 +1,20 @@
 -- Items are placed, one after another.
 use Rattle.std.specs.Prelude.{◌≡◌, ◌<◌, ◌-◌, ◌^◌, ℕ, List, [], ◌∷◌, ◌++◌, Result, Ok, Err, length, map}
 use Rattle.bitwarden_core.specs.Placing.{placed_item, texts_of}
-use Rattle.bitwarden_core.specs.declared.placed.PlacedItem.{PlacedItem}
 use Rattle.bitwarden_forms.specs.Refusals.{meaning_of}
 use Rattle.bitwarden_forms.specs.declared.fails.BitwardenFail.{BitwardenFail}
 use Rattle.import_ids.specs.Counts.{HasCounted}
 use Rattle.import_ids.specs.Names.{EntryTexts}
 use Rattle.import_ids.specs.declared.counts.NameCounts.{NameCounts}
+use Rattle.import_tree.specs.SeenDrafts.{placed_seen}
 use Rattle.import_tree.specs.Trees.{Placed}
-use Rattle.outside_core.specs.Results.{◌>>=◌, Fails}
+use Rattle.import_tree.specs.declared.drafts.ImportedPlace.{ImportedPlace}
+use Rattle.outside_core.specs.Results.{Fails}
 use Rattle.serde_json.specs.Data.{Data}
-use Rattle.vault_model.specs.SeenNodes.{entry_row}
 
--- an entry without memory
-abbrev pub placed_seen : PlacedItem → Placed
-placed_seen placed = record {
-  now = placed.moment;
-  names = placed.names;
-  row = entry_row placed.entry;
-}
-
--- entries without memory
-abbrev pub all_seen : List PlacedItem → List Placed
-all_seen placed = map placed_seen placed
+-- places without memory
+abbrev pub all_seen : List ImportedPlace → List Placed
+all_seen places = map placed_seen places
 
 -- An item more is placed, and counted.
 pub record PlacedNext (now : ℕ) (folders : List Data) (before : List EntryTexts) (item : Data)
@@ -46,8 +38,3 @@ abbrev pub PlacesNext : ℕ → List Data → Data → NameCounts → List Place
 PlacesNext now folders item counts old after new result = (before : List EntryTexts)
     → HasCounted counts before → length before < 2 ^ 64 - 1
     → Places now folders before item old new after result
-
--- entries, and those of a result after them
-abbrev pub with_placed : List Placed → Result (List Placed) BitwardenFail
-    → Result (List Placed) BitwardenFail
-with_placed placed rest = rest >>= λ more. Ok (placed ++ more)

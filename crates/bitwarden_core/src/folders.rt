@@ -68,6 +68,13 @@ fn folder_of<'a>(folders: &'a [Value], item: &Value) -> Option<&'a Value>
     }
 }
 
+/// The names of the groups that lead to a folder, its own among them.
+pub(crate) fn folder_groups(alloc: Global, folder: &Value) -> Result<List<Text>, NoMemory>
+    ensures { IfOk result (λ names. names ≡ spec.folder_names (view folder.now)) }
+{
+    names_in(alloc, text(Some(folder), "name"))
+}
+
 /// The names of the groups that lead to an item; none where it names no folder.
 pub(crate) fn item_groups(
     alloc: Global,
@@ -78,7 +85,7 @@ pub(crate) fn item_groups(
         ≡ spec.item_groups (map view folders.now) (view item.now)) }
 {
     match folder_of(folders, item) {
-        Some(folder) => names_in(alloc, text(Some(folder), "name")),
+        Some(folder) => folder_groups(alloc, folder),
         None => Ok(List::new(alloc)),
     }
 }

@@ -1,9 +1,9 @@
-//! The entries and the groups that an export of Bitwarden gives.
+//! The document that an export of Bitwarden gives.
 #![tactic(auto)]
 
 mod folders;
-mod placed;
+mod import;
 mod placing;
 
-pub use placed::PlacedItem;
-pub use placing::read_items;
+pub use bitwarden_forms::BitwardenFail;
+pub use import::import_bitwarden;

@@ -1,2 +1,2 @@
-mod Earlier
-mod Passwords
+pub mod Earlier
+pub mod Passwords

@@ -159,42 +159,42 @@ tells_after asked sealed None mid d l none t h = subst (λ (m : Option (List ℕ
 
 -- What a task is carried out to whose command makes this change.
 carried_by : (time : ℕ) (task : Task) (line otp : Option (List ℕ)) (settings : Option Settings) (dice : List ℕ) (change : Change) → line ≡ task.lines.more → otp ≡ task.lines.otp → settings ≡ settings_in task.opened.sealing
-    → (change_of time task.command line otp task.sources settings task.opened.doc dice).answer ≡ Ok change
-    → carried_out time task dice ≡ ended_with (target_of task.command) task.opened.sealing change.text change.doc (change_of time task.command line otp task.sources settings task.opened.doc dice).left
+    → (change_of time task.command line otp task.sources settings task.opened.passed_over task.opened.doc dice).answer ≡ Ok change
+    → carried_out time task dice ≡ ended_with (target_of task.command) task.opened.sealing change.text change.doc (change_of time task.command line otp task.sources settings task.opened.passed_over task.opened.doc dice).left
 unfolding carried_out
 carried_by time task line otp settings dice change e o s h =
-    ap (λ (l : Option (List ℕ)). then_left (change_of time task.command l task.lines.otp task.sources (settings_in task.opened.sealing) task.opened.doc dice) (λ change left. ended_with (target_of task.command) task.opened.sealing change.text change.doc left)) (sym e)
-    ∙ ap (λ (x : Option (List ℕ)). then_left (change_of time task.command line x task.sources (settings_in task.opened.sealing) task.opened.doc dice) (λ change left. ended_with (target_of task.command) task.opened.sealing change.text change.doc left)) (sym o)
-    ∙ ap (λ (x : Option Settings). then_left (change_of time task.command line otp task.sources x task.opened.doc dice) (λ change left. ended_with (target_of task.command) task.opened.sealing change.text change.doc left)) (sym s)
-    ∙ ap (λ (r : Result Change Refusal). then_left (with_left r (change_of time task.command line otp task.sources settings task.opened.doc dice).left)
+    ap (λ (l : Option (List ℕ)). then_left (change_of time task.command l task.lines.otp task.sources (settings_in task.opened.sealing) task.opened.passed_over task.opened.doc dice) (λ change left. ended_with (target_of task.command) task.opened.sealing change.text change.doc left)) (sym e)
+    ∙ ap (λ (x : Option (List ℕ)). then_left (change_of time task.command line x task.sources (settings_in task.opened.sealing) task.opened.passed_over task.opened.doc dice) (λ change left. ended_with (target_of task.command) task.opened.sealing change.text change.doc left)) (sym o)
+    ∙ ap (λ (x : Option Settings). then_left (change_of time task.command line otp task.sources x task.opened.passed_over task.opened.doc dice) (λ change left. ended_with (target_of task.command) task.opened.sealing change.text change.doc left)) (sym s)
+    ∙ ap (λ (r : Result Change Refusal). then_left (with_left r (change_of time task.command line otp task.sources settings task.opened.passed_over task.opened.doc dice).left)
     (λ change left. ended_with (target_of task.command) task.opened.sealing change.text change.doc left)) h
 
 refused_by : (time : ℕ) (task : Task) (line otp : Option (List ℕ)) (settings : Option Settings) (dice : List ℕ) (refusal : Refusal) → line ≡ task.lines.more → otp ≡ task.lines.otp → settings ≡ settings_in task.opened.sealing
-    → (change_of time task.command line otp task.sources settings task.opened.doc dice).answer ≡ Err refusal
-    → carried_out time task dice ≡ with_left (Err refusal) (change_of time task.command line otp task.sources settings task.opened.doc dice).left
+    → (change_of time task.command line otp task.sources settings task.opened.passed_over task.opened.doc dice).answer ≡ Err refusal
+    → carried_out time task dice ≡ with_left (Err refusal) (change_of time task.command line otp task.sources settings task.opened.passed_over task.opened.doc dice).left
 unfolding carried_out
 refused_by time task line otp settings dice refusal e o s h =
-    ap (λ (l : Option (List ℕ)). then_left (change_of time task.command l task.lines.otp task.sources (settings_in task.opened.sealing) task.opened.doc dice) (λ change left. ended_with (target_of task.command) task.opened.sealing change.text change.doc left)) (sym e)
-    ∙ ap (λ (x : Option (List ℕ)). then_left (change_of time task.command line x task.sources (settings_in task.opened.sealing) task.opened.doc dice) (λ change left. ended_with (target_of task.command) task.opened.sealing change.text change.doc left)) (sym o)
-    ∙ ap (λ (x : Option Settings). then_left (change_of time task.command line otp task.sources x task.opened.doc dice) (λ change left. ended_with (target_of task.command) task.opened.sealing change.text change.doc left)) (sym s)
-    ∙ ap (λ (r : Result Change Refusal). then_left (with_left r (change_of time task.command line otp task.sources settings task.opened.doc dice).left)
+    ap (λ (l : Option (List ℕ)). then_left (change_of time task.command l task.lines.otp task.sources (settings_in task.opened.sealing) task.opened.passed_over task.opened.doc dice) (λ change left. ended_with (target_of task.command) task.opened.sealing change.text change.doc left)) (sym e)
+    ∙ ap (λ (x : Option (List ℕ)). then_left (change_of time task.command line x task.sources (settings_in task.opened.sealing) task.opened.passed_over task.opened.doc dice) (λ change left. ended_with (target_of task.command) task.opened.sealing change.text change.doc left)) (sym o)
+    ∙ ap (λ (x : Option Settings). then_left (change_of time task.command line otp task.sources x task.opened.passed_over task.opened.doc dice) (λ change left. ended_with (target_of task.command) task.opened.sealing change.text change.doc left)) (sym s)
+    ∙ ap (λ (r : Result Change Refusal). then_left (with_left r (change_of time task.command line otp task.sources settings task.opened.passed_over task.opened.doc dice).left)
     (λ change left. ended_with (target_of task.command) task.opened.sealing change.text change.doc left)) h
 
 -- The change was made and the file written, if one is.
 pub ends_by : (time : ℕ) (task : Task) (line otp : Option (List ℕ)) (settings : Option Settings) (dice name : List ℕ) (change : Change) (before now : Store) (old mid new : Option (List ℕ))
     → line ≡ task.lines.more → otp ≡ task.lines.otp → settings ≡ settings_in task.opened.sealing → name ≡ (target_of task.command)
-    → (change_of time task.command line otp task.sources settings task.opened.doc dice).answer ≡ Ok change → IsLeft old mid (change_of time task.command line otp task.sources settings task.opened.doc dice).left
-    → EndsWith change.text (Ok tt) (ended_with name task.opened.sealing change.text change.doc (change_of time task.command line otp task.sources settings task.opened.doc dice).left) before now mid new
+    → (change_of time task.command line otp task.sources settings task.opened.passed_over task.opened.doc dice).answer ≡ Ok change → IsLeft old mid (change_of time task.command line otp task.sources settings task.opened.passed_over task.opened.doc dice).left
+    → EndsWith change.text (Ok tt) (ended_with name task.opened.sealing change.text change.doc (change_of time task.command line otp task.sources settings task.opened.passed_over task.opened.doc dice).left) before now mid new
     → EndsSo change.text (carried_out time task dice).answer before now × IsLeft old new (carried_out time task dice).left
 ends_by time task line otp settings dice name change before now old mid new e o s n h l w =
-    let made = (change_of time task.command line otp task.sources settings task.opened.doc dice).left in
+    let made = (change_of time task.command line otp task.sources settings task.opened.passed_over task.opened.doc dice).left in
     let there = subst (λ (f : List ℕ). EndsWith change.text (Ok tt) (ended_with f task.opened.sealing change.text change.doc made) before now mid new) n w in
     subst (λ (t : StreamAnswer Ending). EndsSo change.text t.answer before now × IsLeft old new t.left) (sym (carried_by time task line otp settings dice change e o s h))
     (there.0, left_after old mid new made (ended_with (target_of task.command) task.opened.sealing change.text change.doc made).left l there.1)
 
 -- The change was refused.
 pub change_refused : (stop : Stop) (time : ℕ) (task : Task) (line otp : Option (List ℕ)) (settings : Option Settings) (dice : List ℕ) (before : Store) (stream stream' : Option (List ℕ))
-    → line ≡ task.lines.more → otp ≡ task.lines.otp → settings ≡ settings_in task.opened.sealing → RefusesAskedStream stop stream stream' (change_of time task.command line otp task.sources settings task.opened.doc dice)
+    → line ≡ task.lines.more → otp ≡ task.lines.otp → settings ≡ settings_in task.opened.sealing → RefusesAskedStream stop stream stream' (change_of time task.command line otp task.sources settings task.opened.passed_over task.opened.doc dice)
     → Ends (Err stop) (carried_out time task dice) before before stream stream'
 change_refused (Refused refusal) time task line otp settings dice before stream stream' e o s h =
     subst (λ (t : StreamAnswer Ending). EndsRefused refusal t.answer before before × IsLeft stream stream' t.left) (sym (refused_by time task line otp settings dice refusal e o s h.0))
@@ -206,11 +206,11 @@ change_refused NoMemory time task line otp settings dice before stream stream' e
 -- The file was refused.
 pub file_refused : (stop : Stop) (time : ℕ) (task : Task) (line otp : Option (List ℕ)) (settings : Option Settings) (dice name : List ℕ) (change : Change) (before now : Store) (old mid new : Option (List ℕ))
     → line ≡ task.lines.more → otp ≡ task.lines.otp → settings ≡ settings_in task.opened.sealing → name ≡ (target_of task.command)
-    → (change_of time task.command line otp task.sources settings task.opened.doc dice).answer ≡ Ok change → IsLeft old mid (change_of time task.command line otp task.sources settings task.opened.doc dice).left
-    → EndsWith change.text (Err stop) (ended_with name task.opened.sealing change.text change.doc (change_of time task.command line otp task.sources settings task.opened.doc dice).left) before now mid new
+    → (change_of time task.command line otp task.sources settings task.opened.passed_over task.opened.doc dice).answer ≡ Ok change → IsLeft old mid (change_of time task.command line otp task.sources settings task.opened.passed_over task.opened.doc dice).left
+    → EndsWith change.text (Err stop) (ended_with name task.opened.sealing change.text change.doc (change_of time task.command line otp task.sources settings task.opened.passed_over task.opened.doc dice).left) before now mid new
     → Ends (Err stop) (carried_out time task dice) before now old new
 file_refused (Refused refusal) time task line otp settings dice name change before now old mid new e o s n h l w =
-    let made = (change_of time task.command line otp task.sources settings task.opened.doc dice).left in
+    let made = (change_of time task.command line otp task.sources settings task.opened.passed_over task.opened.doc dice).left in
     let there = subst (λ (f : List ℕ). EndsWith change.text (Err (Refused refusal)) (ended_with f task.opened.sealing change.text change.doc made) before now mid new) n w in
     subst (λ (t : StreamAnswer Ending). EndsRefused refusal t.answer before now × IsLeft old new t.left) (sym (carried_by time task line otp settings dice change e o s h))
     (there.0, left_after old mid new made (ended_with (target_of task.command) task.opened.sealing change.text change.doc made).left l there.1)
@@ -221,13 +221,13 @@ file_refused NoMemory time task line otp settings dice name change before now ol
 -- What was printed and written is of the change.
 pub of_dice : (time : ℕ) (task : Task) (line otp : Option (List ℕ)) (settings : Option Settings) (dice name printed : List ℕ) (change : Change) (before now : Store)
     → line ≡ task.lines.more → otp ≡ task.lines.otp → settings ≡ settings_in task.opened.sealing → name ≡ (target_of task.command) → printed ≡ change.text
-    → (change_of time task.command line otp task.sources settings task.opened.doc dice).answer ≡ Ok change → ReadsBack name task.opened.sealing change.doc before now
+    → (change_of time task.command line otp task.sources settings task.opened.passed_over task.opened.doc dice).answer ≡ Ok change → ReadsBack name task.opened.sealing change.doc before now
     → IsOfDice time task dice printed before now
 of_dice time task line otp settings dice name printed change before now e o s n p h r = record {
   change = change;
-  makes = subst (λ (l : Option (List ℕ)). (change_of time task.command l task.lines.otp task.sources (settings_in task.opened.sealing) task.opened.doc dice).answer ≡ Ok change) e
-      (subst (λ (x : Option (List ℕ)). (change_of time task.command line x task.sources (settings_in task.opened.sealing) task.opened.doc dice).answer ≡ Ok change) o
-      (subst (λ (x : Option Settings). (change_of time task.command line otp task.sources x task.opened.doc dice).answer ≡ Ok change) s h));
+  makes = subst (λ (l : Option (List ℕ)). (change_of time task.command l task.lines.otp task.sources (settings_in task.opened.sealing) task.opened.passed_over task.opened.doc dice).answer ≡ Ok change) e
+      (subst (λ (x : Option (List ℕ)). (change_of time task.command line x task.sources (settings_in task.opened.sealing) task.opened.passed_over task.opened.doc dice).answer ≡ Ok change) o
+      (subst (λ (x : Option Settings). (change_of time task.command line otp task.sources x task.opened.passed_over task.opened.doc dice).answer ≡ Ok change) s h));
   text = p;
   reads_back = subst (λ (f : List ℕ). ReadsBack f task.opened.sealing change.doc before now) n r;
 }
@@ -242,24 +242,24 @@ ends_so name (Ok change) left one other none =
     ap (λ (x : Option BareDoc). ended_with name one change.text x left) none ∙ sym (ap (λ (x : Option BareDoc). ended_with name other change.text x left) none)
 ends_so name (Err refusal) left one other none = refl
 
-carried_kept : (writes : Bool) (time : ℕ) (command : Command) (lines : Lines) (sources : List BareDoc) (doc : BareDoc) (one other : Option Sealing) (dice : List ℕ)
+carried_kept : (writes : Bool) (time : ℕ) (command : Command) (lines : Lines) (sources : List BareDoc) (doc : BareDoc) (passed : List (List ℕ)) (one other : Option Sealing) (dice : List ℕ)
     → may_write command ≡ writes → settings_in one ≡ settings_in other → (writes ≡ true → one ≡ other)
-    → carried_out time (task_with command lines (record { target = record { doc = doc; sealing = one }; sources = sources })) dice
-    ≡ carried_out time (task_with command lines (record { target = record { doc = doc; sealing = other }; sources = sources })) dice
+    → carried_out time (task_with command lines (record { target = record { doc = doc; sealing = one; passed_over = passed }; sources = sources })) dice
+    ≡ carried_out time (task_with command lines (record { target = record { doc = doc; sealing = other; passed_over = passed }; sources = sources })) dice
 unfolding carried_out
-carried_kept true time command lines sources doc one other dice w k same =
-    ap (λ (s : Option Sealing). carried_out time (task_with command lines (record { target = record { doc = doc; sealing = s }; sources = sources })) dice) (same refl)
-carried_kept false time command lines sources doc one other dice w k same =
-    ap (λ (x : Option Settings). then_left (change_of time command lines.more lines.otp sources x doc dice) (λ change left. ended_with (target_of command) one change.text change.doc left)) k
-    ∙ ends_so (target_of command) (change_of time command lines.more lines.otp sources (settings_in other) doc dice).answer (change_of time command lines.more lines.otp sources (settings_in other) doc dice).left one other
-    (none_changed time command lines.more lines.otp sources (settings_in other) doc dice w)
+carried_kept true time command lines sources doc passed one other dice w k same =
+    ap (λ (s : Option Sealing). carried_out time (task_with command lines (record { target = record { doc = doc; sealing = s; passed_over = passed }; sources = sources })) dice) (same refl)
+carried_kept false time command lines sources doc passed one other dice w k same =
+    ap (λ (x : Option Settings). then_left (change_of time command lines.more lines.otp sources x passed doc dice) (λ change left. ended_with (target_of command) one change.text change.doc left)) k
+    ∙ ends_so (target_of command) (change_of time command lines.more lines.otp sources (settings_in other) passed doc dice).answer (change_of time command lines.more lines.otp sources (settings_in other) passed doc dice).left one other
+    (none_changed time command lines.more lines.otp sources (settings_in other) passed doc dice w)
 
-pub ends_kept : (time : ℕ) (command : Command) (lines : Lines) (sources : List BareDoc) (doc : BareDoc) (one other : Option Sealing) (d : List ℕ) (result : Result Output Stop) (before now : Store) (dice dice' : Option (List ℕ))
+pub ends_kept : (time : ℕ) (command : Command) (lines : Lines) (sources : List BareDoc) (doc : BareDoc) (passed : List (List ℕ)) (one other : Option Sealing) (d : List ℕ) (result : Result Output Stop) (before now : Store) (dice dice' : Option (List ℕ))
     → settings_in one ≡ settings_in other → (may_write command ≡ true → one ≡ other)
-    → Ends result (carried_out time (task_with command lines (record { target = record { doc = doc; sealing = one }; sources = sources })) d) before now dice dice'
-    → Ends result (carried_out time (task_with command lines (record { target = record { doc = doc; sealing = other }; sources = sources })) d) before now dice dice'
-ends_kept time command lines sources doc one other d result before now dice dice' k same h =
-    subst (λ (a : StreamAnswer Ending). Ends result a before now dice dice') (carried_kept (may_write command) time command lines sources doc one other d refl k same) h
+    → Ends result (carried_out time (task_with command lines (record { target = record { doc = doc; sealing = one; passed_over = passed }; sources = sources })) d) before now dice dice'
+    → Ends result (carried_out time (task_with command lines (record { target = record { doc = doc; sealing = other; passed_over = passed }; sources = sources })) d) before now dice dice'
+ends_kept time command lines sources doc passed one other d result before now dice dice' k same h =
+    subst (λ (a : StreamAnswer Ending). Ends result a before now dice dice') (carried_kept (may_write command) time command lines sources doc passed one other d refl k same) h
 
 reads_kept : (writes : Bool) (name : List ℕ) (one other : Option Sealing) (doc : Option BareDoc) (before now : Store)
     → (writes ≡ true → one ≡ other) → (writes ≡ false → doc ≡ None) → ReadsBack name one doc before now → ReadsBack name other doc before now
@@ -272,33 +272,33 @@ reads_kept false name one other doc before now same none h =
 if_made : (answer : Result Change Refusal) (change : Change) → answer ≡ Ok change → IfOk answer (λ change. change.doc ≡ None) → change.doc ≡ None
 if_made answer change e h = subst (λ (a : Result Change Refusal). IfOk a (λ change. change.doc ≡ None)) e h
 
-of_dice_kept : (time : ℕ) (command : Command) (lines : Lines) (sources : List BareDoc) (doc : BareDoc) (one other : Option Sealing) (d printed : List ℕ) (before now : Store)
+of_dice_kept : (time : ℕ) (command : Command) (lines : Lines) (sources : List BareDoc) (doc : BareDoc) (passed : List (List ℕ)) (one other : Option Sealing) (d printed : List ℕ) (before now : Store)
     → settings_in one ≡ settings_in other → (may_write command ≡ true → one ≡ other)
-    → IsOfDice time (task_with command lines (record { target = record { doc = doc; sealing = one }; sources = sources })) d printed before now
-    → IsOfDice time (task_with command lines (record { target = record { doc = doc; sealing = other }; sources = sources })) d printed before now
-of_dice_kept time command lines sources doc one other d printed before now k same h = record {
+    → IsOfDice time (task_with command lines (record { target = record { doc = doc; sealing = one; passed_over = passed }; sources = sources })) d printed before now
+    → IsOfDice time (task_with command lines (record { target = record { doc = doc; sealing = other; passed_over = passed }; sources = sources })) d printed before now
+of_dice_kept time command lines sources doc passed one other d printed before now k same h = record {
   change = h.change;
-  makes = subst (λ (x : Option Settings). (change_of time command lines.more lines.otp sources x doc d).answer ≡ Ok h.change) k h.makes;
+  makes = subst (λ (x : Option Settings). (change_of time command lines.more lines.otp sources x passed doc d).answer ≡ Ok h.change) k h.makes;
   text = h.text;
   reads_back =
       reads_kept (may_write command) (target_of command) one other h.change.doc before now same
-      (λ w. if_made (change_of time command lines.more lines.otp sources (settings_in one) doc d).answer h.change h.makes
-      (none_changed time command lines.more lines.otp sources (settings_in one) doc d w)) h.reads_back;
+      (λ w. if_made (change_of time command lines.more lines.otp sources (settings_in one) passed doc d).answer h.change h.makes
+      (none_changed time command lines.more lines.otp sources (settings_in one) passed doc d w)) h.reads_back;
 }
 
-pub all_kept : (time : ℕ) (command : Command) (lines : Lines) (sources : List BareDoc) (doc : BareDoc) (one other : Option Sealing) (d : List ℕ) (result : Result Output Stop) (before now : Store)
+pub all_kept : (time : ℕ) (command : Command) (lines : Lines) (sources : List BareDoc) (doc : BareDoc) (passed : List (List ℕ)) (one other : Option Sealing) (d : List ℕ) (result : Result Output Stop) (before now : Store)
     → settings_in one ≡ settings_in other → (may_write command ≡ true → one ≡ other)
-    → IfOk result (λ output. IsOfDice time (task_with command lines (record { target = record { doc = doc; sealing = one }; sources = sources })) d (output_text output) before now)
-    → IfOk result (λ output. IsOfDice time (task_with command lines (record { target = record { doc = doc; sealing = other }; sources = sources })) d (output_text output) before now)
-all_kept time command lines sources doc one other d (Ok output) before now k same h = of_dice_kept time command lines sources doc one other d (output_text output) before now k same h
-all_kept time command lines sources doc one other d (Err stop) before now k same h = tt
+    → IfOk result (λ output. IsOfDice time (task_with command lines (record { target = record { doc = doc; sealing = one; passed_over = passed }; sources = sources })) d (output_text output) before now)
+    → IfOk result (λ output. IsOfDice time (task_with command lines (record { target = record { doc = doc; sealing = other; passed_over = passed }; sources = sources })) d (output_text output) before now)
+all_kept time command lines sources doc passed one other d (Ok output) before now k same h = of_dice_kept time command lines sources doc passed one other d (output_text output) before now k same h
+all_kept time command lines sources doc passed one other d (Err stop) before now k same h = tt
 
-pub some_kept : (time : ℕ) (command : Command) (lines : Lines) (sources : List BareDoc) (doc : BareDoc) (one other : Option Sealing) (result : Result Output Stop) (before now : Store)
+pub some_kept : (time : ℕ) (command : Command) (lines : Lines) (sources : List BareDoc) (doc : BareDoc) (passed : List (List ℕ)) (one other : Option Sealing) (result : Result Output Stop) (before now : Store)
     → settings_in one ≡ settings_in other → (may_write command ≡ true → one ≡ other)
-    → IfOk result (λ output. IsOfSomeDice time (task_with command lines (record { target = record { doc = doc; sealing = one }; sources = sources })) (output_text output) before now)
-    → IfOk result (λ output. IsOfSomeDice time (task_with command lines (record { target = record { doc = doc; sealing = other }; sources = sources })) (output_text output) before now)
-some_kept time command lines sources doc one other (Ok output) before now k same h = (h.0, of_dice_kept time command lines sources doc one other h.0 (output_text output) before now k same h.1)
-some_kept time command lines sources doc one other (Err stop) before now k same h = tt
+    → IfOk result (λ output. IsOfSomeDice time (task_with command lines (record { target = record { doc = doc; sealing = one; passed_over = passed }; sources = sources })) (output_text output) before now)
+    → IfOk result (λ output. IsOfSomeDice time (task_with command lines (record { target = record { doc = doc; sealing = other; passed_over = passed }; sources = sources })) (output_text output) before now)
+some_kept time command lines sources doc passed one other (Ok output) before now k same h = (h.0, of_dice_kept time command lines sources doc passed one other h.0 (output_text output) before now k same h.1)
+some_kept time command lines sources doc passed one other (Err stop) before now k same h = tt
 
 -- ---- what is sealed
 

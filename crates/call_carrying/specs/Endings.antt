@@ -50,12 +50,12 @@ ended_with name sealing text (Some doc) dice = then_left (new_file name sealing 
 abbrev pub settings_in : Option Sealing → Option Settings
 settings_in sealing = option_map (λ s. s.settings) sealing
 
--- What the command of a task makes of its document, with the lines and the sources of the task and
--- the settings of its file, over the dice.
+-- What the command of a task makes of its document, with the lines and the sources of the task, the
+-- settings of its file and the columns that were passed over, over the dice.
 abbrev pub change_of_task : ℕ → Task → List ℕ → StreamAnswer Change
 change_of_task time task dice =
     change_of time task.command task.lines.more task.lines.otp task.sources
-    (settings_in task.opened.sealing) task.opened.doc dice
+    (settings_in task.opened.sealing) task.opened.passed_over task.opened.doc dice
 
 -- What a task is carried out to at a moment: what the command makes of its document, over the dice,
 -- and then the file. What is left of the dice is defined after a refusal too.

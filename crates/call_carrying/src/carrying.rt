@@ -64,12 +64,17 @@ fn let_go(task: Task) {
     let Task {
         command,
         lines,
-        opened: Opened { doc, sealing },
+        opened: Opened {
+            doc,
+            sealing,
+            passed_over,
+        },
         sources,
     } = task;
     drop(command);
     drop(lines);
     drop(doc);
+    drop(passed_over);
     drop(sources);
     release_key(sealing);
 }
@@ -201,6 +206,7 @@ fn carry_out_on<F: FileStore, D: Dice>(
         otp: bytes_in(&task.lines.otp),
         sources: task.sources.as_slice(),
         settings: settings_of(&task.opened.sealing),
+        passed_over: task.opened.passed_over.as_slice(),
         now,
     };
     let change = perform(alloc, dice, &task.command, input, &mut task.opened.doc)?;

@@ -78,7 +78,7 @@ unfolding plain_document
 says d isd w = says_document Plain NoKeystream None (hash_if None refl) d (doc_good d isd w)
 
 abbrev pub opened_as : BareDoc → Opened
-opened_as d = record { doc = d; sealing = None }
+opened_as d = record { doc = d; sealing = None; passed_over = [] }
 
 pub is_plain : (files : FileMap) (name : List ℕ) (d : BareDoc) → IsDoc d → IsWritable d → nat_le (length (plain_bytes d)) 10000 ≡ true → get files name ≡ Some (plain_bytes d)
     → IsPlain name files (opened_as d)

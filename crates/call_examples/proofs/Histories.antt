@@ -1,5 +1,5 @@
 -- A merge of the three files is the beginning of a history.
-use Rattle.std.proofs.Common.{◌≡◌, ◌⊎◌, ℕ, zero, suc, true, false, inl, inr, List, None, Result, Ok, codes, refl, sym, ap, subst, ◌∙◌, arith, true≢false}
+use Rattle.std.proofs.Common.{◌≡◌, ℕ, zero, suc, true, false, List, None, Result, Ok, codes, refl, sym, ap, subst, ◌∙◌, arith, true≢false}
 use Rattle.vault_model.specs.Join.{is_id}
 use Rattle.cli_answers.specs.declared.answers.Refusal.{Refusal}
 use Rattle.merge_examples.specs.Cases.{example_docs}
@@ -21,7 +21,7 @@ use Rattle.call_examples.proofs.Files.{found_first, found_second, found_third, s
 differ : {A : Type 0} (a b : List ℕ) → is_id a a ≡ true → is_id a b ≡ false → a ≡ b → A
 differ a b same other e = absurd (true≢false (sym same ∙ ap (is_id a) e ∙ other))
 
-are_apart : AreApart plain_copies
+pub are_apart : AreApart plain_copies
 are_apart zero zero less more d e = refl
 are_apart zero (suc zero) less more d e = differ (codes "a.xml") (codes "b.xml") refl refl e
 are_apart zero (suc (suc l)) less more d e = differ (codes "a.xml") (codes "c.xml") refl refl e
@@ -32,7 +32,7 @@ are_apart (suc (suc k)) zero less more d e = differ (codes "c.xml") (codes "a.xm
 are_apart (suc (suc k)) (suc zero) less more d e = differ (codes "c.xml") (codes "b.xml") refl refl e
 are_apart (suc (suc k)) (suc (suc l)) less more d e = omega (arith, less, more)
 
-holds : (i : ℕ) → CopyHolds (λ _. three_files) (plain_copies.copy i) (example_docs i)
+pub holds : (i : ℕ) → CopyHolds (λ _. three_files) (plain_copies.copy i) (example_docs i)
 holds zero = record { bytes = plain_bytes as_it_was; found = found_first; holds = ((as_it_was, None), (says as_it_was doc_first write_first, refl)) }
 holds (suc zero) = record { bytes = plain_bytes edited; found = found_second; holds = ((edited, None), (says edited doc_second write_second, refl)) }
 holds (suc (suc k)) = record { bytes = plain_bytes moved; found = found_third; holds = ((moved, None), (says moved doc_third write_third, refl)) }
@@ -57,17 +57,12 @@ module _ (time : ℕ) (before now : Seen) (counts counts' : Counts) where
       } in
       subst (OpensCopies plain_copies c) (sym same) these
 
-  whole : (◌≡◌ {A = ℕ} 0 9) ⊎ (◌≡◌ {A = ℕ} 0 10) → ⊥
-  whole (inl e) = omega (arith, e)
-  whole (inr e) = omega (arith, e)
-
   on : IsCall merge_three time 0 before now counts counts' → Tells merge_three before (world_of three_files) → IsCallOn plain_copies (λ _. three_files) c
   on is_call told = record {
     is_call = is_call;
     told = told;
     files = λ i less e. refl;
     opens = opens;
-    cut = λ h. absurd (whole h);
   }
 
 pub merging_is_a_history : MergingIsAHistory

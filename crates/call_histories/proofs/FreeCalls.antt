@@ -1,9 +1,9 @@
 -- Histories whose calls only add agree.
-use Rattle.std.proofs.Common.{◌≡◌, ℕ, List, [], ◌∷◌, Option, Some, None, sym, ap, subst, ◌∙◌}
+use Rattle.std.proofs.Common.{◌≡◌, ℕ, List, [], ◌∷◌, Option, Some, None, sym, subst, ◌∙◌}
 use Rattle.std.proofs.lemmas.Option.{same_Some}
 use Rattle.vault_model.specs.Db.{Db}
 use Rattle.vault_model.specs.Plans.{World, begin}
-use Rattle.vault_model.specs.Tree.{BareDoc, IsDoc, db_in}
+use Rattle.vault_model.specs.Tree.{BareDoc, IsDoc}
 use Rattle.command_laws.specs.Adding.{AddsOnly}
 use Rattle.command_laws.proofs.Commands.{adding_is_free}
 use Rattle.run_laws.specs.FreeRuns.{AreFreeDocEvents, IsFreeDocEvent}
@@ -22,7 +22,7 @@ grown_free : (w : World) (known : List Db) (e : Event) (i : ℕ) (d : BareDoc) �
 grown_free w known e i d was isd g free =
     let f = subst (IsFreeEvent known) g.is free g.task g.is_task g.writes g.no_merge in
     let id = made_id g.task.command g.task.opened.doc g.c.world.dice in
-    let a = commands_add g.c.time g.task.command g.task.lines.more g.task.lines.otp g.task.sources (settings_in g.task.opened.sealing) g.task.opened.doc g.c.world.dice g.change
+    let a = commands_add g.c.time g.task.command g.task.lines.more g.task.lines.otp g.task.sources (settings_in g.task.opened.sealing) g.task.opened.passed_over g.task.opened.doc g.c.world.dice g.change
     (subst IsDoc (sym g.opened) was) f.0 g.makes in
     let same : a.doc ≡ d = same_Some a.doc d (sym a.is ∙ g.doc) in
     let adds : AddsOnly id (w i).doc d =

@@ -30,12 +30,12 @@ use Rattle.cli_commands.specs.Commands.{Change, change_of, may_write}
 use Rattle.change_laws.specs.Changes.{edits}
 use Rattle.change_laws.proofs.Changed.{commands_grow, merges_merge}
 use Rattle.call_carrying.specs.Endings.{ReadsBack, change_of_task, settings_in}
-use Rattle.keepass_call.specs.Held.{IsTask}
+use Rattle.keepass_call.specs.Held.{IsTask, WritesTask}
 use Rattle.keepass_call.specs.Merges.{merges}
 use Rattle.keepass_call.specs.Outcome.{may_write_by}
 use Rattle.keepass_call.proofs.Pages.{asks_command}
 use Rattle.call_histories.specs.Copies.{AreApart, CallSeen, Copies, CopyHolds, Disks, HoldsDoc, OpensCopies}
-use Rattle.call_histories.specs.Histories.{Did, Event, IsCallOn, IsDeed, IsEvent, WritesTask, call, copied, disks_after, done, made_by, put_files, with_bytes}
+use Rattle.call_histories.specs.Histories.{Did, Event, IsCallOn, IsDeed, IsEvent, call, copied, disks_after, done, made_by, put_files, with_bytes}
 use Rattle.call_histories.proofs.Held.{IsHeld, IsThat, IsWritten, changed, copies_opened, copy_opened, either, held_is_doc, kept, key_in, written}
 
 -- ---- commands that may write
@@ -102,11 +102,11 @@ record Makes (t : BareDoc) (ss : List BareDoc) (command : Command) (doc : Option
 task_makes : (time : ℕ) (task : Task) (dice : List ℕ) (change : Change) → IsDoc task.opened.doc → Kind task.command
     → (change_of_task time task dice).answer ≡ Ok change → Makes task.opened.doc task.sources task.command change.doc
 task_makes time task dice change isd (inl e) h =
-    let g = commands_grow time task.command task.lines.more task.lines.otp task.sources (settings_in task.opened.sealing) task.opened.doc dice change isd e.0 h in
+    let g = commands_grow time task.command task.lines.more task.lines.otp task.sources (settings_in task.opened.sealing) task.opened.passed_over task.opened.doc dice change isd e.0 h in
     record { new = g.doc; is = inl g.is; by = inl (e.1, (g.is, g.grows)) }
 task_makes time task dice change isd (inr m) h =
-    let g = merges_merge time m.access m.file m.names m.from m.same task.lines.more task.lines.otp task.sources (settings_in task.opened.sealing) task.opened.doc dice change
-    (subst (λ (command : Command). (change_of time command task.lines.more task.lines.otp task.sources (settings_in task.opened.sealing) task.opened.doc dice).answer ≡ Ok change) (sym m.is) h) in
+    let g = merges_merge time m.access m.file m.names m.from m.same task.lines.more task.lines.otp task.sources (settings_in task.opened.sealing) task.opened.passed_over task.opened.doc dice change
+    (subst (λ (command : Command). (change_of time command task.lines.more task.lines.otp task.sources (settings_in task.opened.sealing) task.opened.passed_over task.opened.doc dice).answer ≡ Ok change) (sym m.is) h) in
     record { new = g.doc; is = g.is; by = inr (merges_so task.command m, g.merged) }
 
 -- ---- one event
@@ -182,7 +182,7 @@ module _ (copies : Copies) (apart : AreApart copies) (disks : Disks) (w : plans.
           (kept copies disks w hold c.disk c.world.files on.files);
     }
 
-    module _ (status : (c.result ≡ 0) ⊎ ((c.result ≡ 9) ⊎ (c.result ≡ 10))) (wt : WritesTask c) (writes : may_write wt.task.command ≡ true) where
+    module _ (status : (c.result ≡ 0) ⊎ ((c.result ≡ 9) ⊎ (c.result ≡ 10))) (wt : WritesTask c.words c.time c.world c.before c.now) (writes : may_write wt.task.command ≡ true) where
       abbrev task : Task
       task = wt.task
 
@@ -262,24 +262,24 @@ module _ (copies : Copies) (apart : AreApart copies) (disks : Disks) (w : plans.
 
     by_status : (command : Command) → command_of c.words ≡ Ok command → may_write command ≡ true → IsStep copies disks w (call c)
     by_status command e writes =
-        let same : (wt : WritesTask c) → may_write wt.task.command ≡ true = λ wt. sym (ap may_write_by wt.is_task.is_command) ∙ ap may_write_by e ∙ writes in
+        let same : (wt : WritesTask c.words c.time c.world c.before c.now) → may_write wt.task.command ≡ true = λ wt. sym (ap may_write_by wt.is_task.is_command) ∙ ap may_write_by e ∙ writes in
         elim (either c.result 0) [
           | inl zero ↦
               let a = on.is_call.authentic (asks_command c.words command e) c.world on.told zero in
-              let wt : WritesTask c = record { task = a.task; is_task = a.is_task; change = a.change; makes = a.makes; reads_back = a.reads_back } in
+              let wt : WritesTask c.words c.time c.world c.before c.now = record { task = a.task; is_task = a.is_task; change = a.change; makes = a.makes; reads_back = a.reads_back } in
               something (inl zero) wt (same wt)
           | inr more ↦
               elim (either c.result 9) [
-                | inl nine ↦ cut_off command (inl nine) more same
+                | inl nine ↦ cut_off command e (inl nine) more same
                 | inr not_nine ↦ elim (either c.result 10) [
-                  | inl ten ↦ cut_off command (inr ten) more same
+                  | inl ten ↦ cut_off command e (inr ten) more same
                   | inr not_ten ↦ nothing (inl more) (on.is_call.safe.files more not_nine not_ten).files
                 ]
               ]
         ]
       where
-        cut_off : (command : Command) → (c.result ≡ 9) ⊎ (c.result ≡ 10) → c.result ≢ 0 → ((wt : WritesTask c) → may_write wt.task.command ≡ true) → IsStep copies disks w (call c)
-        cut_off command status more same = elim (on.cut status) [
+        cut_off : (command : Command) → command_of c.words ≡ Ok command → (c.result ≡ 9) ⊎ (c.result ≡ 10) → c.result ≢ 0 → ((wt : WritesTask c.words c.time c.world c.before c.now) → may_write wt.task.command ≡ true) → IsStep copies disks w (call c)
+        cut_off command e status more same = elim (on.is_call.cut_writes (asks_command c.words command e) c.world on.told status) [
           | inl keeps ↦ nothing (inl more) keeps.files
           | inr wt ↦ something (inr status) wt (same wt)
         ]

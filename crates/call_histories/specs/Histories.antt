@@ -7,12 +7,9 @@ use Rattle.outside_core.specs.Files.{FileMap}
 use Rattle.vault_model.specs.Tree.{BareDoc, IsDoc}
 use Rattle.run_laws.specs.TrimmedRuns.{DocEvent, IsRun, growth, joining, overwriting, world_after}
 use Rattle.cli_words.specs.declared.command.Command.{Command}
-use Rattle.cli_words.specs.Needs.{target_of}
 use Rattle.cli_words.specs.Words.{command_of}
 use Rattle.cli_files.specs.Tasks.{Task}
-use Rattle.cli_writing.specs.Writing.{KeepsFiles}
-use Rattle.cli_commands.specs.Commands.{Change, may_write}
-use Rattle.call_carrying.specs.Endings.{ReadsBack, change_of_task}
+use Rattle.cli_commands.specs.Commands.{may_write}
 use Rattle.keepass_call.specs.Call.{IsCall}
 use Rattle.keepass_call.specs.Held.{IsTask}
 use Rattle.keepass_call.specs.Merges.{merges}
@@ -26,18 +23,8 @@ pub data Event : Type 0 where
   call : CallSeen → Event
   copied : ℕ → ℕ → Event
 
--- What a call made is in the file that it was to write.
-pub record WritesTask (c : CallSeen) : Type 0 where
-  pub task : Task
-  pub is_task : IsTask c.words c.time c.world task
-  pub change : Change
-  pub makes : (change_of_task c.time task c.world.dice).answer ≡ Ok change
-  pub reads_back : ReadsBack (target_of task.command) task.opened.sealing change.doc
-      c.before.store c.now.store
-
 -- A call keeps what is promised of calls, over a world that the outside reports and that has the
--- files of the copies as they are. A command that may write opens copies by their keys. And where
--- memory ran out or output failed, no file changed, or what was made is in its file.
+-- files of the copies as they are. A command that may write opens copies by their keys.
 pub record IsCallOn (copies : Copies) (disks : Disks) (c : CallSeen) : Type 0 where
   pub is_call : IsCall c.words c.time c.result c.before c.now c.counts c.counts'
   pub told : Tells c.words c.before c.world
@@ -45,8 +32,6 @@ pub record IsCallOn (copies : Copies) (disks : Disks) (c : CallSeen) : Type 0 wh
       → get c.world.files (copies.copy i).name ≡ get (disks c.disk) (copies.copy i).name
   pub opens : (task : Task) → IsTask c.words c.time c.world task → may_write task.command ≡ true
       → OpensCopies copies c task
-  pub cut : (c.result ≡ 9) ⊎ (c.result ≡ 10)
-      → KeepsFiles c.before.store c.now.store ⊎ WritesTask c
 
 -- Such a call may be made, and any copy may become one of the same key.
 abbrev pub IsEvent : Copies → Disks → Event → Type 0

@@ -1,5 +1,5 @@
 -- Refusals to open a file have their causes.
-use Rattle.std.proofs.Common.{◌≡◌, ◌≢◌, ◌⊎◌, ◌<◌, ◌+◌, ◌%◌, ℕ, Bool, true, false, inl, inr, cond, List, length, take, drop, Option, None, Some, Result, Ok, Err, bytes_eq, refl, sym, ap, subst, ◌∙◌}
+use Rattle.std.proofs.Common.{◌≡◌, ◌≢◌, ◌⊎◌, ◌<◌, ◌+◌, ◌%◌, ℕ, Bool, true, false, inl, inr, cond, List, length, map, take, drop, Option, None, Some, Result, Ok, Err, bytes_eq, refl, sym, ap, subst, ◌∙◌}
 use Rattle.std.specs.Prelude.{◌==◌}
 use Rattle.std.proofs.lemmas.Bool.{eq-eqb}
 use Rattle.std.proofs.lemmas.List.{get_or-drop}
@@ -38,11 +38,14 @@ use Rattle.kdbx_payload.specs.declared.fail.PayloadFail.{PayloadFail}
 use Rattle.kdbx_payload.specs.declared.fail.PayloadFail.TheVariants as why
 use Rattle.kdbx_payload.proofs.SealedPayloads as payloads
 use Rattle.kdbx_open.specs.Causes.{of_payload}
-use Rattle.kdbx_open.specs.Documents.{document_or_refusal, hash_check}
+use Rattle.kdbx_open.specs.Documents.{attachment, document_or_refusal, hash_check}
 use Rattle.kdbx_open.specs.Opening.{opening, payload_or_refusal}
 use Rattle.kdbx_open.specs.declared.fail.OpenFail.{OpenFail}
 use Rattle.kdbx_open.specs.declared.fail.OpenFail.TheVariants.{Doc, HeaderHash}
-use Rattle.cause_laws.specs.Causes.{AreBytes, Begins, HasContent, HasNoPadding, HasWrongBlocksIn, IsBadlyPadded, NamesStream, OpenCause, RefusalsHaveCauses, read_of}
+use Rattle.cause_laws.specs.Causes.{AreBytes, Begins, HasContent, HasNoPadding, HasWrongBlocksIn, IsBadlyPadded, NamesStream, OpenCause, RefusalsHaveCauses, read_of, setting_of}
+use Rattle.document_cause_laws.proofs.DocumentRefusals.{document_refusals_have_causes}
+use Rattle.header_cause_laws.proofs.HeaderRefusals.{header_refusals_have_causes}
+use Rattle.inner_cause_laws.proofs.InnerRefusals.{inner_refusals}
 
 -- ---- steps that are refused
 
@@ -99,7 +102,7 @@ module _ (file composite : List ℕ) (low : AreBytes file) (fail : PayloadFail) 
 
   in_header : (r : Result Header FrameFail) → header_of file ≡ r → frame_or_refusal r ≡ Err fail → Cause fail file composite
   in_header (Ok header) is h = cc h
-  in_header (Err f) is h = is_so (why.Frame f) (same_fail (why.Frame f) fail h) (inl is)
+  in_header (Err f) is h = is_so (why.Frame f) (same_fail (why.Frame f) fail h) (inl (is, header_refusals_have_causes file f is))
 
   module _ (header : Header) (begins : Begins file header) where
     abbrev base : List ℕ
@@ -212,7 +215,7 @@ module _ (file composite : List ℕ) (low : AreBytes file) (fail : PayloadFail) 
 
       in_inner : (r : Result InnerFields FrameFail) → inner_of text ≡ r → frame_or_refusal r ≡ Err fail → Cause fail file composite
       in_inner (Ok inner) is h = cc h
-      in_inner (Err f) is h = is_so (why.Frame f) (same_fail (why.Frame f) fail h) (inr (header, (begins, (text, (hides, is)))))
+      in_inner (Err f) is h = is_so (why.Frame f) (same_fail (why.Frame f) fail h) (inr (header, (begins, (text, (hides, (is, inner_refusals text f is))))))
 
       inner_ok : (r : Result InnerFields FrameFail) (x : InnerFields) → frame_or_refusal r ≡ Ok x → r ≡ Ok x
       inner_ok (Ok y) x h = cc h
@@ -275,7 +278,7 @@ module _ (file composite : List ℕ) (low : AreBytes file) (fail : OpenFail) whe
   module _ (p : Payload) (has : SealedPayload file composite p) where
     open_text : (r : Result DocumentAndHash DocFail) → read_of p ≡ r → document_or_refusal r ≡ Err fail → OpenCause fail file composite
     open_text (Ok x) is h = cc h
-    open_text (Err f) is h = of_this (Doc f) (same_fail (Doc f) fail h) (record { payload = p; has = has; refused = is })
+    open_text (Err f) is h = of_this (Doc f) (same_fail (Doc f) fail h) (record { payload = p; has = has; refused = is; cause = document_refusals_have_causes (setting_of p) (map attachment p.pool) p.text f is })
 
     read_ok : (r : Result DocumentAndHash DocFail) (x : DocumentAndHash) → document_or_refusal r ≡ Ok x → r ≡ Ok x
     read_ok (Ok y) x h = cc h

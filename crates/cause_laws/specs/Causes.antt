@@ -11,7 +11,11 @@ use Rattle.mac_core.specs.declared.fail.BlockFail.{BlockFail}
 use Rattle.vault_model.specs.declared.forms.FileVersion.{FileVersion}
 use Rattle.vault_model.specs.declared.forms.FileVersion.TheVariants.{V31, V40, V41}
 use Rattle.doc_forms.specs.Documents.{DocumentAndHash, document}
+use Rattle.doc_forms.specs.ElementTexts.{Setting}
 use Rattle.doc_forms.specs.declared.fails.DocFail.{DocFail}
+use Rattle.document_cause_laws.specs.DocumentCauses.{DocumentCause}
+use Rattle.header_cause_laws.specs.HeaderCauses.{HeaderCause}
+use Rattle.inner_cause_laws.specs.InnerCauses.{InnerCause}
 use Rattle.kdbx_frame.specs.Forms.{form_of}
 use Rattle.kdbx_frame.specs.Header.{header_of}
 use Rattle.kdbx_frame.specs.declared.header.Header.{Header}
@@ -127,25 +131,37 @@ pub record HasUnknownStream (id : ℕ) (file composite : List ℕ) : Type 0 wher
   pub not_salsa : id ≢ 2
   pub not_chacha : id ≢ 3
 
--- The header is what the reader of headers refuses so, or the text that the file hides begins with
--- inner fields that their reader refuses so.
+-- The header is what the reader of headers refuses so, and has the cause of that.
+abbrev pub HasWrongHeader : FrameFail → List ℕ → Type 0
+HasWrongHeader fail file = (header_of file ≡ Err fail) × HeaderCause fail file
+
+-- A text begins with inner fields that their reader refuses so, and has the cause of that.
+abbrev pub HasWrongFields : FrameFail → List ℕ → Type 0
+HasWrongFields fail text = (inner_of text ≡ Err fail) × InnerCause fail text
+
+-- The header is wrong, or the inner fields at the start of the text that the file hides.
 abbrev pub HasWrongFrame : FrameFail → (file composite : List ℕ) → Type 0
-HasWrongFrame fail file composite = (header_of file ≡ Err fail)
+HasWrongFrame fail file composite = HasWrongHeader fail file
     ⊎ ((header : Header) × (Begins file header × ((text : List ℕ)
     × ((hidden_text header.settings.version (base_of header composite) (key_of header composite)
-    header file ≡ Ok text) × (inner_of text ≡ Err fail)))))
+    header file ≡ Ok text) × HasWrongFields fail text))))
+
+-- What the text of a payload is read with: its form, and the stream that hides values.
+abbrev pub setting_of : Payload → Setting
+setting_of payload =
+    record { form = form_of payload.settings.version; keystream = payload.stream }
 
 -- What the reader of documents makes of a payload.
 abbrev pub read_of : Payload → Result DocumentAndHash DocFail
-read_of payload =
-    document (record { form = form_of payload.settings.version; keystream = payload.stream })
-    (map attachment payload.pool) payload.text
+read_of payload = document (setting_of payload) (map attachment payload.pool) payload.text
 
--- The file has a payload whose text the reader of documents refuses so.
+-- The file has a payload whose text the reader of documents refuses so, and the text has the cause
+-- of that.
 pub record HasWrongText (fail : DocFail) (file composite : List ℕ) : Type 0 where
   pub payload : Payload
   pub has : SealedPayload file composite payload
   pub refused : read_of payload ≡ Err fail
+  pub cause : DocumentCause (setting_of payload) (map attachment payload.pool) payload.text fail
 
 -- The document keeps a hash of its file's header that is not the header's.
 pub record HasWrongHash (file composite kept found : List ℕ) : Type 0 where

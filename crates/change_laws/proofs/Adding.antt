@@ -32,7 +32,7 @@ same_bin : (b : Bool) (dice : List ℕ) → ◌≡◌ {A = Option NodeId} (if b 
 same_bin true dice = refl
 same_bin false dice = refl
 
-module _ (time : ℕ) (line otp : Option (List ℕ)) (sources : List BareDoc) (settings : Option Settings) (d : BareDoc) (dice : List ℕ) (change : Change) (isd : IsDoc d) where
+module _ (time : ℕ) (line otp : Option (List ℕ)) (sources : List BareDoc) (settings : Option Settings) (passed : List (List ℕ)) (d : BareDoc) (dice : List ℕ) (change : Change) (isd : IsDoc d) where
   moved : (file : List ℕ) (quiet : Bool) (node group : List ℕ) → names_group node ≡ false
       → new_document (if names_group node then after_group_move file quiet node group time d else after_entry_move file quiet node group time d) ≡ Ok change → LeavesAdded None d change
   unfolding after_entry_move
@@ -51,7 +51,7 @@ module _ (time : ℕ) (line otp : Option (List ℕ)) (sources : List BareDoc) (s
       record { doc = m.after.doc; is = m.doc; adds = λ ise. recycling_adds entry bin time d m.after isd ise (bin_given (new_id (next_bytes 16 dice)) (needs_bin d)) m.is (puts m.after m.is) }
 
   -- with the password that was drawn or typed
-  added : (command : Command) → OnlyAddsBy time command dice d → change_with time command line otp sources settings (id_if (makes_node command d) dice) d ≡ Ok change → LeavesAdded (made_id command d dice) d change
+  added : (command : Command) → OnlyAddsBy time command dice d → change_with time command line otp sources settings passed (id_if (makes_node command d) dice) d ≡ Ok change → LeavesAdded (made_id command d dice) d change
   unfolding after_add_command after_edit_command after_mkdir
   added (Add access file entry asked) can h =
       let id = new_id (next_bytes 16 dice) in
@@ -78,7 +78,7 @@ module _ (time : ℕ) (line otp : Option (List ℕ)) (sources : List BareDoc) (s
   added (Info access file) can h = absurd can
 
 pub commands_add : CommandsAdd
-commands_add time command line otp sources settings d dice change isd can h =
-    let w = with_id (makes_node command d) (λ id. change_by time command line otp sources settings id d) dice change h in
-    let p = with_some_password (generated_by command) line (λ password. change_with time command password otp sources settings (id_if (makes_node command d) dice) d) w.0 change w.1 in
-    added time p.0 otp sources settings d dice change isd command can p.1
+commands_add time command line otp sources settings passed d dice change isd can h =
+    let w = with_id (makes_node command d) (λ id. change_by time command line otp sources settings passed id d) dice change h in
+    let p = with_some_password (generated_by command) line (λ password. change_with time command password otp sources settings passed (id_if (makes_node command d) dice) d) w.0 change w.1 in
+    added time p.0 otp sources settings passed d dice change isd command can p.1

@@ -100,34 +100,34 @@ module _ (time : ℕ) (file : List ℕ) (quiet : Bool) (id : NodeId) (d : BareDo
       let m = made_so file time (λ t. after_move_entry node group t d) (λ e. e) (λ _. report quiet (codes "moved entry ") (entry_title node d) (Some group)) change h in
       grown d change m.after m.doc (λ ise. move_entry_grows node group time d m.after isd ise m.is)
 
-leaves_grown : (time : ℕ) (command : Command) (line otp : Option (List ℕ)) (sources : List BareDoc) (settings : Option Settings) (id : NodeId) (d : BareDoc) (change : Change) → IsDoc d
-    → edits command ≡ true → change_with time command line otp sources settings id d ≡ Ok change → LeavesGrown d change
+leaves_grown : (time : ℕ) (command : Command) (line otp : Option (List ℕ)) (sources : List BareDoc) (settings : Option Settings) (passed : List (List ℕ)) (id : NodeId) (d : BareDoc) (change : Change) → IsDoc d
+    → edits command ≡ true → change_with time command line otp sources settings passed id d ≡ Ok change → LeavesGrown d change
 unfolding after_add_command after_edit_command after_mkdir after_rm after_rmdir
-leaves_grown time (Ls access file group recursive flat) line otp sources settings id d change isd e h = absurd (true≢false (sym e))
-leaves_grown time (Show access file entry clear all attachments names totp) line otp sources settings id d change isd e h = absurd (true≢false (sym e))
-leaves_grown time (Search access file term) line otp sources settings id d change isd e h = absurd (true≢false (sym e))
-leaves_grown time (Add access file entry asked) line otp sources settings id d change isd e h =
+leaves_grown time (Ls access file group recursive flat) line otp sources settings passed id d change isd e h = absurd (true≢false (sym e))
+leaves_grown time (Show access file entry clear all attachments names totp) line otp sources settings passed id d change isd e h = absurd (true≢false (sym e))
+leaves_grown time (Search access file term) line otp sources settings passed id d change isd e h = absurd (true≢false (sym e))
+leaves_grown time (Add access file entry asked) line otp sources settings passed id d change isd e h =
     let m = made_so file time (λ t. after_add entry id (values_of asked line None) t d) (λ x. x) _ change h in
     grown d change m.after m.doc (λ ise. add_grows entry id (values_of asked line None) time d m.after isd ise m.is)
-leaves_grown time (Edit access file entry asked) line otp sources settings id d change isd e h =
+leaves_grown time (Edit access file entry asked) line otp sources settings passed id d change isd e h =
     let m = made_so file time (λ t. after_edit entry (values_of asked line otp) t d) (λ x. x) _ change (unchecked (code_refusal file otp) _ change h) in
     record { doc = m.after; is = m.doc; grows = λ ise. edit_grows_in_current entry (values_of asked line otp) time d m.after isd ise m.is }
-leaves_grown time (Move access file node group) line otp sources settings id d change isd e h = moved time file access.quiet id d isd change (names_group node) node group h
-leaves_grown time (Remove access file entry) line otp sources settings id d change isd e h =
+leaves_grown time (Move access file node group) line otp sources settings passed id d change isd e h = moved time file access.quiet id d isd change (names_group node) node group h
+leaves_grown time (Remove access file entry) line otp sources settings passed id d change isd e h =
     let m = made_so file time (λ t. after_remove_entry entry (bin_id id d) t d) (λ (x : AfterRemoval). x.doc) _ change h in
     grown d change m.after.doc m.doc (λ ise. remove_entry_grows entry (bin_id id d) time d m.after isd ise (bin_given id (needs_bin d)) m.is)
-leaves_grown time (MakeGroup access file group) line otp sources settings id d change isd e h =
+leaves_grown time (MakeGroup access file group) line otp sources settings passed id d change isd e h =
     let m = made_so file time (λ t. after_make_group group id t d) (λ x. x) _ change h in
     grown d change m.after m.doc (λ ise. make_group_grows group id time d m.after isd ise m.is)
-leaves_grown time (RemoveGroup access file group) line otp sources settings id d change isd e h =
+leaves_grown time (RemoveGroup access file group) line otp sources settings passed id d change isd e h =
     let m = made_so file time (λ t. after_remove_group group (bin_id id d) t d) (λ (x : AfterRemoval). x.doc) _ change h in
     grown d change m.after.doc m.doc (λ ise. remove_group_grows group (bin_id id d) time d m.after isd ise (bin_given id (needs_bin d)) m.is)
-leaves_grown time (Merge access file names from same dry) line otp sources settings id d change isd e h = absurd (true≢false (sym e))
-leaves_grown time (Import access format source from file) line otp sources settings id d change isd e h = absurd (true≢false (sym e))
-leaves_grown time (Create access file name cipher kdf) line otp sources settings id d change isd e h = absurd (true≢false (sym e))
-leaves_grown time (Export access format file) line otp sources settings id d change isd e h = absurd (true≢false (sym e))
-leaves_grown time (EditFile access file asked) line otp sources settings id d change isd e h = absurd (true≢false (sym e))
-leaves_grown time (Info access file) line otp sources settings id d change isd e h = absurd (true≢false (sym e))
+leaves_grown time (Merge access file names from same dry) line otp sources settings passed id d change isd e h = absurd (true≢false (sym e))
+leaves_grown time (Import access format source from file) line otp sources settings passed id d change isd e h = absurd (true≢false (sym e))
+leaves_grown time (Create access file name cipher kdf) line otp sources settings passed id d change isd e h = absurd (true≢false (sym e))
+leaves_grown time (Export access format file) line otp sources settings passed id d change isd e h = absurd (true≢false (sym e))
+leaves_grown time (EditFile access file asked) line otp sources settings passed id d change isd e h = absurd (true≢false (sym e))
+leaves_grown time (Info access file) line otp sources settings passed id d change isd e h = absurd (true≢false (sym e))
 
 -- what is drawn for the id
 with_some_id : {A : Type 0} (b : Bool) (next : NodeId → List ℕ → StreamAnswer A) (dice : List ℕ) (x : A) → (then_left (drawn_id b dice) next).answer ≡ Ok x
@@ -149,10 +149,10 @@ with_some_password (Some profile) line made dice x h =
     of (Err refusal) left h = cc h
 
 pub commands_grow : CommandsGrow
-commands_grow time command line otp sources settings d dice change isd e h =
-    let w = with_some_id (makes_node command d) (λ id. change_by time command line otp sources settings id d) dice change h in
-    let p = with_some_password (generated_by command) line (λ password. change_with time command password otp sources settings w.0 d) w.1.0 change w.1.1 in
-    leaves_grown time command p.0 otp sources settings w.0 d change isd e p.1
+commands_grow time command line otp sources settings passed d dice change isd e h =
+    let w = with_some_id (makes_node command d) (λ id. change_by time command line otp sources settings passed id d) dice change h in
+    let p = with_some_password (generated_by command) line (λ password. change_with time command password otp sources settings passed w.0 d) w.1.0 change w.1.1 in
+    leaves_grown time command p.0 otp sources settings passed w.0 d change isd e p.1
 
 -- ---- merges
 
@@ -176,5 +176,5 @@ module _ (file : List ℕ) (quiet : Bool) (names : List (List ℕ)) (t : BareDoc
   merged_by change (Err why) e h = cc h
 
 pub merges_merge : MergesMerge
-merges_merge time access file names from same line otp sources settings d dice change h =
+merges_merge time access file names from same line otp sources settings passed d dice change h =
     merged_by file access.quiet names d sources change (merge_result d sources) refl (ap merged_change (sym (after_is file access.quiet names d sources)) ∙ h)

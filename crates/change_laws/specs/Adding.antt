@@ -44,7 +44,7 @@ pub record LeavesAdded (id : Option NodeId) (d : BareDoc) (change : Change) : Ty
 -- So does that of every command that only adds.
 abbrev pub CommandsAdd : Type 0
 CommandsAdd = (time : ℕ) (command : Command) (line otp : Option (List ℕ))
-    (sources : List BareDoc) (settings : Option Settings) (d : BareDoc) (dice : List ℕ)
-    (change : Change) → IsDoc d → OnlyAddsBy time command dice d
-    → (change_of time command line otp sources settings d dice).answer ≡ Ok change
+    (sources : List BareDoc) (settings : Option Settings) (passed : List (List ℕ)) (d : BareDoc)
+    (dice : List ℕ) (change : Change) → IsDoc d → OnlyAddsBy time command dice d
+    → (change_of time command line otp sources settings passed d dice).answer ≡ Ok change
     → LeavesAdded (made_id command d dice) d change

@@ -38,9 +38,9 @@ pub record LeavesGrown (d : BareDoc) (change : Change) : Type 0 where
 -- so does that of every command that changes its document
 abbrev pub CommandsGrow : Type 0
 CommandsGrow = (time : ℕ) (command : Command) (line otp : Option (List ℕ))
-    (sources : List BareDoc) (settings : Option Settings) (d : BareDoc) (dice : List ℕ)
-    (change : Change) → IsDoc d → edits command ≡ true
-    → (change_of time command line otp sources settings d dice).answer ≡ Ok change
+    (sources : List BareDoc) (settings : Option Settings) (passed : List (List ℕ)) (d : BareDoc)
+    (dice : List ℕ) (change : Change) → IsDoc d → edits command ≡ true
+    → (change_of time command line otp sources settings passed d dice).answer ≡ Ok change
     → LeavesGrown d change
 
 -- A change leaves the document that a target and its sources are merged into, and is to be written
@@ -54,7 +54,7 @@ pub record LeavesMerged (t : BareDoc) (ss : List BareDoc) (change : Change) : Ty
 abbrev pub MergesMerge : Type 0
 MergesMerge = (time : ℕ) (access : Access) (file : List ℕ) (names : List (List ℕ)) (from : Access)
     (same : Bool) (line otp : Option (List ℕ)) (sources : List BareDoc) (settings : Option Settings)
-    (d : BareDoc) (dice : List ℕ) (change : Change)
-    → (change_of time (Merge access file names from same false) line otp sources settings d
-    dice).answer ≡ Ok change
+    (passed : List (List ℕ)) (d : BareDoc) (dice : List ℕ) (change : Change)
+    → (change_of time (Merge access file names from same false) line otp sources settings passed
+    d dice).answer ≡ Ok change
     → LeavesMerged d sources change

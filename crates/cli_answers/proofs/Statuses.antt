@@ -1,7 +1,7 @@
 -- What statuses refusals have.
 use Rattle.std.proofs.Common.{◌≡◌, ◌≢◌, ℕ, refl, arith}
 use Rattle.cli_answers.specs.declared.answers.Reason.{Reason}
-use Rattle.cli_answers.specs.declared.answers.Reason.TheVariants.{WrongWords, EmptyTerm, NoSuchPath, NameTaken, AlreadyThere, RootFixed, IntoItself, IdTaken, NoAttribute, NoResult, FileExists, NeedsVersion, DamagedOrWrongKey, DamagedBlock, WrongKeyOrDamaged, WrongPassword, KeyFileHash, NotKdbx, NotPsafe, EndsEarly, BadHeaderField, BadDictionary, Form, MissingElement, BadValue, NilId, NilRecord, DuplicateId, BinaryRef, BadKeyFile, BadField, NotUtf8, NoTitleColumn, BadRow, LineForm, Version, UnknownId, StreamUnknown, Compressed, Variant, Clash, MoveCycle, NoSuchFile, TooLarge, Depth, TooDeep, TooMany, KdfLimit, IterLimit, StampLimit, LineLimit, TooMuch, NoOtp, OtpForm, OtpUnknown, OtpLimit, Spent, OutOfMemory, InputEnded}
+use Rattle.cli_answers.specs.declared.answers.Reason.TheVariants.{WrongWords, EmptyTerm, NoSuchPath, NameTaken, AlreadyThere, RootFixed, IntoItself, IdTaken, NoAttribute, NoResult, FileExists, NeedsVersion, DamagedOrWrongKey, DamagedBlock, WrongKeyOrDamaged, WrongPassword, KeyFileHash, NotKdbx, NotPsafe, EndsEarly, BadHeaderField, BadDictionary, Form, MissingElement, BadValue, NilId, NilRecord, DuplicateId, BinaryRef, BadKeyFile, BadField, NotUtf8, NoTitleColumn, BadRow, BadJson, BadFolder, BadItem, LineForm, Version, UnknownId, StreamUnknown, Compressed, Variant, EncryptedExport, Clash, MoveCycle, NoSuchFile, TooLarge, Depth, TooDeep, TooMany, KdfLimit, IterLimit, StampLimit, LineLimit, TooMuch, NoOtp, OtpForm, OtpUnknown, OtpLimit, Spent, OutOfMemory, InputEnded}
 use Rattle.cli_answers.specs.Messages.{status_of}
 
 -- A refusal of status 7 is that a file is missing.
@@ -40,12 +40,16 @@ seven_missing (BadField place) h = absurd (omega arith)
 seven_missing (NotUtf8 place) h = absurd (omega arith)
 seven_missing NoTitleColumn h = absurd (omega arith)
 seven_missing (BadRow number) h = absurd (omega arith)
+seven_missing BadJson h = absurd (omega arith)
+seven_missing (BadFolder number) h = absurd (omega arith)
+seven_missing (BadItem number) h = absurd (omega arith)
 seven_missing (LineForm number) h = absurd (omega arith)
 seven_missing (Version number) h = absurd (omega arith)
 seven_missing (UnknownId id) h = absurd (omega arith)
 seven_missing (StreamUnknown number) h = absurd (omega arith)
 seven_missing Compressed h = absurd (omega arith)
 seven_missing (Variant number) h = absurd (omega arith)
+seven_missing EncryptedExport h = absurd (omega arith)
 seven_missing (Clash id) h = absurd (omega arith)
 seven_missing (MoveCycle ids) h = absurd (omega arith)
 seven_missing NoSuchFile h = refl
@@ -107,12 +111,16 @@ own (BadField place) = record { zero = λ h. omega arith; ten = λ h. omega arit
 own (NotUtf8 place) = record { zero = λ h. omega arith; ten = λ h. omega arith; eleven = λ h. omega arith }
 own NoTitleColumn = record { zero = λ h. omega arith; ten = λ h. omega arith; eleven = λ h. omega arith }
 own (BadRow number) = record { zero = λ h. omega arith; ten = λ h. omega arith; eleven = λ h. omega arith }
+own BadJson = record { zero = λ h. omega arith; ten = λ h. omega arith; eleven = λ h. omega arith }
+own (BadFolder number) = record { zero = λ h. omega arith; ten = λ h. omega arith; eleven = λ h. omega arith }
+own (BadItem number) = record { zero = λ h. omega arith; ten = λ h. omega arith; eleven = λ h. omega arith }
 own (LineForm number) = record { zero = λ h. omega arith; ten = λ h. omega arith; eleven = λ h. omega arith }
 own (Version number) = record { zero = λ h. omega arith; ten = λ h. omega arith; eleven = λ h. omega arith }
 own (UnknownId id) = record { zero = λ h. omega arith; ten = λ h. omega arith; eleven = λ h. omega arith }
 own (StreamUnknown number) = record { zero = λ h. omega arith; ten = λ h. omega arith; eleven = λ h. omega arith }
 own Compressed = record { zero = λ h. omega arith; ten = λ h. omega arith; eleven = λ h. omega arith }
 own (Variant number) = record { zero = λ h. omega arith; ten = λ h. omega arith; eleven = λ h. omega arith }
+own EncryptedExport = record { zero = λ h. omega arith; ten = λ h. omega arith; eleven = λ h. omega arith }
 own (Clash id) = record { zero = λ h. omega arith; ten = λ h. omega arith; eleven = λ h. omega arith }
 own (MoveCycle ids) = record { zero = λ h. omega arith; ten = λ h. omega arith; eleven = λ h. omega arith }
 own NoSuchFile = record { zero = λ h. omega arith; ten = λ h. omega arith; eleven = λ h. omega arith }

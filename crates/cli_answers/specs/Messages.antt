@@ -6,7 +6,7 @@ use Rattle.uuid.specs.Text.{hyphenated_text, lower}
 use Rattle.cli_answers.specs.declared.answers.NeededVersion.{NeededVersion}
 use Rattle.cli_answers.specs.declared.answers.NeededVersion.TheVariants as needed
 use Rattle.cli_answers.specs.declared.answers.Reason.{Reason}
-use Rattle.cli_answers.specs.declared.answers.Reason.TheVariants.{WrongWords, EmptyTerm, NoSuchPath, NameTaken, AlreadyThere, RootFixed, IntoItself, IdTaken, NoAttribute, NoResult, FileExists, NeedsVersion, DamagedOrWrongKey, DamagedBlock, WrongKeyOrDamaged, WrongPassword, KeyFileHash, NotKdbx, NotPsafe, EndsEarly, BadHeaderField, BadDictionary, Form, MissingElement, BadValue, NilId, NilRecord, DuplicateId, BinaryRef, BadKeyFile, BadField, NotUtf8, NoTitleColumn, BadRow, LineForm, Version, UnknownId, StreamUnknown, Compressed, Variant, Clash, MoveCycle, NoSuchFile, TooLarge, Depth, TooDeep, TooMany, KdfLimit, IterLimit, StampLimit, LineLimit, TooMuch, NoOtp, OtpForm, OtpUnknown, OtpLimit, Spent, OutOfMemory, InputEnded}
+use Rattle.cli_answers.specs.declared.answers.Reason.TheVariants.{WrongWords, EmptyTerm, NoSuchPath, NameTaken, AlreadyThere, RootFixed, IntoItself, IdTaken, NoAttribute, NoResult, FileExists, NeedsVersion, DamagedOrWrongKey, DamagedBlock, WrongKeyOrDamaged, WrongPassword, KeyFileHash, NotKdbx, NotPsafe, EndsEarly, BadHeaderField, BadDictionary, Form, MissingElement, BadValue, NilId, NilRecord, DuplicateId, BinaryRef, BadKeyFile, BadField, NotUtf8, NoTitleColumn, BadRow, BadJson, BadFolder, BadItem, LineForm, Version, UnknownId, StreamUnknown, Compressed, Variant, EncryptedExport, Clash, MoveCycle, NoSuchFile, TooLarge, Depth, TooDeep, TooMany, KdfLimit, IterLimit, StampLimit, LineLimit, TooMuch, NoOtp, OtpForm, OtpUnknown, OtpLimit, Spent, OutOfMemory, InputEnded}
 use Rattle.cli_answers.specs.declared.answers.Refusal.{Refusal}
 use Rattle.cli_answers.specs.declared.answers.Stop.{Stop}
 use Rattle.cli_answers.specs.declared.answers.Stop.TheVariants.{Refused, FileFault, InputFault, NoMemory}
@@ -47,12 +47,16 @@ status_of (BadField place) = 4
 status_of (NotUtf8 place) = 4
 status_of NoTitleColumn = 4
 status_of (BadRow number) = 4
+status_of BadJson = 4
+status_of (BadFolder number) = 4
+status_of (BadItem number) = 4
 status_of (LineForm number) = 4
 status_of (Version number) = 5
 status_of (UnknownId id) = 5
 status_of (StreamUnknown number) = 5
 status_of Compressed = 5
 status_of (Variant number) = 5
+status_of EncryptedExport = 5
 status_of (Clash id) = 6
 status_of (MoveCycle ids) = 6
 status_of NoSuchFile = 7
@@ -122,12 +126,16 @@ reason_text (BadField place) = codes "bad field at " ++ decimal place
 reason_text (NotUtf8 place) = codes "not UTF-8 at " ++ decimal place
 reason_text NoTitleColumn = codes "no Title column"
 reason_text (BadRow number) = codes "bad row " ++ decimal number
+reason_text BadJson = codes "bad JSON"
+reason_text (BadFolder number) = codes "bad folder " ++ decimal number
+reason_text (BadItem number) = codes "bad item " ++ decimal number
 reason_text (LineForm number) = codes "line " ++ decimal number ++ codes " is not UTF-8"
 reason_text (Version number) = codes "version " ++ decimal number
 reason_text (UnknownId id) = codes "unknown " ++ hyphenated_text lower id
 reason_text (StreamUnknown number) = codes "stream " ++ decimal number
 reason_text Compressed = codes "compressed"
 reason_text (Variant number) = codes "variant " ++ decimal number
+reason_text EncryptedExport = codes "encrypted export"
 reason_text (Clash id) = codes "clash at " ++ hyphenated_text lower id
 reason_text (MoveCycle ids) = codes "move cycle" ++ spaced_ids ids
 reason_text NoSuchFile = codes "no such file"

@@ -93,6 +93,12 @@ pub enum Reason {
     NoTitleColumn,
     /// The row of this number has another width than the first, or a malformed time.
     BadRow(u64),
+    /// The export is no JSON, or no object of it.
+    BadJson,
+    /// The folder of this number in the export is malformed.
+    BadFolder(u64),
+    /// The item of this number in the export is malformed, or names no folder.
+    BadItem(u64),
     /// The line of this number is not UTF-8.
     LineForm(u64),
     /// Files of this version are not read.
@@ -105,6 +111,8 @@ pub enum Reason {
     Compressed,
     /// The key derivation is of this variant, which is not read.
     Variant(u64),
+    /// The export is encrypted.
+    EncryptedExport,
     /// A node of this id is in the way of a merge: a root has the id elsewhere, or a node of another
     /// kind.
     Clash(Uuid),
@@ -217,12 +225,16 @@ pub fn status(reason: &Reason) -> u8
         Reason::NotUtf8(_) => 4,
         Reason::NoTitleColumn => 4,
         Reason::BadRow(_) => 4,
+        Reason::BadJson => 4,
+        Reason::BadFolder(_) => 4,
+        Reason::BadItem(_) => 4,
         Reason::LineForm(_) => 4,
         Reason::Version(_) => 5,
         Reason::UnknownId(_) => 5,
         Reason::StreamUnknown(_) => 5,
         Reason::Compressed => 5,
         Reason::Variant(_) => 5,
+        Reason::EncryptedExport => 5,
         Reason::Clash(_) => 6,
         Reason::MoveCycle(_) => 6,
         Reason::NoSuchFile => 7,
@@ -420,12 +432,16 @@ pub fn text_of_reason(alloc: Global, reason: &Reason) -> Result<String, AllocErr
         Reason::NotUtf8(at) => numbered(alloc, "not UTF-8 at ", *at),
         Reason::NoTitleColumn => String::from_str(alloc, "no Title column"),
         Reason::BadRow(number) => numbered(alloc, "bad row ", *number),
+        Reason::BadJson => String::from_str(alloc, "bad JSON"),
+        Reason::BadFolder(number) => numbered(alloc, "bad folder ", *number),
+        Reason::BadItem(number) => numbered(alloc, "bad item ", *number),
         Reason::LineForm(number) => line_is(alloc, *number, " is not UTF-8"),
         Reason::Version(number) => numbered(alloc, "version ", u64::from(*number)),
         Reason::UnknownId(id) => with_id(alloc, "unknown ", id),
         Reason::StreamUnknown(number) => numbered(alloc, "stream ", u64::from(*number)),
         Reason::Compressed => String::from_str(alloc, "compressed"),
         Reason::Variant(number) => numbered(alloc, "variant ", *number),
+        Reason::EncryptedExport => String::from_str(alloc, "encrypted export"),
         Reason::Clash(id) => with_id(alloc, "clash at ", id),
         Reason::MoveCycle(ids) => cycle_text(alloc, ids.as_slice()),
         Reason::NoSuchFile => String::from_str(alloc, "no such file"),

@@ -128,7 +128,8 @@ keepass import [OPTION..] SOURCE DATABASE
     opened with a line of standard input.
     --format FORMAT
         What SOURCE is: a document as XML (xml, the default), a file of Password
-        Safe 3 (psafe3), or a table (csv).
+        Safe 3 (psafe3), a table (csv), or an unencrypted export of Bitwarden in
+        JSON (bitwarden).
     -p, --set-password
         DATABASE gets a password: the line of standard input after the one of
         SOURCE, if that has one.

@@ -18,8 +18,8 @@ use Rattle.cli_words.specs.Words.{access_sealed, create_at, create_with, edit_fi
 use Rattle.kdbx_frame.specs.declared.settings.Cipher.{Cipher}
 use Rattle.vault_model.specs.declared.forms.FileVersion.{FileVersion}
 use Rattle.cli_causes.specs.declared.cause.Cause.{Cause}
-use Rattle.cli_causes.specs.declared.cause.Cause.TheVariants.{NeedsArgon, NeedsKdf, NoFileChange, NoKeyLeft, NoNewKey, NotTogether, NotWithPlain, UnknownCipher, UnknownCost, UnknownKdf, UnknownVersion}
-use Rattle.cli_causes.specs.Files.{argon_cause, cipher_cause, cost_cause, costs_cause, create_cause, edit_file_cause, file_change_cause, kdf_cause, key_change_cause, kind_cause, new_key_cause, plain_settings_cause, settings_cause, version_cause}
+use Rattle.cli_causes.specs.declared.cause.Cause.TheVariants.{NeedsArgon, NeedsKdf, NoKeyLeft, NoNewKey, NotTogether, NotWithPlain, UnknownCipher, UnknownCost, UnknownKdf, UnknownVersion}
+use Rattle.cli_causes.specs.Files.{argon_cause, cipher_cause, cost_cause, costs_cause, create_cause, edit_file_cause, file_change_cause, kdf_cause, key_change_cause, kind_cause, new_key_cause, no_change_cause, plain_settings_cause, settings_cause, version_cause}
 use Rattle.cli_causes.specs.First.{first_of}
 use Rattle.cli_causes.proofs.Tests.{some_mapped, some_or}
 
@@ -174,9 +174,9 @@ all_known said (Some cipher) None version = refl
 all_known said (Some cipher) (Some kdf) None = refl
 all_known said (Some cipher) (Some kdf) (Some version) = refl
 
-no_change : (has : Bool) → is_some (if has then None else Some NoFileChange) ≡ not has
-no_change true = refl
-no_change false = refl
+no_change : (has : Bool) (cause : Cause) → is_some (if has then None else Some cause) ≡ not has
+no_change true cause = refl
+no_change false cause = refl
 
 in_change : (has fit settings version : Bool) (made : Option Command) → (settings || version) ≡ not (is_some made)
     → (not fit || (settings || (version || not has))) ≡ not (is_some (if has && fit then made else None))
@@ -199,7 +199,7 @@ edit_file_agrees said file =
     (some_or (settings_cause said) _
     ∙ ap₂ (λ (a b : Bool). a || b) (all_settings said)
     (some_or (version_cause (text_of option.FileVersion said)) (file_change_cause said)
-    ∙ ap₂ (λ (a b : Bool). a || b) (versions (text_of option.FileVersion said)) (no_change (has_file_change said))))
+    ∙ ap₂ (λ (a b : Bool). a || b) (versions (text_of option.FileVersion said)) (no_change (has_file_change said) (no_change_cause said))))
     ∙ in_change (has_file_change said) (is_fit_change said) (not (is_some (cipher_in said)) || not (is_some (kdf_in said))) (not (is_some (version_in said)))
     (option_map (EditFile (access_sealed said) file) (change_in said))
     (all_known said (cipher_in said) (kdf_in said) (version_in said) ∙ ap not (sym (some_mapped (EditFile (access_sealed said) file) (change_in said))))

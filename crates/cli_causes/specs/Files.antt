@@ -11,7 +11,7 @@ use Rattle.cli_saying.specs.Said.{Said, is_given, text_of}
 use Rattle.cli_words.specs.declared.command.KdfKind.{KdfKind}
 use Rattle.cli_words.specs.Settings.{cipher_named, has_file_change, is_argon, kdf_named, version_named}
 use Rattle.cli_causes.specs.declared.cause.Cause.{Cause}
-use Rattle.cli_causes.specs.declared.cause.Cause.TheVariants.{NeedsArgon, NeedsKdf, NoFileChange, NoKeyLeft, NoNewKey, NotTogether, NotWithPlain, UnknownCipher, UnknownCost, UnknownKdf, UnknownVersion}
+use Rattle.cli_causes.specs.declared.cause.Cause.TheVariants.{KeyFileChangesNothing, NeedsArgon, NeedsKdf, NoFileChange, NoKeyLeft, NoNewKey, NotTogether, NotWithPlain, UnknownCipher, UnknownCost, UnknownKdf, UnknownVersion}
 use Rattle.cli_causes.specs.First.{first_of}
 
 -- ---- settings
@@ -117,9 +117,14 @@ key_change_cause said = first_of ((
       NoKeyLeft,
     ) ∷ [])
 
+-- What is said where nothing is given that changes a file: a key file only opens it.
+abbrev pub no_change_cause : Said → Cause
+no_change_cause said =
+    if is_given option.KeyFile said then KeyFileChangesNothing else NoFileChange
+
 -- Nothing is given that changes a file.
 abbrev pub file_change_cause : Said → Option Cause
-file_change_cause said = if has_file_change said then None else Some NoFileChange
+file_change_cause said = if has_file_change said then None else Some (no_change_cause said)
 
 -- What is said of a file that is changed does not fit together.
 abbrev pub edit_file_cause : Said → Option Cause

@@ -78,4 +78,6 @@ pub enum Cause {
     NoKeyLeft,
     /// A change of a file is given nothing to change.
     NoFileChange,
+    /// A change of a file is given nothing to change, and a key file that opens it.
+    KeyFileChangesNothing,
 }

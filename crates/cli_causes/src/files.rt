@@ -224,6 +224,8 @@ fn file_change_cause(said: &SaidWords<'_, '_>) -> Option<Cause>
 {
     if has_file_change(said) {
         None
+    } else if is_given(said, CommandOption::KeyFile) {
+        Some(Cause::KeyFileChangesNothing)
     } else {
         Some(Cause::NoFileChange)
     }

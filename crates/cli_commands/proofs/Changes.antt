@@ -230,38 +230,38 @@ merged_none (Ok after) h = h
 merged_none (Err refusal) h = tt
 
 -- A command that may write nothing makes no document.
-none_with : (time : ℕ) (command : Command) (line otp : Option (List ℕ)) (sources : List BareDoc) (settings : Option Settings) (id : NodeId) (doc : BareDoc)
-    → may_write command ≡ false → IfOk (change_with time command line otp sources settings id doc) (λ change. change.doc ≡ None)
-none_with time (Ls access file group recursive flat) line otp sources settings id doc e = listed_none file recursive flat (tree_listed group doc)
-none_with time (Show access file entry clear all attachments names totp) line otp sources settings id doc e =
+none_with : (time : ℕ) (command : Command) (line otp : Option (List ℕ)) (sources : List BareDoc) (settings : Option Settings) (passed : List (List ℕ)) (id : NodeId) (doc : BareDoc)
+    → may_write command ≡ false → IfOk (change_with time command line otp sources settings passed id doc) (λ change. change.doc ≡ None)
+none_with time (Ls access file group recursive flat) line otp sources settings passed id doc e = listed_none file recursive flat (tree_listed group doc)
+none_with time (Show access file entry clear all attachments names totp) line otp sources settings passed id doc e =
     printed_none (if totp then code_shown file names entry time doc else entry_shown file clear all attachments names entry doc)
-none_with time (Search access file term) line otp sources settings id doc e = printed_none (entries_shown file term doc)
-none_with time (Add access file entry asked) line otp sources settings id doc e = cc
-none_with time (Edit access file entry asked) line otp sources settings id doc e = cc
-none_with time (Move access file node group) line otp sources settings id doc e = cc
-none_with time (Remove access file entry) line otp sources settings id doc e = cc
-none_with time (MakeGroup access file group) line otp sources settings id doc e = cc
-none_with time (RemoveGroup access file group) line otp sources settings id doc e = cc
-none_with time (Merge access file names from same false) line otp sources settings id doc e = cc
-none_with time (Merge access file names from same true) line otp sources settings id doc e =
+none_with time (Search access file term) line otp sources settings passed id doc e = printed_none (entries_shown file term doc)
+none_with time (Add access file entry asked) line otp sources settings passed id doc e = cc
+none_with time (Edit access file entry asked) line otp sources settings passed id doc e = cc
+none_with time (Move access file node group) line otp sources settings passed id doc e = cc
+none_with time (Remove access file entry) line otp sources settings passed id doc e = cc
+none_with time (MakeGroup access file group) line otp sources settings passed id doc e = cc
+none_with time (RemoveGroup access file group) line otp sources settings passed id doc e = cc
+none_with time (Merge access file names from same false) line otp sources settings passed id doc e = cc
+none_with time (Merge access file names from same true) line otp sources settings passed id doc e =
     merged_none (after_merge file access.quiet true names doc sources) (dry_none file access.quiet names doc sources)
-none_with time (Import access format source from file) line otp sources settings id doc e = cc
-none_with time (Create access file name cipher kdf) line otp sources settings id doc e = cc
-none_with time (Export access format file) line otp sources settings id doc e = printed_none (exported file format doc)
-none_with time (EditFile access file change) line otp sources settings id doc e = cc
-none_with time (Info access file) line otp sources settings id doc e = printed_none (Ok (info_shown settings doc))
+none_with time (Import access format source from file) line otp sources settings passed id doc e = cc
+none_with time (Create access file name cipher kdf) line otp sources settings passed id doc e = cc
+none_with time (Export access format file) line otp sources settings passed id doc e = printed_none (exported file format doc)
+none_with time (EditFile access file change) line otp sources settings passed id doc e = cc
+none_with time (Info access file) line otp sources settings passed id doc e = printed_none (Ok (info_shown settings doc))
 
 none_after : {A : Type 0} (next : A → List ℕ → StreamAnswer Change) → ((a : A) (left : List ℕ) → IfOk (next a left).answer (λ change. change.doc ≡ None))
     → (answer : Result A Refusal) (left : List ℕ) → IfOk (after_left answer left next).answer (λ change. change.doc ≡ None)
 none_after next none (Ok a) left = none a left
 none_after next none (Err refusal) left = tt
 
-pub none_changed : (time : ℕ) (command : Command) (line otp : Option (List ℕ)) (sources : List BareDoc) (settings : Option Settings) (doc : BareDoc) (dice : List ℕ)
-    → may_write command ≡ false → IfOk (change_of time command line otp sources settings doc dice).answer (λ change. change.doc ≡ None)
-none_changed time command line otp sources settings doc dice e =
-    none_after (λ id. change_by time command line otp sources settings id doc)
+pub none_changed : (time : ℕ) (command : Command) (line otp : Option (List ℕ)) (sources : List BareDoc) (settings : Option Settings) (passed : List (List ℕ)) (doc : BareDoc) (dice : List ℕ)
+    → may_write command ≡ false → IfOk (change_of time command line otp sources settings passed doc dice).answer (λ change. change.doc ≡ None)
+none_changed time command line otp sources settings passed doc dice e =
+    none_after (λ id. change_by time command line otp sources settings passed id doc)
     (λ id left.
     let password = password_of (generated_by command) line left in
-    none_after (λ p rest. with_left (change_with time command p otp sources settings id doc) rest)
-    (λ p rest. none_with time command p otp sources settings id doc e) password.answer password.left)
+    none_after (λ p rest. with_left (change_with time command p otp sources settings passed id doc) rest)
+    (λ p rest. none_with time command p otp sources settings passed id doc e) password.answer password.left)
     (drawn_id (makes_node command doc) dice).answer (drawn_id (makes_node command doc) dice).left

@@ -1,5 +1,5 @@
 -- What each command makes of its database.
-use Rattle.std.specs.Prelude.{ℕ, Bool, true, false, not, ◌||◌, if◌then◌else◌, is_some, List, [], codes, Option, None, Some, Result, Ok, Err}
+use Rattle.std.specs.Prelude.{ℕ, Bool, true, false, not, ◌||◌, if◌then◌else◌, is_some, List, [], ◌∷◌, ◌++◌, codes, Option, None, Some, Result, Ok, Err}
 use Rattle.kdbx_frame.specs.declared.settings.Settings.{Settings}
 use Rattle.vault_model.specs.Db.{NodeId, nil_id}
 use Rattle.vault_model.specs.Tree as tree
@@ -114,9 +114,16 @@ abbrev pub text_unless : Bool → List ℕ → List ℕ
 text_unless true text = []
 text_unless false text = text
 
--- What an import prints.
-abbrev pub imported_text : Bool → List ℕ
-imported_text quiet = text_unless quiet (codes "Successfully imported database.\n")
+-- A line for each column that was passed over.
+abbrev pub passed_lines : List (List ℕ) → List ℕ
+passed_lines [] = []
+passed_lines (name ∷ names) =
+    codes "Column passed over: " ++ name ++ codes "\n" ++ passed_lines names
+
+-- What an import prints: a line for each column that was passed over, and that it was carried out.
+abbrev pub imported_text : Bool → List (List ℕ) → List ℕ
+imported_text quiet passed =
+    text_unless quiet (passed_lines passed ++ codes "Successfully imported database.\n")
 
 -- What is printed of an empty database that was made.
 abbrev pub created_text : Bool → List ℕ
@@ -150,41 +157,42 @@ abbrev pub bin_id : NodeId → BareDoc → Option NodeId
 bin_id id doc = if needs_bin doc then Some id else None
 
 -- What each command makes of its document at a moment, with the password and the text of a one-time
--- code that are given, the documents of its sources, and the settings of its database's file, which
--- a plain document lacks; a node that it makes has this id.
+-- code that are given, the documents of its sources, the settings of its database's file, which a
+-- plain document lacks, and the columns that were passed over where it is made of a table; a node
+-- that it makes has this id.
 abbrev pub change_with : ℕ → Command → (line otp : Option (List ℕ)) → List BareDoc
-    → Option Settings → NodeId → BareDoc → Result Change Refusal
-change_with time (Ls access file group recursive flat) line otp sources settings id doc =
+    → Option Settings → List (List ℕ) → NodeId → BareDoc → Result Change Refusal
+change_with time (Ls access file group recursive flat) line otp sources settings passed id doc =
     listing_of file recursive flat (tree_listed group doc)
 change_with time (Show access file entry clear all attachments names totp) line otp sources settings
-    id doc =
+    passed id doc =
     printed_text (if totp then code_shown file names entry time doc
     else entry_shown file clear all attachments names entry doc)
-change_with time (Search access file term) line otp sources settings id doc =
+change_with time (Search access file term) line otp sources settings passed id doc =
     printed_text (entries_shown file term doc)
-change_with time (Add access file entry asked) line otp sources settings id doc = new_document
-    (after_add_command file access.quiet entry id (values_of asked line None) time doc)
-change_with time (Edit access file entry asked) line otp sources settings id doc = new_document
-    (after_edit_command file access.quiet entry (values_of asked line otp) time doc)
-change_with time (Move access file node group) line otp sources settings id doc = new_document
-    (after_mv file access.quiet node group time doc)
-change_with time (Remove access file entry) line otp sources settings id doc = new_document
-    (after_rm file access.quiet entry (bin_id id doc) time doc)
-change_with time (MakeGroup access file group) line otp sources settings id doc = new_document
-    (after_mkdir file access.quiet group id time doc)
-change_with time (RemoveGroup access file group) line otp sources settings id doc = new_document
-    (after_rmdir file access.quiet group (bin_id id doc) time doc)
-change_with time (Merge access file names from same dry) line otp sources settings id doc =
+change_with time (Add access file entry asked) line otp sources settings passed id doc =
+    new_document (after_add_command file access.quiet entry id (values_of asked line None) time doc)
+change_with time (Edit access file entry asked) line otp sources settings passed id doc =
+    new_document (after_edit_command file access.quiet entry (values_of asked line otp) time doc)
+change_with time (Move access file node group) line otp sources settings passed id doc =
+    new_document (after_mv file access.quiet node group time doc)
+change_with time (Remove access file entry) line otp sources settings passed id doc =
+    new_document (after_rm file access.quiet entry (bin_id id doc) time doc)
+change_with time (MakeGroup access file group) line otp sources settings passed id doc =
+    new_document (after_mkdir file access.quiet group id time doc)
+change_with time (RemoveGroup access file group) line otp sources settings passed id doc =
+    new_document (after_rmdir file access.quiet group (bin_id id doc) time doc)
+change_with time (Merge access file names from same dry) line otp sources settings passed id doc =
     merged_change (after_merge file access.quiet dry names doc sources)
-change_with time (Import access format source from file) line otp sources settings id doc =
-    Ok (record { text = imported_text access.quiet; doc = Some doc })
-change_with time (Create access file name cipher kdf) line otp sources settings id doc =
+change_with time (Import access format source from file) line otp sources settings passed id doc =
+    Ok (record { text = imported_text access.quiet passed; doc = Some doc })
+change_with time (Create access file name cipher kdf) line otp sources settings passed id doc =
     created_or_refusal file access.quiet id doc
-change_with time (Export access format file) line otp sources settings id doc =
+change_with time (Export access format file) line otp sources settings passed id doc =
     printed_text (exported file format doc)
-change_with time (EditFile access file change) line otp sources settings id doc =
+change_with time (EditFile access file change) line otp sources settings passed id doc =
     Ok (record { text = changed_text access.quiet; doc = Some doc })
-change_with time (Info access file) line otp sources settings id doc =
+change_with time (Info access file) line otp sources settings passed id doc =
     printed_text (Ok (info_shown settings doc))
 
 -- The id of a node that is made: 16 bytes are drawn, which make it. Where none is made, nothing is
@@ -212,18 +220,19 @@ password_of None line dice = with_left (Ok line) dice
 -- What a command makes of its document once the id of its node is drawn: the password is generated
 -- next, where it is to be.
 abbrev pub change_by : ℕ → Command → (line otp : Option (List ℕ)) → List BareDoc
-    → Option Settings → NodeId → BareDoc → List ℕ → StreamAnswer Change
-change_by time command line otp sources settings id doc dice =
+    → Option Settings → List (List ℕ) → NodeId → BareDoc → List ℕ → StreamAnswer Change
+change_by time command line otp sources settings passed id doc dice =
     then_left (password_of (generated_by command) line dice) (λ password left.
-    with_left (change_with time command password otp sources settings id doc) left)
+    with_left (change_with time command password otp sources settings passed id doc) left)
 
 -- What each command makes of its document at a moment, with the lines that it asked for, the
--- documents of its sources and the settings of its database's file, over the dice.
+-- documents of its sources, the settings of its database's file and the columns that were passed
+-- over, over the dice.
 abbrev pub change_of : ℕ → Command → (line otp : Option (List ℕ)) → List BareDoc
-    → Option Settings → BareDoc → List ℕ → StreamAnswer Change
-change_of time command line otp sources settings doc dice =
+    → Option Settings → List (List ℕ) → BareDoc → List ℕ → StreamAnswer Change
+change_of time command line otp sources settings passed doc dice =
     then_left (drawn_id (makes_node command doc) dice)
-    (λ id. change_by time command line otp sources settings id doc)
+    (λ id. change_by time command line otp sources settings passed id doc)
 
 -- A command draws before its file is written: an id, or a password.
 abbrev pub draws_change : Command → Bool

@@ -1,5 +1,5 @@
 //! Carrying a command out on its document.
-ghost use Rattle.std.specs.Prelude.{◌≡◌, ◌≤◌, ℕ, List, Ok, Some, IfErr, IfOk, IfSome, false, is_some, map, true};
+ghost use Rattle.std.specs.Prelude.{◌≡◌, ◌≤◌, ◌++◌, ℕ, List, Ok, OnOk, Some, IfErr, IfOk, IfSome, codes, false, is_some, map, true};
 ghost use Rattle.outside_core.specs.Streams.{LosesPrefix};
 ghost use Rattle.vault_model.specs.SeenDoc.{doc_seen};
 ghost use Rattle.vault_model.specs.Tree.{BareDoc};
@@ -13,7 +13,7 @@ ghost use Rattle.cli_profiles.specs.Profiles.{IsProfile};
 ghost use Rattle.cli_words.specs.Needs.{generated_by, needs_of};
 ghost use Rattle.cli_printing.specs.Listing.{tree_listed};
 ghost use Rattle.cli_commands.specs.Commands as spec;
-ghost use Rattle.cli_commands.specs.Commands.{change_of, change_with, changed_text, created_change, created_or_refusal, draws_change, imported_text, listing_of, rooted_at, text_unless, with_root_id};
+ghost use Rattle.cli_commands.specs.Commands.{change_of, change_with, changed_text, created_change, created_or_refusal, draws_change, imported_text, listing_of, passed_lines, rooted_at, text_unless, with_root_id};
 ghost use Rattle.cli_commands.specs.SeenChange.{change_seen, lent_settings};
 ghost use Rattle.cli_printing.specs.Info.{info_shown};
 
@@ -97,6 +97,8 @@ pub struct CommandInput<'a> {
     pub sources: &'a [Doc],
     /// The settings of its database's file; a plain document has none.
     pub settings: Option<&'a Settings>,
+    /// The names of the columns that were passed over, where its database is made of a table.
+    pub passed_over: &'a [Text],
     /// The moment, in seconds since the year 1.
     pub now: u64,
 }
@@ -203,13 +205,47 @@ fn set_root_id(doc: &mut Doc, id: Uuid)
     put_root_id(&mut doc.root, id);
 }
 
+// Adds the line of a column that was passed over.
+fn add_passed(text: &mut Bytes, name: &str) -> Result<(), NoMemory>
+    ensures { OnOk result (text.new
+        ≡ text.old ++ codes "Column passed over: " ++ name.now ++ codes "\n") }
+{
+    text.add(b"Column passed over: ")?;
+    text.add(name.as_bytes())?;
+    text.add(b"\n")
+}
+
+// Adds a line for each column that was passed over.
+fn add_all_passed(text: &mut Bytes, names: &[Text]) -> Result<(), NoMemory>
+    ensures { OnOk result (text.new ≡ text.old ++ passed_lines names.now) }
+{
+    for name in names {
+        add_passed(text, name.as_str())?;
+    }
+    Ok(())
+}
+
+// The report of an import.
+fn import_report(alloc: Global, names: &[Text]) -> Result<Bytes, NoMemory>
+    ensures { IfOk result (λ report. report
+        ≡ passed_lines names.now ++ codes "Successfully imported database.\n") }
+{
+    let mut report = Bytes::new(alloc);
+    add_all_passed(&mut report, names)?;
+    report.add(b"Successfully imported database.\n")?;
+    Ok(report)
+}
+
 // The change of an import.
-fn report_import(alloc: Global, quiet: bool) -> Result<Change, Stop>
+fn report_import(alloc: Global, quiet: bool, names: &[Text]) -> Result<Change, Stop>
     ensures told { (doc : BareDoc) → Returns (λ change. change_seen change doc) result
-        (Ok (record { text = imported_text quiet; doc = Some doc })) }
+        (Ok (record { text = imported_text quiet names.now; doc = Some doc })) }
     ensures cause { IfErr result IsPlainStop }
 {
-    report_written(alloc, quiet, b"Successfully imported database.\n")
+    let report = import_report(alloc, names)?;
+    let change = report_written(alloc, quiet, report.as_slice());
+    drop(report);
+    change
 }
 
 // The change of a command that changes how its database is sealed.
@@ -285,7 +321,7 @@ fn change_document<'a>(
     ensures told { Returns (λ change. change_seen change (doc_seen doc.new)) result
         (change_with input.entry.now command.now (lent_value input.entry.line)
         (lent_value input.entry.otp) (map doc_seen input.entry.sources.now)
-        (lent_settings input.entry.settings) id (doc_seen doc.old)) }
+        (lent_settings input.entry.settings) input.entry.passed_over.now id (doc_seen doc.old)) }
     ensures unwritten { spec.may_write command.now ≡ false
         → IfOk result (λ change. change.is_written ≡ false) }
     ensures unchanged { IfErr result (λ _. doc_seen doc.new ≡ doc_seen doc.old) }
@@ -344,7 +380,7 @@ fn change_document<'a>(
             let given = merge_given(given, sources.as_slice(), *dry);
             merge_change(merge_into(alloc, doc, input.sources, given))
         }
-        Command::Import { access, .. } => report_import(alloc, access.quiet),
+        Command::Import { access, .. } => report_import(alloc, access.quiet, input.passed_over),
         Command::Create { access, .. } => { create_empty(alloc, given.file, access.quiet, id, doc) }
         Command::Export { format, .. } => printed(export(alloc, doc, *format, given.file)),
         Command::EditFile { access, .. } => report_changed(alloc, access.quiet),
@@ -358,6 +394,7 @@ fn with_line<'a>(input: CommandInput<'a>, line: &'a [u8]) -> CommandInput<'a>
     ensures otp { result.otp ≡ input.entry.otp }
     ensures sources { result.sources ≡ input.entry.sources }
     ensures settings { result.settings ≡ input.entry.settings }
+    ensures passed { result.passed_over ≡ input.entry.passed_over }
     ensures now { result.now ≡ input.entry.now }
 {
     CommandInput {
@@ -365,6 +402,7 @@ fn with_line<'a>(input: CommandInput<'a>, line: &'a [u8]) -> CommandInput<'a>
         otp: input.otp,
         sources: input.sources,
         settings: input.settings,
+        passed_over: input.passed_over,
         now: input.now,
     }
 }
@@ -383,7 +421,7 @@ fn change_with_password(
     ensures told { Returns (λ change. change_seen change (doc_seen doc.new)) result
         (change_with input.entry.now command.now (Some password.now.bytes)
         (lent_value input.entry.otp) (map doc_seen input.entry.sources.now)
-        (lent_settings input.entry.settings) id (doc_seen doc.old)) }
+        (lent_settings input.entry.settings) input.entry.passed_over.now id (doc_seen doc.old)) }
     ensures unwritten { spec.may_write command.now ≡ false
         → IfOk result (λ change. change.is_written ≡ false) }
     ensures unchanged { IfErr result (λ _. doc_seen doc.new ≡ doc_seen doc.old) }
@@ -411,12 +449,12 @@ fn change_by<D: Dice>(
         (D.stream dice.old) (D.stream dice.new)
         (spec.change_by input.entry.now command.now (lent_value input.entry.line)
         (lent_value input.entry.otp) (map doc_seen input.entry.sources.now)
-        (lent_settings input.entry.settings) id (doc_seen doc.old) d) }
+        (lent_settings input.entry.settings) input.entry.passed_over.now id (doc_seen doc.old) d) }
     ensures some_dice { IfOk result (λ change. (d : List ℕ)
         × ((spec.change_by input.entry.now command.now (lent_value input.entry.line)
         (lent_value input.entry.otp) (map doc_seen input.entry.sources.now)
-        (lent_settings input.entry.settings) id (doc_seen doc.old) d).answer
-        ≡ Ok (change_seen change (doc_seen doc.new)))) }
+        (lent_settings input.entry.settings) input.entry.passed_over.now id (doc_seen doc.old)
+        d).answer ≡ Ok (change_seen change (doc_seen doc.new)))) }
     ensures unwritten { spec.may_write command.now ≡ false
         → IfOk result (λ change. change.is_written ≡ false) }
     ensures unchanged { IfErr result (λ _. doc_seen doc.new ≡ doc_seen doc.old) }
@@ -456,12 +494,12 @@ pub fn perform<'a, D: Dice>(
         (D.stream dice.old) (D.stream dice.new)
         (change_of input.entry.now command.now (lent_value input.entry.line)
         (lent_value input.entry.otp) (map doc_seen input.entry.sources.now)
-        (lent_settings input.entry.settings) (doc_seen doc.old) d) }
+        (lent_settings input.entry.settings) input.entry.passed_over.now (doc_seen doc.old) d) }
     ensures some_dice { IfOk result (λ change. (d : List ℕ)
         × ((change_of input.entry.now command.now (lent_value input.entry.line)
         (lent_value input.entry.otp) (map doc_seen input.entry.sources.now)
-        (lent_settings input.entry.settings) (doc_seen doc.old) d).answer
-        ≡ Ok (change_seen change (doc_seen doc.new)))) }
+        (lent_settings input.entry.settings) input.entry.passed_over.now (doc_seen doc.old)
+        d).answer ≡ Ok (change_seen change (doc_seen doc.new)))) }
     ensures unwritten { spec.may_write command.now ≡ false
         → IfOk result (λ change. change.is_written ≡ false) }
     ensures unchanged { IfErr result (λ _. doc_seen doc.new ≡ doc_seen doc.old) }

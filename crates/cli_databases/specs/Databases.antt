@@ -82,13 +82,14 @@ open_answer sealed.NoMemory = OutOfMemory
 
 -- A plain document.
 abbrev pub opened_plain : BareDoc → Opened
-opened_plain doc = record { doc = doc; sealing = None }
+opened_plain doc = record { doc = doc; sealing = None; passed_over = [] }
 
 -- What a file holds that was opened under a composite key.
 abbrev pub opened_under : List ℕ → FileContents → Opened
 opened_under composite vault = record {
   doc = vault.doc;
   sealing = Some (record { settings = vault.settings; composite = composite });
+  passed_over = [];
 }
 
 -- ---- files

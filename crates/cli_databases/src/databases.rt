@@ -119,10 +119,11 @@ fn open_plain<F: FileStore>(alloc: Global, files: &mut F, name: &str) -> Result<
 }
 
 // A database that was opened under its composite key, which goes on with it.
-fn sealed_by(opened: kdbx_open::Opened) -> Opened
+fn sealed_by(alloc: Global, opened: kdbx_open::Opened) -> Opened
     ensures { result ≡ record {
       doc = opened.doc;
       sealing = Some (record { settings = opened.settings; composite = opened.composite });
+      passed_over = [];
     } }
 {
     let kdbx_open::Opened {
@@ -136,6 +137,7 @@ fn sealed_by(opened: kdbx_open::Opened) -> Opened
             settings,
             composite,
         }),
+        passed_over: List::new(alloc),
     }
 }
 
@@ -159,7 +161,7 @@ fn open_under<F: FileStore>(
         files.new }
 {
     match open_file(alloc, files, name, composite) {
-        Ok(opened) => Ok(sealed_by(opened)),
+        Ok(opened) => Ok(sealed_by(alloc, opened)),
         Err(fail) => Err(unopened(alloc, fail, name)),
     }
 }
@@ -221,8 +223,13 @@ fn open_held<F: FileStore>(
 fn document(opened: Opened) -> Doc
     ensures { result ≡ opened.doc }
 {
-    let Opened { doc, sealing } = opened;
+    let Opened {
+        doc,
+        sealing,
+        passed_over,
+    } = opened;
     release_key(sealing);
+    drop(passed_over);
     doc
 }
 

@@ -1,5 +1,5 @@
 //! The database that a plain document is.
-ghost use Rattle.std.specs.Prelude.{◌≡◌, IfErr, IfOk, IfSome, None};
+ghost use Rattle.std.specs.Prelude.{◌≡◌, [], IfErr, IfOk, IfSome, None};
 ghost use Rattle.kdbx_frame.specs.Settings.{IsInOrder};
 ghost use Rattle.cli_answers.specs.Phases.{IsPlainStop, Returns};
 ghost use Rattle.cli_files.specs.Files.{plain_document};
@@ -11,6 +11,7 @@ ghost use Rattle.cli_databases.specs.SomeFiles.{SomePlain};
 use cli_answers::{Stop, refused};
 use cli_files::{Opened, document_answer, read_plain};
 use doc_read::{DocFail, ReadDoc};
+use outside_core::List;
 use secret_core::Secret;
 use std::alloc::Global;
 
@@ -25,14 +26,18 @@ fn undocumented(alloc: Global, fail: DocFail, name: &str) -> Stop
 }
 
 // A database that was read as a plain document.
-fn plain_by(read: ReadDoc) -> Opened
-    ensures { result ≡ record { doc = read.doc; sealing = None } }
+fn plain_by(alloc: Global, read: ReadDoc) -> Opened
+    ensures { result ≡ record { doc = read.doc; sealing = None; passed_over = [] } }
 {
     let ReadDoc {
         doc,
         header_hash: _,
     } = read;
-    Opened { doc, sealing: None }
+    Opened {
+        doc,
+        sealing: None,
+        passed_over: List::new(alloc),
+    }
 }
 
 /// The plain document in these bytes of a file.
@@ -45,7 +50,7 @@ pub(crate) fn build(alloc: Global, name: &str, bytes: Secret) -> Result<Opened, 
     ensures cause { IfErr result IsPlainStop }
 {
     match read_plain(alloc, bytes) {
-        Ok(read) => Ok(plain_by(read)),
+        Ok(read) => Ok(plain_by(alloc, read)),
         Err(fail) => Err(undocumented(alloc, fail, name)),
     }
 }

@@ -28,11 +28,12 @@ of_file name made (Some bytes) = cond (nat_le (length bytes) file_limit) (made b
 unfoldable pub plain_document : List ℕ → Result DocumentAndHash DocFail
 plain_document text = document (record { form = Plain; keystream = NoKeystream }) [] text
 
--- A database that was opened: its document, and what its file is sealed with, unless it is a plain
--- document.
+-- A database that was opened: its document, what its file is sealed with, unless it is a plain
+-- document, and the names of the columns that were passed over, where it was made of a table.
 pub record Opened : Type 0 where
   pub doc : BareDoc
   pub sealing : Option Sealing
+  pub passed_over : List (List ℕ)
 
 -- The databases of a call: the one that its command shows or changes, and the documents of its
 -- sources.

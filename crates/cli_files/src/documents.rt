@@ -8,7 +8,7 @@ ghost use Rattle.cli_files.specs.Files.{plain_document};
 use cli_answers::Reason;
 use doc_read::{DocFail, ReadDoc, read_parts, resolve};
 use kdbx_frame::Sealing;
-use outside_core::List;
+use outside_core::{List, Text};
 use secret_core::Secret;
 use std::alloc::Global;
 use stream_core::InnerStream;
@@ -20,6 +20,8 @@ pub struct Opened {
     pub doc: Doc,
     /// What its file is sealed with, unless it is a plain document.
     pub sealing: Option<Sealing>,
+    /// The names of the columns that were passed over, where it was made of a table.
+    pub passed_over: List<Text>,
 }
 
 /// The answer that a refusal of the document's reader is.

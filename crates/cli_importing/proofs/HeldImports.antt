@@ -2,12 +2,12 @@
 use Rattle.std.proofs.Common.{◌≡◌, ◌≤◌, ℕ, List, refl, sym, ◌∙◌, ap, subst, Bool, true, false, nat_lt, if◌then◌else◌, Option, Some, None, Result, Ok, Err}
 use Rattle.std.proofs.lemmas.Bool.{le-ltb, ltb-false}
 use Rattle.std.specs.FinMap as finmap
+use Rattle.bitwarden_core.specs.Documents.{bitwarden_document}
+use Rattle.bitwarden_forms.specs.declared.fails.BitwardenFail.{BitwardenFail}
 use Rattle.outside_core.specs.Files.{FileMap}
 use Rattle.outside_core.specs.Results.{◌>>=◌}
 use Rattle.time_core.specs.Times.{last_stamp}
-use Rattle.vault_model.specs.SeenDoc.{doc_seen}
 use Rattle.vault_model.specs.Tree.{BareDoc}
-use Rattle.vault_model.specs.declared.documents.Doc.{Doc}
 use Rattle.doc_forms.specs.Documents.{DocumentAndHash}
 use Rattle.doc_forms.specs.declared.fails.DocFail.{DocFail}
 use Rattle.kdbx_frame.specs.declared.sealings.Sealing.{Sealing}
@@ -23,12 +23,14 @@ use Rattle.cli_answers.specs.declared.answers.Reason.TheVariants.{StampLimit}
 use Rattle.cli_answers.specs.declared.answers.Refusal.{Refusal}
 use Rattle.cli_words.specs.Needs.{ImportNeeds}
 use Rattle.cli_words.specs.declared.command.ImportFormat.{ImportFormat}
-use Rattle.cli_words.specs.declared.command.ImportFormat.TheVariants.{Xml, Psafe, Csv}
+use Rattle.cli_words.specs.declared.command.ImportFormat.TheVariants.{Xml, Psafe, Csv, Bitwarden}
 use Rattle.cli_lines.specs.Lines.{Lines}
 use Rattle.cli_files.specs.Files.{Opened, key_of, plain_document}
 use Rattle.cli_files.proofs.HeldKeys.{given, in_turn, key_given, key_held, used}
-use Rattle.cli_importing.specs.Held.{HoldsImport, IsDocumentBy, IsSealingBy}
-use Rattle.cli_importing.specs.Imports.{at_stamp, document_by, given_password, imported_of, new_sealing, plain_or_refusal, refuse_file, safe_or_refusal, sealing_of, source_of, table_or_refusal}
+use Rattle.cli_importing.specs.SeenSource.{source_seen}
+use Rattle.cli_importing.specs.declared.sources.Source as memory
+use Rattle.cli_importing.specs.Held.{HoldsImport, IsDocumentBy, IsSealingBy, IsSourceBy}
+use Rattle.cli_importing.specs.Imports.{Source, at_stamp, bitwarden_or_refusal, document_by, given_password, imported_of, new_sealing, passed_by, plain_or_refusal, refuse_file, safe_or_refusal, sealing_of, source_by, source_of, table_or_refusal, with_passed}
 
 -- ---- documents
 
@@ -44,6 +46,10 @@ safe_by name (Err why) doc h = cc
 table_by : (name : List ℕ) (r : Result BareDoc TableFail) (doc : BareDoc) → table_or_refusal name r ≡ Ok doc → r ≡ Ok doc
 table_by name (Ok made) doc h = cc
 table_by name (Err why) doc h = cc
+
+bitwarden_by : (name : List ℕ) (r : Result BareDoc BitwardenFail) (doc : BareDoc) → bitwarden_or_refusal name r ≡ Ok doc → r ≡ Ok doc
+bitwarden_by name (Ok made) doc h = cc
+bitwarden_by name (Err why) doc h = cc
 
 unless_late : (late : Bool) (refusal : Refusal) (made : Result BareDoc Refusal) (doc : BareDoc)
     → (if late then Err refusal else made) ≡ Ok doc → (late ≡ false) × (made ≡ Ok doc)
@@ -68,6 +74,9 @@ document_held Psafe name password time bytes doc h =
 document_held Csv name password time bytes doc h =
     let t = in_time name time (table_or_refusal name (csv_document bytes time)) doc h in
     (t.0, table_by name (csv_document bytes time) doc t.1)
+document_held Bitwarden name password time bytes doc h =
+    let t = in_time name time (bitwarden_or_refusal name (bitwarden_document bytes time)) doc h in
+    (t.0, bitwarden_by name (bitwarden_document bytes time) doc t.1)
 
 document_given : (format : ImportFormat) (name : List ℕ) (password : Option (List ℕ)) (time : ℕ) (bytes : List ℕ) (doc : BareDoc)
     → IsDocumentBy format password time bytes doc → document_by format name password time bytes ≡ Ok doc
@@ -76,12 +85,33 @@ document_given Psafe name password time bytes doc h =
     stamped name time (safe_or_refusal name (psafe_outcome bytes (given_password password) time)) h.0 ∙ ap (safe_or_refusal name) h.1
 document_given Csv name password time bytes doc h =
     stamped name time (table_or_refusal name (csv_document bytes time)) h.0 ∙ ap (table_or_refusal name) h.1
+document_given Bitwarden name password time bytes doc h =
+    stamped name time (bitwarden_or_refusal name (bitwarden_document bytes time)) h.0 ∙ ap (bitwarden_or_refusal name) h.1
 
--- Bytes that were read are a document so.
-pub some_read : (result : Result Doc Stop) (format : ImportFormat) (name : List ℕ) (password : Option (List ℕ)) (time : ℕ) (bytes : List ℕ)
-    → Returns doc_seen result (document_by format name password time bytes)
-    → IfOk result (λ doc. (b : List ℕ) × IsDocumentBy format password time b (doc_seen doc))
-some_read (Ok doc) format name password time bytes h = (bytes, document_held format name password time bytes (doc_seen doc) h)
+passed_with : (names : List (List ℕ)) (made : Result BareDoc Refusal) (source : Source) → with_passed names made ≡ Ok source
+    → (made ≡ Ok source.doc) × (source.passed_over ≡ names)
+passed_with names (Ok doc) source h =
+    let is : ◌≡◌ {A = Source} (record { doc = doc; passed_over = names }) source = cc h in
+    (ap (λ (s : Source). Ok s.doc) is, sym (ap (λ (s : Source). s.passed_over) is))
+passed_with names (Err why) source h = cc
+
+source_held : (format : ImportFormat) (name : List ℕ) (password : Option (List ℕ)) (time : ℕ) (bytes : List ℕ) (source : Source)
+    → source_by format name password time bytes ≡ Ok source → IsSourceBy format password time bytes source
+source_held format name password time bytes source h =
+    let p = passed_with (passed_by format bytes) (document_by format name password time bytes) source h in
+    (document_held format name password time bytes source.doc p.0, p.1)
+
+source_given : (format : ImportFormat) (name : List ℕ) (password : Option (List ℕ)) (time : ℕ) (bytes : List ℕ) (source : Source)
+    → IsSourceBy format password time bytes source → source_by format name password time bytes ≡ Ok source
+source_given format name password time bytes source h =
+    ap (with_passed (passed_by format bytes)) (document_given format name password time bytes source.doc h.0)
+    ∙ ap (λ names. Ok (record { doc = source.doc; passed_over = names })) (sym h.1)
+
+-- Bytes that were read are a source so.
+pub some_read : (result : Result memory.Source Stop) (format : ImportFormat) (name : List ℕ) (password : Option (List ℕ)) (time : ℕ) (bytes : List ℕ)
+    → Returns source_seen result (source_by format name password time bytes)
+    → IfOk result (λ source. (b : List ℕ) × IsSourceBy format password time b (source_seen source))
+some_read (Ok source) format name password time bytes h = (bytes, source_held format name password time bytes (source_seen source) h)
 some_read (Err stop) format name password time bytes h = tt
 
 -- ---- the new file
@@ -111,14 +141,16 @@ unfolding imported_of
 import_held import lines time files opened h =
     let d = in_turn (source_of import lines.password time files) _ opened h in
     let f = in_turn (refuse_file import.file (finmap.get files import.file)) _ opened d.1.1 in
-    let s = in_turn (sealing_of import.access.plain import.access.key_file lines.more files) (λ sealing. Ok (record { doc = d.0; sealing = sealing })) opened f.1.1 in
-    let is : ◌≡◌ {A = Opened} (record { doc = d.0; sealing = s.0 }) opened = cc s.1.1 in
-    let u = used import.source files (document_by import.format import.source lines.password time) d.0 (finmap.get files import.source) refl d.1.0 in
+    let s = in_turn (sealing_of import.access.plain import.access.key_file lines.more files) (λ sealing. Ok (record { doc = d.0.doc; sealing = sealing; passed_over = d.0.passed_over })) opened f.1.1 in
+    let is : ◌≡◌ {A = Opened} (record { doc = d.0.doc; sealing = s.0; passed_over = d.0.passed_over }) opened = cc s.1.1 in
+    let u = used import.source files (source_by import.format import.source lines.password time) d.0 (finmap.get files import.source) refl d.1.0 in
+    let i = source_held import.format import.source lines.password time u.bytes d.0 u.gives in
     subst (λ (o : Opened). HoldsImport import lines time files o) is
     (record {
       bytes = u.bytes;
       there = u.there;
-      is = document_held import.format import.source lines.password time u.bytes d.0 u.gives;
+      is = i.0;
+      passed = i.1;
       absent = absent_by import.file (finmap.get files import.file) f.0 f.1.0;
       sealing = sealing_held import.access.plain import.access.key_file lines.more files s.0 s.1.0;
     })
@@ -127,10 +159,11 @@ pub import_given : (import : ImportNeeds) (lines : Lines) (time : ℕ) (files : 
     → HoldsImport import lines time files opened → imported_of import lines time files ≡ Ok opened
 unfolding imported_of
 import_given import lines time files opened h =
-    ap (λ r. r >>= λ doc. refuse_file import.file (finmap.get files import.file) >>= λ u. sealing_of import.access.plain import.access.key_file lines.more files >>= λ sealing. Ok (record { doc = doc; sealing = sealing }))
-    (given import.source files (document_by import.format import.source lines.password time) opened.doc h.bytes h.there
-    (document_given import.format import.source lines.password time h.bytes opened.doc h.is))
-    ∙ ap (λ r. r >>= λ u. sealing_of import.access.plain import.access.key_file lines.more files >>= λ sealing. Ok (record { doc = opened.doc; sealing = sealing }))
+    let source : Source = record { doc = opened.doc; passed_over = opened.passed_over } in
+    ap (λ r. r >>= λ source. refuse_file import.file (finmap.get files import.file) >>= λ u. sealing_of import.access.plain import.access.key_file lines.more files >>= λ sealing. Ok (record { doc = source.doc; sealing = sealing; passed_over = source.passed_over }))
+    (given import.source files (source_by import.format import.source lines.password time) source h.bytes h.there
+    (source_given import.format import.source lines.password time h.bytes source (h.is, h.passed)))
+    ∙ ap (λ r. r >>= λ u. sealing_of import.access.plain import.access.key_file lines.more files >>= λ sealing. Ok (record { doc = opened.doc; sealing = sealing; passed_over = opened.passed_over }))
     (ap (refuse_file import.file) h.absent)
-    ∙ ap (λ r. r >>= λ sealing. Ok (record { doc = opened.doc; sealing = sealing }))
+    ∙ ap (λ r. r >>= λ sealing. Ok (record { doc = opened.doc; sealing = sealing; passed_over = opened.passed_over }))
     (sealing_given import.access.plain import.access.key_file lines.more files opened.sealing h.sealing)

@@ -3,7 +3,6 @@ use Rattle.std.proofs.Common.{◌≡◌, ◌≤◌, ℕ, List, [], ◌∷◌, �
 use Rattle.std.specs.FinMap as finmap
 use Rattle.outside_core.specs.Files.{FileMap}
 use Rattle.outside_core.specs.Results.{◌>>=◌}
-use Rattle.vault_model.specs.Tree.{BareDoc}
 use Rattle.kdbx_frame.specs.declared.sealings.Sealing.{Sealing}
 use Rattle.cli_answers.specs.Phases.{IsFileStop, Stops}
 use Rattle.cli_answers.specs.declared.answers.Stop.{Stop}
@@ -11,19 +10,19 @@ use Rattle.cli_answers.specs.declared.answers.Stop.TheVariants.{Refused, FileFau
 use Rattle.cli_words.specs.Needs.{ImportNeeds}
 use Rattle.cli_lines.specs.Lines.{Lines}
 use Rattle.cli_files.proofs.FileStops.{first_at_files, later_at_files}
-use Rattle.cli_importing.specs.Imports.{imported_of, refuse_file, sealing_of, source_of}
+use Rattle.cli_importing.specs.Imports.{Source, imported_of, refuse_file, sealing_of, source_of}
 
-module _ (import : ImportNeeds) (lines : Lines) (time : ℕ) (files : FileMap) (password : Option (List ℕ)) (name : List ℕ) (doc : BareDoc)
-    (p : password ≡ lines.password) (n : name ≡ import.file) (s : source_of import password time files ≡ Ok doc) where
-  source_is : source_of import lines.password time files ≡ Ok doc
-  source_is = subst (λ (w : Option (List ℕ)). source_of import w time files ≡ Ok doc) p s
+module _ (import : ImportNeeds) (lines : Lines) (time : ℕ) (files : FileMap) (password : Option (List ℕ)) (name : List ℕ) (source : Source)
+    (p : password ≡ lines.password) (n : name ≡ import.file) (s : source_of import password time files ≡ Ok source) where
+  source_is : source_of import lines.password time files ≡ Ok source
+  source_is = subst (λ (w : Option (List ℕ)). source_of import w time files ≡ Ok source) p s
 
   -- A file has the new one's name.
   pub existing_refused : (stop : Stop) → Stops stop (refuse_file name (finmap.get files name)) → Stops stop (imported_of import lines time files)
   unfolding imported_of
   existing_refused (Refused refusal) h =
-      ap (λ r. r >>= λ doc. refuse_file import.file (finmap.get files import.file) >>= λ u. sealing_of import.access.plain import.access.key_file lines.more files >>= λ sealing. Ok (record { doc = doc; sealing = sealing })) source_is
-      ∙ ap (λ r. r >>= λ u. sealing_of import.access.plain import.access.key_file lines.more files >>= λ sealing. Ok (record { doc = doc; sealing = sealing }))
+      ap (λ r. r >>= λ source. refuse_file import.file (finmap.get files import.file) >>= λ u. sealing_of import.access.plain import.access.key_file lines.more files >>= λ sealing. Ok (record { doc = source.doc; sealing = sealing; passed_over = source.passed_over })) source_is
+      ∙ ap (λ r. r >>= λ u. sealing_of import.access.plain import.access.key_file lines.more files >>= λ sealing. Ok (record { doc = source.doc; sealing = sealing; passed_over = source.passed_over }))
       (subst (λ (x : List ℕ). refuse_file x (finmap.get files x) ≡ Err refusal) n h)
   existing_refused (FileFault other) h = tt
   existing_refused InputFault h = tt
@@ -37,9 +36,9 @@ module _ (import : ImportNeeds) (lines : Lines) (time : ℕ) (files : FileMap) (
     pub sealing_refused : (stop : Stop) → Stops stop (sealing_of import.access.plain import.access.key_file more files) → Stops stop (imported_of import lines time files)
     unfolding imported_of
     sealing_refused (Refused refusal) h =
-        ap (λ r. r >>= λ doc. refuse_file import.file (finmap.get files import.file) >>= λ u. sealing_of import.access.plain import.access.key_file lines.more files >>= λ sealing. Ok (record { doc = doc; sealing = sealing })) source_is
-        ∙ ap (λ r. r >>= λ u. sealing_of import.access.plain import.access.key_file lines.more files >>= λ sealing. Ok (record { doc = doc; sealing = sealing })) absent_is
-        ∙ ap (λ r. r >>= λ sealing. Ok (record { doc = doc; sealing = sealing }))
+        ap (λ r. r >>= λ source. refuse_file import.file (finmap.get files import.file) >>= λ u. sealing_of import.access.plain import.access.key_file lines.more files >>= λ sealing. Ok (record { doc = source.doc; sealing = sealing; passed_over = source.passed_over })) source_is
+        ∙ ap (λ r. r >>= λ u. sealing_of import.access.plain import.access.key_file lines.more files >>= λ sealing. Ok (record { doc = source.doc; sealing = sealing; passed_over = source.passed_over })) absent_is
+        ∙ ap (λ r. r >>= λ sealing. Ok (record { doc = source.doc; sealing = sealing; passed_over = source.passed_over }))
         (subst (λ (w : Option (List ℕ)). sealing_of import.access.plain import.access.key_file w files ≡ Err refusal) m h)
     sealing_refused (FileFault other) h = tt
     sealing_refused InputFault h = tt
@@ -47,12 +46,12 @@ module _ (import : ImportNeeds) (lines : Lines) (time : ℕ) (files : FileMap) (
 
     -- Nothing is.
     pub imported_is : (sealing : Option Sealing) → sealing_of import.access.plain import.access.key_file more files ≡ Ok sealing
-        → imported_of import lines time files ≡ Ok (record { doc = doc; sealing = sealing })
+        → imported_of import lines time files ≡ Ok (record { doc = source.doc; sealing = sealing; passed_over = source.passed_over })
     unfolding imported_of
     imported_is sealing h =
-        ap (λ r. r >>= λ doc. refuse_file import.file (finmap.get files import.file) >>= λ u. sealing_of import.access.plain import.access.key_file lines.more files >>= λ sealing. Ok (record { doc = doc; sealing = sealing })) source_is
-        ∙ ap (λ r. r >>= λ u. sealing_of import.access.plain import.access.key_file lines.more files >>= λ sealing. Ok (record { doc = doc; sealing = sealing })) absent_is
-        ∙ ap (λ r. r >>= λ sealing. Ok (record { doc = doc; sealing = sealing }))
+        ap (λ r. r >>= λ source. refuse_file import.file (finmap.get files import.file) >>= λ u. sealing_of import.access.plain import.access.key_file lines.more files >>= λ sealing. Ok (record { doc = source.doc; sealing = sealing; passed_over = source.passed_over })) source_is
+        ∙ ap (λ r. r >>= λ u. sealing_of import.access.plain import.access.key_file lines.more files >>= λ sealing. Ok (record { doc = source.doc; sealing = sealing; passed_over = source.passed_over })) absent_is
+        ∙ ap (λ r. r >>= λ sealing. Ok (record { doc = source.doc; sealing = sealing; passed_over = source.passed_over }))
         (subst (λ (w : Option (List ℕ)). sealing_of import.access.plain import.access.key_file w files ≡ Ok sealing) m h)
 
 -- ---- causes

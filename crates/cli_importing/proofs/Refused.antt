@@ -2,6 +2,9 @@
 use Rattle.std.proofs.Common.{◌≡◌, ◌≢◌, ◌-◌, ℕ, List, length, refl, sym, ◌∙◌, ap, subst, arith, Result, Err}
 use Rattle.std.specs.List.{slice_range}
 use Rattle.std.proofs.lemmas.List.{take_all}
+use Rattle.bitwarden_forms.specs.Refusals as bitwarden_reader
+use Rattle.bitwarden_forms.specs.declared.fails.BitwardenFail.{BitwardenFail}
+use Rattle.bitwarden_forms.specs.declared.fails.BitwardenFail.TheVariants as bitwarden
 use Rattle.outside_core.specs.Results.{Fails}
 use Rattle.vault_model.specs.Tree.{BareDoc}
 use Rattle.doc_forms.specs.Documents.{DocumentAndHash}
@@ -21,8 +24,8 @@ use Rattle.cli_answers.specs.declared.answers.Refusal.{Refusal}
 use Rattle.cli_answers.specs.declared.answers.Stop.{Stop}
 use Rattle.cli_answers.specs.declared.answers.Stop.TheVariants.{Refused, FileFault, InputFault, NoMemory}
 use Rattle.cli_files.specs.Answers.{document_answer}
-use Rattle.cli_importing.specs.Answers.{IsDocumentStop, IsSafeStop, IsTableStop, safe_answer, table_answer}
-use Rattle.cli_importing.specs.Imports.{plain_or_refusal, safe_or_refusal, table_or_refusal}
+use Rattle.cli_importing.specs.Answers.{IsBitwardenStop, IsDocumentStop, IsSafeStop, IsTableStop, bitwarden_answer, safe_answer, table_answer}
+use Rattle.cli_importing.specs.Imports.{bitwarden_or_refusal, plain_or_refusal, safe_or_refusal, table_or_refusal, with_passed}
 
 -- Bytes that are lent from the first to the last.
 pub lent_whole : (bytes lent : List ℕ) (n : ℕ) → lent ≡ slice_range bytes 0 n → n ≡ length bytes → lent ≡ bytes
@@ -39,6 +42,13 @@ without_memory (Refused given) defined h = absurd h
 without_memory (FileFault name) defined h = absurd h
 without_memory InputFault defined h = absurd h
 without_memory NoMemory defined h = tt
+
+-- A document that is refused gives no source.
+pub source_refused : (names : List (List ℕ)) (stop : Stop) (made : Result BareDoc Refusal) → Stops stop made → Stops stop (with_passed names made)
+source_refused names (Refused given) made h = ap (with_passed names) h
+source_refused names (FileFault name) made h = tt
+source_refused names InputFault made h = tt
+source_refused names NoMemory made h = tt
 
 -- ---- plain documents
 
@@ -90,3 +100,20 @@ table_stop_by why stop name other h = h
 pub table_stop_for : (why : TableFail) (stop : Stop) (name : List ℕ) (reason : Reason) → reason ≡ table_answer why → why ≢ table.NoMemory
     → Refuses stop (refusal_of reason name) → IsTableStop why name stop
 table_stop_for why stop name reason is other h = table_stop_by why stop name other (subst (λ (x : Reason). Refuses stop (refusal_of x name)) is h)
+
+-- ---- exports of Bitwarden
+
+-- It is refused as is defined.
+pub bitwarden_refused : (why : BitwardenFail) (stop : Stop) (name : List ℕ) (r : Result BareDoc BitwardenFail) → IsBitwardenStop why name stop → Fails (bitwarden_reader.meaning_of why) r
+    → Stops stop (bitwarden_or_refusal name r)
+bitwarden_refused bitwarden.NoMemory stop name r h is = without_memory stop (bitwarden_or_refusal name r) h
+bitwarden_refused why stop name r h is = refused_so stop (refusal_of (bitwarden_answer why) name) (bitwarden_or_refusal name r) h (ap (bitwarden_or_refusal name) is)
+
+bitwarden_stop_by : (why : BitwardenFail) (stop : Stop) (name : List ℕ) → why ≢ bitwarden.NoMemory → Refuses stop (refusal_of (bitwarden_answer why) name) → IsBitwardenStop why name stop
+bitwarden_stop_by bitwarden.NoMemory stop name other h = absurd (other refl)
+bitwarden_stop_by why stop name other h = h
+
+-- What is refused for another reason than memory.
+pub bitwarden_stop_for : (why : BitwardenFail) (stop : Stop) (name : List ℕ) (reason : Reason) → reason ≡ bitwarden_answer why → why ≢ bitwarden.NoMemory
+    → Refuses stop (refusal_of reason name) → IsBitwardenStop why name stop
+bitwarden_stop_for why stop name reason is other h = bitwarden_stop_by why stop name other (subst (λ (x : Reason). Refuses stop (refusal_of x name)) is h)

@@ -1,5 +1,7 @@
 -- Refusals of the readers of other programs' files, as answers, and stops at documents.
 use Rattle.std.specs.Prelude.{ℕ, List}
+use Rattle.bitwarden_forms.specs.declared.fails.BitwardenFail.{BitwardenFail}
+use Rattle.bitwarden_forms.specs.declared.fails.BitwardenFail.TheVariants as bitwarden
 use Rattle.cli_answers.specs.declared.answers.Reason.{Reason}
 use Rattle.cli_answers.specs.declared.answers.Reason.TheVariants as answer
 use Rattle.cli_answers.specs.declared.answers.Stop.{Stop}
@@ -36,6 +38,18 @@ table_answer (table.DuplicateId id) = answer.DuplicateId id
 table_answer (table.TooDeep id) = answer.TooDeep
 table_answer table.NoMemory = answer.OutOfMemory
 
+-- A refusal of the reader of Bitwarden's exports.
+abbrev pub bitwarden_answer : BitwardenFail → Reason
+bitwarden_answer bitwarden.JsonForm = answer.BadJson
+bitwarden_answer bitwarden.Encrypted = answer.EncryptedExport
+bitwarden_answer (bitwarden.FolderForm number) = answer.BadFolder number
+bitwarden_answer (bitwarden.Member number) = answer.BadItem number
+bitwarden_answer (bitwarden.NilId number) = answer.NilRecord number
+bitwarden_answer (bitwarden.StampLimit time) = answer.StampLimit
+bitwarden_answer (bitwarden.DuplicateId id) = answer.DuplicateId id
+bitwarden_answer (bitwarden.TooDeep id) = answer.TooDeep
+bitwarden_answer bitwarden.NoMemory = answer.OutOfMemory
+
 -- The stop of a call that could not make the plain document of the file of this name.
 abbrev pub IsDocumentStop : DocFail → List ℕ → Stop → Type 0
 IsDocumentStop doc.NoMemory name stop = IsMemoryStop stop
@@ -50,3 +64,8 @@ IsSafeStop why name stop = Refuses stop (refusal_of (safe_answer why) name)
 abbrev pub IsTableStop : TableFail → List ℕ → Stop → Type 0
 IsTableStop table.NoMemory name stop = IsMemoryStop stop
 IsTableStop why name stop = Refuses stop (refusal_of (table_answer why) name)
+
+-- The stop of a call that could not read the export of Bitwarden of this name.
+abbrev pub IsBitwardenStop : BitwardenFail → List ℕ → Stop → Type 0
+IsBitwardenStop bitwarden.NoMemory name stop = IsMemoryStop stop
+IsBitwardenStop why name stop = Refuses stop (refusal_of (bitwarden_answer why) name)

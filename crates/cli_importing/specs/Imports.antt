@@ -2,6 +2,8 @@
 use Rattle.std.specs.Prelude.{ℕ, Bool, true, false, nat_lt, if◌then◌else◌, List, [], replicate, Option, None, Some, Result, Ok, Err}
 use Rattle.std.specs.FinMap as map
 use Rattle.argon_core.specs.declared.params.ArgonKind.TheVariants as argon
+use Rattle.bitwarden_core.specs.Documents.{bitwarden_document}
+use Rattle.bitwarden_forms.specs.declared.fails.BitwardenFail.{BitwardenFail}
 use Rattle.outside_core.specs.Files.{FileMap}
 use Rattle.outside_core.specs.Results.{◌>>=◌}
 use Rattle.key_core.specs.Keys.{composite_key}
@@ -16,6 +18,7 @@ use Rattle.kdbx_frame.specs.declared.settings.Settings.{Settings}
 use Rattle.kdbx_frame.specs.declared.sealings.Sealing.{Sealing}
 use Rattle.psafe_file.specs.declared.fails.PsafeFail.{PsafeFail}
 use Rattle.psafe_core.specs.Outcome.{psafe_outcome}
+use Rattle.table_reading.specs.Columns.{passed_over}
 use Rattle.table_reading.specs.Documents.{csv_document}
 use Rattle.table_reading.specs.declared.fails.TableFail.{TableFail}
 use Rattle.cli_answers.specs.Messages.{refusal_of}
@@ -23,11 +26,11 @@ use Rattle.cli_answers.specs.declared.answers.Reason.TheVariants.{FileExists, St
 use Rattle.cli_answers.specs.declared.answers.Refusal.{Refusal}
 use Rattle.cli_words.specs.Needs.{ImportNeeds}
 use Rattle.cli_words.specs.declared.command.ImportFormat.{ImportFormat}
-use Rattle.cli_words.specs.declared.command.ImportFormat.TheVariants.{Xml, Psafe, Csv}
+use Rattle.cli_words.specs.declared.command.ImportFormat.TheVariants.{Xml, Psafe, Csv, Bitwarden}
 use Rattle.cli_lines.specs.Lines.{Lines}
 use Rattle.cli_files.specs.Answers.{document_answer}
 use Rattle.cli_files.specs.Files.{Opened, key_of, of_file, plain_document}
-use Rattle.cli_importing.specs.Answers.{safe_answer, table_answer}
+use Rattle.cli_importing.specs.Answers.{bitwarden_answer, safe_answer, table_answer}
 
 -- ---- the source
 
@@ -51,6 +54,11 @@ abbrev pub table_or_refusal : List ℕ → Result BareDoc TableFail → Result B
 table_or_refusal name (Ok doc) = Ok doc
 table_or_refusal name (Err why) = Err (refusal_of (table_answer why) name)
 
+-- The document of this export of Bitwarden, or the refusal.
+abbrev pub bitwarden_or_refusal : List ℕ → Result BareDoc BitwardenFail → Result BareDoc Refusal
+bitwarden_or_refusal name (Ok doc) = Ok doc
+bitwarden_or_refusal name (Err why) = Err (refusal_of (bitwarden_answer why) name)
+
 -- What is made of this file at a moment that must not be after the year 9999.
 abbrev pub at_stamp : List ℕ → ℕ → Result BareDoc Refusal → Result BareDoc Refusal
 at_stamp name time made =
@@ -65,11 +73,36 @@ document_by Psafe name password time bytes = at_stamp name time
     (safe_or_refusal name (psafe_outcome bytes (given_password password) time))
 document_by Csv name password time bytes =
     at_stamp name time (table_or_refusal name (csv_document bytes time))
+document_by Bitwarden name password time bytes =
+    at_stamp name time (bitwarden_or_refusal name (bitwarden_document bytes time))
 
--- The document of an import's source.
-abbrev pub source_of : ImportNeeds → Option (List ℕ) → ℕ → FileMap → Result BareDoc Refusal
+-- What an import's source is: a document, and the names of the columns that are passed over, where
+-- it is a table.
+pub record Source : Type 0 where
+  pub doc : BareDoc
+  pub passed_over : List (List ℕ)
+
+-- The names of the columns that are passed over where the bytes of a file are in a format.
+abbrev pub passed_by : ImportFormat → List ℕ → List (List ℕ)
+passed_by Xml bytes = []
+passed_by Psafe bytes = []
+passed_by Csv bytes = passed_over bytes
+passed_by Bitwarden bytes = []
+
+-- A source of which these columns are passed over, if it is a document.
+abbrev pub with_passed : List (List ℕ) → Result BareDoc Refusal → Result Source Refusal
+with_passed names made = made >>= λ doc. Ok (record { doc = doc; passed_over = names })
+
+-- The source that the bytes of this file are in a format, under a password and at a moment.
+abbrev pub source_by : ImportFormat → List ℕ → Option (List ℕ) → ℕ → List ℕ
+    → Result Source Refusal
+source_by format name password time bytes =
+    with_passed (passed_by format bytes) (document_by format name password time bytes)
+
+-- An import's source.
+abbrev pub source_of : ImportNeeds → Option (List ℕ) → ℕ → FileMap → Result Source Refusal
 source_of import password time files =
-    of_file import.source (document_by import.format import.source password time)
+    of_file import.source (source_by import.format import.source password time)
     (map.get files import.source)
 
 -- ---- the new file
@@ -107,7 +140,7 @@ sealing_of false key_file password files =
 -- its source, where no file has the new one's name, and what the new file is sealed with.
 unfoldable pub imported_of : ImportNeeds → Lines → ℕ → FileMap → Result Opened Refusal
 imported_of import lines time files = do
-  doc ← source_of import lines.password time files
+  source ← source_of import lines.password time files
   _ ← refuse_file import.file (map.get files import.file)
   sealing ← sealing_of import.access.plain import.access.key_file lines.more files
-  Ok (record { doc = doc; sealing = sealing })
+  Ok (record { doc = source.doc; sealing = sealing; passed_over = source.passed_over })

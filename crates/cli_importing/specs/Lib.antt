@@ -1,3 +1,4 @@
 pub mod Answers
 pub mod Imports
 pub mod Held
+pub mod SeenSource

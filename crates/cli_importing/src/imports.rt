@@ -144,15 +144,19 @@ pub fn import<F: FileStore>(
     ensures leaves { LeavesFiles F.files F.draft_name F.draft_bytes F.faults F.absences files.old
         files.new }
 {
-    let doc = read_source(alloc, files, import, bytes_in(&lines.password), now)?;
+    let source = read_source(alloc, files, import, bytes_in(&lines.password), now)?;
     if let Err(stop) = refuse_existing(alloc, files, import.file.as_str()) {
-        drop(doc);
+        drop(source);
         return Err(stop);
     }
     match new_sealing(alloc, files, import.access, bytes_in(&lines.more)) {
-        Ok(sealing) => Ok(Opened { doc, sealing }),
+        Ok(sealing) => Ok(Opened {
+            doc: source.doc,
+            sealing,
+            passed_over: source.passed_over,
+        }),
         Err(stop) => {
-            drop(doc);
+            drop(source);
             Err(stop)
         }
     }

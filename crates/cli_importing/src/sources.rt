@@ -1,25 +1,29 @@
-//! The document of an import's source.
+//! The source of an import, and the document that it is.
 ghost use Rattle.std.specs.Prelude.{◌≡◌, ◌≢◌, ℕ, List, [], ◌∷◌, IfErr, IfOk, Some, option_map};
+ghost use Rattle.bitwarden_core.specs.Documents.{bitwarden_document};
 ghost use Rattle.outside_core.specs.Files.{FileMap};
 ghost use Rattle.psafe_core.specs.Outcome.{psafe_outcome};
+ghost use Rattle.table_reading.specs.Columns.{passed_over};
 ghost use Rattle.table_reading.specs.Documents.{csv_document};
-ghost use Rattle.vault_model.specs.SeenDoc.{doc_seen};
 ghost use Rattle.cli_answers.specs.Phases.{IsFileStop, IsPlainStop, Returns};
 ghost use Rattle.cli_files.specs.Files.{plain_document};
 ghost use Rattle.cli_files.specs.LeavesFiles.{LeavesFiles};
 ghost use Rattle.cli_words.specs.declared.command.ImportFormat.TheVariants as format;
 ghost use Rattle.cli_words.specs.SeenNeeds.{import_seen};
 ghost use Rattle.cli_importing.specs.Answers as spec;
-ghost use Rattle.cli_importing.specs.Answers.{IsDocumentStop, IsSafeStop, IsTableStop};
-ghost use Rattle.cli_importing.specs.Held.{IsDocumentBy};
-ghost use Rattle.cli_importing.specs.Imports.{document_by, given_password, plain_or_refusal, safe_or_refusal, source_of, table_or_refusal};
+ghost use Rattle.cli_importing.specs.Answers.{IsBitwardenStop, IsDocumentStop, IsSafeStop, IsTableStop};
+ghost use Rattle.cli_importing.specs.Held.{IsSourceBy};
+ghost use Rattle.cli_importing.specs.SeenSource.{source_seen};
+ghost use Rattle.cli_importing.specs.Imports.{bitwarden_or_refusal, given_password, plain_or_refusal, safe_or_refusal, source_by, source_of, table_or_refusal, with_passed};
 
+use bitwarden_core::import_bitwarden;
+use bitwarden_forms::BitwardenFail;
 use cli_answers::{Reason, Stop, refused};
 use cli_files::{document_answer, read_plain, unread};
 use cli_words::{ImportFormat, ImportNeeds};
 use doc_read::{DocFail, ReadDoc};
 use kdbx_frame::FILE_LIMIT;
-use outside_core::FileStore;
+use outside_core::{FileStore, List, Text};
 use psafe_core::import_psafe;
 use psafe_file::PsafeFail;
 use secret_core::{Secret, read_file};
@@ -27,6 +31,15 @@ use std::alloc::Global;
 use table_reading::{TableFail, import_csv};
 use time_core::Stamp;
 use vault_model::Doc;
+
+/// What an import's source is.
+#[derive(Drop)]
+pub struct Source {
+    /// Its document.
+    pub doc: Doc,
+    /// The names of the columns that are passed over, where it is a table.
+    pub passed_over: List<Text>,
+}
 
 // The answer that a refusal of the reader of Password Safe's files is.
 fn safe_answer(fail: PsafeFail) -> Reason
@@ -63,6 +76,24 @@ fn table_answer(fail: TableFail) -> Reason
     }
 }
 
+// The answer that a refusal of the reader of Bitwarden's exports is.
+fn bitwarden_answer(fail: BitwardenFail) -> Reason
+    ensures is { result ≡ spec.bitwarden_answer fail }
+    ensures there { result ≢ Reason.NoSuchFile }
+{
+    match fail {
+        BitwardenFail::JsonForm => Reason::BadJson,
+        BitwardenFail::Encrypted => Reason::EncryptedExport,
+        BitwardenFail::FolderForm(number) => Reason::BadFolder(number),
+        BitwardenFail::Member(number) => Reason::BadItem(number),
+        BitwardenFail::NilId(number) => Reason::NilRecord(number),
+        BitwardenFail::StampLimit(_) => Reason::StampLimit,
+        BitwardenFail::DuplicateId(id) => Reason::DuplicateId(id),
+        BitwardenFail::TooDeep(_) => Reason::TooDeep,
+        BitwardenFail::NoMemory => Reason::OutOfMemory,
+    }
+}
+
 // The stop of a call that could not make the document of the file of this name.
 fn document_stop(alloc: Global, fail: DocFail, name: &str) -> Stop
     ensures stop { IsDocumentStop fail name.now result }
@@ -74,10 +105,20 @@ fn document_stop(alloc: Global, fail: DocFail, name: &str) -> Stop
     refused(alloc, document_answer(fail), name)
 }
 
+// A source that is no table.
+fn no_table(alloc: Global, doc: Doc) -> Source
+    ensures { result ≡ record { doc = doc; passed_over = [] } }
+{
+    Source {
+        doc,
+        passed_over: List::new(alloc),
+    }
+}
+
 // The plain document in these bytes of a file.
-fn read_document(alloc: Global, name: &str, bytes: Secret) -> Result<Doc, Stop>
-    ensures gives { Returns doc_seen result
-        (plain_or_refusal name.now (plain_document bytes.bytes)) }
+fn read_document(alloc: Global, name: &str, bytes: Secret) -> Result<Source, Stop>
+    ensures gives { Returns source_seen result
+        (with_passed [] (plain_or_refusal name.now (plain_document bytes.bytes))) }
     ensures cause { IfErr result IsPlainStop }
 {
     match read_plain(alloc, bytes) {
@@ -86,7 +127,7 @@ fn read_document(alloc: Global, name: &str, bytes: Secret) -> Result<Doc, Stop>
                 doc,
                 header_hash: _,
             },
-        ) => Ok(doc),
+        ) => Ok(no_table(alloc, doc)),
         Err(fail) => Err(document_stop(alloc, fail, name)),
     }
 }
@@ -119,9 +160,10 @@ fn read_safe(
     password: Option<&[u8]>,
     bytes: &Secret,
     now: Stamp,
-) -> Result<Doc, Stop>
-    ensures gives { Returns doc_seen result (safe_or_refusal name.now (psafe_outcome
-        bytes.now.bytes (given_password (option_map (λ p. p.now) password.entry)) now)) }
+) -> Result<Source, Stop>
+    ensures gives { Returns source_seen result (with_passed [] (safe_or_refusal name.now
+        (psafe_outcome bytes.now.bytes (given_password (option_map (λ p. p.now) password.entry))
+        now))) }
     ensures cause { IfErr result IsPlainStop }
 {
     match import_psafe(
@@ -130,7 +172,7 @@ fn read_safe(
         given_password(password),
         now,
     ) {
-        Ok(doc) => Ok(doc),
+        Ok(doc) => Ok(no_table(alloc, doc)),
         Err(fail) => Err(safe_stop(alloc, fail, name)),
     }
 }
@@ -146,20 +188,46 @@ fn table_stop(alloc: Global, fail: TableFail, name: &str) -> Stop
     refused(alloc, table_answer(fail), name)
 }
 
-// The document of a table.
-fn read_table(alloc: Global, name: &str, bytes: &Secret, now: Stamp) -> Result<Doc, Stop>
-    ensures gives { Returns doc_seen result
-        (table_or_refusal name.now (csv_document bytes.now.bytes now)) }
+// The document of a table, with the columns that are passed over.
+fn read_table(alloc: Global, name: &str, bytes: &Secret, now: Stamp) -> Result<Source, Stop>
+    ensures gives { Returns source_seen result (with_passed (passed_over bytes.now.bytes)
+        (table_or_refusal name.now (csv_document bytes.now.bytes now))) }
     ensures cause { IfErr result IsPlainStop }
 {
     match import_csv(alloc, bytes.lend(0, bytes.len()), now) {
-        Ok(table) => Ok(table.doc),
+        Ok(table) => Ok(Source {
+            doc: table.doc,
+            passed_over: table.passed_over,
+        }),
         Err(fail) => Err(table_stop(alloc, fail, name)),
     }
 }
 
-// The document that the bytes of a file are in a format, under a password, if the format has one,
-// and at a moment.
+// The stop of a call that could not read the export of Bitwarden of this name.
+fn bitwarden_stop(alloc: Global, fail: BitwardenFail, name: &str) -> Stop
+    ensures stop { IsBitwardenStop fail name.now result }
+    ensures cause { IsPlainStop result }
+{
+    if let BitwardenFail::NoMemory = fail {
+        return Stop::NoMemory;
+    }
+    refused(alloc, bitwarden_answer(fail), name)
+}
+
+// The document of an unencrypted export of Bitwarden.
+fn read_bitwarden(alloc: Global, name: &str, bytes: &Secret, now: Stamp) -> Result<Source, Stop>
+    ensures gives { Returns source_seen result (with_passed []
+        (bitwarden_or_refusal name.now (bitwarden_document bytes.now.bytes now))) }
+    ensures cause { IfErr result IsPlainStop }
+{
+    match import_bitwarden(alloc, bytes.lend(0, bytes.len()), now) {
+        Ok(doc) => Ok(no_table(alloc, doc)),
+        Err(fail) => Err(bitwarden_stop(alloc, fail, name)),
+    }
+}
+
+// The source that the bytes of a file are in a format, under a password, if the format has one, and
+// at a moment.
 fn read_by(
     alloc: Global,
     format: ImportFormat,
@@ -167,8 +235,8 @@ fn read_by(
     password: Option<&[u8]>,
     bytes: Secret,
     now: u64,
-) -> Result<Doc, Stop>
-    ensures gives { Returns doc_seen result (document_by format name.now
+) -> Result<Source, Stop>
+    ensures gives { Returns source_seen result (source_by format name.now
         (option_map (λ p. p.now) password.entry) now bytes.bytes) }
     ensures cause { IfErr result IsPlainStop }
 {
@@ -184,6 +252,11 @@ fn read_by(
         drop(bytes);
         return read;
     }
+    if let ImportFormat::Bitwarden = format {
+        let read = read_bitwarden(alloc, name, &bytes, stamp);
+        drop(bytes);
+        return read;
+    }
     let read = read_table(alloc, name, &bytes, stamp);
     drop(bytes);
     read
@@ -196,13 +269,13 @@ pub(crate) fn read_source<F: FileStore>(
     import: ImportNeeds<'_>,
     password: Option<&[u8]>,
     now: u64,
-) -> Result<Doc, Stop>
+) -> Result<Source, Stop>
     ensures told { (m : FileMap) → F.files files.old ≡ Some m
-        → Returns doc_seen result (source_of (import_seen import.entry)
+        → Returns source_seen result (source_of (import_seen import.entry)
         (option_map (λ p. p.now) password.entry) now m) }
-    ensures some_file { IfOk result (λ doc. (bytes : List ℕ)
-        × IsDocumentBy import.entry.format (option_map (λ p. p.now) password.entry) now bytes
-        (doc_seen doc)) }
+    ensures some_file { IfOk result (λ source. (bytes : List ℕ)
+        × IsSourceBy import.entry.format (option_map (λ p. p.now) password.entry) now bytes
+        (source_seen source)) }
     ensures cause { IfErr result (IsFileStop (import.entry.source.now ∷ []) (F.faults files.old)
         (F.faults files.new) (F.absences files.old) (F.absences files.new)) }
     ensures leaves { LeavesFiles F.files F.draft_name F.draft_bytes F.faults F.absences files.old

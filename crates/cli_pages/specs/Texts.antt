@@ -1,7 +1,7 @@
 -- The line that says why words are no command.
 use Rattle.std.specs.Prelude.{ℕ, Bool, false, not, ◌&&◌, ◌||◌, ◌==◌, ◌*◌, nat_eq, nat_lt, if◌then◌else◌, is_some, length, map, List, [], ◌∷◌, ◌++◌, codes, Option, None, Some}
 use Rattle.std.specs.List.{find}
-use Rattle.std.specs.Str.{chars}
+use Rattle.std.specs.Str.{bytes_eq, chars}
 use Rattle.strsim.specs.Edits.{levenshtein_row}
 use Rattle.cli_saying.specs.declared.names.CommandName.{CommandName}
 use Rattle.cli_saying.specs.declared.names.CommandName.TheVariants as name
@@ -9,7 +9,7 @@ use Rattle.cli_saying.specs.declared.forms.CommandOption.{CommandOption}
 use Rattle.cli_saying.specs.declared.forms.CommandOption.TheVariants.{Recursive, Flat, Quiet, Plain, NoPassword, KeyFile, Title, User, Url, Notes, EntryPassword, SameCredentials, DryRun, KeyFileFrom, NoPasswordFrom, Clear, All, Attachments, Format, Attribute, SetPassword, SetKeyFile, Totp, Generate, Length, Lower, Upper, Numeric, Special, Exclude, Otp, Cipher, Kdf, Rounds, Memory, Lanes, UnsetPassword, UnsetKeyFile, FileVersion, DatabaseName}
 use Rattle.cli_saying.specs.Options.{form_of, name_option}
 use Rattle.cli_causes.specs.declared.cause.Cause.{Cause}
-use Rattle.cli_causes.specs.declared.cause.Cause.TheVariants.{NoCommand, OptionFirst, UnknownCommand, UnknownOption, UnknownLetter, UnknownWord, TakesNoValue, LetterTakesNoValue, OptionTwice, FlagsTwice, JoinedValue, NoValue, OptionAsValue, FewPositions, ExtraPosition, ManySources, NotWithPlain, NotWithSame, NotTogether, NoKeyFile, NoKeyFileFrom, NoNewKey, UnknownImportFormat, UnknownExportFormat, NeedsGenerate, UnknownLength, NoCharacters, UnknownCipher, UnknownKdf, UnknownVersion, UnknownCost, NeedsKdf, NeedsArgon, NoKeyLeft, NoFileChange}
+use Rattle.cli_causes.specs.declared.cause.Cause.TheVariants.{NoCommand, OptionFirst, UnknownCommand, UnknownOption, UnknownLetter, UnknownWord, TakesNoValue, LetterTakesNoValue, OptionTwice, FlagsTwice, JoinedValue, NoValue, OptionAsValue, FewPositions, ExtraPosition, ManySources, NotWithPlain, NotWithSame, NotTogether, NoKeyFile, NoKeyFileFrom, NoNewKey, UnknownImportFormat, UnknownExportFormat, NeedsGenerate, UnknownLength, NoCharacters, UnknownCipher, UnknownKdf, UnknownVersion, UnknownCost, NeedsKdf, NeedsArgon, NoKeyLeft, NoFileChange, KeyFileChangesNothing}
 
 -- ---- commands and options
 
@@ -122,10 +122,15 @@ perhaps_command None = []
 perhaps_command (Some command) =
     around (codes "; did you mean '") (command_text command) (codes "'?")
 
--- The option that was perhaps meant.
-abbrev pub perhaps_option : Option CommandOption → List ℕ
-perhaps_option None = []
-perhaps_option (Some option) =
+-- The page that lists the options of a command.
+abbrev pub options_page : CommandName → List ℕ
+options_page command =
+    around (codes "; keepass ") (command_text command) (codes " --help lists its options")
+
+-- The option that was perhaps meant, and else where the options of the command are listed.
+abbrev pub perhaps_option : CommandName → Option CommandOption → List ℕ
+perhaps_option command None = options_page command
+perhaps_option command (Some option) =
     around (codes "; did you mean '--") (option_text option) (codes "'?")
 
 -- ---- what is said of each cause
@@ -148,7 +153,11 @@ not_taken command sign name = command_text command
 -- A long name of no option that a command takes.
 abbrev pub unknown_option : CommandName → List ℕ → List ℕ
 unknown_option command name =
-    not_taken command (codes "--") name ++ perhaps_option (near_option command name)
+    not_taken command (codes "--") name ++ perhaps_option command (near_option command name)
+
+-- A letter of no option that a command takes, or a word of such letters.
+abbrev pub unknown_letters : CommandName → (sign letters : List ℕ) → List ℕ
+unknown_letters command sign letters = not_taken command sign letters ++ options_page command
 
 -- A position more than a command takes.
 abbrev pub extra_position : CommandName → List ℕ → List ℕ
@@ -178,16 +187,24 @@ abbrev pub not_together : CommandOption → CommandOption → List ℕ
 not_together option other = about_option option (codes "' does not go with '--")
     ++ around [] (option_text other) (codes "'")
 
+-- What a cost of a key derivation counts.
+abbrev pub cost_unit : CommandOption → List ℕ
+cost_unit Memory = codes "KiB, as 65536 for 64 MiB"
+cost_unit Rounds = codes "rounds of AES or passes of Argon2"
+cost_unit option = codes "lanes"
+
 -- A cost of a key derivation that is no number of one to ten digits.
 abbrev pub unknown_cost : CommandOption → List ℕ → List ℕ
-unknown_cost option text =
-    about_option option (codes "' needs one to ten digits: ") ++ around (codes "'") text (codes "'")
+unknown_cost option text = about_option option (codes "' needs a number of ") ++ cost_unit option
+    ++ around (codes ", in one to ten digits: '") text (codes "'")
 
 -- Nothing is changed, or no key is left.
 abbrev pub nothing_text : Cause → List ℕ
 nothing_text NoKeyLeft = codes "no key is left: a database needs a password or a key file"
 nothing_text NoFileChange =
     codes "nothing to change: give another key, --cipher, --kdf or --version"
+nothing_text KeyFileChangesNothing =
+    codes "nothing to change: --set-key-file sets a key file, -k only opens with one"
 nothing_text cause = codes "nothing to change: give -t, -u, --url, --notes, -p, -g or --otp"
 
 -- What is said of the settings of a file.
@@ -228,7 +245,7 @@ whole_text NoKeyFile = codes "'--no-password' needs a key file: -k FILE"
 whole_text NoKeyFileFrom = codes "'--no-password-from' needs '--key-file-from FILE'"
 whole_text (NoNewKey command) = no_new_key command
 whole_text (UnknownImportFormat name) = around (codes "unknown format '") name
-    (codes "': xml or psafe3 or csv")
+    (codes "': xml or psafe3 or csv or bitwarden")
 whole_text (UnknownExportFormat name) = around (codes "unknown format '") name
     (codes "': xml or csv")
 whole_text cause = profile_text cause
@@ -241,15 +258,29 @@ option_line (OptionTwice option) = about_option option (codes "' is given twice"
 option_line (JoinedValue letter) =
     about_letter letter (codes "' has a value and needs its own hyphen")
 option_line (UnknownOption command name) = unknown_option command name
-option_line (UnknownLetter command letter) = not_taken command (codes "-") (letter ∷ [])
-option_line (UnknownWord command word) = not_taken command [] word
+option_line (UnknownLetter command letter) = unknown_letters command (codes "-") (letter ∷ [])
+option_line (UnknownWord command word) = unknown_letters command [] word
 option_line cause = whole_text cause
+
+-- A word asks for the version as some programs are asked for it.
+abbrev pub asks_version : List ℕ → Bool
+asks_version word =
+    bytes_eq word (codes "-v") || bytes_eq word (codes "-V") || bytes_eq word (codes "-version")
+
+-- The page that is perhaps meant by an option that is the first word.
+unfoldable pub page_meant : List ℕ → List ℕ
+page_meant word = if asks_version word
+    then codes "keepass --version prints the version" else codes "keepass --help lists them"
+
+-- An option that is the first word.
+abbrev pub option_first : List ℕ → List ℕ
+option_first word =
+    around (codes "a command comes first, before '") word (codes "'; ") ++ page_meant word
 
 -- Why words are no command.
 abbrev pub cause_text : Cause → List ℕ
 cause_text NoCommand = codes "no command; keepass --help lists them"
-cause_text (OptionFirst word) = around (codes "a command comes first, before '") word
-    (codes "'; keepass --help lists them")
+cause_text (OptionFirst word) = option_first word
 cause_text (UnknownCommand word) = unknown_command word
 cause_text (FlagsTwice word) = around (codes "a flag of '") word (codes "' is given twice")
 cause_text (NoValue word) = around (codes "'") word (codes "' needs a value")

@@ -47,13 +47,25 @@ fn add_command(text: &mut Bytes, near: Option<CommandName>) -> Result<(), NoMemo
     }
 }
 
-// Adds the option that was perhaps meant.
-fn add_option(text: &mut Bytes, near: Option<CommandOption>) -> Result<(), NoMemory>
-    ensures { OnOk result (text.new ≡ text.old ++ spec.perhaps_option near) }
+// Adds the page that lists the options of a command.
+fn add_options_page(text: &mut Bytes, command: CommandName) -> Result<(), NoMemory>
+    ensures { OnOk result (text.new ≡ text.old ++ spec.options_page command) }
+{
+    let after = " --help lists its options";
+    add_around(text, "; keepass ", command_text(command), after)
+}
+
+// Adds the option that was perhaps meant, and else where the options of the command are listed.
+fn add_option(
+    text: &mut Bytes,
+    command: CommandName,
+    near: Option<CommandOption>,
+) -> Result<(), NoMemory>
+    ensures { OnOk result (text.new ≡ text.old ++ spec.perhaps_option command near) }
 {
     match near {
         Some(option) => add_around(text, "; did you mean '--", option_text(option), "'?"),
-        None => Ok(()),
+        None => add_options_page(text, command),
     }
 }
 
@@ -94,24 +106,26 @@ fn add_unknown_option(
 {
     add_not_taken(text, command, "--")?;
     add_around(text, "", name, "'")?;
-    add_option(text, near_option(alloc, command, name)?)
+    add_option(text, command, near_option(alloc, command, name)?)
 }
 
 // Adds that a command takes no option of this letter.
 fn add_unknown_letter(text: &mut Bytes, command: CommandName, letter: u8) -> Result<(), NoMemory>
     ensures { OnOk result (text.new
-        ≡ text.old ++ spec.not_taken command (codes "-") (letter ∷ [])) }
+        ≡ text.old ++ spec.unknown_letters command (codes "-") (letter ∷ [])) }
 {
     add_not_taken(text, command, "-")?;
-    text.add(&[letter, b'\''])
+    text.add(&[letter, b'\''])?;
+    add_options_page(text, command)
 }
 
 // Adds that a command takes no option of a letter of this word.
 fn add_unknown_word(text: &mut Bytes, command: CommandName, word: &str) -> Result<(), NoMemory>
-    ensures { OnOk result (text.new ≡ text.old ++ spec.not_taken command [] word.now) }
+    ensures { OnOk result (text.new ≡ text.old ++ spec.unknown_letters command [] word.now) }
 {
     add_not_taken(text, command, "")?;
-    add_around(text, "", word, "'")
+    add_around(text, "", word, "'")?;
+    add_options_page(text, command)
 }
 
 // Adds that a word is one position too many.
@@ -175,12 +189,24 @@ fn add_not_together(
     add_around(text, "", option_text(other), "'")
 }
 
+// What a cost of a key derivation counts.
+fn cost_unit(option: CommandOption) -> &'static str
+    ensures { result.now ≡ spec.cost_unit option }
+{
+    match option {
+        CommandOption::Memory => "KiB, as 65536 for 64 MiB",
+        CommandOption::Rounds => "rounds of AES or passes of Argon2",
+        _ => "lanes",
+    }
+}
+
 // Adds that a cost of a key derivation is no number of one to ten digits.
 fn add_unknown_cost(text: &mut Bytes, option: CommandOption, cost: &str) -> Result<(), NoMemory>
     ensures { OnOk result (text.new ≡ text.old ++ spec.unknown_cost option cost.now) }
 {
-    add_about(text, option, "' needs one to ten digits: ")?;
-    add_around(text, "'", cost, "'")
+    add_about(text, option, "' needs a number of ")?;
+    text.add(cost_unit(option).as_bytes())?;
+    add_around(text, ", in one to ten digits: '", cost, "'")
 }
 
 // Adds that nothing is changed, or that no key is left.
@@ -191,6 +217,9 @@ fn add_nothing(text: &mut Bytes, cause: &Cause) -> Result<(), NoMemory>
         Cause::NoKeyLeft => text.add(b"no key is left: a database needs a password or a key file"),
         Cause::NoFileChange => {
             text.add(b"nothing to change: give another key, --cipher, --kdf or --version")
+        }
+        Cause::KeyFileChangesNothing => {
+            text.add(b"nothing to change: --set-key-file sets a key file, -k only opens with one")
         }
         _ => text.add(b"nothing to change: give -t, -u, --url, --notes, -p, -g or --otp"),
     }
@@ -273,7 +302,7 @@ fn add_whole(text: &mut Bytes, cause: &Cause) -> Result<(), NoMemory>
                 text,
                 "unknown format '",
                 name.as_str(),
-                "': xml or psafe3 or csv",
+                "': xml or psafe3 or csv or bitwarden",
             )
         }
         Cause::UnknownExportFormat(name) => {
@@ -303,16 +332,40 @@ fn add_by_name(alloc: Global, text: &mut Bytes, cause: &Cause) -> Result<(), NoM
     }
 }
 
+// Reports whether a word asks for the version as some programs are asked for it.
+fn asks_version(word: &str) -> bool
+    ensures { result ≡ spec.asks_version word.now }
+{
+    word == "-v" || word == "-V" || word == "-version"
+}
+
+// Adds the page that is perhaps meant by an option that is the first word.
+#[tactic(auto, unfolding(crate::specs::Texts::page_meant))]
+fn add_page_meant(text: &mut Bytes, word: &str) -> Result<(), NoMemory>
+    ensures { OnOk result (text.new ≡ text.old ++ spec.page_meant word.now) }
+{
+    if asks_version(word) {
+        text.add(b"keepass --version prints the version")
+    } else {
+        text.add(b"keepass --help lists them")
+    }
+}
+
+// Adds that an option is the first word.
+fn add_option_first(text: &mut Bytes, word: &str) -> Result<(), NoMemory>
+    ensures { OnOk result (text.new ≡ text.old ++ spec.option_first word.now) }
+{
+    add_around(text, "a command comes first, before '", word, "'; ")?;
+    add_page_meant(text, word)
+}
+
 // Adds why words are no command.
 fn add_cause(alloc: Global, text: &mut Bytes, cause: &Cause) -> Result<(), NoMemory>
     ensures { OnOk result (text.new ≡ text.old ++ spec.cause_text cause.now) }
 {
     match cause {
         Cause::NoCommand => text.add(b"no command; keepass --help lists them"),
-        Cause::OptionFirst(word) => {
-            let before = "a command comes first, before '";
-            add_around(text, before, word.as_str(), "'; keepass --help lists them")
-        }
+        Cause::OptionFirst(word) => add_option_first(text, word.as_str()),
         Cause::UnknownCommand(word) => add_unknown_command(alloc, text, word.as_str()),
         Cause::FlagsTwice(word) => {
             add_around(text, "a flag of '", word.as_str(), "' is given twice")

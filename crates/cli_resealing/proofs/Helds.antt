@@ -1,5 +1,5 @@
 -- What such a database is and what its files hold, both ways.
-use Rattle.std.proofs.Common.{◌≡◌, ℕ, List, sym, ◌∙◌, ap, subst, false, Option, Some, None, Result, Ok, Err}
+use Rattle.std.proofs.Common.{◌≡◌, ℕ, List, [], sym, ◌∙◌, ap, subst, false, Option, Some, None, Result, Ok, Err}
 use Rattle.std.specs.FinMap as finmap
 use Rattle.outside_core.specs.Files.{FileMap}
 use Rattle.outside_core.specs.Results.{◌>>=◌}
@@ -29,9 +29,9 @@ use Rattle.cli_resealing.specs.Held.{GivesKeyAfter, HoldsCreated, HoldsEdited}
 
 -- The document stays.
 same_by : (doc : BareDoc) (r : Result (Option Sealing) Refusal) (now : Opened)
-    → ◌≡◌ {A = Result Opened Refusal} (r >>= λ sealing. Ok (record { doc = doc; sealing = sealing })) (Ok now) → now.doc ≡ doc
+    → ◌≡◌ {A = Result Opened Refusal} (r >>= λ sealing. Ok (record { doc = doc; sealing = sealing; passed_over = [] })) (Ok now) → now.doc ≡ doc
 same_by doc (Ok sealing) now h =
-    let is : ◌≡◌ {A = Opened} (record { doc = doc; sealing = sealing }) now = cc h in
+    let is : ◌≡◌ {A = Opened} (record { doc = doc; sealing = sealing; passed_over = [] }) now = cc h in
     ap (λ (o : Opened). o.doc) (sym is)
 same_by doc (Err refusal) now h = cc
 
@@ -48,17 +48,17 @@ created_held create lines time files opened h =
     let f = in_turn (refuse_file create.file (finmap.get files create.file)) _ opened h in
     let s = in_turn (sealing_of create.access.plain create.access.key_file lines.password files) _ opened f.1.1 in
     let d = in_turn (at_stamp create.file time (Ok empty))
-    (λ doc. with_resealed create.file (asked_settings create.cipher create.kdf None) (record { doc = doc; sealing = s.0 })) opened s.1.1 in
+    (λ doc. with_resealed create.file (asked_settings create.cipher create.kdf None) (record { doc = doc; sealing = s.0; passed_over = [] })) opened s.1.1 in
     let t = in_time create.file time (Ok empty) d.0 d.1.0 in
     let is : empty ≡ d.0 = cc t.1 in
-    let same = same_document create.file (asked_settings create.cipher create.kdf None) (record { doc = d.0; sealing = s.0 }) opened d.1.1 in
+    let same = same_document create.file (asked_settings create.cipher create.kdf None) (record { doc = d.0; sealing = s.0; passed_over = [] }) opened d.1.1 in
     record {
       in_time = t.0;
       is_empty = same ∙ sym is;
       absent = absent_by create.file (finmap.get files create.file) f.0 f.1.0;
       sealing = s.0;
       sealed = sealing_held create.access.plain create.access.key_file lines.password files s.0 s.1.0;
-      changed = subst (λ (doc : BareDoc). with_resealed create.file (asked_settings create.cipher create.kdf None) (record { doc = doc; sealing = s.0 }) ≡ Ok opened) (sym same) d.1.1;
+      changed = subst (λ (doc : BareDoc). with_resealed create.file (asked_settings create.cipher create.kdf None) (record { doc = doc; sealing = s.0; passed_over = [] }) ≡ Ok opened) (sym same) d.1.1;
     }
 
 pub created_given : (create : CreateNeeds) (lines : Lines) (time : ℕ) (files : FileMap) (opened : Opened)
@@ -68,11 +68,11 @@ created_given create lines time files opened h =
     let asked = asked_settings create.cipher create.kdf None in
     let empty = empty_document create.name undrawn_id time in
     let next = at_stamp create.file time (Ok empty) in
-    ap (λ r. r >>= λ u. sealing_of create.access.plain create.access.key_file lines.password files >>= λ sealing. next >>= λ doc. with_resealed create.file asked (record { doc = doc; sealing = sealing }))
+    ap (λ r. r >>= λ u. sealing_of create.access.plain create.access.key_file lines.password files >>= λ sealing. next >>= λ doc. with_resealed create.file asked (record { doc = doc; sealing = sealing; passed_over = [] }))
     (ap (refuse_file create.file) h.absent)
-    ∙ ap (λ r. r >>= λ sealing. next >>= λ doc. with_resealed create.file asked (record { doc = doc; sealing = sealing }))
+    ∙ ap (λ r. r >>= λ sealing. next >>= λ doc. with_resealed create.file asked (record { doc = doc; sealing = sealing; passed_over = [] }))
     (sealing_given create.access.plain create.access.key_file lines.password files h.sealing h.sealed)
-    ∙ ap (λ r. r >>= λ doc. with_resealed create.file asked (record { doc = doc; sealing = h.sealing }))
+    ∙ ap (λ r. r >>= λ doc. with_resealed create.file asked (record { doc = doc; sealing = h.sealing; passed_over = [] }))
     (stamped create.file time (Ok empty) h.in_time ∙ ap Ok (sym h.is_empty))
     ∙ h.changed
 

@@ -1,5 +1,5 @@
 -- Whether such a database is sealed.
-use Rattle.std.proofs.Common.{◌≡◌, ℕ, List, refl, sym, ◌∙◌, ap, true, Option, Some, None, Result, Ok, Err}
+use Rattle.std.proofs.Common.{◌≡◌, ℕ, List, [], refl, sym, ◌∙◌, ap, true, Option, Some, None, Result, Ok, Err}
 use Rattle.std.specs.Prelude.{is_some, not, option_map}
 use Rattle.outside_core.specs.Results.{◌>>=◌}
 use Rattle.vault_model.specs.Tree.{BareDoc}
@@ -32,9 +32,9 @@ resealed_so file change doc None sealing h =
 resealed_so file change doc (Some before) sealing h = settled before.composite _ sealing h
 
 by_parts : (doc : BareDoc) (r : Result (Option Sealing) Refusal) (now : Opened)
-    → ◌≡◌ {A = Result Opened Refusal} (r >>= λ sealing. Ok (record { doc = doc; sealing = sealing })) (Ok now) → r ≡ Ok now.sealing
+    → ◌≡◌ {A = Result Opened Refusal} (r >>= λ sealing. Ok (record { doc = doc; sealing = sealing; passed_over = [] })) (Ok now) → r ≡ Ok now.sealing
 by_parts doc (Ok sealing) now h =
-    let is : ◌≡◌ {A = Opened} (record { doc = doc; sealing = sealing }) now = cc h in
+    let is : ◌≡◌ {A = Opened} (record { doc = doc; sealing = sealing; passed_over = [] }) now = cc h in
     ap (λ (o : Opened). Ok o.sealing) is
 by_parts doc (Err refusal) now h = cc
 
@@ -46,7 +46,7 @@ stays_sealed file change before now h =
 pub sealed_created : (create : CreateNeeds) (lines : Lines) (time : ℕ) (opened : Opened) → SomeCreated create lines time opened
     → is_some opened.sealing ≡ not create.access.plain
 sealed_created create lines time opened h =
-    stays_sealed create.file (asked_settings create.cipher create.kdf None) (record { doc = opened.doc; sealing = h.sealing }) opened h.changed
+    stays_sealed create.file (asked_settings create.cipher create.kdf None) (record { doc = opened.doc; sealing = h.sealing; passed_over = [] }) opened h.changed
     ∙ sealed_anew create.access.plain create.access.key_file lines.password h.sealing h.sealed
 
 rekeyed : List ℕ → Sealing → Sealing

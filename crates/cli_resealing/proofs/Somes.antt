@@ -1,5 +1,5 @@
 -- What is known of such databases, whatever the store reports.
-use Rattle.std.proofs.Common.{◌≡◌, ℕ, List, sym, ◌∙◌, ap, subst, Option, None, Result, Ok, Err}
+use Rattle.std.proofs.Common.{◌≡◌, ℕ, List, [], sym, ◌∙◌, ap, subst, Option, None, Result, Ok, Err}
 use Rattle.std.specs.Prelude.{IfOk}
 use Rattle.vault_model.specs.Tree.{BareDoc}
 use Rattle.vault_model.specs.declared.forms.FileVersion.{FileVersion}
@@ -35,22 +35,22 @@ asked_same cipher cipher' kdf kdf' version version' c k v =
 pub some_created : (create : CreateNeeds) (lines : Lines) (time : ℕ) (doc : BareDoc) (file : List ℕ) (password : Option (List ℕ)) (sealing : Option Sealing) (asked : SettingsChange)
     (result : Result memory.Opened Stop) → file ≡ create.file → at_stamp file time (Ok (empty_document create.name undrawn_id time)) ≡ Ok doc
     → password ≡ lines.password → SomeSealing create.access.plain create.access.key_file password sealing → asked ≡ asked_settings create.cipher create.kdf None
-    → Returns opened_seen result (with_resealed file asked (record { doc = doc; sealing = sealing }))
+    → Returns opened_seen result (with_resealed file asked (record { doc = doc; sealing = sealing; passed_over = [] }))
     → IfOk result (λ opened. SomeCreated create lines time (opened_seen opened))
 some_created create lines time doc file password sealing asked (Err stop) name made line sealed asks h = tt
 some_created create lines time doc file password sealing asked (Ok opened) name made line sealed asks h =
     let new = asked_settings create.cipher create.kdf None in
     let t = in_time file time (Ok (empty_document create.name undrawn_id time)) doc made in
     let is : empty_document create.name undrawn_id time ≡ doc = cc t.1 in
-    let same = same_document file asked (record { doc = doc; sealing = sealing }) (opened_seen opened) h in
+    let same = same_document file asked (record { doc = doc; sealing = sealing; passed_over = [] }) (opened_seen opened) h in
     record {
       in_time = t.0;
       is_empty = same ∙ sym is;
       sealing = sealing;
       sealed = subst (λ (p : Option (List ℕ)). SomeSealing create.access.plain create.access.key_file p sealing) line sealed;
-      changed = subst (λ (d : BareDoc). with_resealed create.file new (record { doc = d; sealing = sealing }) ≡ Ok (opened_seen opened)) (sym same)
-          (subst (λ (f : List ℕ). with_resealed f new (record { doc = doc; sealing = sealing }) ≡ Ok (opened_seen opened)) name
-          (subst (λ (a : SettingsChange). with_resealed file a (record { doc = doc; sealing = sealing }) ≡ Ok (opened_seen opened)) asks h));
+      changed = subst (λ (d : BareDoc). with_resealed create.file new (record { doc = d; sealing = sealing; passed_over = [] }) ≡ Ok (opened_seen opened)) (sym same)
+          (subst (λ (f : List ℕ). with_resealed f new (record { doc = doc; sealing = sealing; passed_over = [] }) ≡ Ok (opened_seen opened)) name
+          (subst (λ (a : SettingsChange). with_resealed file a (record { doc = doc; sealing = sealing; passed_over = [] }) ≡ Ok (opened_seen opened)) asks h));
     }
 
 pub some_edited : (needs : Needs) (change : FileChange) (lines : Lines) (file : List ℕ) (key_file password key kept : Option (List ℕ)) (before : Opened)

@@ -1,5 +1,5 @@
 -- The settings that words ask for, and what a file is sealed with then.
-use Rattle.std.specs.Prelude.{◌≡◌, ◌<◌, ◌⊎◌, ℕ, ◌*◌, List, replicate, Option, None, Some, option_map, Result, Ok, Err}
+use Rattle.std.specs.Prelude.{◌≡◌, ◌<◌, ◌⊎◌, ℕ, ◌*◌, List, [], replicate, Option, None, Some, option_map, Result, Ok, Err}
 use Rattle.argon_core.specs.declared.params.ArgonKind.{ArgonKind}
 use Rattle.argon_core.specs.declared.params.ArgonKind.TheVariants as argon
 use Rattle.outside_core.specs.Results.{◌>>=◌}
@@ -81,10 +81,10 @@ resealed file change doc (Some sealing) =
     settings_or_refusal file (changed_settings change sealing.settings (needed_version doc))
     >>= λ settings. Ok (with_settings sealing.composite settings)
 
--- A database whose file is to be sealed so.
+-- A database whose file is to be sealed so, which is made of no table.
 abbrev pub with_resealed : List ℕ → SettingsChange → Opened → Result Opened Refusal
 with_resealed file change opened = resealed file change opened.doc opened.sealing
-    >>= λ sealing. Ok (record { doc = opened.doc; sealing = sealing })
+    >>= λ sealing. Ok (record { doc = opened.doc; sealing = sealing; passed_over = [] })
 
 -- ---- how the code relates to it
 

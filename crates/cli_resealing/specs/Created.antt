@@ -36,4 +36,4 @@ created_of create lines time files = do
   sealing ← sealing_of create.access.plain create.access.key_file lines.password files
   doc ← at_stamp create.file time (Ok (empty_document create.name undrawn_id time))
   with_resealed create.file (asked_settings create.cipher create.kdf None)
-      (record { doc = doc; sealing = sealing })
+      (record { doc = doc; sealing = sealing; passed_over = [] })

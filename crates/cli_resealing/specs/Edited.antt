@@ -34,6 +34,7 @@ under_key composite opened = record {
   doc = opened.doc;
   sealing = option_map (λ s. record { settings = s.settings; composite = composite })
       opened.sealing;
+  passed_over = opened.passed_over;
 }
 
 -- The settings that a change of a file asks for.

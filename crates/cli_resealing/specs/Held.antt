@@ -1,5 +1,5 @@
 -- What files hold of which such a database is made, speaking of all their bytes.
-use Rattle.std.specs.Prelude.{◌≡◌, ◌≤◌, ℕ, List, Option, None, Some, Ok}
+use Rattle.std.specs.Prelude.{◌≡◌, ◌≤◌, ℕ, List, [], Option, None, Some, Ok}
 use Rattle.std.specs.FinMap as map
 use Rattle.outside_core.specs.Files.{FileMap}
 use Rattle.time_core.specs.Times.{last_stamp}
@@ -25,7 +25,7 @@ use Rattle.cli_resealing.specs.Edited.{key_made, settings_in, under_key}
 abbrev pub IsNewSealing : CreateNeeds → Option Sealing → Opened → Type 0
 IsNewSealing create sealing opened = with_resealed create.file
     (asked_settings create.cipher create.kdf None)
-    (record { doc = opened.doc; sealing = sealing }) ≡ Ok opened
+    (record { doc = opened.doc; sealing = sealing; passed_over = [] }) ≡ Ok opened
 
 -- No file has the name of the new one, the document is empty, and the key file gives the key that
 -- the new file is sealed with.

@@ -1,5 +1,5 @@
 //! The settings that words ask for.
-ghost use Rattle.std.specs.Prelude.{◌≡◌, ◌*◌, IfErr, IfOk, IfSome, Some, replicate};
+ghost use Rattle.std.specs.Prelude.{◌≡◌, ◌*◌, [], IfErr, IfOk, IfSome, Some, replicate};
 ghost use Rattle.vault_model.specs.SeenDoc.{doc_seen};
 ghost use Rattle.kdbx_frame.specs.Settings.{IsInOrder};
 ghost use Rattle.cli_answers.specs.Phases.{IsPlainStop, Returns};
@@ -14,7 +14,7 @@ use cli_words::{KdfAsked, KdfKind};
 use kdbx_frame::{Cipher, FileVersion, Sealing, release_key};
 use kdbx_settings::{SettingsChange, SettingsFail, change_settings};
 use key_core::Kdf;
-use outside_core::{Bytes, NoMemory};
+use outside_core::{Bytes, List, NoMemory};
 use std::alloc::Global;
 use vault_making::needed;
 use vault_model::Doc;
@@ -149,8 +149,13 @@ fn reseal(
 
 /// Lets a database go that was opened, whose composite key is cleared and released.
 pub(crate) fn close(opened: Opened) {
-    let Opened { doc, sealing } = opened;
+    let Opened {
+        doc,
+        sealing,
+        passed_over,
+    } = opened;
     drop(doc);
+    drop(passed_over);
     release_key(sealing);
 }
 
@@ -165,7 +170,7 @@ fn sealed_as(
     requires { IsInOrder sealing.settings }
     ensures told { Returns opened_seen result (with_resealed file.now
         (asked_settings asked.cipher asked.kdf asked.version)
-        (record { doc = doc_seen doc; sealing = Some sealing })) }
+        (record { doc = doc_seen doc; sealing = Some sealing; passed_over = [] })) }
     ensures in_order { IfOk result (λ opened. IfSome opened.sealing (λ s. IsInOrder s.settings)) }
     ensures cause { IfErr result IsPlainStop }
 {
@@ -173,6 +178,7 @@ fn sealed_as(
         Ok(()) => Ok(Opened {
             doc,
             sealing: Some(sealing),
+            passed_over: List::new(alloc),
         }),
         Err(stop) => {
             drop(doc);
@@ -196,9 +202,18 @@ pub(crate) fn with_asked(
     ensures in_order { IfOk result (λ opened. IfSome opened.sealing (λ s. IsInOrder s.settings)) }
     ensures cause { IfErr result IsPlainStop }
 {
-    let Opened { doc, sealing } = opened;
+    let Opened {
+        doc,
+        sealing,
+        passed_over,
+    } = opened;
+    drop(passed_over);
     match sealing {
         Some(sealing) => sealed_as(alloc, file, doc, sealing, asked),
-        None => Ok(Opened { doc, sealing: None }),
+        None => Ok(Opened {
+            doc,
+            sealing: None,
+            passed_over: List::new(alloc),
+        }),
     }
 }

@@ -24,7 +24,7 @@ use cli_importing::{new_sealing, refuse_existing};
 use cli_lines::Lines;
 use cli_words::CreateNeeds;
 use kdbx_frame::release_key;
-use outside_core::{FileStore, NoMemory, Text};
+use outside_core::{FileStore, List, NoMemory, Text};
 use std::alloc::Global;
 use uuid_core::Uuid;
 use vault_making::empty_doc;
@@ -160,7 +160,15 @@ pub fn create<F: FileStore>(
         Err(stop) => return Err(stop),
     };
     match empty_at(alloc, create.name, file, now) {
-        Ok(doc) => with_asked(alloc, file, Opened { doc, sealing }, asked_of(create)),
+        Ok(doc) => {
+            let passed_over = List::new(alloc);
+            let opened = Opened {
+                doc,
+                sealing,
+                passed_over,
+            };
+            with_asked(alloc, file, opened, asked_of(create))
+        }
         Err(stop) => {
             release_key(sealing);
             Err(stop)

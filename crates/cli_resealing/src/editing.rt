@@ -90,7 +90,11 @@ fn under_key(opened: Opened, mut composite: Key) -> Opened
     ensures in_order { IfSome opened.sealing (λ s. IsInOrder s.settings)
         → IfSome result.sealing (λ s. IsInOrder s.settings) }
 {
-    let Opened { doc, sealing } = opened;
+    let Opened {
+        doc,
+        sealing,
+        passed_over,
+    } = opened;
     let Some(
         Sealing {
             settings,
@@ -100,7 +104,11 @@ fn under_key(opened: Opened, mut composite: Key) -> Opened
     else {
         composite.clear();
         composite.release();
-        return Opened { doc, sealing: None };
+        return Opened {
+            doc,
+            sealing: None,
+            passed_over,
+        };
     };
     old.clear();
     old.release();
@@ -110,6 +118,7 @@ fn under_key(opened: Opened, mut composite: Key) -> Opened
             settings,
             composite,
         }),
+        passed_over,
     }
 }
 

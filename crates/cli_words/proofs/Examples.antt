@@ -48,6 +48,11 @@ set_password : command_in (codes "import" ∷ codes "--format" ∷ codes "psafe3
     ≡ Some (Import by_password import_format.Psafe (codes "S") by_password (codes "F"))
 set_password = refl
 
+-- An export of Bitwarden is opened by no password.
+source_of_bitwarden : command_in (codes "import" ∷ codes "--format=bitwarden" ∷ codes "-p" ∷ codes "S" ∷ codes "F" ∷ [])
+    ≡ Some (Import by_password import_format.Bitwarden (codes "S") (record by_password { plain = true }) (codes "F"))
+source_of_bitwarden = refl
+
 no_credential : command_in (codes "import" ∷ codes "S" ∷ codes "F" ∷ []) ≡ None
 no_credential = refl
 

@@ -14,7 +14,7 @@ use Rattle.cli_words.specs.declared.command.Command.TheVariants.{Ls, Show, Searc
 use Rattle.cli_words.specs.declared.command.ExportFormat.{ExportFormat}
 use Rattle.cli_words.specs.declared.command.ExportFormat.TheVariants as format
 use Rattle.cli_words.specs.declared.command.ImportFormat.{ImportFormat}
-use Rattle.cli_words.specs.declared.command.ImportFormat.TheVariants.{Xml, Psafe, Csv}
+use Rattle.cli_words.specs.declared.command.ImportFormat.TheVariants.{Xml, Psafe, Csv, Bitwarden}
 use Rattle.cli_saying.specs.declared.names.CommandName.{CommandName}
 use Rattle.cli_saying.specs.declared.names.CommandName.TheVariants as name
 use Rattle.cli_saying.specs.declared.forms.CommandOption.TheVariants as option
@@ -95,7 +95,8 @@ import_format_named name =
     if bytes_eq name (codes "xml") then Some Xml
     else (if bytes_eq name (codes "psafe3") then Some Psafe
     else (if bytes_eq name (codes "csv") then Some Csv
-    else None))
+    else (if bytes_eq name (codes "bitwarden") then Some Bitwarden
+    else None)))
 
 -- The format of what is imported: the plain document where none is named.
 abbrev pub import_format_asked : Option (List ℕ) → Option ImportFormat
@@ -107,6 +108,7 @@ abbrev pub lacks_password : ImportFormat → Bool
 lacks_password Xml = true
 lacks_password Psafe = false
 lacks_password Csv = true
+lacks_password Bitwarden = true
 
 -- How the source of an import is opened: by a password alone, if it has one.
 abbrev pub access_source : Said → ImportFormat → Access

@@ -54,6 +54,8 @@ pub enum ImportFormat {
     Psafe,
     /// A table of entries.
     Csv,
+    /// An unencrypted export of Bitwarden, as JSON.
+    Bitwarden,
 }
 
 /// The kind of a key derivation, as words ask for it.

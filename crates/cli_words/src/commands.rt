@@ -136,6 +136,7 @@ pub fn import_format_named(name: &str) -> Option<ImportFormat>
         "xml" => Some(ImportFormat::Xml),
         "psafe3" => Some(ImportFormat::Psafe),
         "csv" => Some(ImportFormat::Csv),
+        "bitwarden" => Some(ImportFormat::Bitwarden),
         _ => None,
     }
 }

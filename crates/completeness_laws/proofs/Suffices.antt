@@ -11,6 +11,7 @@ use Rattle.tree_core.specs.declared.fails.TreeFail.{TreeFail}
 use Rattle.tree_core.specs.declared.fails.TreeFail.TheVariants.{StampLimit}
 use Rattle.tree_core.specs.After.{after_add, after_edit, after_make_group, after_move_entry, after_move_group, after_remove_entry, after_remove_group, needs_bin}
 use Rattle.condition_laws.proofs.Succeeds.{add_succeeds, edit_succeeds, make_group_succeeds, move_entry_succeeds, move_group_succeeds, remove_entry_succeeds, remove_group_succeeds}
+use Rattle.generation_laws.proofs.Choosing.{passwords_are_chosen}
 use Rattle.agreed_laws.specs.Merges.{AreDocs}
 use Rattle.content_condition_laws.proofs.Merging.{merge_succeeds}
 use Rattle.content_condition_laws.proofs.Printing.{export_succeeds, search_succeeds, show_code_succeeds, show_succeeds}
@@ -25,6 +26,7 @@ use Rattle.cli_answers.specs.declared.answers.Refusal.{Refusal}
 use Rattle.cli_answers.specs.Phases.{StreamAnswer, after_left, then_left, with_left}
 use Rattle.cli_codes.specs.Codes.{code_refusal}
 use Rattle.cli_showing.specs.Showing.{code_shown, entry_shown}
+use Rattle.cli_profiles.specs.declared.profiles.PasswordProfile.{PasswordProfile}
 use Rattle.cli_words.specs.declared.command.Command.{Command}
 use Rattle.cli_words.specs.declared.command.Command.TheVariants.{Ls, Show, Search, Add, Edit, Move, Remove, MakeGroup, RemoveGroup, Merge, Import, Create, Export, EditFile, Info}
 use Rattle.cli_words.specs.Needs as from
@@ -41,7 +43,7 @@ use Rattle.cli_commands.specs.Commands.{Change, bin_id, change_by, change_with, 
 use Rattle.cli_merging.specs.Merging.{after_merge, after_merged, changes_between, merged_or_refusal}
 use Rattle.call_carrying.specs.Endings.{carried_out, change_of_task, ended_with, ending_with, settings_in}
 use Rattle.keepass_call.proofs.TaskDocs.{task_docs}
-use Rattle.completeness_laws.specs.Conditions.{Answers, CanChange, CanMove, CanShowEntry, CommandsSucceed, ConditionsSuffice, FitsFile, id_for}
+use Rattle.completeness_laws.specs.Conditions.{Answers, CanChange, CanGenerate, CanMove, CanShowEntry, CommandsSucceed, ConditionsSuffice, FitsFile, dice_after_id, id_for}
 
 -- ---- commands that change the tree
 
@@ -86,9 +88,9 @@ module _ (time : ℕ) (within : time ≤ last_stamp) (file : List ℕ) (quiet : 
   listing_gives recursive flat None tree is = cc is
   listing_gives recursive flat (Some t) tree is = sure _
 
-gives_answers : (time : ℕ) (command : Command) (line otp : Option (List ℕ)) (sources : List BareDoc) (settings : Option Settings) (id : NodeId) (d : BareDoc) → Gives (change_with time command line otp sources settings id d)
-    → Answers time command line otp sources settings id d
-gives_answers time command line otp sources settings id d gives = record { change = gives.0; is = gives.1 }
+gives_answers : (time : ℕ) (command : Command) (line otp : Option (List ℕ)) (sources : List BareDoc) (settings : Option Settings) (passed : List (List ℕ)) (id : NodeId) (d : BareDoc) → Gives (change_with time command line otp sources settings passed id d)
+    → Answers time command line otp sources settings passed id d
+gives_answers time command line otp sources settings passed id d gives = record { change = gives.0; is = gives.1 }
 
 -- what a command prints that writes nothing
 prints : (r : Result (List ℕ) Refusal) → Gives r → Gives (printed_text r)
@@ -117,43 +119,43 @@ created_gives file quiet id d free =
 
 pub commands_succeed : CommandsSucceed
 unfolding after_add_command after_edit_command after_mkdir after_rm after_rmdir
-commands_succeed time (Ls access file group recursive flat) line otp sources settings id d within docs can =
-    gives_answers time (Ls access file group recursive flat) line otp sources settings id d (listing_gives time within file access.quiet id d (docs d (inl refl)) recursive flat (tree_listed group d) can.0 can.1)
-commands_succeed time (Show access file entry clear all attachments names totp) line otp sources settings id d within docs can =
-    gives_answers time (Show access file entry clear all attachments names totp) line otp sources settings id d (prints _ (entry_gives file attachments totp entry clear all names time d can))
-commands_succeed time (Search access file term) line otp sources settings id d within docs can =
-    gives_answers time (Search access file term) line otp sources settings id d (prints _ (search_succeeds file term d can))
-commands_succeed time (Add access file entry asked) line otp sources settings id d within docs can =
-    gives_answers time (Add access file entry asked) line otp sources settings id d (reported (change_or_refusal file (with_entry_at entry id (values_of asked line None) time d)) _
+commands_succeed time (Ls access file group recursive flat) line otp sources settings passed id d within docs can =
+    gives_answers time (Ls access file group recursive flat) line otp sources settings passed id d (listing_gives time within file access.quiet id d (docs d (inl refl)) recursive flat (tree_listed group d) can.0 can.1)
+commands_succeed time (Show access file entry clear all attachments names totp) line otp sources settings passed id d within docs can =
+    gives_answers time (Show access file entry clear all attachments names totp) line otp sources settings passed id d (prints _ (entry_gives file attachments totp entry clear all names time d can))
+commands_succeed time (Search access file term) line otp sources settings passed id d within docs can =
+    gives_answers time (Search access file term) line otp sources settings passed id d (prints _ (search_succeeds file term d can))
+commands_succeed time (Add access file entry asked) line otp sources settings passed id d within docs can =
+    gives_answers time (Add access file entry asked) line otp sources settings passed id d (reported (change_or_refusal file (with_entry_at entry id (values_of asked line None) time d)) _
     (at_moment file time (λ t. after_add entry id (values_of asked line None) t d) within (add_succeeds entry id (values_of asked line None) time d can)) (λ new. sure _))
-commands_succeed time (Edit access file entry asked) line otp sources settings id d within docs can =
-    gives_answers time (Edit access file entry asked) line otp sources settings id d (checked (code_refusal file otp) _ can.code
+commands_succeed time (Edit access file entry asked) line otp sources settings passed id d within docs can =
+    gives_answers time (Edit access file entry asked) line otp sources settings passed id d (checked (code_refusal file otp) _ can.code
     (reported (change_or_refusal file (with_edited_at entry (values_of asked line otp) time d)) _
     (at_moment file time (λ t. after_edit entry (values_of asked line otp) t d) within (edit_succeeds entry (values_of asked line otp) time d (docs d (inl refl)) can.entry)) (λ new. sure _)))
-commands_succeed time (Move access file node group) line otp sources settings id d within docs can =
-    gives_answers time (Move access file node group) line otp sources settings id d (move_gives time within file access.quiet id d (docs d (inl refl)) (names_group node) node group can)
-commands_succeed time (Remove access file entry) line otp sources settings id d within docs can =
-    gives_answers time (Remove access file entry) line otp sources settings id d (reported (change_or_refusal file (without_entry_at entry (bin_id id d) time d)) _
+commands_succeed time (Move access file node group) line otp sources settings passed id d within docs can =
+    gives_answers time (Move access file node group) line otp sources settings passed id d (move_gives time within file access.quiet id d (docs d (inl refl)) (names_group node) node group can)
+commands_succeed time (Remove access file entry) line otp sources settings passed id d within docs can =
+    gives_answers time (Remove access file entry) line otp sources settings passed id d (reported (change_or_refusal file (without_entry_at entry (bin_id id d) time d)) _
     (at_moment file time (λ t. after_remove_entry entry (bin_id id d) t d) within (remove_entry_succeeds entry (bin_id id d) time d (docs d (inl refl)) can)) (λ after. sure _))
-commands_succeed time (MakeGroup access file group) line otp sources settings id d within docs can =
-    gives_answers time (MakeGroup access file group) line otp sources settings id d (reported (change_or_refusal file (with_group_at group id time d)) _
+commands_succeed time (MakeGroup access file group) line otp sources settings passed id d within docs can =
+    gives_answers time (MakeGroup access file group) line otp sources settings passed id d (reported (change_or_refusal file (with_group_at group id time d)) _
     (at_moment file time (λ t. after_make_group group id t d) within (make_group_succeeds group id time d can)) (λ new. sure _))
-commands_succeed time (RemoveGroup access file group) line otp sources settings id d within docs can =
-    gives_answers time (RemoveGroup access file group) line otp sources settings id d (reported (change_or_refusal file (without_group_at group (bin_id id d) time d)) _
+commands_succeed time (RemoveGroup access file group) line otp sources settings passed id d within docs can =
+    gives_answers time (RemoveGroup access file group) line otp sources settings passed id d (reported (change_or_refusal file (without_group_at group (bin_id id d) time d)) _
     (at_moment file time (λ t. after_remove_group group (bin_id id d) t d) within
     (remove_group_succeeds group (bin_id id d) time d (bin_given time within file access.quiet id d (docs d (inl refl)) (needs_bin d)) can)) (λ after. sure _))
-commands_succeed time (Merge access file names from same dry) line otp sources settings id d within docs can =
-    gives_answers time (Merge access file names from same dry) line otp sources settings id d (merges file access.quiet dry names d sources (merge_succeeds d sources docs can))
-commands_succeed time (Import access format source from file) line otp sources settings id d within docs can =
-    gives_answers time (Import access format source from file) line otp sources settings id d (sure _)
-commands_succeed time (Create access file name cipher kdf) line otp sources settings id d within docs can =
-    gives_answers time (Create access file name cipher kdf) line otp sources settings id d (created_gives file access.quiet id d can)
-commands_succeed time (Export access format file) line otp sources settings id d within docs can =
-    gives_answers time (Export access format file) line otp sources settings id d (prints _ (export_succeeds file format d can))
-commands_succeed time (EditFile access file change) line otp sources settings id d within docs can =
-    gives_answers time (EditFile access file change) line otp sources settings id d (sure _)
-commands_succeed time (Info access file) line otp sources settings id d within docs can =
-    gives_answers time (Info access file) line otp sources settings id d (sure _)
+commands_succeed time (Merge access file names from same dry) line otp sources settings passed id d within docs can =
+    gives_answers time (Merge access file names from same dry) line otp sources settings passed id d (merges file access.quiet dry names d sources (merge_succeeds d sources docs can))
+commands_succeed time (Import access format source from file) line otp sources settings passed id d within docs can =
+    gives_answers time (Import access format source from file) line otp sources settings passed id d (sure _)
+commands_succeed time (Create access file name cipher kdf) line otp sources settings passed id d within docs can =
+    gives_answers time (Create access file name cipher kdf) line otp sources settings passed id d (created_gives file access.quiet id d can)
+commands_succeed time (Export access format file) line otp sources settings passed id d within docs can =
+    gives_answers time (Export access format file) line otp sources settings passed id d (prints _ (export_succeeds file format d can))
+commands_succeed time (EditFile access file change) line otp sources settings passed id d within docs can =
+    gives_answers time (EditFile access file change) line otp sources settings passed id d (sure _)
+commands_succeed time (Info access file) line otp sources settings passed id d within docs can =
+    gives_answers time (Info access file) line otp sources settings passed id d (sure _)
 
 -- ---- calls
 
@@ -177,24 +179,35 @@ ended_gives name text sealing None dice fits = sure _
 ended_gives name text sealing (Some d) dice fits = written_gives name text sealing d dice (fits d refl)
 
 -- the commands that open their database have a document; those that make one do not ask for it
-answers : (time : ℕ) (command : Command) (line otp : Option (List ℕ)) (sources : List BareDoc) (settings : Option Settings) (id : NodeId) (d : BareDoc) → time ≤ last_stamp → (origin_of command ≡ from.Opened → AreDocs (d ∷ sources))
-    → CanChange time command line otp sources settings id d → Answers time command line otp sources settings id d
-answers time (Import access format source from file) line otp sources settings id d within isd can =
-    gives_answers time (Import access format source from file) line otp sources settings id d (sure _)
-answers time (Create access file name cipher kdf) line otp sources settings id d within isd can = gives_answers time (Create access file name cipher kdf) line otp sources settings id d (created_gives file access.quiet id d can)
-answers time (EditFile access file change) line otp sources settings id d within isd can = gives_answers time (EditFile access file change) line otp sources settings id d (sure _)
-answers time (Ls access file group recursive flat) line otp sources settings id d within isd can = commands_succeed time (Ls access file group recursive flat) line otp sources settings id d within (isd refl) can
-answers time (Show access file entry clear all attachments names totp) line otp sources settings id d within isd can = commands_succeed time (Show access file entry clear all attachments names totp) line otp sources settings id d within (isd refl) can
-answers time (Search access file term) line otp sources settings id d within isd can = commands_succeed time (Search access file term) line otp sources settings id d within (isd refl) can
-answers time (Add access file entry asked) line otp sources settings id d within isd can = commands_succeed time (Add access file entry asked) line otp sources settings id d within (isd refl) can
-answers time (Edit access file entry asked) line otp sources settings id d within isd can = commands_succeed time (Edit access file entry asked) line otp sources settings id d within (isd refl) can
-answers time (Move access file node group) line otp sources settings id d within isd can = commands_succeed time (Move access file node group) line otp sources settings id d within (isd refl) can
-answers time (Remove access file entry) line otp sources settings id d within isd can = commands_succeed time (Remove access file entry) line otp sources settings id d within (isd refl) can
-answers time (MakeGroup access file group) line otp sources settings id d within isd can = commands_succeed time (MakeGroup access file group) line otp sources settings id d within (isd refl) can
-answers time (RemoveGroup access file group) line otp sources settings id d within isd can = commands_succeed time (RemoveGroup access file group) line otp sources settings id d within (isd refl) can
-answers time (Merge access file names from same dry) line otp sources settings id d within isd can = commands_succeed time (Merge access file names from same dry) line otp sources settings id d within (isd refl) can
-answers time (Export access format file) line otp sources settings id d within isd can = commands_succeed time (Export access format file) line otp sources settings id d within (isd refl) can
-answers time (Info access file) line otp sources settings id d within isd can = commands_succeed time (Info access file) line otp sources settings id d within (isd refl) can
+answers : (time : ℕ) (command : Command) (line otp : Option (List ℕ)) (sources : List BareDoc) (settings : Option Settings) (passed : List (List ℕ)) (id : NodeId) (d : BareDoc) → time ≤ last_stamp → (origin_of command ≡ from.Opened → AreDocs (d ∷ sources))
+    → CanChange time command otp sources settings id d → Answers time command line otp sources settings passed id d
+answers time (Import access format source from file) line otp sources settings passed id d within isd can =
+    gives_answers time (Import access format source from file) line otp sources settings passed id d (sure _)
+answers time (Create access file name cipher kdf) line otp sources settings passed id d within isd can = gives_answers time (Create access file name cipher kdf) line otp sources settings passed id d (created_gives file access.quiet id d can)
+answers time (EditFile access file change) line otp sources settings passed id d within isd can = gives_answers time (EditFile access file change) line otp sources settings passed id d (sure _)
+answers time (Ls access file group recursive flat) line otp sources settings passed id d within isd can = commands_succeed time (Ls access file group recursive flat) line otp sources settings passed id d within (isd refl) can
+answers time (Show access file entry clear all attachments names totp) line otp sources settings passed id d within isd can = commands_succeed time (Show access file entry clear all attachments names totp) line otp sources settings passed id d within (isd refl) can
+answers time (Search access file term) line otp sources settings passed id d within isd can = commands_succeed time (Search access file term) line otp sources settings passed id d within (isd refl) can
+answers time (Add access file entry asked) line otp sources settings passed id d within isd can = commands_succeed time (Add access file entry asked) line otp sources settings passed id d within (isd refl) can
+answers time (Edit access file entry asked) line otp sources settings passed id d within isd can = commands_succeed time (Edit access file entry asked) line otp sources settings passed id d within (isd refl) can
+answers time (Move access file node group) line otp sources settings passed id d within isd can = commands_succeed time (Move access file node group) line otp sources settings passed id d within (isd refl) can
+answers time (Remove access file entry) line otp sources settings passed id d within isd can = commands_succeed time (Remove access file entry) line otp sources settings passed id d within (isd refl) can
+answers time (MakeGroup access file group) line otp sources settings passed id d within isd can = commands_succeed time (MakeGroup access file group) line otp sources settings passed id d within (isd refl) can
+answers time (RemoveGroup access file group) line otp sources settings passed id d within isd can = commands_succeed time (RemoveGroup access file group) line otp sources settings passed id d within (isd refl) can
+answers time (Merge access file names from same dry) line otp sources settings passed id d within isd can = commands_succeed time (Merge access file names from same dry) line otp sources settings passed id d within (isd refl) can
+answers time (Export access format file) line otp sources settings passed id d within isd can = commands_succeed time (Export access format file) line otp sources settings passed id d within (isd refl) can
+answers time (Info access file) line otp sources settings passed id d within isd can = commands_succeed time (Info access file) line otp sources settings passed id d within (isd refl) can
+
+-- dice that can choose a password do
+password_given : (o : Option PasswordProfile) (line : Option (List ℕ)) (dice : List ℕ) → CanGenerate o dice → Gives (password_of o line dice).answer
+password_given None line dice can = sure line
+password_given (Some profile) line dice can =
+    let chosen = passwords_are_chosen profile.alphabet profile.length dice can in
+    (Some chosen.0, ap (λ r. r >>= λ (password : List ℕ). Ok (Some password)) chosen.1)
+
+id_left : (b : Bool) (dice : List ℕ) → (drawn_id b dice).left ≡ dice_after_id b dice
+id_left true dice = refl
+id_left false dice = refl
 
 pub conditions_suffice : ConditionsSuffice
 unfolding carried_out
@@ -202,12 +215,15 @@ conditions_suffice words time world can =
     let task = can.task in
     let settings = settings_in task.opened.sealing in
     let made = makes_node task.command task.opened.doc in
-    let a = answers time task.command can.password task.lines.otp task.sources settings (id_for made world.dice) task.opened.doc can.in_calendar
+    let chosen = password_given (generated_by task.command) task.lines.more (dice_after_id made world.dice) can.can_generate in
+    let password_is : (password_of (generated_by task.command) task.lines.more (drawn_id made world.dice).left).answer ≡ Ok chosen.0 =
+    ap (λ dice. (password_of (generated_by task.command) task.lines.more dice).answer) (id_left made world.dice) ∙ chosen.1 in
+    let a = answers time task.command chosen.0 task.lines.otp task.sources settings task.opened.passed_over (id_for made world.dice) task.opened.doc can.in_calendar
     (λ none. task_docs words time world task none can.is_task) can.can in
     let is : (change_of_task time task world.dice).answer ≡ Ok a.change =
-    ap (λ (t : StreamAnswer Change). t.answer) (id_drawn made (λ id. change_by time task.command task.lines.more task.lines.otp task.sources settings id task.opened.doc) world.dice)
+    ap (λ (t : StreamAnswer Change). t.answer) (id_drawn made (λ id. change_by time task.command task.lines.more task.lines.otp task.sources settings task.opened.passed_over id task.opened.doc) world.dice)
     ∙ ap (λ r. (after_left r (password_of (generated_by task.command) task.lines.more (drawn_id made world.dice).left).left (λ password left.
-    with_left (change_with time task.command password task.lines.otp task.sources settings (id_for made world.dice) task.opened.doc) left)).answer) can.chosen ∙ a.is in
+    with_left (change_with time task.command password task.lines.otp task.sources settings task.opened.passed_over (id_for made world.dice) task.opened.doc) left)).answer) password_is ∙ a.is in
     let left = (change_of_task time task world.dice).left in
     let e = ended_gives (target_of task.command) a.change.text task.opened.sealing a.change.doc left (λ d writes. can.fits a.change d is writes) in
     record {

@@ -1,5 +1,5 @@
 -- Under which conditions a call is carried out.
-use Rattle.std.specs.Prelude.{◌≡◌, ◌≤◌, ℕ, Bool, true, false, List, ◌∷◌, Option, None, Some, Ok}
+use Rattle.std.specs.Prelude.{◌≡◌, ◌≤◌, ℕ, Bool, true, false, List, ◌∷◌, drop, Option, None, Some, Ok}
 use Rattle.time_core.specs.Times.{last_stamp}
 use Rattle.stream_core.specs.InnerStream.{NoKeystream}
 use Rattle.vault_model.specs.declared.forms.DocForm.TheVariants.{Plain}
@@ -7,6 +7,7 @@ use Rattle.vault_model.specs.Db.{NodeId, nil_id}
 use Rattle.vault_model.specs.Tree.{BareDoc, Tree}
 use Rattle.tree_core.specs.Finding.{without_slashes}
 use Rattle.condition_laws.specs.Conditions.{CanAdd, CanEdit, CanMakeGroup, CanMoveEntry, CanMoveGroup, CanRemoveEntry, CanRemoveGroup}
+use Rattle.generation_laws.specs.Conditions.{CanChoose}
 use Rattle.agreed_laws.specs.Merges.{AreDocs}
 use Rattle.content_condition_laws.specs.Conditions.{CanBeMerged, CanExport, CanSearch, CanShow, CanShowCode}
 use Rattle.doc_write.specs.Written.{write_outcome}
@@ -16,6 +17,7 @@ use Rattle.kdbx_seal.specs.Answers.{size_refusal}
 use Rattle.cli_words.specs.declared.command.Command.{Command}
 use Rattle.cli_words.specs.declared.command.Command.TheVariants.{Ls, Show, Search, Add, Edit, Move, Remove, MakeGroup, RemoveGroup, Merge, Import, Create, Export, EditFile, Info}
 use Rattle.cli_words.specs.Needs.{generated_by}
+use Rattle.cli_profiles.specs.declared.profiles.PasswordProfile.{PasswordProfile}
 use Rattle.cli_codes.specs.Codes.{code_refusal}
 use Rattle.cli_printing.specs.Listing.{tree_listed}
 use Rattle.cli_writing.specs.Drawing.{next_bytes}
@@ -24,7 +26,7 @@ use Rattle.cli_sealing.specs.Sealing.{settings_for}
 use Rattle.cli_changes.specs.Ids.{new_id}
 use Rattle.cli_changes.specs.Nodes.{names_group}
 use Rattle.tree_core.specs.Changes.{is_free}
-use Rattle.cli_commands.specs.Commands.{Change, bin_id, change_with, drawn_id, makes_node, password_of}
+use Rattle.cli_commands.specs.Commands.{Change, bin_id, change_with, makes_node}
 use Rattle.cli_files.specs.Tasks.{Task}
 use Rattle.call_carrying.specs.Endings.{Ending, change_of_task, settings_in}
 use Rattle.keepass_call.specs.Held.{IsCarried, IsTask}
@@ -52,45 +54,47 @@ pub record CanEditWith (file : List ℕ) (otp : Option (List ℕ)) (path : List 
 
 -- What a command makes of a document is defined, and no refusal.
 pub record Answers (time : ℕ) (command : Command) (line otp : Option (List ℕ))
-    (sources : List BareDoc) (settings : Option Settings) (id : NodeId) (d : BareDoc) : Type 0 where
+    (sources : List BareDoc) (settings : Option Settings) (passed : List (List ℕ)) (id : NodeId)
+    (d : BareDoc) : Type 0 where
   pub change : Change
-  pub is : change_with time command line otp sources settings id d ≡ Ok change
+  pub is : change_with time command line otp sources settings passed id d ≡ Ok change
 
 -- The condition of each command on its document; a node that it makes has this id.
-abbrev pub CanChange : ℕ → Command → (line otp : Option (List ℕ)) → List BareDoc
-    → Option Settings → NodeId → BareDoc → Type 0
-CanChange time (Ls access file group recursive flat) line otp sources settings id d =
+abbrev pub CanChange : ℕ → Command → (otp : Option (List ℕ)) → List BareDoc → Option Settings
+    → NodeId → BareDoc → Type 0
+CanChange time (Ls access file group recursive flat) otp sources settings id d =
     (tree : Tree) × (tree_listed group d ≡ Some tree)
-CanChange time (Show access file entry clear all attachments names totp) line otp sources settings
+CanChange time (Show access file entry clear all attachments names totp) otp sources settings
     id d = CanShowEntry totp entry clear all names time d
-CanChange time (Search access file term) line otp sources settings id d = CanSearch term d
-CanChange time (Add access file entry asked) line otp sources settings id d = CanAdd entry id d
-CanChange time (Edit access file entry asked) line otp sources settings id d =
+CanChange time (Search access file term) otp sources settings id d = CanSearch term d
+CanChange time (Add access file entry asked) otp sources settings id d = CanAdd entry id d
+CanChange time (Edit access file entry asked) otp sources settings id d =
     CanEditWith file otp entry time d
-CanChange time (Move access file node group) line otp sources settings id d =
+CanChange time (Move access file node group) otp sources settings id d =
     CanMove (names_group node) node group time d
-CanChange time (Remove access file entry) line otp sources settings id d =
+CanChange time (Remove access file entry) otp sources settings id d =
     CanRemoveEntry entry (bin_id id d) time d
-CanChange time (MakeGroup access file group) line otp sources settings id d =
+CanChange time (MakeGroup access file group) otp sources settings id d =
     CanMakeGroup (without_slashes group) id d
-CanChange time (RemoveGroup access file group) line otp sources settings id d =
+CanChange time (RemoveGroup access file group) otp sources settings id d =
     CanRemoveGroup group (bin_id id d) time d
-CanChange time (Merge access file names from same dry) line otp sources settings id d =
+CanChange time (Merge access file names from same dry) otp sources settings id d =
     CanBeMerged d sources
-CanChange time (Import access format source from file) line otp sources settings id d = Unit {0}
-CanChange time (Create access file name cipher kdf) line otp sources settings id d =
+CanChange time (Import access format source from file) otp sources settings id d = Unit {0}
+CanChange time (Create access file name cipher kdf) otp sources settings id d =
     is_free id d ≡ true
-CanChange time (Export access format file) line otp sources settings id d = CanExport format d
-CanChange time (EditFile access file change) line otp sources settings id d = Unit {0}
-CanChange time (Info access file) line otp sources settings id d = Unit {0}
+CanChange time (Export access format file) otp sources settings id d = CanExport format d
+CanChange time (EditFile access file change) otp sources settings id d = Unit {0}
+CanChange time (Info access file) otp sources settings id d = Unit {0}
 
 -- Under its condition a command is not refused on a document, at a moment of the calendar.
 abbrev pub CommandsSucceed : Type 0
 CommandsSucceed = (time : ℕ) (command : Command) (line otp : Option (List ℕ))
-    (sources : List BareDoc) (settings : Option Settings) (id : NodeId) (d : BareDoc)
+    (sources : List BareDoc) (settings : Option Settings) (passed : List (List ℕ)) (id : NodeId)
+    (d : BareDoc)
     → time ≤ last_stamp → AreDocs (d ∷ sources)
-    → CanChange time command line otp sources settings id d
-    → Answers time command line otp sources settings id d
+    → CanChange time command otp sources settings id d
+    → Answers time command line otp sources settings passed id d
 
 -- ---- the call
 
@@ -98,6 +102,16 @@ CommandsSucceed = (time : ℕ) (command : Command) (line otp : Option (List ℕ)
 abbrev pub id_for : Bool → List ℕ → NodeId
 id_for true dice = new_id (next_bytes 16 dice)
 id_for false dice = nil_id
+
+-- What the dice have left after such an id, if there is one.
+abbrev pub dice_after_id : Bool → List ℕ → List ℕ
+dice_after_id true dice = drop 16 dice
+dice_after_id false dice = dice
+
+-- Where a password is to be generated, the dice choose one.
+abbrev pub CanGenerate : Option PasswordProfile → List ℕ → Type 0
+CanGenerate None dice = Unit {0}
+CanGenerate (Some profile) dice = CanChoose profile.alphabet profile.length dice
 
 -- A document is within the limits of its file: a plain document, or one that is sealed with what is
 -- drawn from the dice.
@@ -108,16 +122,15 @@ FitsFile (Some sealing) d dice = size_refusal (settings_for sealing.settings d)
     (draws_of (settings_for sealing.settings d) dice) d ≡ None
 
 -- The words are a task, whose lines and files are there and hold its databases; the moment is in
--- the calendar; where a password is to be generated, the dice choose one; the condition of the
--- command holds; and a document that is written fits its file.
+-- the calendar; where a password is to be generated, the dice after those for the id of a new node
+-- choose one; the condition of the command holds; and a document that is written fits its file.
 pub record CanBeCarried (words : List (List ℕ)) (time : ℕ) (world : World) : Type 0 where
   pub task : Task
   pub is_task : IsTask words time world task
   pub in_calendar : time ≤ last_stamp
-  pub password : Option (List ℕ)
-  pub chosen : (password_of (generated_by task.command) task.lines.more
-      (drawn_id (makes_node task.command task.opened.doc) world.dice).left).answer ≡ Ok password
-  pub can : CanChange time task.command password task.lines.otp task.sources
+  pub can_generate : CanGenerate (generated_by task.command)
+      (dice_after_id (makes_node task.command task.opened.doc) world.dice)
+  pub can : CanChange time task.command task.lines.otp task.sources
       (settings_in task.opened.sealing)
       (id_for (makes_node task.command task.opened.doc) world.dice) task.opened.doc
   pub fits : (change : Change) (d : BareDoc)

@@ -24,9 +24,10 @@ use Rattle.kdbx_frame.specs.Header.{check_hash, check_sums, header_at, header_of
 use Rattle.kdbx_frame.specs.Settings.{IsVersion4, aes_id, chacha_id, checked_header, checked_header_31, checked_header_4, cipher_of, iv_len, iv_of, kdf_of, refuse_compression, settings_and_iv, twofish_id, within_limits}
 use Rattle.kdbx_frame.specs.declared.header.Header.{Header}
 use Rattle.kdbx_frame.specs.declared.settings.Cipher.{Cipher}
-use Rattle.header_cause_laws.specs.HeaderCauses.{Describes, HasWrongField, HasWrongIv, HeaderCause, HeaderRefusalsHaveCauses, IsCompressed, IsOf, IsVariant, Lacks, NamesNoCipher, NamesNoKdf, NamesVariant, PassesLimit, SaysSo, is_there, needed_ids}
+use Rattle.header_cause_laws.specs.FieldCauses.{IsWrongField, is_there}
+use Rattle.header_cause_laws.specs.HeaderCauses.{Describes, HasWrongField, HasWrongIv, HeaderCause, HeaderRefusalsHaveCauses, IsCompressed, IsOf, IsVariant, Lacks, NamesNoCipher, NamesNoKdf, NamesVariant, PassesLimit, SaysSo, needed_ids}
 use Rattle.header_cause_laws.specs.Headers.{HasCutPart, HasFields, HasNumber, IsCut, LeadTo, header_bytes}
-use Rattle.header_cause_laws.proofs.FieldFails.{IsOfField, field_fails}
+use Rattle.header_cause_laws.proofs.FieldFaults.{field_faults}
 use Rattle.header_cause_laws.proofs.Fields.{IsCutInto, IsPart, IsRead, IsRefused, cut_made, cut_short, led, read_all}
 use Rattle.header_cause_laws.proofs.Steps.{agrees, differs, refused_at, same_fail, which}
 
@@ -196,32 +197,35 @@ module _ (file : List ℕ) (why : FrameFail) where
                 }))) (past_text now.rest p.n (length text - length now.rest + p.n) is_cut) p.is
 
             in_field : (fs : List Field) (now : FieldsRead) → LeadTo version fs start now → IsRefused version size (length text) now why → Cause why
-            in_field fs now lead r = of why (field_fails version now.fields r.field why r.refused) (record {
-              version = version;
-              now = now;
-              reads = record { number = value; after = number.1; begins = has_number; version_is = version_is; fields = fs; lead = lead };
-              field = r.field;
-              is_field = r.is_field;
-              not_last = r.not_last;
-              refused = r.refused;
-            })
+            in_field fs now lead r = of why (field_faults version now.fields r.field why r.refused)
               where
-                of : (f : FrameFail) → IsOfField f → HasWrongField f file → Cause f
-                of NotKdbx is c = absurd is
-                of (Version n) is c = absurd is
-                of (Truncated n) is c = absurd is
-                of (TooLarge n) is c = absurd is
-                of (FieldTwice id) is c = c
-                of (FieldLength id len) is c = inl c
-                of (Dictionary offset) is c = c
-                of (HeaderHash kept found) is c = absurd is
-                of (FieldMissing id) is c = absurd is
-                of (CipherUnknown id) is c = absurd is
-                of (Compressed flag) is c = absurd is
-                of (KdfUnknown id) is c = absurd is
-                of (Variant n) is c = absurd is
-                of (KdfLimit field n) is c = absurd is
-                of NoMemory is c = absurd is
+                with_wrong : (f : FrameFail) → IsWrongField version now.fields r.field f → HasWrongField f file
+                with_wrong f wrong = record {
+                  version = version;
+                  now = now;
+                  reads = record { number = value; after = number.1; begins = has_number; version_is = version_is; fields = fs; lead = lead };
+                  field = r.field;
+                  is_field = r.is_field;
+                  not_last = r.not_last;
+                  wrong = wrong;
+                }
+
+                of : (f : FrameFail) → IsWrongField version now.fields r.field f → Cause f
+                of NotKdbx c = absurd c
+                of (Version n) c = absurd c
+                of (Truncated n) c = absurd c
+                of (TooLarge n) c = absurd c
+                of (FieldTwice id) c = with_wrong (FieldTwice id) c
+                of (FieldLength id len) c = inl (with_wrong (FieldLength id len) c)
+                of (Dictionary offset) c = with_wrong (Dictionary offset) c
+                of (HeaderHash kept found) c = absurd c
+                of (FieldMissing id) c = absurd c
+                of (CipherUnknown id) c = absurd c
+                of (Compressed flag) c = absurd c
+                of (KdfUnknown id) c = absurd c
+                of (Variant n) c = absurd c
+                of (KdfLimit field n) c = absurd c
+                of NoMemory c = absurd c
 
         -- ---- what follows the fields
 

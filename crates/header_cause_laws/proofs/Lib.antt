@@ -1,6 +1,7 @@
 pub mod Examples
-pub mod FieldFails
+pub mod FieldFaults
 pub mod Fields
 pub mod HeaderRefusals
+pub mod Items
 pub mod KeyRefusals
 pub mod Steps

@@ -1,5 +1,5 @@
 -- Why a header is refused, as what is so of its file.
-use Rattle.std.specs.Prelude.{◌≡◌, ◌≢◌, ◌⊎◌, ◌<◌, ◌≤◌, ◌==◌, if◌then◌else◌, ℕ, Bool, true, false, List, [], ◌∷◌, ◌++◌, length, is_some, Some, Ok, Err}
+use Rattle.std.specs.Prelude.{◌≡◌, ◌≢◌, ◌⊎◌, ◌<◌, ◌≤◌, ℕ, true, false, List, [], ◌∷◌, ◌++◌, length, Some, Ok, Err}
 use Rattle.sha2.specs.Sha256.{sha256}
 use Rattle.vault_model.specs.Join.{IsIn}
 use Rattle.vault_model.specs.declared.forms.FileVersion.{FileVersion}
@@ -13,10 +13,11 @@ use Rattle.kdbx_parts.specs.Dictionary.{KdfDescription, aes, argon, unknown_id, 
 use Rattle.kdbx_parts.specs.Parts.{Field}
 use Rattle.kdbx_parts.specs.declared.fail.FrameFail.{FrameFail}
 use Rattle.kdbx_parts.specs.declared.fail.FrameFail.TheVariants.{CipherUnknown, Compressed, Dictionary, FieldLength, FieldMissing, FieldTwice, HeaderHash, KdfLimit, KdfUnknown, NoMemory, NotKdbx, TooLarge, Truncated, Variant, Version}
-use Rattle.kdbx_frame.specs.Fields.{FieldsRead, HeaderFields, header_limit, length_width, with_field}
+use Rattle.kdbx_frame.specs.Fields.{FieldsRead, HeaderFields, header_limit, length_width}
 use Rattle.kdbx_frame.specs.Header.{header_of, signature}
 use Rattle.kdbx_frame.specs.Settings.{IsVersion4, aes_id, chacha_id, cipher_of, iv_len, twofish_id}
 use Rattle.kdbx_frame.specs.declared.settings.Cipher.{Cipher}
+use Rattle.header_cause_laws.specs.FieldCauses.{IsWrongField, is_there}
 use Rattle.header_cause_laws.specs.Headers.{HasCutPart, HasFields, HasNumber, IsField, ReadsTo, header_bytes}
 
 -- ---- what a file begins with
@@ -50,7 +51,7 @@ pub record IsTooLong (end : ℕ) (file : List ℕ) : Type 0 where
 
 -- ---- fields
 
--- After the fields before it a field is refused so.
+-- After the fields before it there is a field that is not field 0, and this is wrong with it.
 pub record HasWrongField (fail : FrameFail) (file : List ℕ) : Type 0 where
   pub version : FileVersion
   pub now : FieldsRead
@@ -58,7 +59,7 @@ pub record HasWrongField (fail : FrameFail) (file : List ℕ) : Type 0 where
   pub field : Field
   pub is_field : IsField (length_width version) now.rest field
   pub not_last : field.id ≢ 0
-  pub refused : with_field version now.fields field ≡ Err fail
+  pub wrong : IsWrongField version now.fields field fail
 
 -- In version 4 the hash that follows the header is not the header's.
 pub record HasWrongHash (kept found file : List ℕ) : Type 0 where
@@ -88,20 +89,6 @@ abbrev pub needed_ids : FileVersion → List ℕ
 needed_ids V31 = 2 ∷ 3 ∷ 4 ∷ 5 ∷ 6 ∷ 7 ∷ 8 ∷ 9 ∷ 10 ∷ []
 needed_ids V40 = 2 ∷ 3 ∷ 4 ∷ 7 ∷ 11 ∷ []
 needed_ids V41 = 2 ∷ 3 ∷ 4 ∷ 7 ∷ 11 ∷ []
-
--- A needed field is there.
-abbrev pub is_there : HeaderFields → ℕ → Bool
-is_there said id =
-    if id == 2 then is_some said.cipher
-    else (if id == 3 then is_some said.compression
-    else (if id == 4 then is_some said.seed
-    else (if id == 5 then is_some said.kdf_seed
-    else (if id == 6 then is_some said.rounds
-    else (if id == 7 then is_some said.iv
-    else (if id == 8 then is_some said.stream_key
-    else (if id == 9 then is_some said.start
-    else (if id == 10 then is_some said.stream_id
-    else (if id == 11 then is_some said.kdf else true)))))))))
 
 -- A field that the version needs is missing.
 abbrev pub Lacks : ℕ → FileVersion → HeaderFields → Type 0

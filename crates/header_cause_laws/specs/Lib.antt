@@ -1,4 +1,5 @@
 pub mod Examples
+pub mod FieldCauses
 pub mod HeaderCauses
 pub mod Headers
 pub mod KeyCauses

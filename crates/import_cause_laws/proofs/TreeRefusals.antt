@@ -8,10 +8,10 @@ use Rattle.doc_forms.specs.Ids.{least_duplicate, lesser_id}
 use Rattle.vault_model.specs.Db.{NodeId}
 use Rattle.vault_model.specs.Join.{IsIn}
 use Rattle.vault_model.specs.Orders.{bytes_cmp}
-use Rattle.vault_model.specs.Tree.{LEVELS, Tree, node_ids}
+use Rattle.vault_model.specs.Tree.{BareDoc, LEVELS, Tree, node_ids}
 use Rattle.vault_model.proofs.Tests.{any_found}
 use Rattle.import_tree.specs.Entries.{ImportedEntry}
-use Rattle.import_tree.specs.Outcome.{groups_below, imported_document, least_id, refuse_depth, refuse_duplicate, sound_tree}
+use Rattle.import_tree.specs.Outcome.{groups_below, imported_document, least_id, refuse_depth, refuse_duplicate, sound_document, sound_tree}
 use Rattle.import_tree.specs.Trees.{document_of}
 use Rattle.import_tree.specs.declared.fails.TreeFail.{TreeFail}
 use Rattle.import_tree.specs.declared.fails.TreeFail.TheVariants as tree
@@ -96,9 +96,12 @@ module _ (t : Tree) (fail : TreeFail) where
     | inr a ↦ in_levels (least_id (groups_below LEVELS t)) refl a.1.1
   ]
 
-pub tree_refusals : (now : ℕ) (entries : List ImportedEntry) (fail : TreeFail) → imported_document now entries ≡ Err fail → TreeCause fail (document_of now entries).tree
-unfolding imported_document
-tree_refusals now entries fail h = elim (refused_at (sound_tree (document_of now entries).tree) _ fail h) [
-  | inl a ↦ in_tree (document_of now entries).tree fail a
+pub sound_refusals : (doc : BareDoc) (fail : TreeFail) → sound_document doc ≡ Err fail → TreeCause fail doc.tree
+sound_refusals doc fail h = elim (refused_at (sound_tree doc.tree) _ fail h) [
+  | inl a ↦ in_tree doc.tree fail a
   | inr a ↦ cc a.1.1
 ]
+
+pub tree_refusals : (now : ℕ) (entries : List ImportedEntry) (fail : TreeFail) → imported_document now entries ≡ Err fail → TreeCause fail (document_of now entries).tree
+unfolding imported_document
+tree_refusals now entries fail h = sound_refusals (document_of now entries) fail h

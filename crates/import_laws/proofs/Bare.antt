@@ -6,7 +6,7 @@ use Rattle.doc_forms.specs.Entries.{no_content}
 use Rattle.import_ids.specs.Ids.{named_id}
 use Rattle.import_ids.specs.Names.{EntryTexts}
 use Rattle.import_tree.specs.Entries.{ImportedEntry, texts_of}
-use Rattle.import_tree.specs.Trees.{Placed, document_of, import_root, new_groups, placed_after, placed_at, with_all_placed, with_entry, with_entry_among}
+use Rattle.import_tree.specs.Trees.{Placed, document_of, import_root, new_groups, placed_after, placed_at, with_all_placed, with_rows, with_rows_among}
 use Rattle.vault_model.specs.Db.{NodeId, nil_id}
 use Rattle.vault_model.specs.Empty.{new_group}
 use Rattle.vault_model.specs.Shape.{Children, EntryRecord, GroupRecord}
@@ -38,7 +38,7 @@ abbrev mutual
   bare_all (beside tree trees) = beside (bare tree) (bare_all trees)
 
 abbrev pub bare_placed : Placed → Placed
-bare_placed placed = record { now = 0; names = placed.names; row = bare_row placed.row }
+bare_placed placed = record { now = 0; names = placed.names; rows = map bare_row placed.rows }
 
 name_bare : (t : Tree) → name_of (bare t) ≡ name_of t
 name_bare (node id group entries groups) = refl
@@ -47,34 +47,34 @@ either_bare : (b : Bool) (xs ys : Trees) → bare_all (cond b xs ys) ≡ cond b 
 either_bare true xs ys = refl
 either_bare false xs ys = refl
 
-module _ (now : ℕ) (e : NodeId × EntryRecord) where
-  bare_new : (parent : NodeId) (name : List ℕ) (names : List (List ℕ)) → bare (new_groups now parent name names e) ≡ new_groups 0 parent name names (bare_row e)
+module _ (now : ℕ) (e : List (NodeId × EntryRecord)) where
+  bare_new : (parent : NodeId) (name : List ℕ) (names : List (List ℕ)) → bare (new_groups now parent name names e) ≡ new_groups 0 parent name names (map bare_row e)
   bare_new parent name [] = refl
   bare_new parent name (next ∷ names) =
       ap (λ t. node (named_id parent name) (new_group name 0) [] (beside t none)) (bare_new (named_id parent name) next names)
 
   mutual
-    pub bare_with : (names : List (List ℕ)) (t : Tree) → bare (with_entry now names e t) ≡ with_entry 0 names (bare_row e) (bare t)
+    pub bare_with : (names : List (List ℕ)) (t : Tree) → bare (with_rows now names e t) ≡ with_rows 0 names (map bare_row e) (bare t)
     bare_with [] (node id group entries groups) =
-        ap (λ rows. node id (bare_group group) rows (bare_all groups)) (map-append bare_row entries (e ∷ []))
+        ap (λ rows. node id (bare_group group) rows (bare_all groups)) (map-append bare_row entries e)
     bare_with (name ∷ names) (node id group entries groups) =
         ap (λ ts. node id (bare_group group) (map bare_row entries) ts) (bare_among id name names groups)
 
     bare_among : (parent : NodeId) (name : List ℕ) (names : List (List ℕ)) (ts : Trees)
-        → bare_all (with_entry_among now parent name names e ts) ≡ with_entry_among 0 parent name names (bare_row e) (bare_all ts)
+        → bare_all (with_rows_among now parent name names e ts) ≡ with_rows_among 0 parent name names (map bare_row e) (bare_all ts)
     bare_among parent name names none = ap (λ t. beside t none) (bare_new parent name names)
     bare_among parent name names (beside t ts) =
         let here = bare_with names t in
         let rest = bare_among parent name names ts in
-        either_bare (bytes_eq (name_of t) name) (beside (with_entry now names e t) ts) (beside t (with_entry_among now parent name names e ts))
-        ∙ ap (λ x. cond (bytes_eq (name_of t) name) (beside x (bare_all ts)) (beside (bare t) (bare_all (with_entry_among now parent name names e ts)))) here
-        ∙ ap (λ xs. cond (bytes_eq (name_of t) name) (beside (with_entry 0 names (bare_row e) (bare t)) (bare_all ts)) (beside (bare t) xs)) rest
-        ∙ ap (λ n. cond (bytes_eq n name) (beside (with_entry 0 names (bare_row e) (bare t)) (bare_all ts)) (beside (bare t) (with_entry_among 0 parent name names (bare_row e) (bare_all ts)))) (sym (name_bare t))
+        either_bare (bytes_eq (name_of t) name) (beside (with_rows now names e t) ts) (beside t (with_rows_among now parent name names e ts))
+        ∙ ap (λ x. cond (bytes_eq (name_of t) name) (beside x (bare_all ts)) (beside (bare t) (bare_all (with_rows_among now parent name names e ts)))) here
+        ∙ ap (λ xs. cond (bytes_eq (name_of t) name) (beside (with_rows 0 names (map bare_row e) (bare t)) (bare_all ts)) (beside (bare t) xs)) rest
+        ∙ ap (λ n. cond (bytes_eq n name) (beside (with_rows 0 names (map bare_row e) (bare t)) (bare_all ts)) (beside (bare t) (with_rows_among 0 parent name names (map bare_row e) (bare_all ts)))) (sym (name_bare t))
 
-bare_placed_all : (ps : List Placed) (t : Tree) → bare (with_all_placed ps t) ≡ with_all_placed (map bare_placed ps) (bare t)
+pub bare_placed_all : (ps : List Placed) (t : Tree) → bare (with_all_placed ps t) ≡ with_all_placed (map bare_placed ps) (bare t)
 bare_placed_all [] t = refl
 bare_placed_all (p ∷ ps) t =
-    bare_placed_all ps (with_entry p.now p.names p.row t) ∙ ap (with_all_placed (map bare_placed ps)) (bare_with p.now p.row p.names t)
+    bare_placed_all ps (with_rows p.now p.names p.rows t) ∙ ap (with_all_placed (map bare_placed ps)) (bare_with p.now p.rows p.names t)
 
 untimed_placed : (now : ℕ) (before : List EntryTexts) (es : List ImportedEntry) → map bare_placed (placed_after now before es) ≡ map bare_placed (placed_after 0 before (map untimed es))
 untimed_placed now before [] = refl

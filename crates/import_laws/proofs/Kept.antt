@@ -13,10 +13,10 @@ use Rattle.vault_model.proofs.Tests.{or_left}
 use Rattle.import_laws.specs.Losses.{NothingIsLost}
 use Rattle.import_laws.proofs.Alike.{each}
 
-no_tomb : (d : BareDoc) (is : IsDoc d) → d.tombs ≡ [] → (u : NodeId) → get (db_in d).tombs u ≡ None
+pub no_tomb : (d : BareDoc) (is : IsDoc d) → d.tombs ≡ [] → (u : NodeId) → get (db_in d).tombs u ≡ None
 no_tomb d is none u = db_tomb d is u ∙ ap (λ (tombs : List Tombstone). find id_cmp u (map (λ (t : Tombstone). (t.id, t.deleted)) tombs)) none
 
-held : (m : Db) (u : NodeId) (v : Versions) → get m.entries u ≡ Some v → holds m u ≡ true
+pub held : (m : Db) (u : NodeId) (v : Versions) → get m.entries u ≡ Some v → holds m u ≡ true
 held m u v e = or_left (contains_key m.entries u) (contains_key m.groups u) (there e)
   where
     there : get m.entries u ≡ Some v → contains_key m.entries u ≡ true
@@ -29,7 +29,7 @@ module _ (d e : BareDoc) (is : IsDoc d) (too : IsDoc e) (first : d.tombs ≡ [])
   whole : IsPart S S
   whole = (tt, λ m h. h)
 
-  stays : (m : Db) (u : NodeId) → IsIn m S → holds m u ≡ true → kept S u ≡ true
+  pub stays : (m : Db) (u : NodeId) → IsIn m S → holds m u ≡ true → kept S u ≡ true
   stays m u h holds_it =
       part_kept S S agreed whole u
       ∙ own_from_alive agreed.compatible S whole u (held_by S m u h holds_it) (each (λ n. get n.tombs u ≡ None) (db_in d) (db_in e) (no_tomb d is first u) (no_tomb e too second u))

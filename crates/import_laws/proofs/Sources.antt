@@ -24,7 +24,7 @@ use Rattle.import_laws.proofs.Bare.{bare, bare_children, bare_document, bare_ent
 
 -- ---- entries
 
-imported_is : (now : ℕ) (es : List ImportedEntry) (d : BareDoc) → imported_document now es ≡ Ok d → document_of now es ≡ d
+pub imported_is : (now : ℕ) (es : List ImportedEntry) (d : BareDoc) → imported_document now es ≡ Ok d → document_of now es ≡ d
 unfolding imported_document
 imported_is now es d is = by (sound_tree (document_of now es).tree) is
   where
@@ -55,14 +55,14 @@ entries_agree now later es fs d e same is too one other =
 
 -- ---- files of Password Safe
 
-then_ok : {A B E : Type 0} (r : Result A E) (next : A → Result B E) (y : B) → (r >>= next) ≡ Ok y → (x : A) × ((r ≡ Ok x) × (next x ≡ Ok y))
+pub then_ok : {A B E : Type 0} (r : Result A E) (next : A → Result B E) (y : B) → (r >>= next) ≡ Ok y → (x : A) × ((r ≡ Ok x) × (next x ≡ Ok y))
 then_ok (Ok x) next y h = (x, (refl, h))
 then_ok (Err f) next y h = absurd (cc h)
 
-same_ok : {A E : Type 0} (r : Result A E) (x y : A) → r ≡ Ok x → r ≡ Ok y → x ≡ y
+pub same_ok : {A E : Type 0} (r : Result A E) (x y : A) → r ≡ Ok x → r ≡ Ok y → x ≡ y
 same_ok r x y h k = cc (sym h ∙ k)
 
-tree_ok : (r : Result BareDoc TreeFail) (d : BareDoc) → or_tree_fail r ≡ Ok d → r ≡ Ok d
+pub tree_ok : (r : Result BareDoc TreeFail) (d : BareDoc) → or_tree_fail r ≡ Ok d → r ≡ Ok d
 tree_ok (Ok x) d h = ap (λ (y : BareDoc). let r : Result BareDoc TreeFail = Ok y in r) (cc h)
 tree_ok (Err f) d h = absurd (cc h)
 
@@ -97,11 +97,11 @@ safes_agree bytes password now later d e h k =
 
 -- ---- tables
 
-table_ok : (r : Result BareDoc TreeFail) (d : BareDoc) → as_table r ≡ Ok d → r ≡ Ok d
+pub table_ok : (r : Result BareDoc TreeFail) (d : BareDoc) → as_table r ≡ Ok d → r ≡ Ok d
 table_ok (Ok x) d h = ap (λ (y : BareDoc). let r : Result BareDoc TreeFail = Ok y in r) (cc h)
 table_ok (Err f) d h = absurd (cc h)
 
-untimed_row : (now later number : ℕ) (names row : List (List ℕ)) (x y : ImportedEntry) → row_entry (table_of now names) number row ≡ Ok x → row_entry (table_of later names) number row ≡ Ok y → untimed x ≡ untimed y
+pub untimed_row : (now later number : ℕ) (names row : List (List ℕ)) (x y : ImportedEntry) → row_entry (table_of now names) number row ≡ Ok x → row_entry (table_of later names) number row ≡ Ok y → untimed x ≡ untimed y
 untimed_row now later number names row x y h k =
     let a = then_ok (row_times (table_of now names) number row) _ x h in
     let b = then_ok (row_times (table_of later names) number row) _ y k in

@@ -4,6 +4,5 @@ pub mod Proper
 pub mod Put
 pub mod Apart
 pub mod TakenApart
-pub mod Grown
 pub mod Levels
 pub mod Placing

@@ -5,22 +5,27 @@ use Rattle.import_ids.specs.Counts.{GivesId, HasCounted}
 use Rattle.import_ids.specs.Names.{EntryTexts}
 use Rattle.import_ids.specs.declared.counts.NameCounts.{NameCounts}
 use Rattle.vault_model.specs.Db.{NodeId}
-use Rattle.vault_model.specs.SeenNodes.{entry_row}
+use Rattle.vault_model.specs.Shape.{EntryRecord}
 use Rattle.import_tree.specs.Entries.{ImportedEntry, entry_at, texts_of}
 use Rattle.import_tree.specs.Placing.{Added, Adds}
 use Rattle.import_tree.specs.SeenDrafts.{placed_seen}
 use Rattle.import_tree.specs.Trees.{Placed, placed_after, placed_at}
-use Rattle.import_tree.specs.declared.drafts.PlacedEntry.{PlacedEntry}
+use Rattle.import_tree.specs.declared.drafts.ImportedPlace.{ImportedPlace}
+
+-- the place of an entry
+pub placed_is : (now : ℕ) (entry : ImportedEntry) (names : List (List ℕ)) (row : NodeId × EntryRecord) (id : NodeId) (place : Placed) → place ≡ record { now = now; names = names; rows = row ∷ [] }
+    → names ≡ entry.groups → row ≡ (id, entry_at now entry) → place ≡ record { now = now; names = entry.groups; rows = (id, entry_at now entry) ∷ [] }
+placed_is now entry names row id place is lead made = is ∙ (λ i. record { now = now; names = lead i; rows = made i ∷ [] })
 
 -- one entry is placed
-pub added : (now : ℕ) (before : List EntryTexts) (entry : ImportedEntry) (ps qs : List PlacedEntry) (p : PlacedEntry) (id : NodeId) (after : NameCounts)
+pub added : (now : ℕ) (before : List EntryTexts) (entry : ImportedEntry) (ps qs : List ImportedPlace) (p : ImportedPlace) (id : NodeId) (after : NameCounts)
     → GivesId before entry.id (texts_of entry) id after → qs ≡ ps ++ p ∷ []
-    → p.moment ≡ now → p.names ≡ entry.groups → entry_row p.entry ≡ (id, entry_at now entry)
+    → placed_seen p ≡ record { now = now; names = entry.groups; rows = (id, entry_at now entry) ∷ [] }
     → Added now before entry (map placed_seen ps) (map placed_seen qs) after
-added now before entry ps qs p id after given is moment names row = record {
+added now before entry ps qs p id after given is seen = record {
   placed = ap (map placed_seen) is ∙ map-append placed_seen ps (p ∷ [])
       ∙ ap (λ (q : Placed). map placed_seen ps ++ q ∷ [])
-      (λ i. record { now = moment i; names = names i; row = (row ∙ ap (λ (u : NodeId). (u, entry_at now entry)) given.id) i });
+      (seen ∙ ap (λ (u : NodeId). let q : Placed = record { now = now; names = entry.groups; rows = (u, entry_at now entry) ∷ [] } in q) given.id);
   counted = given.counted;
 }
 

@@ -15,26 +15,25 @@ use Rattle.vault_model.specs.declared.nodes.Group.{Group, out-Group}
 use Rattle.vault_model.proofs.SeenGroups.{seen_group}
 use Rattle.vault_model.proofs.Tests.{decide, is_false, or_false}
 use Rattle.tree_core.proofs.Options.{never}
-use Rattle.tree_core.specs.Changes as changes
 use Rattle.tree_core.specs.Changes.{with_group, with_last}
 use Rattle.tree_core.specs.NewNodes.{empty_group}
 use Rattle.tree_groups.proofs.GroupPuts.{group_put}
-use Rattle.tree_steps.proofs.InPlace.{entry_put, record_seen, seen_with_groups, trees, with_entries, with_groups}
+use Rattle.tree_steps.proofs.InPlace.{record_seen, seen_with_entries, seen_with_groups, trees, with_entries, with_groups}
 use Rattle.vault_model.specs.declared.nodes.Entry.{Entry}
 use Rattle.import_ids.specs.Ids.{named_id}
-use Rattle.import_tree.specs.Trees.{new_groups, with_entry, with_entry_among}
+use Rattle.import_tree.specs.Trees.{new_groups, with_rows, with_rows_among}
 use Rattle.import_tree.proofs.Apart.{new_is}
 
 -- a group has a name
 abbrev pub has : List ℕ → Group → Bool
 has name g = bytes_eq (name_of (tree_seen g)) name
 
-module _ (now : ℕ) (parent : NodeId) (name : List ℕ) (names : List (List ℕ)) (e : NodeId × EntryRecord) where
+module _ (now : ℕ) (parent : NodeId) (name : List ℕ) (names : List (List ℕ)) (e : List (NodeId × EntryRecord)) where
   abbrev among : Trees → Trees
-  among = with_entry_among now parent name names e
+  among = with_rows_among now parent name names e
 
   abbrev within : Tree → Tree
-  within = with_entry now names e
+  within = with_rows now names e
 
   -- the first group of the name is the one that is changed
   pub put_there : (gs : List Group) (at : ℕ) (old new : Group) → slice_get gs at ≡ Some old → has name old ≡ true
@@ -87,20 +86,20 @@ some_place name (g ∷ gs) at way is =
 
 -- ---- the whole group
 
-module _ (now : ℕ) (name : List ℕ) (names : List (List ℕ)) (e : NodeId × EntryRecord) (g : Group) where
+module _ (now : ℕ) (name : List ℕ) (names : List (List ℕ)) (e : List (NodeId × EntryRecord)) (g : Group) where
   abbrev gs : List Group
   gs = (out-Group g).groups
 
   -- an entry is put into the first group of the name
   pub put_below : (at : ℕ) (old new : Group) → position (has name) gs ≡ Some at → slice_get gs at ≡ Some old
-      → tree_seen new ≡ with_entry now names e (tree_seen old)
-      → tree_seen (with_groups g (slice_set gs at new)) ≡ with_entry now (name ∷ names) e (tree_seen g)
+      → tree_seen new ≡ with_rows now names e (tree_seen old)
+      → tree_seen (with_groups g (slice_set gs at new)) ≡ with_rows now (name ∷ names) e (tree_seen g)
   put_below at old new way is made =
       let first = position-Some (has name) gs at old way in
       let named : has name old ≡ true = ap (has name) (sym (get_or_from_slice_get gs at old old is)) ∙ first.1 in
       seen_with_groups g (slice_set gs at new)
       ∙ ap (node (out-Group g).id (record_seen g) (map entry_row (out-Group g).entries)) (put_there now (out-Group g).id name names e gs at old new is named first.2 made)
-      ∙ ap (with_entry now (name ∷ names) e) (sym (seen_group g))
+      ∙ ap (with_rows now (name ∷ names) e) (sym (seen_group g))
 
   -- where it is not, the group is as it was
   pub kept_below : (at : ℕ) (old new : Group) → slice_get gs at ≡ Some old → tree_seen new ≡ tree_seen old
@@ -116,28 +115,28 @@ module _ (now : ℕ) (name : List ℕ) (names : List (List ℕ)) (e : NodeId × 
       kept (x ∷ xs) (suc at) old new is same = ap (λ ts. beside (tree_seen x) ts) (kept xs at old new is same)
 
   -- where no group has the name, a new group is the last
-  pub put_new : position (has name) gs ≡ None → with_group (new_groups now (out-Group g).id name names e) (tree_seen g) ≡ with_entry now (name ∷ names) e (tree_seen g)
+  pub put_new : position (has name) gs ≡ None → with_group (new_groups now (out-Group g).id name names e) (tree_seen g) ≡ with_rows now (name ∷ names) e (tree_seen g)
   put_new way =
       let new = new_groups now (out-Group g).id name names e in
       ap (with_group new) (seen_group g)
       ∙ ap (node (out-Group g).id (record_seen g) (map entry_row (out-Group g).entries)) (put_last now (out-Group g).id name names e gs new (no_place name gs way) refl)
-      ∙ ap (with_entry now (name ∷ names) e) (sym (seen_group g))
+      ∙ ap (with_rows now (name ∷ names) e) (sym (seen_group g))
 
-  -- an entry that no names lead to is put into the group itself
-  pub put_here : (entry : Entry) (es : List Entry) → es ≡ (out-Group g).entries ++ entry ∷ [] → tree_seen (with_entries g es) ≡ with_entry now [] (entry_row entry) (tree_seen g)
-  put_here entry es is =
-      entry_put g es entry is
-      ∙ ap (changes.with_entry (entry_row entry)) (seen_group g)
-      ∙ ap (with_entry now [] (entry_row entry)) (sym (seen_group g))
+  -- what no names lead to is put into the group itself
+  pub put_here : (es : List Entry) → map entry_row es ≡ map entry_row (out-Group g).entries ++ e → tree_seen (with_entries g es) ≡ with_rows now [] e (tree_seen g)
+  put_here es is =
+      seen_with_entries g es
+      ∙ ap (λ rows. node (out-Group g).id (record_seen g) rows (trees gs)) is
+      ∙ ap (with_rows now [] e) (sym (seen_group g))
 
 -- ---- a new group
 
 -- an empty group of this name into which an entry is put
-pub filled : (now : ℕ) (parent id : NodeId) (name : List ℕ) (names : List (List ℕ)) (e : NodeId × EntryRecord) (empty new : Tree) → id ≡ named_id parent name → empty ≡ empty_group id name now
-    → new ≡ with_entry now names e empty → new ≡ new_groups now parent name names e
+pub filled : (now : ℕ) (parent id : NodeId) (name : List ℕ) (names : List (List ℕ)) (e : List (NodeId × EntryRecord)) (empty new : Tree) → id ≡ named_id parent name → empty ≡ empty_group id name now
+    → new ≡ with_rows now names e empty → new ≡ new_groups now parent name names e
 filled now parent id name names e empty new i m n =
     n
-    ∙ ap (with_entry now names e) (m ∙ ap (λ (u : NodeId). empty_group u name now) i)
+    ∙ ap (with_rows now names e) (m ∙ ap (λ (u : NodeId). empty_group u name now) i)
     ∙ sym (new_is now parent name names e)
 
 -- it is the last of the groups of a group

@@ -1,82 +1,82 @@
--- Groups that entries make, taken apart by the names that lead to the entries, with no tree.
+-- Groups that places make, taken apart by the names that lead to the places, with no tree.
 use Rattle.std.specs.Prelude.{ℕ, zero, suc, if◌then◌else◌, Option, None, Some, List, [], ◌∷◌, ◌++◌, bytes_eq, map}
 use Rattle.import_tree.specs.Outcome.{groups_below_among}
-use Rattle.import_tree.specs.Trees.{Placed, with_entry_among}
+use Rattle.import_tree.specs.Trees.{Placed, with_rows_among}
 use Rattle.vault_model.specs.Db.{NodeId}
 use Rattle.vault_model.specs.Shape.{EntryRecord}
 use Rattle.vault_model.specs.Tree.{Trees, node_ids_all, none}
 
--- Entries, and before them one to which these names lead, if there are none.
-abbrev pub with_own : List (List ℕ) → NodeId × EntryRecord → List (NodeId × EntryRecord)
+-- Entries, and before them those of a place to which these names lead, if there are none.
+abbrev pub with_own : List (List ℕ) → List (NodeId × EntryRecord) → List (NodeId × EntryRecord)
     → List (NodeId × EntryRecord)
-with_own [] row rows = row ∷ rows
-with_own (name ∷ names) row rows = rows
+with_own [] own rows = own ++ rows
+with_own (name ∷ names) own rows = rows
 
--- The entries to which no more names lead.
+-- The entries of the places to which no more names lead.
 abbrev pub own_rows : List Placed → List (NodeId × EntryRecord)
 own_rows [] = []
-own_rows (placed ∷ rest) = with_own placed.names placed.row (own_rows rest)
+own_rows (placed ∷ rest) = with_own placed.names placed.rows (own_rows rest)
 
 -- Their ids.
 abbrev pub own_ids : List Placed → List NodeId
-own_ids entries = map (λ (row : NodeId × EntryRecord). row.0) (own_rows entries)
+own_ids places = map (λ (row : NodeId × EntryRecord). row.0) (own_rows places)
 
--- Entries, and before them one to which these names lead, if there are some.
+-- Places, and before them one to which these names lead, if there are some.
 abbrev pub with_named : List (List ℕ) → Placed → List Placed → List Placed
 with_named [] placed rest = rest
 with_named (name ∷ names) placed rest = placed ∷ rest
 
--- The entries to which more names lead.
-abbrev pub entries_below : List Placed → List Placed
-entries_below [] = []
-entries_below (placed ∷ rest) = with_named placed.names placed (entries_below rest)
+-- The places to which more names lead.
+abbrev pub places_below : List Placed → List Placed
+places_below [] = []
+places_below (placed ∷ rest) = with_named placed.names placed (places_below rest)
 
 -- The first of some names, if there is one.
 abbrev pub first_of : List (List ℕ) → Option (List ℕ)
 first_of [] = None
 first_of (name ∷ names) = Some name
 
--- The name that leads first to the first of some entries, if there is one.
+-- The name that leads first to the first of some places, if there is one.
 abbrev pub first_name : List Placed → Option (List ℕ)
 first_name [] = None
 first_name (placed ∷ rest) = first_of placed.names
 
--- Entries, and before them one without the first of the names that lead to it, if that is this one.
+-- Places, and before them one without the first of the names that lead to it, if that is this one.
 abbrev pub with_inside : List ℕ → List (List ℕ) → Placed → List Placed → List Placed
 with_inside name [] placed rest = rest
 with_inside name (first ∷ names) placed rest =
     if bytes_eq name first then record placed { names = names } ∷ rest else rest
 
--- The entries to which this name leads first, from the group of the name on.
+-- The places to which this name leads first, from the group of the name on.
 abbrev pub inside : List ℕ → List Placed → List Placed
 inside name [] = []
 inside name (placed ∷ rest) = with_inside name placed.names placed (inside name rest)
 
--- Entries, and before them one, unless this name is the first that leads to it.
+-- Places, and before them one, unless this name is the first that leads to it.
 abbrev pub with_other : List ℕ → List (List ℕ) → Placed → List Placed → List Placed
 with_other name [] placed rest = placed ∷ rest
 with_other name (first ∷ names) placed rest =
     if bytes_eq name first then rest else placed ∷ rest
 
--- The other entries.
+-- The other places.
 abbrev pub others : List ℕ → List Placed → List Placed
 others name [] = []
 others name (placed ∷ rest) = with_other name placed.names placed (others name rest)
 
--- The groups in the group of this id, after an entry is put there.
+-- The groups in the group of this id, with a place more.
 abbrev pub with_way : NodeId → List (List ℕ) → Placed → Trees → Trees
 with_way id [] placed trees = trees
 with_way id (name ∷ names) placed trees =
-    with_entry_among placed.now id name names placed.row trees
+    with_rows_among placed.now id name names placed.rows trees
 
--- The same after entries are put there one after another.
+-- The same with places more, one after another.
 abbrev pub groups_of : NodeId → List Placed → Trees → Trees
 groups_of id [] trees = trees
 groups_of id (placed ∷ rest) trees = groups_of id rest (with_way id placed.names placed trees)
 
--- The ids of all nodes in the group of this id, in which nothing but these entries is.
+-- The ids of all nodes in the group of this id, in which nothing but these places is.
 abbrev pub ids_in : NodeId → List Placed → List NodeId
-ids_in id entries = own_ids entries ++ node_ids_all (groups_of id entries none)
+ids_in id places = own_ids places ++ node_ids_all (groups_of id places none)
 
 -- The id of a group on whose level no group may be.
 abbrev pub deep_id : ℕ → NodeId → List NodeId
@@ -85,4 +85,4 @@ deep_id (suc levels) id = []
 
 -- The ids of the groups in it that are below so many more levels.
 abbrev pub deep_in : ℕ → NodeId → List Placed → List NodeId
-deep_in levels id entries = groups_below_among levels (groups_of id entries none)
+deep_in levels id places = groups_below_among levels (groups_of id places none)

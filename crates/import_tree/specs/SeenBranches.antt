@@ -1,22 +1,22 @@
 -- What is seen of the branches of a draft that are still to be taken apart.
 use Rattle.std.specs.Prelude.{ℕ, ◌≡◌, ◌+◌, ◌*◌, ◌<◌, List, [], ◌∷◌, ◌++◌, length, map}
 use Rattle.import_tree.specs.Branches.{deep_in, ids_in}
+use Rattle.import_tree.specs.SeenDrafts.{rows_seen}
 use Rattle.import_tree.specs.Trees.{Placed}
 use Rattle.import_tree.specs.declared.branches.Branch.{Branch}
 use Rattle.import_tree.specs.declared.branches.Way.{Way}
 use Rattle.import_tree.specs.declared.depths.TreeIds.{TreeIds}
 use Rattle.vault_model.specs.Db.{NodeId}
-use Rattle.vault_model.specs.SeenNodes.{entry_row}
 
--- An entry with the names that still lead to it.
+-- A place with the names that still lead to it.
 abbrev pub way_seen : Way → Placed
 way_seen way = record {
-  now = way.placed.now.moment;
+  now = way.place.now.moment;
   names = way.names.now;
-  row = entry_row way.placed.now.entry;
+  rows = rows_seen way.place.now.entry;
 }
 
--- Such entries.
+-- Such places.
 abbrev pub ways_seen : List Way → List Placed
 ways_seen ways = map way_seen ways
 
@@ -38,7 +38,7 @@ abbrev pub all_deep : List Branch → List NodeId
 all_deep [] = []
 all_deep (branch ∷ rest) = all_deep rest ++ branch_deep branch
 
--- How many names lead to entries.
+-- How many names lead to places.
 abbrev pub names_in : List Placed → ℕ
 names_in [] = 0
 names_in (placed ∷ rest) = length placed.names + names_in rest

@@ -9,7 +9,7 @@ ghost use Rattle.import_tree.specs.SeenDrafts.{draft_seen, placed_seen};
 ghost use Rattle.vault_model.specs.Tree.{node_ids};
 
 use crate::branches::{Branch, Way, first_name, named_ways, parted};
-use crate::drafts::{ImportDraft, PlacedEntry, ROOT};
+use crate::drafts::{ImportDraft, ImportedPlace, ROOT};
 use crate::fails::TreeFail;
 use crate::outcome::least_of;
 use doc_resolving::lesser;
@@ -75,15 +75,15 @@ fn take_apart<'a>(
     Ok(())
 }
 
-// The entries of a draft with all names that lead to them.
-fn all_ways(alloc: Global, entries: &[PlacedEntry]) -> Result<Vec<Way<'_>>, NoMemory>
-    ensures { IfOk result (λ ways. ways_seen ways.items ≡ map placed_seen entries.now) }
+// The places of a draft with all names that lead to them.
+fn all_ways(alloc: Global, places: &[ImportedPlace]) -> Result<Vec<Way<'_>>, NoMemory>
+    ensures { IfOk result (λ ways. ways_seen ways.items ≡ map placed_seen places.now) }
 {
     let mut ways = Vec::new(alloc);
-    for placed in entries {
+    for place in places {
         ways.push(Way {
-            names: placed.names.as_slice(),
-            placed,
+            names: place.names.as_slice(),
+            place,
         })?;
     }
     Ok(ways)
@@ -96,7 +96,7 @@ fn ids_of_draft(alloc: Global, draft: &ImportDraft) -> Result<TreeIds<'_>, NoMem
         ≡ spec.groups_below 128 (draft_seen draft.now).tree) }
 {
     let id = Uuid::from_bytes(ROOT);
-    let ways = all_ways(alloc, draft.entries.as_slice())?;
+    let ways = all_ways(alloc, draft.places.as_slice())?;
     let mut found = TreeIds {
         ids: vec![in alloc; id]?,
         deep: Vec::new(alloc),

@@ -9,7 +9,7 @@ ghost use Rattle.vault_model.specs.Proper.{is_text_meta};
 ghost use Rattle.vault_model.specs.SeenNodes.{are_entries_proper, are_groups_proper, icons_rise, items_rise, tree_seen, document_of};
 ghost use Rattle.vault_model.specs.Tree.{LEVELS, height, is_elsewhere};
 
-use crate::drafts::{ImportDraft, PlacedEntry, ROOT};
+use crate::drafts::{ImportDraft, ImportedPlace, ROOT};
 use crate::putting::put_entry;
 use outside_core::NoMemory;
 use std::alloc::Global;
@@ -24,7 +24,7 @@ fn never() -> Stamp
     Stamp::of(0).unwrap()
 }
 
-/// The tree that entries of a draft give. It is no document yet: two of its nodes may have one id.
+/// The tree that places of a draft give. It is no document yet: two of its nodes may have one id.
 #[derive(Drop)]
 pub(crate) struct DraftTree {
     pub(crate) root: Group,
@@ -37,28 +37,28 @@ pub(crate) struct DraftTree {
     pub(crate) ghost meta_texts: { is_text_meta meta ≡ true },
 }
 
-// Puts an entry of a draft into its tree.
-fn put_placed(alloc: Global, tree: &mut DraftTree, placed: PlacedEntry) -> Result<(), NoMemory>
+// Puts a place of a draft into its tree.
+fn put_place(alloc: Global, tree: &mut DraftTree, place: ImportedPlace) -> Result<(), NoMemory>
     ensures tree { OnOk result (tree_seen tree.new.root
-        ≡ with_placed (placed_seen placed) (tree_seen tree.old.root)) }
+        ≡ with_placed (placed_seen place) (tree_seen tree.old.root)) }
     ensures meta { tree.new.meta ≡ tree.old.meta }
 {
-    let PlacedEntry {
+    let ImportedPlace {
         moment,
         names,
         entry,
-    } = placed;
+    } = place;
     put_entry(alloc, &mut tree.root, names.as_slice(), moment, entry)
 }
 
-// Puts entries of a draft into its tree, one after another.
-fn put_all(alloc: Global, tree: &mut DraftTree, entries: Vec<PlacedEntry>) -> Result<(), NoMemory>
+// Puts places of a draft into its tree, one after another.
+fn put_all(alloc: Global, tree: &mut DraftTree, places: Vec<ImportedPlace>) -> Result<(), NoMemory>
     ensures tree { OnOk result (tree_seen tree.new.root
-        ≡ with_all_placed (map placed_seen entries.items) (tree_seen tree.old.root)) }
+        ≡ with_all_placed (map placed_seen places.items) (tree_seen tree.old.root)) }
     ensures meta { tree.new.meta ≡ tree.old.meta }
 {
-    for placed in entries {
-        put_placed(alloc, tree, placed)?;
+    for place in places {
+        put_place(alloc, tree, place)?;
     }
     Ok(())
 }
@@ -88,17 +88,17 @@ fn new_tree(alloc: Global, moment: Stamp) -> Result<DraftTree, NoMemory>
     Ok(tree_in(doc))
 }
 
-// A tree with the entries of a draft more.
+// A tree with the places of a draft more.
 fn grown(
     alloc: Global,
     mut tree: DraftTree,
-    entries: Vec<PlacedEntry>,
+    places: Vec<ImportedPlace>,
 ) -> Result<DraftTree, NoMemory>
     ensures tree { IfOk result (λ grown. tree_seen grown.root
-        ≡ with_all_placed (map placed_seen entries.items) (tree_seen tree.root)) }
+        ≡ with_all_placed (map placed_seen places.items) (tree_seen tree.root)) }
     ensures meta { IfOk result (λ grown. grown.meta ≡ tree.meta) }
 {
-    match put_all(alloc, &mut tree, entries) {
+    match put_all(alloc, &mut tree, places) {
         Ok(()) => Ok(tree),
         Err(fail) => {
             drop(tree);
@@ -107,14 +107,14 @@ fn grown(
     }
 }
 
-/// The tree that the entries of a draft give. It takes memory of the stack for each level, so it
+/// The tree that the places of a draft give. It takes memory of the stack for each level, so it
 /// has no more of them than a document.
 pub(crate) fn tree_of(alloc: Global, draft: ImportDraft) -> Result<DraftTree, NoMemory>
     requires { height (draft_seen draft).tree ≤ LEVELS }
     ensures { IfOk result (λ tree. document_of tree.meta tree.root [] ≡ draft_seen draft) }
 {
     match new_tree(alloc, draft.moment) {
-        Ok(tree) => grown(alloc, tree, draft.entries),
+        Ok(tree) => grown(alloc, tree, draft.places),
         Err(fail) => Err(fail),
     }
 }

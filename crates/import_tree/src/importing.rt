@@ -4,8 +4,9 @@ ghost use Rattle.std.specs.Prelude.{◌≡◌, ◌≤◌, [], IfErr, OnOk, map, 
 ghost use Rattle.std.specs.List.{list_any};
 ghost use Rattle.import_tree.specs.Outcome as spec;
 ghost use Rattle.import_tree.specs.Outcome.{Returns, meaning_of, sound_document, sound_tree};
-ghost use Rattle.import_tree.specs.SeenDrafts.{draft_seen, has_more_names};
+ghost use Rattle.import_tree.specs.SeenDrafts.{draft_seen, has_more_names, placed_seen};
 ghost use Rattle.import_tree.specs.SeenEntries.{imported_seen};
+ghost use Rattle.import_tree.specs.Trees.{placed_document};
 ghost use Rattle.outside_core.specs.Results.{Fails};
 ghost use Rattle.vault_model.specs.SeenDoc.{doc_seen};
 ghost use Rattle.vault_model.specs.SeenNodes as seen;
@@ -13,7 +14,7 @@ ghost use Rattle.vault_model.specs.SeenNodes.{tree_seen};
 ghost use Rattle.vault_model.specs.Tree.{LEVELS, are_distinct, height, node_ids};
 
 use crate::depths::refuse_draft;
-use crate::drafts::ImportDraft;
+use crate::drafts::{ImportDraft, ImportedPlace};
 use crate::fails::TreeFail;
 use crate::growing::{DraftTree, tree_of};
 use crate::imported::ImportedEntry;
@@ -23,21 +24,21 @@ use outside_core::{List, NoMemory};
 use std::alloc::Global;
 use vault_model::{Doc, Stamp};
 
-/// The most names that lead to an entry of a document. Of a draft with more no tree is made, which
+/// The most names that lead to a place of a document. Of a draft with more no tree is made, which
 /// would take memory of the stack for each of them.
 const MOST_NAMES: usize = 127;
 
-// Reports whether more names lead to an entry of a draft than to any of a document.
+// Reports whether more names lead to a place of a draft than to any of a document.
 fn is_deep(draft: &ImportDraft) -> bool
-    ensures { result ≡ list_any has_more_names draft.now.entries.items }
+    ensures { result ≡ list_any has_more_names draft.now.places.items }
 {
     draft
-        .entries
+        .places
         .iter()
-        .any(|placed| placed.names.len() > MOST_NAMES)
+        .any(|place| place.names.len() > MOST_NAMES)
 }
 
-// Refuses a draft to an entry of which more names lead than to any of a document, as it is defined.
+// Refuses a draft to a place of which more names lead than to any of a document, as it is defined.
 fn refuse_deep(alloc: Global, draft: &ImportDraft) -> Result<(), TreeFail>
     ensures fits { OnOk result (height (draft_seen draft.now).tree ≤ LEVELS) }
     ensures stops { IfErr result (λ fail. Fails (meaning_of fail)
@@ -92,6 +93,28 @@ fn finish_import(alloc: Global, draft: ImportDraft) -> Result<Doc, TreeFail>
         Ok(tree) => sound_with(alloc, tree),
         Err(NoMemory) => Err(TreeFail::NoMemory),
     }
+}
+
+/// The document of the places of an imported tree, in their order, at a moment: each entry is put
+/// after the others of the group to which its names lead. Groups that are not there are made, each as
+/// the last in its group, also where no entry is put into them.
+///
+/// # Errors
+///
+/// As those of [`imported_document`].
+pub fn placed_document(
+    alloc: Global,
+    now: Stamp,
+    places: Vec<ImportedPlace>,
+) -> Result<Doc, TreeFail>
+    ensures { Returns doc_seen result
+        (sound_document (placed_document now (map placed_seen places.items))) }
+{
+    let draft = ImportDraft {
+        moment: now,
+        places,
+    };
+    finish_import(alloc, draft)
 }
 
 /// The document of the entries of a source, in their order, at a moment: each is put after the others

@@ -11,8 +11,10 @@ mod imported;
 mod importing;
 mod naming;
 mod outcome;
+mod places;
 mod putting;
 
+pub use drafts::ImportedPlace;
 pub use fails::TreeFail;
 pub use imported::ImportedEntry;
-pub use importing::imported_document;
+pub use importing::{imported_document, placed_document};

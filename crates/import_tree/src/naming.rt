@@ -10,10 +10,9 @@ ghost use Rattle.import_tree.specs.SeenEntries.{imported_seen};
 ghost use Rattle.import_tree.specs.Trees.{document_of, placed_after};
 ghost use Rattle.vault_model.specs.Db.{nil_id};
 
-use crate::drafts::{ImportDraft, PlacedEntry};
+use crate::drafts::{ImportDraft, ImportedPlace};
 use crate::entries::entry_of;
 use crate::imported::ImportedEntry;
-use crate::putting::names_are_utf8;
 use import_ids::{EntryTexts, NameCounts};
 use outside_core::{List, NoMemory};
 use secret_core::Secret;
@@ -51,7 +50,7 @@ fn add_imported(
     alloc: Global,
     now: Stamp,
     counts: &mut NameCounts,
-    placed: &mut Vec<PlacedEntry>,
+    placed: &mut Vec<ImportedPlace>,
     mut entry: ImportedEntry,
 ) -> Result<(), NoMemory>
     ensures { OnOk result (Adds now (imported_seen entry) counts.old
@@ -59,13 +58,8 @@ fn add_imported(
 {
     let id = next_id(alloc, counts, &entry)?;
     let names = mem::replace(&mut entry.groups, List::new(alloc));
-    names_are_utf8(names.as_slice());
     let made = entry_of(alloc, now, id, entry)?;
-    placed.push(PlacedEntry {
-        moment: now,
-        names,
-        entry: made,
-    })?;
+    placed.push(ImportedPlace::of_entry(now, names, made))?;
     Ok(())
 }
 
@@ -74,7 +68,7 @@ fn add_all(
     alloc: Global,
     now: Stamp,
     counts: &mut NameCounts,
-    placed: &mut Vec<PlacedEntry>,
+    placed: &mut Vec<ImportedPlace>,
     entries: Vec<ImportedEntry>,
 ) -> Result<(), NoMemory>
     ensures { HasCounted counts.old [] → OnOk result (map placed_seen placed.new.items
@@ -101,7 +95,7 @@ pub(crate) fn draft_of(
     match add_all(alloc, now, &mut counts, &mut placed, entries) {
         Ok(()) => Ok(ImportDraft {
             moment: now,
-            entries: placed,
+            places: placed,
         }),
         Err(fail) => {
             drop(placed);

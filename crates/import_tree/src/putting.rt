@@ -1,15 +1,14 @@
 //! Entries put into groups that their names lead to.
 
-ghost use Rattle.std.specs.Prelude.{◌≡◌, [], IfOk, OnErr, OnOk, position, bytes_eq, true};
-ghost use Rattle.std.specs.List.{list_all};
-ghost use Rattle.std.specs.Str.{is_utf8};
+ghost use Rattle.std.specs.Prelude.{◌≡◌, ◌++◌, OnErr, OnOk, map, position, bytes_eq};
+ghost use Rattle.import_tree.specs.SeenDrafts.{rows_seen};
 ghost use Rattle.import_tree.specs.Trees as spec;
 ghost use Rattle.tree_core.specs.Changes.{with_group};
 ghost use Rattle.vault_model.specs.SeenNodes.{entry_row, tree_seen};
 ghost use Rattle.vault_model.specs.Walk.{name_of};
 ghost use Rattle.vault_model.specs.declared.nodes.Group.{out-Group};
 
-use outside_core::{NoMemory, Text};
+use outside_core::{List, NoMemory, Text};
 use std::alloc::Global;
 use tree_groups::new_group;
 use tree_steps::put_last;
@@ -30,6 +29,19 @@ fn place_of(groups: &[Group], name: &str) -> Option<usize>
     groups.iter().position(|group| has_name(group, name))
 }
 
+// Puts an entry after others, if there is one. The only refusal is that memory ran out; it changes
+// nothing.
+fn put_own(entries: &mut List<Entry>, entry: Option<Entry>) -> Result<(), NoMemory>
+    ensures ok { OnOk result (map entry_row entries.new
+        ≡ map entry_row entries.old ++ rows_seen entry) }
+    ensures err { OnErr result (entries.new ≡ entries.old) }
+{
+    match entry {
+        Some(entry) => put_last(entries, entry),
+        None => Ok(()),
+    }
+}
+
 // Puts a new group after the other groups of a group, with an entry put into it by its names. The
 // only refusal is that memory ran out; it changes nothing.
 #[cycle(putting)]
@@ -39,10 +51,10 @@ fn put_filled(
     mut new: Group,
     names: &[Text],
     now: Stamp,
-    entry: Entry,
+    entry: Option<Entry>,
 ) -> Result<(), NoMemory>
     ensures ok { OnOk result (tree_seen group.new ≡ with_group
-        (spec.with_entry now names.now (entry_row entry) (tree_seen new)) (tree_seen group.old)) }
+        (spec.with_rows now names.now (rows_seen entry) (tree_seen new)) (tree_seen group.old)) }
     ensures err { OnErr result (tree_seen group.new ≡ tree_seen group.old) }
 {
     match put_entry(alloc, &mut new, names, now, entry) {
@@ -63,10 +75,10 @@ fn put_new(
     name: &str,
     names: &[Text],
     now: Stamp,
-    entry: Entry,
+    entry: Option<Entry>,
 ) -> Result<(), NoMemory>
     ensures ok { OnOk result (tree_seen group.new ≡ with_group (spec.new_groups now
-        (out-Group group.old).id name.now names.now (entry_row entry)) (tree_seen group.old)) }
+        (out-Group group.old).id name.now names.now (rows_seen entry)) (tree_seen group.old)) }
     ensures err { OnErr result (tree_seen group.new ≡ tree_seen group.old) }
 {
     let id = Uuid::new_v5(&group.id, name.as_bytes());
@@ -79,22 +91,23 @@ fn put_new(
     }
 }
 
-/// Puts an entry after the others of the group to which names lead. Groups that are not there are
-/// made, each as the last in its group. The only refusal is that memory ran out; it changes nothing.
+/// Puts an entry, if there is one, after the others of the group to which names lead. Groups that are
+/// not there are made, each as the last in its group. The only refusal is that memory ran out; it
+/// changes nothing.
 #[cycle(putting)]
 pub(crate) fn put_entry(
     alloc: Global,
     group: &mut Group,
     names: &[Text],
     now: Stamp,
-    entry: Entry,
+    entry: Option<Entry>,
 ) -> Result<(), NoMemory>
     ensures ok { OnOk result (tree_seen group.new
-        ≡ spec.with_entry now names.now (entry_row entry) (tree_seen group.old)) }
+        ≡ spec.with_rows now names.now (rows_seen entry) (tree_seen group.old)) }
     ensures err { OnErr result (tree_seen group.new ≡ tree_seen group.old) }
 {
     let [name, names @ ..] = names else {
-        return put_last(&mut group.entries, entry);
+        return put_own(&mut group.entries, entry);
     };
     let name = name.as_str();
     let Some(at) = place_of(group.groups.as_slice(), name) else {
@@ -106,14 +119,5 @@ pub(crate) fn put_entry(
             drop(entry);
             Err(NoMemory)
         }
-    }
-}
-
-/// All names are in UTF-8.
-pub(crate) fn names_are_utf8(names: &[Text])
-    ensures { list_all is_utf8 names.now ≡ true }
-{
-    for name in names {
-        let _bytes = name.as_str().as_bytes();
     }
 }

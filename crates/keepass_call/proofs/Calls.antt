@@ -18,7 +18,7 @@ use Rattle.cli_commands.proofs.Changes.{loses_none}
 use Rattle.cli_lines.proofs.Inputs.{left_alone}
 use Rattle.cli_words.specs.declared.command.Command.{Command}
 use Rattle.call_carrying.specs.Endings.{Ending, Ends, EndsSo, ending_without}
-use Rattle.keepass_call.specs.Held.{IsAuthentic, IsComplete}
+use Rattle.keepass_call.specs.Held.{IsAuthentic, IsComplete, WritesTask}
 use Rattle.cli_pages.specs.Pages.{page_of}
 use Rattle.keepass_call.specs.Outcome.{AsksCommand, Counts, Gains, IsAsSaid, IsCut, IsOfSomeFile, IsOfTask, IsRefused, IsSafe, IsUsage, NoFaults, Outcome, Seen, Tells, WhereTold, World, answer_of, draws_with, draws_words, ended, may_write_by, outcome, page_or_answer}
 use Rattle.cli_profiles.specs.declared.profiles.PasswordProfile.{PasswordProfile}
@@ -128,6 +128,17 @@ module _ (words : List (List ℕ)) (time : ℕ) (printed : List ℕ) (result : �
         store = inr g.0.store;
       })
 
+  cut_writes : AsksCommand words → WhereTold words before (λ w. (result ≡ 9) ⊎ (result ≡ 10) → KeepsFiles before.store now.store ⊎ WritesTask words time w before now)
+  cut_writes none w t when =
+      let h = p.held none w t in
+      inr (record {
+        task = h.task;
+        is_task = is_task words time w h.task h.gives;
+        change = h.of_dice.change;
+        makes = h.of_dice.makes;
+        reads_back = h.of_dice.reads_back;
+      })
+
   gained : result ≡ 0 → Gains before.written now.written printed
   gained zero =
       elim p.wrote.0 [
@@ -186,6 +197,7 @@ module _ (words : List (List ℕ)) (time : ℕ) (printed : List ℕ) (result : �
     as_said = as_said;
     refused = λ w t some nine ten. absurd (never some nine ten);
     cut = cut;
+    cut_writes = cut_writes;
     one_line = one_line;
     authentic = authentic;
     agreed_merge = λ w t. merges_agreed words time result before now counts counts' w t (λ some nine ten. absurd (never some nine ten)) (λ none. authentic none w t) (λ zero. as_said w t (inl zero));
@@ -457,6 +469,7 @@ module _ (words : List (List ℕ)) (time result : ℕ) (before now : Seen) (coun
     as_said = stopped_said stop s;
     refused = stopped_refused stop s;
     cut = λ w t when. record { text = no_front before.written now.written (outcome words time w).text s.written; store = inl s.kept };
+    cut_writes = λ none w t when. inl s.kept;
     one_line = stopped_line stop s;
     authentic = λ none w t zero. absurd (not_done stop s zero);
     agreed_merge = λ w t. merges_agreed words time result before now counts counts' w t (stopped_refused stop s w t) (λ none zero. absurd (not_done stop s zero)) (λ zero. absurd (not_done stop s zero));

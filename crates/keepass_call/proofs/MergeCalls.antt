@@ -39,7 +39,6 @@ use Rattle.cli_words.specs.declared.command.Command.{Command}
 use Rattle.cli_words.specs.declared.command.Command.TheVariants.{Ls, Show, Search, Add, Edit, Move, Remove, MakeGroup, RemoveGroup, Merge, Import, Create, Export, EditFile, Info}
 use Rattle.cli_words.specs.Needs.{files_named, target_of}
 use Rattle.cli_words.specs.Words.{command_of}
-use Rattle.cli_pages.specs.Pages.{page_of}
 use Rattle.cli_lines.specs.Lines.{Lines}
 use Rattle.cli_files.specs.Files.{Opened, plain_document}
 use Rattle.cli_databases.specs.Held.{HoldsBy}
@@ -54,7 +53,7 @@ use Rattle.call_carrying.specs.Endings.{Ending, HoldsNew, ReadsBack, carried_out
 use Rattle.keepass_call.specs.Held.{IsAuthentic, IsTask}
 use Rattle.keepass_call.specs.Merges.{HoldsDatabase, HoldsUnder, IsUntouched, MergesAgreed, MergesNothing, MergesParts, TargetHolds, merges, unmodified_text}
 use Rattle.keepass_call.specs.Outcome.{AsksCommand, Counts, Gains, IsAsSaid, IsRefused, Seen, Tells, World, answer_of, draws_words, ended, outcome}
-use Rattle.cli_files.specs.Tasks.{Task, draws_by}
+use Rattle.cli_files.specs.Tasks.{Task}
 use Rattle.keepass_call.proofs.Answered.{answer_is}
 use Rattle.keepass_call.proofs.HeldTasks.{task_given}
 use Rattle.keepass_call.proofs.Pages.{asks_command}

@@ -1,5 +1,5 @@
 -- Calls whose words ask for a password.
-use Rattle.std.proofs.Common.{◌≡◌, ◌++◌, ℕ, List, refl, inr, sym, ◌∙◌, ap, subst, Bool, true, false, Option, Some, None, option_map, Result, Ok, Err}
+use Rattle.std.proofs.Common.{◌≡◌, ◌++◌, ℕ, List, refl, inr, sym, ◌∙◌, ap, subst, true, false, Option, Some, None, Result, Ok, Err}
 use Rattle.std.specs.Prelude.{IfErr, IfOk, OnErr, codes}
 use Rattle.cli_answers.specs.declared.answers.Refusal.{Refusal}
 use Rattle.cli_answers.specs.declared.answers.Stop.{Stop}
@@ -9,7 +9,7 @@ use Rattle.cli_profiles.specs.declared.profiles.PasswordProfile.{PasswordProfile
 use Rattle.cli_generating.specs.Generated.{generated}
 use Rattle.cli_words.specs.Words.{command_of, profile_of}
 use Rattle.cli_words.specs.declared.command.Command.{Command}
-use Rattle.cli_writing.specs.Writing.{IsSame, KeepsDraft, KeepsFiles, Store}
+use Rattle.cli_writing.specs.Writing.{IsSame, KeepsFiles, Store}
 use Rattle.cli_commands.specs.declared.output.Output.{Output}
 use Rattle.cli_commands.specs.SeenChange.{output_text}
 use Rattle.cli_lines.proofs.Inputs.{left_alone, left_so}

@@ -1,7 +1,7 @@
 -- A refusal's status is at most 12.
 use Rattle.std.proofs.Common.{◌≤◌, arith}
 use Rattle.cli_answers.specs.declared.answers.Reason.{Reason}
-use Rattle.cli_answers.specs.declared.answers.Reason.TheVariants.{WrongWords, EmptyTerm, NoSuchPath, NameTaken, AlreadyThere, RootFixed, IntoItself, IdTaken, NoAttribute, NoResult, FileExists, NeedsVersion, DamagedOrWrongKey, DamagedBlock, WrongKeyOrDamaged, WrongPassword, KeyFileHash, NotKdbx, NotPsafe, EndsEarly, BadHeaderField, BadDictionary, Form, MissingElement, BadValue, NilId, NilRecord, DuplicateId, BinaryRef, BadKeyFile, BadField, NotUtf8, NoTitleColumn, BadRow, LineForm, Version, UnknownId, StreamUnknown, Compressed, Variant, Clash, MoveCycle, NoSuchFile, TooLarge, Depth, TooDeep, TooMany, KdfLimit, IterLimit, StampLimit, LineLimit, TooMuch, NoOtp, OtpForm, OtpUnknown, OtpLimit, Spent, OutOfMemory, InputEnded}
+use Rattle.cli_answers.specs.declared.answers.Reason.TheVariants.{WrongWords, EmptyTerm, NoSuchPath, NameTaken, AlreadyThere, RootFixed, IntoItself, IdTaken, NoAttribute, NoResult, FileExists, NeedsVersion, DamagedOrWrongKey, DamagedBlock, WrongKeyOrDamaged, WrongPassword, KeyFileHash, NotKdbx, NotPsafe, EndsEarly, BadHeaderField, BadDictionary, Form, MissingElement, BadValue, NilId, NilRecord, DuplicateId, BinaryRef, BadKeyFile, BadField, NotUtf8, NoTitleColumn, BadRow, BadJson, BadFolder, BadItem, LineForm, Version, UnknownId, StreamUnknown, Compressed, Variant, EncryptedExport, Clash, MoveCycle, NoSuchFile, TooLarge, Depth, TooDeep, TooMany, KdfLimit, IterLimit, StampLimit, LineLimit, TooMuch, NoOtp, OtpForm, OtpUnknown, OtpLimit, Spent, OutOfMemory, InputEnded}
 use Rattle.cli_answers.specs.Messages.{status_of}
 
 pub status_range : (reason : Reason) → status_of reason ≤ 12
@@ -39,12 +39,16 @@ status_range (BadField place) = omega arith
 status_range (NotUtf8 place) = omega arith
 status_range NoTitleColumn = omega arith
 status_range (BadRow number) = omega arith
+status_range BadJson = omega arith
+status_range (BadFolder number) = omega arith
+status_range (BadItem number) = omega arith
 status_range (LineForm number) = omega arith
 status_range (Version number) = omega arith
 status_range (UnknownId id) = omega arith
 status_range (StreamUnknown number) = omega arith
 status_range Compressed = omega arith
 status_range (Variant number) = omega arith
+status_range EncryptedExport = omega arith
 status_range (Clash id) = omega arith
 status_range (MoveCycle ids) = omega arith
 status_range NoSuchFile = omega arith

@@ -1,5 +1,5 @@
 -- The documents of a task keep what every document keeps, since they are read.
-use Rattle.std.proofs.Common.{◌≡◌, ℕ, Bool, true, false, inl, inr, List, [], ◌∷◌, Option, None, Result, Ok, Err, map, refl, ap, subst}
+use Rattle.std.proofs.Common.{◌≡◌, ℕ, Bool, true, false, inl, inr, List, [], ◌∷◌, Option, Result, Ok, Err, map, refl, ap, subst}
 use Rattle.outside_core.specs.Files.{FileMap}
 use Rattle.stream_core.specs.InnerStream.{NoKeystream}
 use Rattle.vault_model.specs.Tree.{BareDoc, IsDoc}

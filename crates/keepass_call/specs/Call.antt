@@ -2,13 +2,13 @@
 use Rattle.std.specs.Prelude.{◌≡◌, ◌≢◌, ◌≤◌, ◌⊎◌, ℕ, List, Some, Err, false}
 use Rattle.cli_answers.specs.declared.answers.Refusal.{Refusal}
 use Rattle.cli_words.specs.Needs.{files_named}
-use Rattle.keepass_call.specs.Held.{IsAuthentic, IsComplete}
+use Rattle.keepass_call.specs.Held.{IsAuthentic, IsComplete, WritesTask}
 use Rattle.keepass_call.specs.Merges.{MergesAgreed, MergesNothing}
 use Rattle.keepass_call.specs.Outcome.{AsksCommand, Counts, IsAsSaid, IsCut, IsRefused, IsSafe, IsUsage, NoFaults, PrintsOfSomeFile, Seen, WhereTold, draws_words, may_write_by, outcome}
 use Rattle.keepass_call.specs.Telling.{PrintsPage, TellsOneLine}
 use Rattle.cli_pages.specs.Pages.{page_of}
 use Rattle.cli_words.specs.Words.{command_of}
-use Rattle.cli_writing.specs.Writing.{IsSame}
+use Rattle.cli_writing.specs.Writing.{IsSame, KeepsFiles}
 
 -- A call with these words at a moment, its status, what is seen before and after it, and the counts
 -- before and after.
@@ -41,6 +41,12 @@ pub record IsCall (words : List (List ℕ)) (time result : ℕ) (before now : Se
   -- Where memory ran out or output failed, so much is as the outcome says.
   pub cut : WhereTold words before (λ world. (result ≡ 9) ⊎ (result ≡ 10)
       → IsCut (outcome words time world) before now)
+  -- Where memory ran out or output failed, and the words are to be a command, no file changed, or
+  -- the file that was to be written holds the document that was made of those that the files hold,
+  -- and every other file is as it was.
+  pub cut_writes : AsksCommand words → WhereTold words before (λ world.
+      (result ≡ 9) ⊎ (result ≡ 10)
+      → KeepsFiles before.store now.store ⊎ WritesTask words time world before now)
   -- Whatever the status, standard error gains a prefix of one line and nothing else.
   pub one_line : WhereTold words before (λ world. TellsOneLine (files_named (command_of words))
       (outcome words time world) before now counts counts')

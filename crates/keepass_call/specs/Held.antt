@@ -42,6 +42,17 @@ pub record IsAuthentic (words : List (List ℕ)) (time : ℕ) (world : World) (b
   pub ends : (carried_out time task world.dice).answer ≡ Ok ending
   pub file : Stores ending.file before.store now.store
 
+-- What the command makes of the documents that the files hold is in the file that it is to write:
+-- by itself, or sealed under the composite key that opened the old one or that the words ask for.
+pub record WritesTask (words : List (List ℕ)) (time : ℕ) (world : World) (before now : Seen) :
+    Type 0 where
+  pub task : Task
+  pub is_task : IsTask words time world task
+  pub change : Change
+  pub makes : (change_of_task time task world.dice).answer ≡ Ok change
+  pub reads_back : ReadsBack (target_of task.command) task.opened.sealing change.doc
+      before.store now.store
+
 -- The words ask for a password, and the dice choose one.
 pub record IsGenerated (words : List (List ℕ)) (world : World) (ending : Ending) : Type 0 where
   pub profile : PasswordProfile

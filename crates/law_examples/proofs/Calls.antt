@@ -1,12 +1,15 @@
 -- Calls over plain files meet the premises of laws.
-use Rattle.std.proofs.Common.{◌≡◌, ℕ, true, false, inl, inr, List, [], ◌∷◌, Option, Some, None, Result, Ok, Err, length, codes, nat_le, nat_lt, refl, sym, ap, subst, ◌∙◌, arith}
+use Rattle.std.proofs.Common.{◌≡◌, ◌≤◌, ℕ, Bool, true, false, inl, inr, List, [], ◌∷◌, ◌++◌, drop, Option, Some, None, Result, Ok, Err, length, codes, nat_le, nat_lt, refl, sym, ap, subst, ◌∙◌, arith}
+use Rattle.std.proofs.lemmas.Bool.{ltb-true}
 use Rattle.std.proofs.lemmas.Option.{same_Some}
+use Rattle.std.specs.List.{list_all}
 use Rattle.std.specs.Fmt.{digits}
 use Rattle.std.specs.FinMap.{empty, get, get-empty}
 use Rattle.std.specs.Option.{unwrap_or}
 use Rattle.base64.specs.Rfc4648.{encode_symbols}
 use Rattle.stream_core.specs.InnerStream.{NoKeystream}
 use Rattle.markup_grammar.specs.Escapes.{escaped_byte}
+use Rattle.vault_model.proofs.Tests.{and_true}
 use Rattle.vault_model.specs.Join.{IsIn}
 use Rattle.vault_model.specs.Tree.{BareDoc}
 use Rattle.vault_model.specs.declared.forms.DocForm.TheVariants.{Plain}
@@ -16,7 +19,7 @@ use Rattle.doc_spelling.specs.Moments.{moment_at, month_from, year_from}
 use Rattle.doc_spelling.specs.Ranges.{IsWritable, are_bytes, tree_nodes}
 use Rattle.doc_write.specs.Written.{write_outcome, written_len}
 use Rattle.doc_write.specs.declared.writing.WriteFail.{WriteFail}
-use Rattle.gen_core.specs.Chosen.{choose, next}
+use Rattle.gen_core.specs.Chosen.{bound, choose, next}
 use Rattle.cli_answers.specs.Phases.{StreamAnswer, then_left, with_left}
 use Rattle.cli_answers.specs.Texts.{version}
 use Rattle.cli_answers.specs.declared.answers.Refusal.{Refusal}
@@ -38,9 +41,9 @@ use Rattle.keepass_call.specs.Outcome.{answer_of, ended, outcome}
 use Rattle.keepass_call.proofs.HeldTasks.{is_given}
 use Rattle.call_examples.specs.Files.{plain_bytes, three_files, world_of}
 use Rattle.call_examples.proofs.Files.{found_first, found_second, is_plain, opened_as, plain_first, put_last}
-use Rattle.randomness_laws.specs.Example.{rising}
+use Rattle.generation_laws.specs.Conditions.{CanChoose, HasAccepted}
 use Rattle.completeness_laws.specs.Conditions.{CanBeCarried, FitsFile}
-use Rattle.law_examples.specs.Calls.{ExampleCalls, ExampleOutcomes, ExamplePassword, add_generated, adding, coded_file, first_file, list_first, show_code, two_characters, with_dice}
+use Rattle.law_examples.specs.Calls.{ExampleCalls, ExampleOutcomes, ExamplePassword, add_generated, adding, adding_dice, coded_file, dice_left, first_file, list_first, show_code, two_characters, with_dice}
 use Rattle.law_examples.specs.Commands.{coded, plainly}
 use Rattle.law_examples.proofs.Commands.{coded_doc, example_code}
 
@@ -74,8 +77,7 @@ list_carried = record {
   task = list_task;
   is_task = record { is_command = refl; are_lines = refl; holds = record { target = plain_first; sources = tt } };
   in_calendar = omega arith;
-  password = None;
-  chosen = refl;
+  can_generate = tt;
   can = (as_it_was.tree, refl);
   fits = λ change d is writes. never change.doc d (nothing_written (Ok (group_lines false false [] as_it_was.tree)) change is) writes;
 }
@@ -110,18 +112,46 @@ code_carried = record {
     };
   };
   in_calendar = omega arith;
-  password = None;
-  chosen = refl;
+  can_generate = tt;
   can = example_code;
   fits = λ change d is writes. never change.doc d (nothing_written (code_shown (codes "a.xml") (codes "Title" ∷ []) (codes "Bank") EPOCH coded) change is) writes;
 }
 
 -- ---- an entry with a generated password
 
-abbrev dice : List ℕ
-dice = rising 18 0
+abbrev pub dice : List ℕ
+dice = adding_dice
 
-abbrev task : Task
+-- Each byte after those of the id is accepted.
+abbrev is_accepted : ℕ → Bool
+is_accepted byte = nat_lt byte (bound (length two_characters.alphabet))
+
+all_accepted : list_all is_accepted (drop 16 dice) ≡ true
+all_accepted = refl
+
+-- a byte in a list that passes a test
+passed_at : (test : ℕ → Bool) (byte : ℕ) (front back : List ℕ) → list_all test (front ++ (byte ∷ back)) ≡ true → test byte ≡ true
+passed_at test byte [] back all = (and_true (test byte) (list_all test back) all).0
+passed_at test byte (first ∷ front) back all = passed_at test byte front back (and_true (test first) (list_all test (front ++ (byte ∷ back))) all).1
+
+accepted_in : (front part back : List ℕ) → drop 16 dice ≡ front ++ (part ++ back) → length part ≡ 128 → HasAccepted (length two_characters.alphabet) part
+accepted_in front [] back is whole = cc whole
+accepted_in front (byte ∷ part) back is whole = record {
+  front = [];
+  byte = byte;
+  back = part;
+  is = refl;
+  below = ltb-true byte (bound (length two_characters.alphabet))
+      (passed_at is_accepted byte front (part ++ back) (sym (ap (list_all is_accepted) is) ∙ all_accepted));
+}
+
+can_choose : CanChoose two_characters.alphabet 2 (drop 16 dice)
+can_choose = record { enough = subst (λ (n : ℕ). 256 ≤ n) (sym long) (omega arith); accepted = accepted_in }
+  where
+    long : length (drop 16 dice) ≡ 256
+    long = refl
+
+abbrev pub task : Task
 task = adding two_characters
 
 -- the change, and the document that is written
@@ -129,17 +159,17 @@ abbrev change_in : Result Change Refusal → Change
 change_in (Ok change) = change
 change_in (Err refusal) = record { text = []; doc = None }
 
-abbrev change : Change
+abbrev pub change : Change
 change = change_in (change_of_task 50 task dice).answer
 
-abbrev doc : BareDoc
+abbrev pub doc : BareDoc
 doc = unwrap_or change.doc as_it_was
 
-makes : (change_of_task 50 task dice).answer ≡ Ok change
+pub makes : (change_of_task 50 task dice).answer ≡ Ok change
 unfolding after_add_command group_found has_entry_path next_bytes choose next
 makes = refl
 
-writes : change.doc ≡ Some doc
+pub writes : change.doc ≡ Some doc
 unfolding after_add_command group_found has_entry_path next_bytes choose next
 writes = refl
 
@@ -160,7 +190,7 @@ fits new d is has =
     subst (λ (e : BareDoc). FitsFile None e (change_of_task 50 task dice).left)
     (same_Some doc d (sym writes ∙ ap (λ (c : Change). c.doc) same ∙ has)) (plain_bytes doc, written)
 
-is_adding : IsTask add_generated 50 with_dice task
+pub is_adding : IsTask add_generated 50 with_dice task
 is_adding = record { is_command = refl; are_lines = refl; holds = record { target = plain_first; sources = tt } }
 
 add_carried : CanBeCarried add_generated 50 with_dice
@@ -169,8 +199,7 @@ add_carried = record {
   task = task;
   is_task = is_adding;
   in_calendar = omega arith;
-  password = Some (codes "qr");
-  chosen = refl;
+  can_generate = can_choose;
   can = record { group = root; named = refl; free_path = refl; free_id = refl };
   fits = fits;
 }
@@ -183,14 +212,14 @@ example_password = record { generates = refl; change = change; makes = makes }
 
 -- ---- what calls result in
 
-abbrev new_file : NewFile
+abbrev pub new_file : NewFile
 new_file = record { name = codes "a.xml"; bytes = plain_bytes doc }
 
 -- what the call comes to, by what is written of its document
 abbrev ends_by : Result (List ℕ) WriteFail → StreamAnswer Ending
-ends_by outcome = then_left (with_left (file_or_refusal (codes "a.xml") outcome) []) (λ file left. with_left (Ok (ending_with change.text file)) left)
+ends_by outcome = then_left (with_left (file_or_refusal (codes "a.xml") outcome) dice_left) (λ file left. with_left (Ok (ending_with change.text file)) left)
 
-carried : carried_out 50 task dice ≡ ends_by (Ok (plain_bytes doc))
+pub carried : carried_out 50 task dice ≡ ends_by (Ok (plain_bytes doc))
 unfolding carried_out after_add_command group_found has_entry_path next_bytes choose next
 carried = ap ends_by written
 

@@ -1,5 +1,5 @@
 -- Calls over plain files that meet the premises of laws.
-use Rattle.std.specs.Prelude.{◌≡◌, ℕ, List, [], ◌∷◌, None, Some, Ok, codes}
+use Rattle.std.specs.Prelude.{◌≡◌, ℕ, List, [], ◌∷◌, ◌++◌, None, Some, Ok, codes, replicate}
 use Rattle.std.specs.FinMap.{empty, get, insert}
 use Rattle.outside_core.specs.Files.{FileMap}
 use Rattle.merge_core.specs.Example.{as_it_was, edited}
@@ -42,9 +42,17 @@ add_generated =
     codes "add" ∷ codes "--plain" ∷ codes "-g" ∷ codes "-L" ∷ codes "2" ∷ codes "a.xml"
     ∷ codes "Chat" ∷ []
 
--- there are dice for its id and its password
+-- the dice that its password leaves
+abbrev pub dice_left : List ℕ
+dice_left = replicate 254 0
+
+-- dice for its id, and 128 bytes for each character of its password, of which the first is accepted
+abbrev pub adding_dice : List ℕ
+adding_dice = rising 18 0 ++ dice_left
+
+-- the files, with these dice
 abbrev pub with_dice : World
-with_dice = record (world_of three_files) { dice = rising 18 0 }
+with_dice = record (world_of three_files) { dice = adding_dice }
 
 -- They meet the condition of a call.
 pub record ExampleCalls : Type 0 where
@@ -77,7 +85,7 @@ adding profile = record {
   command = Add plainly (codes "a.xml") (codes "Chat")
       (record nothing_asked { generated = Some profile });
   lines = record { password = None; sources = []; more = None; otp = None };
-  opened = record { doc = as_it_was; sealing = None };
+  opened = record { doc = as_it_was; sealing = None; passed_over = [] };
   sources = [];
 }
 
@@ -93,4 +101,4 @@ two_characters = record {
 pub record ExamplePassword : Type 0 where
   pub generates : generated_by (adding two_characters).command ≡ Some two_characters
   pub change : Change
-  pub makes : (change_of_task 50 (adding two_characters) (rising 18 0)).answer ≡ Ok change
+  pub makes : (change_of_task 50 (adding two_characters) adding_dice).answer ≡ Ok change

@@ -68,7 +68,7 @@ pub record MeetsConditions (time : ℕ) (command : Command) (sources : List Bare
     (d : BareDoc) : Type 0 where
   pub in_calendar : time ≤ last_stamp
   pub docs : AreDocs (d ∷ sources)
-  pub can : CanChange time command None None sources None id d
+  pub can : CanChange time command None sources None id d
 
 -- Each command meets them on some database.
 pub record ExampleCommands : Type 0 where

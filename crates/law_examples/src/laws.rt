@@ -3,6 +3,7 @@
 
 ghost use Rattle.law_examples.specs.Calls.{ExampleCalls, ExampleOutcomes, ExamplePassword};
 ghost use Rattle.law_examples.specs.Commands.{ExampleCode, ExampleCommands};
+ghost use Rattle.law_examples.specs.Histories.{ExampleHistory};
 
 /// An entry whose code can be shown, with a field beside it: so the law of codes speaks of something.
 pub fn a_code_can_be_shown()
@@ -29,4 +30,11 @@ pub fn outcomes_are_of_what_is_named()
 /// A command that adds an entry generates its password: so the law of passwords speaks of something.
 pub fn a_password_is_generated()
     ensures { ExamplePassword }
+{}
+
+/// A call that adds an entry with a generated password to a plain file keeps all that is promised of
+/// calls, at status 0, and begins a history of three files: so the laws of histories of calls speak of
+/// something.
+pub fn a_call_begins_a_history()
+    ensures { ExampleHistory }
 {}

@@ -303,27 +303,27 @@ module _ (p : BareField → Bool) (titles : ShowsTitles p) where
   listing_mask_of file recursive flat None = refl
   listing_mask_of file recursive flat (Some t) = ap (λ text. Ok (record { text = text; doc = None })) (lines_same p titles recursive flat [] t)
 
-  pub change_mask : (command : Command) → reads_no_value command ≡ true → (time : ℕ) (line otp : Option (List ℕ)) (sources : List BareDoc) (settings : Option Settings) (id : NodeId) (d : BareDoc)
-      → change_with time command line otp sources settings id (mask p d) ≡ mask_change p (change_with time command line otp sources settings id d)
-  change_mask (Ls access file group recursive flat) is time line otp sources settings id d = ap (listing_of file recursive flat) (listed_same p titles group d) ∙ listing_mask_of file recursive flat (tree_listed group d)
-  change_mask (Move access file node group) is time line otp sources settings id d = ap new_document (mv_mask file access.quiet node group time d) ∙ new_mask (after_mv file access.quiet node group time d)
-  change_mask (Remove access file entry) is time line otp sources settings id d =
+  pub change_mask : (command : Command) → reads_no_value command ≡ true → (time : ℕ) (line otp : Option (List ℕ)) (sources : List BareDoc) (settings : Option Settings) (passed : List (List ℕ)) (id : NodeId) (d : BareDoc)
+      → change_with time command line otp sources settings passed id (mask p d) ≡ mask_change p (change_with time command line otp sources settings passed id d)
+  change_mask (Ls access file group recursive flat) is time line otp sources settings passed id d = ap (listing_of file recursive flat) (listed_same p titles group d) ∙ listing_mask_of file recursive flat (tree_listed group d)
+  change_mask (Move access file node group) is time line otp sources settings passed id d = ap new_document (mv_mask file access.quiet node group time d) ∙ new_mask (after_mv file access.quiet node group time d)
+  change_mask (Remove access file entry) is time line otp sources settings passed id d =
       ap (λ b. new_document (after_rm file access.quiet entry (if b then Some id else None) time (mask p d))) (needs_mask d)
       ∙ ap new_document (rm_mask file access.quiet entry (bin_id id d) time d) ∙ new_mask (after_rm file access.quiet entry (bin_id id d) time d)
-  change_mask (MakeGroup access file group) is time line otp sources settings id d = ap new_document (mkdir_mask file access.quiet group id time d) ∙ new_mask (after_mkdir file access.quiet group id time d)
-  change_mask (RemoveGroup access file group) is time line otp sources settings id d =
+  change_mask (MakeGroup access file group) is time line otp sources settings passed id d = ap new_document (mkdir_mask file access.quiet group id time d) ∙ new_mask (after_mkdir file access.quiet group id time d)
+  change_mask (RemoveGroup access file group) is time line otp sources settings passed id d =
       ap (λ b. new_document (after_rmdir file access.quiet group (if b then Some id else None) time (mask p d))) (needs_mask d)
       ∙ ap new_document (rmdir_mask file access.quiet group (bin_id id d) time d) ∙ new_mask (after_rmdir file access.quiet group (bin_id id d) time d)
-  change_mask (Info access file) is time line otp sources settings id d = ap (λ text. printed_text (Ok text)) (info_same p titles settings d)
-  change_mask (Show access file entry clear all attachments names totp) is time line otp sources settings id d = cc is
-  change_mask (Search access file term) is time line otp sources settings id d = cc is
-  change_mask (Add access file entry asked) is time line otp sources settings id d = cc is
-  change_mask (Edit access file entry asked) is time line otp sources settings id d = cc is
-  change_mask (Merge access file names from same dry) is time line otp sources settings id d = cc is
-  change_mask (Import access format source from file) is time line otp sources settings id d = cc is
-  change_mask (Create access file name cipher kdf) is time line otp sources settings id d = cc is
-  change_mask (Export access format file) is time line otp sources settings id d = cc is
-  change_mask (EditFile access file change) is time line otp sources settings id d = cc is
+  change_mask (Info access file) is time line otp sources settings passed id d = ap (λ text. printed_text (Ok text)) (info_same p titles settings d)
+  change_mask (Show access file entry clear all attachments names totp) is time line otp sources settings passed id d = cc is
+  change_mask (Search access file term) is time line otp sources settings passed id d = cc is
+  change_mask (Add access file entry asked) is time line otp sources settings passed id d = cc is
+  change_mask (Edit access file entry asked) is time line otp sources settings passed id d = cc is
+  change_mask (Merge access file names from same dry) is time line otp sources settings passed id d = cc is
+  change_mask (Import access format source from file) is time line otp sources settings passed id d = cc is
+  change_mask (Create access file name cipher kdf) is time line otp sources settings passed id d = cc is
+  change_mask (Export access format file) is time line otp sources settings passed id d = cc is
+  change_mask (EditFile access file change) is time line otp sources settings passed id d = cc is
 
   pub makes_mask : (command : Command) (d : BareDoc) → makes_node command (mask p d) ≡ makes_node command d
   makes_mask (Ls access file group recursive flat) d = refl
@@ -343,8 +343,8 @@ module _ (p : BareField → Bool) (titles : ShowsTitles p) where
   makes_mask (EditFile access file change) d = refl
 
 pub commands_are_blind : CommandsAreBlind
-commands_are_blind d e alike command is time line otp sources settings id =
-    sym (change_mask is_secret secret_titles command is time line otp sources settings id d) ∙ ap (change_with time command line otp sources settings id) alike ∙ change_mask is_secret secret_titles command is time line otp sources settings id e
+commands_are_blind d e alike command is time line otp sources settings passed id =
+    sym (change_mask is_secret secret_titles command is time line otp sources settings passed id d) ∙ ap (change_with time command line otp sources settings passed id) alike ∙ change_mask is_secret secret_titles command is time line otp sources settings passed id e
 
 pub draws_are_blind : DrawsAreBlind
 draws_are_blind d e alike command = sym (makes_mask is_secret secret_titles command d) ∙ ap (makes_node command) alike ∙ makes_mask is_secret secret_titles command e

@@ -139,9 +139,9 @@ reads_no_value (Info access file) = true
 abbrev pub CommandsAreBlind : Type 0
 CommandsAreBlind = (d e : BareDoc) → LookAlike is_secret d e → (command : Command)
     → reads_no_value command ≡ true → (time : ℕ) (line otp : Option (List ℕ))
-    (sources : List BareDoc) (settings : Option Settings) (id : NodeId)
-    → mask_change is_secret (change_with time command line otp sources settings id d)
-    ≡ mask_change is_secret (change_with time command line otp sources settings id e)
+    (sources : List BareDoc) (settings : Option Settings) (passed : List (List ℕ)) (id : NodeId)
+    → mask_change is_secret (change_with time command line otp sources settings passed id d)
+    ≡ mask_change is_secret (change_with time command line otp sources settings passed id e)
 
 -- Such a command makes a node, whose id is drawn, of the one document where it does of the other.
 abbrev pub DrawsAreBlind : Type 0

@@ -29,7 +29,7 @@ use Rattle.cli_writing.specs.Writing.{NewFile, file_or_refusal, plain_file}
 use Rattle.cli_files.specs.Files.{Opened, key_in, key_of, of_file}
 use Rattle.cli_files.specs.Tasks.{Task, task_with}
 use Rattle.cli_databases.specs.Databases.{database_of, databases_of, docs_from, document_in, held_in, held_under, password_from, plain_of, sealed_in, sources_of, vault_or_refusal}
-use Rattle.cli_importing.specs.Imports.{at_stamp, document_by, imported_of, new_sealing, refuse_file, sealing_of, source_of}
+use Rattle.cli_importing.specs.Imports.{at_stamp, source_by, imported_of, new_sealing, refuse_file, sealing_of, source_of}
 use Rattle.cli_resealing.specs.Asked.{asked_settings, with_resealed}
 use Rattle.cli_resealing.specs.Created.{created_of, empty_document, undrawn_id}
 use Rattle.cli_resealing.specs.Edited.{changed_of, edited_of, key_after, key_made, settings_in, under_key}
@@ -112,20 +112,20 @@ module _ (F G : FileMap) where
   import_same import lines time agree =
       let seal = sealing_same import.access.plain import.access.key_file lines.more (λ n i. agree n (inr (inr i))) in
       bind_same (source_of import lines.password time F) (source_of import lines.password time G)
-      (λ doc. refuse_file import.file (map.get F import.file) >>= λ _. (sealing_of import.access.plain import.access.key_file lines.more F >>= λ sealing. Ok (record { doc = doc; sealing = sealing })))
-      (λ doc. refuse_file import.file (map.get G import.file) >>= λ _. (sealing_of import.access.plain import.access.key_file lines.more G >>= λ sealing. Ok (record { doc = doc; sealing = sealing })))
-      (ap (of_file import.source (document_by import.format import.source lines.password time)) (agree import.source (inl refl)))
-      (λ doc. bind_same (refuse_file import.file (map.get F import.file)) (refuse_file import.file (map.get G import.file))
-      (λ _. (sealing_of import.access.plain import.access.key_file lines.more F >>= λ sealing. Ok (record { doc = doc; sealing = sealing })))
-      (λ _. (sealing_of import.access.plain import.access.key_file lines.more G >>= λ sealing. Ok (record { doc = doc; sealing = sealing })))
+      (λ source. refuse_file import.file (map.get F import.file) >>= λ _. (sealing_of import.access.plain import.access.key_file lines.more F >>= λ sealing. Ok (record { doc = source.doc; sealing = sealing; passed_over = source.passed_over })))
+      (λ source. refuse_file import.file (map.get G import.file) >>= λ _. (sealing_of import.access.plain import.access.key_file lines.more G >>= λ sealing. Ok (record { doc = source.doc; sealing = sealing; passed_over = source.passed_over })))
+      (ap (of_file import.source (source_by import.format import.source lines.password time)) (agree import.source (inl refl)))
+      (λ source. bind_same (refuse_file import.file (map.get F import.file)) (refuse_file import.file (map.get G import.file))
+      (λ _. (sealing_of import.access.plain import.access.key_file lines.more F >>= λ sealing. Ok (record { doc = source.doc; sealing = sealing; passed_over = source.passed_over })))
+      (λ _. (sealing_of import.access.plain import.access.key_file lines.more G >>= λ sealing. Ok (record { doc = source.doc; sealing = sealing; passed_over = source.passed_over })))
       (ap (refuse_file import.file) (agree import.file (inr (inl refl))))
-      (λ x. ap (λ r. r >>= λ sealing. Ok (record { doc = doc; sealing = sealing })) seal))
+      (λ x. ap (λ r. r >>= λ sealing. Ok (record { doc = source.doc; sealing = sealing; passed_over = source.passed_over })) seal))
 
   created_same : (create : CreateNeeds) (lines : Lines) (time : ℕ) → AgreeOn (create.file ∷ key_files create.access.key_file) F G → created_of create lines time F ≡ created_of create lines time G
   unfolding created_of
   created_same create lines time agree =
       let made = λ (sealing : Option Sealing). at_stamp create.file time (Ok (empty_document create.name undrawn_id time))
-      >>= λ doc. with_resealed create.file (asked_settings create.cipher create.kdf None) (record { doc = doc; sealing = sealing }) in
+      >>= λ doc. with_resealed create.file (asked_settings create.cipher create.kdf None) (record { doc = doc; sealing = sealing; passed_over = [] }) in
       let seal = sealing_same create.access.plain create.access.key_file lines.password (λ n i. agree n (inr i)) in
       bind_same (refuse_file create.file (map.get F create.file)) (refuse_file create.file (map.get G create.file))
       (λ _. (sealing_of create.access.plain create.access.key_file lines.password F >>= made))

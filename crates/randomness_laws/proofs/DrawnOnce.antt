@@ -121,10 +121,10 @@ module _ (time : ℕ) (task : Task) (dice : List ℕ) where
 
   -- what the command makes with the id that is drawn
   abbrev made : Option (List ℕ) → Result Change Refusal
-  made password = change_with time task.command password task.lines.otp task.sources (settings_in task.opened.sealing) (id_in makes dice) task.opened.doc
+  made password = change_with time task.command password task.lines.otp task.sources (settings_in task.opened.sealing) task.opened.passed_over (id_in makes dice) task.opened.doc
 
   pub taken_is : taken ≡ then_left (password_of profile task.lines.more after) (λ password left. with_left (made password) left)
-  taken_is = id_is makes (λ id. change_by time task.command task.lines.more task.lines.otp task.sources (settings_in task.opened.sealing) id task.opened.doc) dice
+  taken_is = id_is makes (λ id. change_by time task.command task.lines.more task.lines.otp task.sources (settings_in task.opened.sealing) task.opened.passed_over id task.opened.doc) dice
 
   taken_left : taken.left ≡ (password_of profile task.lines.more after).left
   taken_left = ap (λ (t : StreamAnswer Change). t.left) taken_is ∙ password_left profile task.lines.more made after
@@ -191,7 +191,7 @@ calls_draw_once (c ∷ cs) dice most =
 
 pub ids_are_of_pieces : IdsAreOfPieces
 ids_are_of_pieces time task dice makes =
-    ap (λ b. then_left (drawn_id b dice) (λ id. change_by time task.command task.lines.more task.lines.otp task.sources (settings_in task.opened.sealing) id task.opened.doc)) makes
+    ap (λ b. then_left (drawn_id b dice) (λ id. change_by time task.command task.lines.more task.lines.otp task.sources (settings_in task.opened.sealing) task.opened.passed_over id task.opened.doc)) makes
 
 pub passwords_are_of_pieces : PasswordsAreOfPieces
 passwords_are_of_pieces time task profile dice change is h =

@@ -26,7 +26,7 @@ making plain sealing = record {
       (record { plain = plain; quiet = false; key_file = None; no_password = false })
       (codes "family.kdbx") (codes "Home");
   lines = record { password = None; sources = []; more = None; otp = None };
-  opened = record { doc = as_it_was; sealing = sealing };
+  opened = record { doc = as_it_was; sealing = sealing; passed_over = [] };
   sources = [];
 }
 

@@ -130,7 +130,8 @@ IdsAreOfPieces = (time : ℕ) (task : Task) (dice : List ℕ)
     → makes_node task.command task.opened.doc ≡ true
     → change_of_task time task dice
     ≡ change_by time task.command task.lines.more task.lines.otp task.sources
-    (settings_in task.opened.sealing) (new_id (next_bytes 16 dice)) task.opened.doc (drop 16 dice)
+    (settings_in task.opened.sealing) task.opened.passed_over (new_id (next_bytes 16 dice))
+    task.opened.doc (drop 16 dice)
 
 -- A change is made with a password that its piece chooses, to its last byte.
 pub record IsOfPassword (time : ℕ) (task : Task) (profile : PasswordProfile) (dice : List ℕ)
@@ -142,7 +143,7 @@ pub record IsOfPassword (time : ℕ) (task : Task) (profile : PasswordProfile) (
       (password_piece profile (after_id (makes_node task.command task.opened.doc) dice))
       ≡ chosen password []
   pub makes : change_with time task.command (Some password) task.lines.otp task.sources
-      (settings_in task.opened.sealing) id task.opened.doc ≡ Ok change
+      (settings_in task.opened.sealing) task.opened.passed_over id task.opened.doc ≡ Ok change
 
 -- So is that of each command that generates a password.
 abbrev pub PasswordsAreOfPieces : Type 0

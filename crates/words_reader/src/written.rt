@@ -23,6 +23,7 @@ fn import_name(format: ImportFormat) -> &'static str {
         ImportFormat::Xml => "xml",
         ImportFormat::Psafe => "psafe3",
         ImportFormat::Csv => "csv",
+        ImportFormat::Bitwarden => "bitwarden",
     }
 }
 

@@ -14,21 +14,21 @@ carry_out_on-answer-requires-clause-sealed g c =
 
 pub returns-clause-told : goal.returns-clause-told
 returns-clause-told g c = λ d t.
-    ends_kept c.args.now c.args.task.command (lines_seen c.args.task.lines) (map doc_seen c.args.task.sources) (doc_seen c.args.task.opened.doc) c.clear_unless.new.sealing c.args.task.opened.sealing d
+    ends_kept c.args.now c.args.task.command (lines_seen c.args.task.lines) (map doc_seen c.args.task.sources) (doc_seen c.args.task.opened.doc) c.args.task.opened.passed_over c.clear_unless.new.sealing c.args.task.opened.sealing d
     c.carry_out_on-answer.result _ _ _ _
     c.clear_unless.ensures.settings (λ w. c.clear_unless.ensures.whole (c.may_write.ensures ∙ w))
     (c.carry_out_on-answer.ensures.told d t)
 
 pub returns-clause-of_dice : goal.returns-clause-of_dice
 returns-clause-of_dice g c = λ d t.
-    all_kept c.args.now c.args.task.command (lines_seen c.args.task.lines) (map doc_seen c.args.task.sources) (doc_seen c.args.task.opened.doc) c.clear_unless.new.sealing c.args.task.opened.sealing d
+    all_kept c.args.now c.args.task.command (lines_seen c.args.task.lines) (map doc_seen c.args.task.sources) (doc_seen c.args.task.opened.doc) c.args.task.opened.passed_over c.clear_unless.new.sealing c.args.task.opened.sealing d
     c.carry_out_on-answer.result _ _
     c.clear_unless.ensures.settings (λ w. c.clear_unless.ensures.whole (c.may_write.ensures ∙ w))
     (c.carry_out_on-answer.ensures.of_dice d t)
 
 pub returns-clause-some_dice : goal.returns-clause-some_dice
 returns-clause-some_dice g c =
-    some_kept c.args.now c.args.task.command (lines_seen c.args.task.lines) (map doc_seen c.args.task.sources) (doc_seen c.args.task.opened.doc) c.clear_unless.new.sealing c.args.task.opened.sealing
+    some_kept c.args.now c.args.task.command (lines_seen c.args.task.lines) (map doc_seen c.args.task.sources) (doc_seen c.args.task.opened.doc) c.args.task.opened.passed_over c.clear_unless.new.sealing c.args.task.opened.sealing
     c.carry_out_on-answer.result _ _
     c.clear_unless.ensures.settings (λ w. c.clear_unless.ensures.whole (c.may_write.ensures ∙ w))
     c.carry_out_on-answer.ensures.some_dice

@@ -17,7 +17,7 @@ perform-requires-clause-text g c = record {
 
 pub returns-clause-told : goal.returns-clause-told
 returns-clause-told g c = λ d t.
-    let made = rw c.as_slice.ensures at (c.in_ok-change.ensures.told d (tells_change c.args.task.now.command _ d t)) in
+    let made = rw (c.as_slice.ensures, c.as_slice-2.ensures) at (c.in_ok-change.ensures.told d (tells_change c.args.task.now.command _ d t)) in
     ends_by c.args.now (task_seen c.args.task.now)
     (lent_value c.bytes_in.result) (lent_value c.bytes_in-2.result) (lent_settings c.settings_of.result) d c.file_of.result.now (change_seen c.in_ok-change.change (doc_seen c.perform.new.doc)) _ _ _ _ _
     c.bytes_in.ensures c.bytes_in-2.ensures c.settings_of.ensures c.file_of.ensures made.0 made.1
@@ -25,14 +25,14 @@ returns-clause-told g c = λ d t.
 
 pub returns-clause-of_dice : goal.returns-clause-of_dice
 returns-clause-of_dice g c = λ d t.
-    let made = rw c.as_slice.ensures at (c.in_ok-change.ensures.told d (tells_change c.args.task.now.command _ d t)) in
+    let made = rw (c.as_slice.ensures, c.as_slice-2.ensures) at (c.in_ok-change.ensures.told d (tells_change c.args.task.now.command _ d t)) in
     of_dice c.args.now (task_seen c.args.task.now)
     (lent_value c.bytes_in.result) (lent_value c.bytes_in-2.result) (lent_settings c.settings_of.result) d c.file_of.result.now _ (change_seen c.in_ok-change.change (doc_seen c.perform.new.doc)) _ _
     c.bytes_in.ensures c.bytes_in-2.ensures c.settings_of.ensures c.file_of.ensures refl made.0 c.in_ok-write_if.ensures.held
 
 pub returns-clause-some_dice : goal.returns-clause-some_dice
 returns-clause-some_dice g c =
-    let made = rw c.as_slice.ensures at c.in_ok-change.ensures.some_dice in (
+    let made = rw (c.as_slice.ensures, c.as_slice-2.ensures) at c.in_ok-change.ensures.some_dice in (
       made.0,
       of_dice c.args.now (task_seen c.args.task.now)
           (lent_value c.bytes_in.result) (lent_value c.bytes_in-2.result) (lent_settings c.settings_of.result) made.0 c.file_of.result.now _ (change_seen c.in_ok-change.change (doc_seen c.perform.new.doc)) _ _
@@ -54,7 +54,7 @@ returns-in_err-change-clause-told g c = λ d t.
     let p = err_from_is_err_and c.from_residual.result c.from_residual.ensures.1 in
     rw (p.1, p.2) (change_refused c.in_err-change.field-0.0 c.args.now
     (task_seen c.args.task.now) (lent_value c.bytes_in.result) (lent_value c.bytes_in-2.result) (lent_settings c.settings_of.result) d _ _ _ c.bytes_in.ensures c.bytes_in-2.ensures c.settings_of.ensures
-    (rw c.as_slice.ensures at (c.in_err-change.ensures.told d (tells_change c.args.task.now.command _ d t))))
+    (rw (c.as_slice.ensures, c.as_slice-2.ensures) at (c.in_err-change.ensures.told d (tells_change c.args.task.now.command _ d t))))
 
 pub returns-in_err-change-clause-undrawn : goal.returns-in_err-change-clause-undrawn
 returns-in_err-change-clause-undrawn g c = λ e. c.in_err-change.ensures.undrawn (no_change c.args.task.now.command e)
@@ -66,7 +66,7 @@ returns-in_err-change-clause-cause g c =
 
 pub returns-in_err-write_if-clause-told : goal.returns-in_err-write_if-clause-told
 returns-in_err-write_if-clause-told g c = λ d t.
-    let made = rw c.as_slice.ensures at (c.in_ok-change.ensures.told d (tells_change c.args.task.now.command _ d t)) in
+    let made = rw (c.as_slice.ensures, c.as_slice-2.ensures) at (c.in_ok-change.ensures.told d (tells_change c.args.task.now.command _ d t)) in
     let p = err_from_is_err_and c.from_residual-in_err-write_if.result c.from_residual-in_err-write_if.ensures.1 in
     rw (p.1, p.2) (file_refused c.in_err-write_if.field-0.0 c.args.now
     (task_seen c.args.task.now) (lent_value c.bytes_in.result) (lent_value c.bytes_in-2.result) (lent_settings c.settings_of.result) d c.file_of.result.now

@@ -1,43 +1,43 @@
 use Rattle.std.proofs.Common.{◌∙◌, arith, option_map}
-use Rattle.vault_model.specs.SeenDoc.{doc_seen}
 use Rattle.cli_lines.specs.SeenLines.{lines_seen}
 use Rattle.cli_words.specs.SeenNeeds.{import_seen}
+use Rattle.cli_importing.specs.SeenSource.{source_seen}
 use Rattle.cli_importing.proofs.Imported.{at_new_file, at_new_key, existing_refused, imported_is, sealing_refused}
 use Rattle.cli_importing.proofs.imports.import.Goals as goal
 
 pub returns-in-Err-clause-told : goal.returns-in-Err-clause-told
 returns-in-Err-clause-told g c = λ m isF.
     existing_refused (import_seen c.args.import) (lines_seen c.args.lines.now) c.args.now m (option_map (λ w. w.now) c.bytes_in.result)
-    c.as_str.result.now (doc_seen c.in_ok-doc.doc) c.bytes_in.ensures c.as_str.ensures (c.in_ok-doc.ensures.told m isF)
-    c.in-Err.stop (c.in-Err.ensures.told m (c.in_ok-doc.ensures.leaves.files ∙ isF))
+    c.as_str.result.now (source_seen c.in_ok-source.source) c.bytes_in.ensures c.as_str.ensures (c.in_ok-source.ensures.told m isF)
+    c.in-Err.stop (c.in-Err.ensures.told m (c.in_ok-source.ensures.leaves.files ∙ isF))
 
 pub returns-in-Err-clause-cause : goal.returns-in-Err-clause-cause
 returns-in-Err-clause-cause g c =
     at_new_file c.in-Err.stop _ c.args.import.file.now c.as_str.result.now _ _ _ _ _ _ _ c.as_str.ensures
-    c.in_ok-doc.ensures.leaves.faults c.in_ok-doc.ensures.leaves.absences c.in-Err.ensures.cause
+    c.in_ok-source.ensures.leaves.faults c.in_ok-source.ensures.leaves.absences c.in-Err.ensures.cause
 
 pub returns-in-Err-new_sealing-clause-told : goal.returns-in-Err-new_sealing-clause-told
 returns-in-Err-new_sealing-clause-told g c = λ m isF.
     sealing_refused (import_seen c.args.import) (lines_seen c.args.lines.now) c.args.now m (option_map (λ w. w.now) c.bytes_in.result)
-    c.as_str.result.now (doc_seen c.in_ok-doc.doc) c.bytes_in.ensures c.as_str.ensures (c.in_ok-doc.ensures.told m isF)
-    (option_map (λ w. w.now) c.bytes_in-2.result) c.in_default.field-0 c.bytes_in-2.ensures (c.in_default.ensures.told m (c.in_ok-doc.ensures.leaves.files ∙ isF))
-    c.in-Err-new_sealing.stop (c.in-Err-new_sealing.ensures.told m (c.in_default.ensures.leaves.files ∙ c.in_ok-doc.ensures.leaves.files ∙ isF))
+    c.as_str.result.now (source_seen c.in_ok-source.source) c.bytes_in.ensures c.as_str.ensures (c.in_ok-source.ensures.told m isF)
+    (option_map (λ w. w.now) c.bytes_in-2.result) c.in_default.field-0 c.bytes_in-2.ensures (c.in_default.ensures.told m (c.in_ok-source.ensures.leaves.files ∙ isF))
+    c.in-Err-new_sealing.stop (c.in-Err-new_sealing.ensures.told m (c.in_default.ensures.leaves.files ∙ c.in_ok-source.ensures.leaves.files ∙ isF))
 
 pub returns-in-Err-new_sealing-clause-cause : goal.returns-in-Err-new_sealing-clause-cause
 returns-in-Err-new_sealing-clause-cause g c =
     at_new_key c.in-Err-new_sealing.stop _ c.args.import.file.now _ _ _ _ _ _ _ _ _
-    c.in_ok-doc.ensures.leaves.faults c.in_default.ensures.leaves.faults c.in_ok-doc.ensures.leaves.absences c.in_default.ensures.leaves.absences c.in-Err-new_sealing.ensures.cause
+    c.in_ok-source.ensures.leaves.faults c.in_default.ensures.leaves.faults c.in_ok-source.ensures.leaves.absences c.in_default.ensures.leaves.absences c.in-Err-new_sealing.ensures.cause
 
 pub returns-in-Ok-clause-told : goal.returns-in-Ok-clause-told
 returns-in-Ok-clause-told g c = λ m isF.
     imported_is (import_seen c.args.import) (lines_seen c.args.lines.now) c.args.now m (option_map (λ w. w.now) c.bytes_in.result)
-    c.as_str.result.now (doc_seen c.in_ok-doc.doc) c.bytes_in.ensures c.as_str.ensures (c.in_ok-doc.ensures.told m isF)
-    (option_map (λ w. w.now) c.bytes_in-2.result) c.in_default.field-0 c.bytes_in-2.ensures (c.in_default.ensures.told m (c.in_ok-doc.ensures.leaves.files ∙ isF))
-    c.in-Ok.sealing (c.in-Ok.ensures.told m (c.in_default.ensures.leaves.files ∙ c.in_ok-doc.ensures.leaves.files ∙ isF))
+    c.as_str.result.now (source_seen c.in_ok-source.source) c.bytes_in.ensures c.as_str.ensures (c.in_ok-source.ensures.told m isF)
+    (option_map (λ w. w.now) c.bytes_in-2.result) c.in_default.field-0 c.bytes_in-2.ensures (c.in_default.ensures.told m (c.in_ok-source.ensures.leaves.files ∙ isF))
+    c.in-Ok.sealing (c.in-Ok.ensures.told m (c.in_default.ensures.leaves.files ∙ c.in_ok-source.ensures.leaves.files ∙ isF))
 
 pub returns-in-Err-new_sealing-clause-leaves : goal.returns-in-Err-new_sealing-clause-leaves
 returns-in-Err-new_sealing-clause-leaves g c =
-    let first = c.in_ok-doc.ensures.leaves in
+    let first = c.in_ok-source.ensures.leaves in
     let next = c.in_default.ensures.leaves in
     let last = c.in-Err-new_sealing.ensures.leaves in
     record {
@@ -50,7 +50,7 @@ returns-in-Err-new_sealing-clause-leaves g c =
 
 pub returns-in-Ok-clause-leaves : goal.returns-in-Ok-clause-leaves
 returns-in-Ok-clause-leaves g c =
-    let first = c.in_ok-doc.ensures.leaves in
+    let first = c.in_ok-source.ensures.leaves in
     let next = c.in_default.ensures.leaves in
     let last = c.in-Ok.ensures.leaves in
     record {

@@ -1,9 +1,9 @@
 use Rattle.std.proofs.Common.{◌≡◌, ◌<◌, ◌+◌, ◌++◌, ◌∷◌, [], ℕ, List, length, drop, get_or, append_assoc, ap, sym, ◌∙◌}
 use Rattle.std.proofs.lemmas.List.{drop_more}
 use Rattle.vault_model.specs.Db.{NodeId}
-use Rattle.vault_model.specs.SeenNodes.{entry_row}
-use Rattle.import_tree.specs.Branches.{entries_below, own_ids, own_rows}
+use Rattle.import_tree.specs.Branches.{places_below, own_ids, own_rows}
 use Rattle.import_tree.specs.SeenBranches.{way_seen, ways_seen}
+use Rattle.import_tree.specs.SeenDrafts.{rows_seen}
 use Rattle.import_tree.specs.Trees.{Placed}
 use Rattle.import_tree.specs.declared.branches.Way.{Way}
 use Rattle.import_tree.proofs.Apart.{named_with, own_ids_with}
@@ -21,18 +21,18 @@ module _ (ways : List Way) (k : ℕ) (way : Way) (within : k < length ways) (is 
   own_more total so_far new before more =
       before
       ∙ ap (λ (ws : List Way). so_far ++ own_ids (ways_seen ws)) opened
-      ∙ ap (λ (us : List NodeId). so_far ++ us) (own_ids_with way.names.now (entry_row way.placed.now.entry) (own_rows rest))
+      ∙ ap (λ (us : List NodeId). so_far ++ us) (own_ids_with way.names.now (rows_seen way.place.now.entry) (own_rows rest))
       ∙ sym (append_assoc so_far (own_ids (way_seen way ∷ [])) (own_ids rest))
       ∙ ap (λ (us : List NodeId). us ++ own_ids rest) (sym more)
 
-  named_more : (total so_far new : List Placed) → total ≡ so_far ++ entries_below (ways_seen (drop k ways))
-      → new ≡ so_far ++ entries_below (way_seen way ∷ []) → total ≡ new ++ entries_below rest
+  named_more : (total so_far new : List Placed) → total ≡ so_far ++ places_below (ways_seen (drop k ways))
+      → new ≡ so_far ++ places_below (way_seen way ∷ []) → total ≡ new ++ places_below rest
   named_more total so_far new before more =
       before
-      ∙ ap (λ (ws : List Way). so_far ++ entries_below (ways_seen ws)) opened
-      ∙ ap (λ (ps : List Placed). so_far ++ ps) (named_with way.names.now (way_seen way) (entries_below rest))
-      ∙ sym (append_assoc so_far (entries_below (way_seen way ∷ [])) (entries_below rest))
-      ∙ ap (λ (ps : List Placed). ps ++ entries_below rest) (sym more)
+      ∙ ap (λ (ws : List Way). so_far ++ places_below (ways_seen ws)) opened
+      ∙ ap (λ (ps : List Placed). so_far ++ ps) (named_with way.names.now (way_seen way) (places_below rest))
+      ∙ sym (append_assoc so_far (places_below (way_seen way ∷ [])) (places_below rest))
+      ∙ ap (λ (ps : List Placed). ps ++ places_below rest) (sym more)
 
 pub loop-way-preserved : goal.loop-way-preserved
 loop-way-preserved c =

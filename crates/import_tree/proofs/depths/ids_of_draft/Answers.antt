@@ -8,7 +8,7 @@ use Rattle.import_tree.specs.SeenBranches.{all_deep, all_ids, all_steps, branch_
 use Rattle.import_tree.specs.SeenDrafts.{placed_seen}
 use Rattle.import_tree.specs.Trees.{root_id}
 use Rattle.import_tree.specs.declared.branches.Branch.{Branch}
-use Rattle.import_tree.specs.declared.drafts.PlacedEntry.{PlacedEntry}
+use Rattle.import_tree.specs.declared.drafts.ImportedPlace.{ImportedPlace}
 use Rattle.import_tree.proofs.TakenApart.{deep_pushed, ids_pushed, steps_pushed, whole_deep, whole_ids}
 use Rattle.import_tree.proofs.depths.ids_of_draft.Goals as goal
 
@@ -19,9 +19,9 @@ old_root now = let group = new_group (codes "Root") now in record group { state 
 pub loop-branch-init : goal.loop-branch-init
 loop-branch-init c =
     let draft = c.args.draft.now in
-    let ps = map placed_seen draft.entries.items in
+    let ps = map placed_seen draft.places.items in
     let id : c.from_bytes-id.result ≡ root_id = c.from_bytes-id.ensures in
-    let ways : ways_seen c.in_ok-ways.ways.items ≡ ps = c.in_ok-ways.ensures ∙ ap (λ (es : List PlacedEntry). map placed_seen es) c.as_slice.ensures.value in
+    let ways : ways_seen c.in_ok-ways.ways.items ≡ ps = c.in_ok-ways.ensures ∙ ap (λ (es : List ImportedPlace). map placed_seen es) c.as_slice.ensures.value in
     let open_ids : all_ids c.in_ok-vec-2.field-0.items ≡ ids_in root_id ps =
     ap all_ids c.in_ok-vec-2.ensures.items ∙ ap (λ (u : NodeId). ids_in u (ways_seen c.in_ok-ways.ways.items)) id ∙ ap (ids_in root_id) ways in
     let open_deep : all_deep c.in_ok-vec-2.field-0.items ≡ deep_in 127 root_id ps =

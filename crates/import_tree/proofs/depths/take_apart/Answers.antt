@@ -1,6 +1,6 @@
 use Rattle.std.proofs.Common.{◌≡◌, List, ℕ, None, Some, ◌++◌, ◌∷◌, [], ap, refl, sym, ◌∙◌}
 use Rattle.vault_model.specs.Db.{NodeId}
-use Rattle.import_tree.specs.Branches.{deep_id, entries_below, first_name, inside, others, own_ids}
+use Rattle.import_tree.specs.Branches.{deep_id, places_below, first_name, inside, others, own_ids}
 use Rattle.import_ids.specs.Ids.{named_id}
 use Rattle.import_tree.specs.SeenBranches.{ways_seen}
 use Rattle.import_tree.specs.declared.branches.Branch.{Branch}
@@ -11,9 +11,9 @@ use Rattle.import_tree.proofs.depths.take_apart.Goals as goal
 pub returns-in_default : goal.returns-in_default
 returns-in_default c =
     let ps = ways_seen c.args.branch.ways.items in
-    let all : ways_seen c.as_slice-2.result.now ≡ entries_below ps =
-    ap ways_seen c.as_slice-2.ensures.value ∙ c.in_ok-named.ensures.named ∙ ap (λ (ws : List Way). entries_below (ways_seen ws)) c.as_slice.ensures.value in
-    let first : first_name (entries_below ps) ≡ None = ap first_name (sym all) ∙ sym c.in_default.ensures in
+    let all : ways_seen c.as_slice-2.result.now ≡ places_below ps =
+    ap ways_seen c.as_slice-2.ensures.value ∙ c.in_ok-named.ensures.named ∙ ap (λ (ws : List Way). places_below (ways_seen ws)) c.as_slice.ensures.value in
+    let first : first_name (places_below ps) ≡ None = ap first_name (sym all) ∙ sym c.in_default.ensures in
     nothing_left c.args.branch c.args.found.now _ first
     (c.in_ok-named.ensures.ids ∙ ap (λ (ws : List Way). c.args.found.now.ids.items ++ own_ids (ways_seen ws)) c.as_slice.ensures.value)
     refl refl
@@ -24,11 +24,11 @@ returns c =
     let old = c.args.found.now in
     let name = c.as_str-name.result.now in
     let ps = ways_seen branch.ways.items in
-    let gives : ways_seen c.in_ok-named.named.items ≡ entries_below ps = c.in_ok-named.ensures.named ∙ ap (λ (ws : List Way). entries_below (ways_seen ws)) c.as_slice.ensures.value in
-    let first : first_name (entries_below ps) ≡ Some name =
+    let gives : ways_seen c.in_ok-named.named.items ≡ places_below ps = c.in_ok-named.ensures.named ∙ ap (λ (ws : List Way). places_below (ways_seen ws)) c.as_slice.ensures.value in
+    let first : first_name (places_below ps) ≡ Some name =
     ap first_name (sym gives) ∙ ap (λ (ws : List Way). first_name (ways_seen ws)) (sym c.as_slice-2.ensures.value) ∙ sym c.in-Some.ensures ∙ ap (λ (n : List ℕ). Some n) (sym c.as_str-name.ensures) in
     let id : c.new_v5-id.result ≡ named_id branch.id name = c.new_v5-id.ensures.value ∙ ap (named_id branch.id) c.as_bytes.ensures.value in
-    let all : ways_seen c.as_slice-3.result.now ≡ entries_below ps = ap ways_seen c.as_slice-3.ensures.value ∙ gives in
+    let all : ways_seen c.as_slice-3.result.now ≡ places_below ps = ap ways_seen c.as_slice-3.ensures.value ∙ gives in
     let parts = c.in_ok-parts.ensures in
     let one : Branch = record { id = c.new_v5-id.result; levels = c.saturating_sub.result; ways = c.in_ok-parts.parts.inside } in
     let rest : Branch = record { id = branch.id; levels = branch.levels; ways = c.in_ok-parts.parts.others } in

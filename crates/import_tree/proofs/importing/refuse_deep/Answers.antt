@@ -11,4 +11,4 @@ returns-then-is_deep-clause-fits c = fits (draft_seen c.args.draft.now).tree c.r
 pub returns-else-is_deep-clause-fits : goal.returns-else-is_deep-clause-fits
 returns-else-is_deep-clause-fits c =
     let draft = c.args.draft.now in
-    few_levels draft.entries.items (import_root draft.moment) (sym c.is_deep.ensures ∙ c.if-is_deep.false) (omega arith)
+    few_levels draft.places.items (import_root draft.moment) (sym c.is_deep.ensures ∙ c.if-is_deep.false) (omega arith)

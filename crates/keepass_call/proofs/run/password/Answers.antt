@@ -1,4 +1,4 @@
-use Rattle.std.proofs.Common.{ℕ, List, ◌∙◌}
+use Rattle.std.proofs.Common.{◌∙◌}
 use Rattle.keepass_call.proofs.Passwords.{memory_stream, password_ends, password_refused}
 use Rattle.keepass_call.proofs.run.password.Goals as goal
 

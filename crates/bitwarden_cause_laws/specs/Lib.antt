@@ -1,0 +1,3 @@
+pub mod OtherKinds
+pub mod ExportCauses
+pub mod Examples

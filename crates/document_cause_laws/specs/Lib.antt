@@ -1,0 +1,4 @@
+pub mod DocumentCauses
+pub mod ElementFaults
+pub mod ElementKinds
+pub mod Examples

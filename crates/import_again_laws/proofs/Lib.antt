@@ -1,0 +1,6 @@
+pub mod Newer
+pub mod Later
+pub mod Replaced
+pub mod Moments
+pub mod Sources
+pub mod Replacing
