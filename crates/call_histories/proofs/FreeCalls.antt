@@ -13,7 +13,7 @@ use Rattle.call_carrying.specs.Endings.{settings_in}
 use Rattle.change_laws.specs.Adding.{made_id}
 use Rattle.change_laws.proofs.Adding.{commands_add}
 use Rattle.call_histories.specs.FreeHistories.{AreFreeEvents, FreeCallsAgree, IsFreeEvent, known_with}
-use Rattle.call_histories.specs.Histories.{AreDeeds, Event, IsRunOf, done}
+use Rattle.call_conditions.specs.Histories.{AreDeeds, Event, IsRunOf, done}
 use Rattle.call_histories.proofs.Runs.{AreGrown, copies_same, ran}
 use Rattle.call_histories.proofs.Steps.{GrownBy, IsGrown}
 

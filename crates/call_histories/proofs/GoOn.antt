@@ -20,7 +20,7 @@ use Rattle.cli_words.specs.declared.command.Command.TheVariants.{Ls, Show, Searc
 use Rattle.cli_commands.specs.Commands.{may_write}
 use Rattle.keepass_call.specs.Merges.{IsAgreedMerge, merges}
 use Rattle.call_histories.specs.HistoryLaws.{MergesGoOn}
-use Rattle.call_histories.specs.Histories.{disks_at_end, done}
+use Rattle.call_conditions.specs.Histories.{disks_at_end, done}
 use Rattle.call_histories.proofs.Steps.{sources_are, target_is}
 
 -- ---- what a run leaves

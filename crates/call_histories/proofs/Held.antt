@@ -34,8 +34,8 @@ use Rattle.cli_writing.specs.Writing.{Store}
 use Rattle.cli_sealing.specs.Held.{contents_with}
 use Rattle.cli_sealing.specs.Sealing.{settings_for}
 use Rattle.call_carrying.specs.Endings.{HoldsNew, ReadsBack}
-use Rattle.call_histories.specs.Copies.{AreApart, AreOpened, CallSeen, Copies, CopyHolds, Disks, HoldsDoc, IsKeyOf, IsOpened}
-use Rattle.call_histories.specs.Histories.{put_files}
+use Rattle.call_conditions.specs.Copies.{AreApart, AreOpened, CallSeen, Copies, CopyHolds, Disks, HoldsDoc, IsKeyOf, IsOpened}
+use Rattle.call_conditions.specs.Histories.{put_files}
 
 -- ---- bytes
 

@@ -7,8 +7,8 @@ use Rattle.run_laws.specs.TrimmedRuns.{AreDocEvents, DocEvent, after_doc_event, 
 use Rattle.run_laws.specs.WholeRuns.{AreWholeDocEvents}
 use Rattle.run_laws.proofs.RunLaws.{doc_after, runs_join, runs_same}
 use Rattle.run_laws.proofs.WholeLaws.{whole_join}
-use Rattle.call_histories.specs.Copies.{AreApart, Copies, CopyHolds, Disks, HoldsDoc}
-use Rattle.call_histories.specs.Histories.{AreDeeds, AreEvents, Event, IsDeed, IsRunOf, disks_after, disks_at_end, done}
+use Rattle.call_conditions.specs.Copies.{AreApart, Copies, CopyHolds, Disks, HoldsDoc}
+use Rattle.call_conditions.specs.Histories.{AreDeeds, AreEvents, Event, IsDeed, IsRunOf, disks_after, disks_at_end, done}
 use Rattle.call_histories.specs.HistoryLaws.{CallsAreRuns, CopiesJoin, CopiesSame, MergesJoin, OnlyMerged}
 use Rattle.call_histories.proofs.Held.{one_doc}
 use Rattle.call_histories.proofs.Steps.{GrownBy, one_step}

@@ -34,8 +34,8 @@ use Rattle.keepass_call.specs.Held.{IsTask, WritesTask}
 use Rattle.keepass_call.specs.Merges.{merges}
 use Rattle.keepass_call.specs.Outcome.{may_write_by}
 use Rattle.keepass_call.proofs.Pages.{asks_command}
-use Rattle.call_histories.specs.Copies.{AreApart, CallSeen, Copies, CopyHolds, Disks, HoldsDoc, OpensCopies}
-use Rattle.call_histories.specs.Histories.{Did, Event, IsCallOn, IsDeed, IsEvent, call, copied, disks_after, done, made_by, put_files, with_bytes}
+use Rattle.call_conditions.specs.Copies.{AreApart, CallSeen, Copies, CopyHolds, Disks, HoldsDoc, OpensCopies}
+use Rattle.call_conditions.specs.Histories.{Did, Event, IsCallOn, IsDeed, IsEvent, call, copied, disks_after, done, made_by, put_files, with_bytes}
 use Rattle.call_histories.proofs.Held.{IsHeld, IsThat, IsWritten, changed, copies_opened, copy_opened, either, held_is_doc, kept, key_in, written}
 
 -- ---- commands that may write

@@ -13,8 +13,8 @@ use Rattle.cli_commands.specs.Commands.{may_write}
 use Rattle.change_laws.specs.Adding.{OnlyAddsBy, made_id}
 use Rattle.keepass_call.specs.Held.{IsTask}
 use Rattle.keepass_call.specs.Merges.{merges}
-use Rattle.call_histories.specs.Copies.{CallSeen, Copies, CopyHolds, Disks}
-use Rattle.call_histories.specs.Histories.{Event, IsHistory, IsRunOf, call, copied, disks_at_end, done}
+use Rattle.call_conditions.specs.Copies.{CallSeen, Copies, CopyHolds, Disks}
+use Rattle.call_conditions.specs.Histories.{Event, IsHistory, IsRunOf, call, copied, disks_at_end, done}
 use Rattle.call_histories.specs.HistoryLaws.{learned_in}
 
 -- A call that may write and is no merge only adds to its document: it adds or edits an entry, makes a

@@ -9,8 +9,8 @@ use Rattle.run_laws.specs.TrimmedRuns.{DocEvent, growth, joining, overwriting, w
 use Rattle.cli_files.specs.Tasks.{Task}
 use Rattle.keepass_call.specs.Held.{IsTask}
 use Rattle.keepass_call.specs.Merges.{merges}
-use Rattle.call_histories.specs.Copies.{CallSeen, Copies, CopyHolds, Disks}
-use Rattle.call_histories.specs.Histories.{Event, IsCallOn, IsHistory, IsRunOf, disks_at_end, done}
+use Rattle.call_conditions.specs.Copies.{CallSeen, Copies, CopyHolds, Disks}
+use Rattle.call_conditions.specs.Histories.{Event, IsCallOn, IsHistory, IsRunOf, disks_at_end, done}
 
 -- whatever was called and copied, the files hold the documents of a run that did what the calls did
 abbrev pub CallsAreRuns : Type 0

@@ -1,4 +1,2 @@
-pub mod Copies
 pub mod FreeHistories
-pub mod Histories
 pub mod HistoryLaws

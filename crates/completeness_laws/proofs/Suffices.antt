@@ -43,7 +43,8 @@ use Rattle.cli_commands.specs.Commands.{Change, bin_id, change_by, change_with, 
 use Rattle.cli_merging.specs.Merging.{after_merge, after_merged, changes_between, merged_or_refusal}
 use Rattle.call_carrying.specs.Endings.{carried_out, change_of_task, ended_with, ending_with, settings_in}
 use Rattle.keepass_call.proofs.TaskDocs.{task_docs}
-use Rattle.completeness_laws.specs.Conditions.{Answers, CanChange, CanGenerate, CanMove, CanShowEntry, CommandsSucceed, ConditionsSuffice, FitsFile, dice_after_id, id_for}
+use Rattle.call_conditions.specs.Conditions.{Answers, CanChange, CanGenerate, CanMove, CanShowEntry, FitsFile, dice_after_id, id_for}
+use Rattle.completeness_laws.specs.Laws.{CommandsSucceed, ConditionsSuffice}
 
 -- ---- commands that change the tree
 

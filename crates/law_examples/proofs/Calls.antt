@@ -39,10 +39,10 @@ use Rattle.call_reading.specs.Reading.{left_of}
 use Rattle.keepass_call.specs.Held.{IsCarried, IsTask}
 use Rattle.keepass_call.specs.Outcome.{answer_of, ended, outcome}
 use Rattle.keepass_call.proofs.HeldTasks.{is_given}
-use Rattle.call_examples.specs.Files.{plain_bytes, three_files, world_of}
-use Rattle.call_examples.proofs.Files.{found_first, found_second, is_plain, opened_as, plain_first, put_last}
+use Rattle.law_examples.specs.Files.{plain_bytes, three_files, world_of}
+use Rattle.law_examples.proofs.Files.{found_first, found_second, is_plain, opened_as, plain_first, put_last}
 use Rattle.generation_laws.specs.Conditions.{CanChoose, HasAccepted}
-use Rattle.completeness_laws.specs.Conditions.{CanBeCarried, FitsFile}
+use Rattle.call_conditions.specs.Conditions.{CanBeCarried, FitsFile}
 use Rattle.law_examples.specs.Calls.{ExampleCalls, ExampleOutcomes, ExamplePassword, add_generated, adding, adding_dice, coded_file, dice_left, first_file, list_first, show_code, two_characters, with_dice}
 use Rattle.law_examples.specs.Commands.{coded, plainly}
 use Rattle.law_examples.proofs.Commands.{coded_doc, example_code}

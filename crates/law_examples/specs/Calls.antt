@@ -1,5 +1,5 @@
 -- Calls over plain files that meet the premises of laws.
-use Rattle.std.specs.Prelude.{◌≡◌, ℕ, List, [], ◌∷◌, ◌++◌, None, Some, Ok, codes, replicate}
+use Rattle.std.specs.Prelude.{◌≡◌, ℕ, List, [], ◌∷◌, None, Some, Ok, codes, replicate}
 use Rattle.std.specs.FinMap.{empty, get, insert}
 use Rattle.outside_core.specs.Files.{FileMap}
 use Rattle.merge_core.specs.Example.{as_it_was, edited}
@@ -14,10 +14,9 @@ use Rattle.cli_commands.specs.Commands.{Change}
 use Rattle.cli_files.specs.Tasks.{Task}
 use Rattle.call_carrying.specs.Endings.{change_of_task}
 use Rattle.keepass_call.specs.Outcome.{World, outcome}
-use Rattle.call_examples.specs.Files.{plain_bytes, three_files, world_of}
-use Rattle.randomness_laws.specs.Example.{rising}
-use Rattle.outcome_laws.specs.Named.{AgreeOn}
-use Rattle.completeness_laws.specs.Conditions.{CanBeCarried}
+use Rattle.law_examples.specs.Files.{plain_bytes, three_files, world_of}
+use Rattle.call_conditions.specs.Agreeing.{AgreeOn}
+use Rattle.call_conditions.specs.Conditions.{CanBeCarried}
 use Rattle.law_examples.specs.Commands.{coded, nothing_asked, plainly}
 
 -- ---- calls
@@ -48,7 +47,8 @@ dice_left = replicate 254 0
 
 -- dice for its id, and 128 bytes for each character of its password, of which the first is accepted
 abbrev pub adding_dice : List ℕ
-adding_dice = rising 18 0 ++ dice_left
+adding_dice =
+    0 ∷ 1 ∷ 2 ∷ 3 ∷ 4 ∷ 5 ∷ 6 ∷ 7 ∷ 8 ∷ 9 ∷ 10 ∷ 11 ∷ 12 ∷ 13 ∷ 14 ∷ 15 ∷ 16 ∷ 17 ∷ dice_left
 
 -- the files, with these dice
 abbrev pub with_dice : World

@@ -15,7 +15,7 @@ use Rattle.cli_words.specs.declared.command.Command.TheVariants.{Ls, Show, Searc
 use Rattle.cli_words.specs.declared.command.ExportFormat.TheVariants as format
 use Rattle.cli_words.specs.declared.command.ImportFormat.TheVariants as import_format
 use Rattle.content_condition_laws.specs.Conditions.{CanShowCode}
-use Rattle.completeness_laws.specs.Conditions.{CanChange}
+use Rattle.call_conditions.specs.Conditions.{CanChange}
 
 -- ---- a code
 

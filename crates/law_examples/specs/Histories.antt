@@ -5,10 +5,10 @@ use Rattle.cli_writing.specs.Writing.{NewFile}
 use Rattle.merge_examples.specs.Cases.{example_docs}
 use Rattle.keepass_call.specs.Call.{IsCall}
 use Rattle.keepass_call.specs.Outcome.{Counts, Seen, counts, seen}
-use Rattle.call_histories.specs.Copies.{CallSeen}
-use Rattle.call_histories.specs.Histories.{IsHistory, call, copied}
-use Rattle.call_examples.specs.Files.{three_files}
-use Rattle.call_examples.specs.Histories.{plain_copies}
+use Rattle.call_conditions.specs.Copies.{CallSeen}
+use Rattle.call_conditions.specs.Histories.{IsHistory, call, copied}
+use Rattle.law_examples.specs.Files.{three_files}
+use Rattle.law_examples.specs.PlainCopies.{plain_copies}
 use Rattle.law_examples.specs.Calls.{add_generated, adding_dice, dice_left, with_dice}
 
 -- what is seen before it: nothing was written; the files and the dice are reported

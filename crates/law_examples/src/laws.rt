@@ -3,7 +3,9 @@
 
 ghost use Rattle.law_examples.specs.Calls.{ExampleCalls, ExampleOutcomes, ExamplePassword};
 ghost use Rattle.law_examples.specs.Commands.{ExampleCode, ExampleCommands};
+ghost use Rattle.law_examples.specs.Files.{ThreeFilesAgree, TwoFilesAreMerged};
 ghost use Rattle.law_examples.specs.Histories.{ExampleHistory};
+ghost use Rattle.law_examples.specs.PlainCopies.{MergingIsAHistory};
 
 /// An entry whose code can be shown, with a field beside it: so the law of codes speaks of something.
 pub fn a_code_can_be_shown()
@@ -37,4 +39,22 @@ pub fn a_password_is_generated()
 /// something.
 pub fn a_call_begins_a_history()
     ensures { ExampleHistory }
+{}
+
+/// The three copies of the worked example, each in a plain file, meet the premise of the part
+/// `agreed_merge` of a call whose words merge two of them into the third.
+pub fn three_files_agree()
+    ensures { ThreeFilesAgree }
+{}
+
+/// Two plain files of a settled document meet the premise of the part `merge_again` of a call whose
+/// words merge the one into the other.
+pub fn two_files_are_merged()
+    ensures { TwoFilesAreMerged }
+{}
+
+/// Each call of the program that merges the three files with status 0 begins a history of them, which
+/// goes on with a copy of the first over the second.
+pub fn merging_is_a_history()
+    ensures { MergingIsAHistory }
 {}

@@ -1,5 +1,5 @@
-//! Worked cases that meet the premises of laws: of conditions, of outcomes, of generated passwords,
-//! and of histories of calls.
+//! Worked cases that meet the premises of laws: of conditions, of outcomes, of generated passwords, of
+//! merges of agreed copies and of merges made again, and of histories of calls.
 #![tactic(auto)]
 
 pub mod laws;

@@ -46,10 +46,11 @@ use Rattle.kdbx_seal.specs.Made.{made_file}
 use Rattle.kdbx_seal.specs.declared.fail.SealFail.{SealFail}
 use Rattle.cli_sealing.specs.Draws.{draws_of}
 use Rattle.cli_sealing.specs.Sealing.{file_by, file_unless, sealed_file, settings_for}
-use Rattle.keepass_call.specs.Outcome.{World, answer_of, command_answer, ended, outcome, page_or_answer, password_answer, password_or_command, printed_password}
+use Rattle.keepass_call.specs.Outcome.{World, answer_of, command_answer, ended, page_or_answer, password_answer, password_or_command, printed_password}
 use Rattle.call_reading.specs.Reading.{left_of}
 use Rattle.keepass_call.proofs.HeldTasks.{is_task}
-use Rattle.outcome_laws.specs.Named.{AgreeOn, OnlyNamedFilesCount, OnlyNamedIsWritten, PagesNeedNoFile, with_files}
+use Rattle.call_conditions.specs.Agreeing.{AgreeOn}
+use Rattle.outcome_laws.specs.Named.{OnlyNamedFilesCount, OnlyNamedIsWritten, PagesNeedNoFile, with_files}
 
 -- ---- phases over other files
 

@@ -1,6 +1,5 @@
 -- What a call results in depends on the files that its words name, and on no other.
 use Rattle.std.specs.Prelude.{◌≡◌, ℕ, List, Some}
-use Rattle.std.specs.FinMap as map
 use Rattle.outside_core.specs.Files.{FileMap}
 use Rattle.vault_model.specs.Join.{IsIn}
 use Rattle.cli_pages.specs.Pages.{page_of}
@@ -8,12 +7,7 @@ use Rattle.cli_words.specs.Needs.{files_named}
 use Rattle.cli_words.specs.Words.{command_of}
 use Rattle.cli_writing.specs.Writing.{NewFile}
 use Rattle.keepass_call.specs.Outcome.{World, outcome}
-
--- Two maps of files agree on these names: under each of them both have the same bytes, or neither
--- has a file.
-abbrev pub AgreeOn : List (List ℕ) → FileMap → FileMap → Type 0
-AgreeOn names files others = (name : List ℕ) → IsIn name names
-    → map.get files name ≡ map.get others name
+use Rattle.call_conditions.specs.Agreeing.{AgreeOn}
 
 -- A world with other files.
 abbrev pub with_files : World → FileMap → World

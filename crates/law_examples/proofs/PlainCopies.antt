@@ -11,11 +11,11 @@ use Rattle.keepass_call.specs.Call.{IsCall}
 use Rattle.keepass_call.specs.Held.{IsTask}
 use Rattle.keepass_call.specs.Outcome.{Counts, Seen, Tells}
 use Rattle.keepass_call.proofs.HeldTasks.{task_given}
-use Rattle.call_histories.specs.Copies.{AreApart, CallSeen, CopyHolds, OpensCopies}
-use Rattle.call_histories.specs.Histories.{IsCallOn}
-use Rattle.call_examples.specs.Files.{merge_three, plain_bytes, three_files, world_of}
-use Rattle.call_examples.specs.Histories.{MergingIsAHistory, merging, plain_copies}
-use Rattle.call_examples.proofs.Files.{found_first, found_second, found_third, says, three_is_task, three_task, write_first, write_second, write_third}
+use Rattle.call_conditions.specs.Copies.{AreApart, CallSeen, CopyHolds, OpensCopies}
+use Rattle.call_conditions.specs.Histories.{IsCallOn}
+use Rattle.law_examples.specs.Files.{merge_three, plain_bytes, three_files, world_of}
+use Rattle.law_examples.specs.PlainCopies.{MergingIsAHistory, merging, plain_copies}
+use Rattle.law_examples.proofs.Files.{found_first, found_second, found_third, says, three_is_task, three_task, write_first, write_second, write_third}
 
 -- names that are compared and found different are so
 differ : {A : Type 0} (a b : List ℕ) → is_id a a ≡ true → is_id a b ≡ false → a ≡ b → A

@@ -35,7 +35,7 @@ use Rattle.cli_files.specs.Files.{Opened, plain_document}
 use Rattle.cli_files.specs.Tasks.{Task}
 use Rattle.cli_databases.specs.Held.{HoldsSource, IsPlain}
 use Rattle.keepass_call.specs.Held.{IsTask}
-use Rattle.call_examples.specs.Files.{ThreeFilesAgree, TwoFilesAreMerged, merge_three, plain_bytes, three_files, two_files, world_of}
+use Rattle.law_examples.specs.Files.{ThreeFilesAgree, TwoFilesAreMerged, merge_three, plain_bytes, three_files, two_files, world_of}
 
 -- ---- documents that can be written, and are short
 

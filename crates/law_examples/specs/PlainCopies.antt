@@ -3,9 +3,9 @@ use Rattle.std.specs.Prelude.{ℕ, zero, suc, List, [], ◌∷◌, None, codes}
 use Rattle.merge_examples.specs.Cases.{example_docs}
 use Rattle.keepass_call.specs.Call.{IsCall}
 use Rattle.keepass_call.specs.Outcome.{Counts, Seen, Tells}
-use Rattle.call_histories.specs.Copies.{CallSeen, Copies}
-use Rattle.call_histories.specs.Histories.{IsHistory, call, copied}
-use Rattle.call_examples.specs.Files.{merge_three, three_files, world_of}
+use Rattle.call_conditions.specs.Copies.{CallSeen, Copies}
+use Rattle.call_conditions.specs.Histories.{IsHistory, call, copied}
+use Rattle.law_examples.specs.Files.{merge_three, three_files, world_of}
 
 -- the names of the three files
 abbrev pub name_of : ℕ → List ℕ

@@ -14,7 +14,7 @@ use Rattle.keepass_call.specs.Call.{IsCall}
 use Rattle.keepass_call.specs.Held.{IsTask}
 use Rattle.keepass_call.specs.Merges.{merges}
 use Rattle.keepass_call.specs.Outcome.{Tells, may_write_by}
-use Rattle.call_histories.specs.Copies.{AreApart, CallSeen, Copies, CopyHolds, Disks, OpensCopies}
+use Rattle.call_conditions.specs.Copies.{AreApart, CallSeen, Copies, CopyHolds, Disks, OpensCopies}
 
 -- ---- events
 

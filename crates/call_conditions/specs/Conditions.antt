@@ -1,5 +1,5 @@
 -- Under which conditions a call is carried out.
-use Rattle.std.specs.Prelude.{◌≡◌, ◌≤◌, ℕ, Bool, true, false, List, ◌∷◌, drop, Option, None, Some, Ok}
+use Rattle.std.specs.Prelude.{◌≡◌, ◌≤◌, ℕ, Bool, true, false, List, drop, Option, None, Some, Ok}
 use Rattle.time_core.specs.Times.{last_stamp}
 use Rattle.stream_core.specs.InnerStream.{NoKeystream}
 use Rattle.vault_model.specs.declared.forms.DocForm.TheVariants.{Plain}
@@ -8,7 +8,6 @@ use Rattle.vault_model.specs.Tree.{BareDoc, Tree}
 use Rattle.tree_core.specs.Finding.{without_slashes}
 use Rattle.condition_laws.specs.Conditions.{CanAdd, CanEdit, CanMakeGroup, CanMoveEntry, CanMoveGroup, CanRemoveEntry, CanRemoveGroup}
 use Rattle.generation_laws.specs.Conditions.{CanChoose}
-use Rattle.agreed_laws.specs.Merges.{AreDocs}
 use Rattle.content_condition_laws.specs.Conditions.{CanBeMerged, CanExport, CanSearch, CanShow, CanShowCode}
 use Rattle.doc_write.specs.Written.{write_outcome}
 use Rattle.kdbx_frame.specs.declared.settings.Settings.{Settings}
@@ -28,8 +27,8 @@ use Rattle.cli_changes.specs.Nodes.{names_group}
 use Rattle.tree_core.specs.Changes.{is_free}
 use Rattle.cli_commands.specs.Commands.{Change, bin_id, change_with, makes_node}
 use Rattle.cli_files.specs.Tasks.{Task}
-use Rattle.call_carrying.specs.Endings.{Ending, change_of_task, settings_in}
-use Rattle.keepass_call.specs.Held.{IsCarried, IsTask}
+use Rattle.call_carrying.specs.Endings.{change_of_task, settings_in}
+use Rattle.keepass_call.specs.Held.{IsTask}
 use Rattle.keepass_call.specs.Outcome.{World}
 
 -- ---- the command
@@ -87,15 +86,6 @@ CanChange time (Export access format file) otp sources settings id d = CanExport
 CanChange time (EditFile access file change) otp sources settings id d = Unit {0}
 CanChange time (Info access file) otp sources settings id d = Unit {0}
 
--- Under its condition a command is not refused on a document, at a moment of the calendar.
-abbrev pub CommandsSucceed : Type 0
-CommandsSucceed = (time : ℕ) (command : Command) (line otp : Option (List ℕ))
-    (sources : List BareDoc) (settings : Option Settings) (passed : List (List ℕ)) (id : NodeId)
-    (d : BareDoc)
-    → time ≤ last_stamp → AreDocs (d ∷ sources)
-    → CanChange time command otp sources settings id d
-    → Answers time command line otp sources settings passed id d
-
 -- ---- the call
 
 -- The id of a node that a command makes, of the dice.
@@ -136,14 +126,3 @@ pub record CanBeCarried (words : List (List ℕ)) (time : ℕ) (world : World) :
   pub fits : (change : Change) (d : BareDoc)
       → (change_of_task time task world.dice).answer ≡ Ok change → change.doc ≡ Some d
       → FitsFile task.opened.sealing d (change_of_task time task world.dice).left
-
--- A call ends in some way as it is defined, without a refusal.
-pub record IsCarriedOut (words : List (List ℕ)) (time : ℕ) (world : World) : Type 0 where
-  pub ending : Ending
-  pub is : IsCarried words time world ending
-
--- Such a call can be carried out.
-abbrev pub ConditionsSuffice : Type 0
-ConditionsSuffice = (words : List (List ℕ)) (time : ℕ) (world : World)
-    → CanBeCarried words time world
-    → IsCarriedOut words time world

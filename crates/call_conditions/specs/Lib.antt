@@ -1,0 +1,4 @@
+pub mod Agreeing
+pub mod Conditions
+pub mod Copies
+pub mod Histories

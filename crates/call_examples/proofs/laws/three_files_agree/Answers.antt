@@ -1,5 +1,0 @@
-use Rattle.call_examples.proofs.Files.{three_files_agree}
-use Rattle.call_examples.proofs.laws.three_files_agree.Goals as goal
-
-pub returns : goal.returns
-returns c = three_files_agree
