@@ -1,7 +1,6 @@
 -- How a task is carried out.
-use Rattle.std.proofs.Common.{◌≡◌, ◌≤◌, ◌+◌, ℕ, List, drop, refl, inl, sym, ◌∙◌, ap, subst, Bool, true, false, Option, Some, None, option_map, Result, Ok, Err}
+use Rattle.std.proofs.Common.{◌≡◌, ◌≤◌, ℕ, List, refl, inl, sym, ◌∙◌, ap, subst, Bool, true, false, Option, Some, None, option_map, Result, Ok, Err}
 use Rattle.std.specs.Prelude.{◌&&◌, ◌||◌, IfErr, IfOk, IfSome, OnErr, OnOk, is_some, not}
-use Rattle.outside_core.specs.Streams.{LosesPrefix}
 use Rattle.vault_model.specs.Tree.{BareDoc}
 use Rattle.kdbx_frame.specs.Settings.{IsInOrder}
 use Rattle.kdbx_frame.specs.declared.settings.Settings.{Settings}
@@ -53,6 +52,11 @@ plain_stop (Err (Refused refusal)) name faults faults' dice h = h
 plain_stop (Err (FileFault told)) name faults faults' dice h = h
 plain_stop (Err InputFault) name faults faults' dice h = absurd h
 plain_stop (Err NoMemory) name faults faults' dice h = tt
+
+-- A plain document was written, and nothing was drawn.
+pub plain_kept : (result : Result (Unit {0}) Stop) (faults faults' dice : ℕ) → OnOk result (faults' ≡ faults) → OnOk result ((faults' ≡ faults) × (dice ≡ dice))
+plain_kept (Ok u) faults faults' dice h = (h, refl)
+plain_kept (Err stop) faults faults' dice h = tt
 
 pub keeps_draft : (result : Result (Unit {0}) Stop) (defined : Result NewFile Refusal) (before now : Store)
     → Writes result defined before now → OnErr result (KeepsFiles before now) → KeepsDraft before now

@@ -107,6 +107,8 @@ fn write_anew<F: FileStore, D: Dice>(
     ensures stream { LosesPrefix (D.stream dice.old) (D.stream dice.new) }
     ensures cause { IfErr result (IsCommandStop name.now (F.faults files.old) (F.faults files.new)
         (D.faults dice.old) (D.faults dice.new)) }
+    ensures faultless { OnOk result ((F.faults files.new ≡ F.faults files.old)
+        × (D.faults dice.new ≡ D.faults dice.old)) }
 {
     match sealing {
         None => write_plain(alloc, files, name, doc),
@@ -149,6 +151,8 @@ fn write_if<F: FileStore, D: Dice>(
     ensures stream { LosesPrefix (D.stream dice.old) (D.stream dice.new) }
     ensures cause { IfErr result (IsCommandStop name.now (F.faults files.old) (F.faults files.new)
         (D.faults dice.old) (D.faults dice.new)) }
+    ensures faultless { OnOk result ((F.faults files.new ≡ F.faults files.old)
+        × (D.faults dice.new ≡ D.faults dice.old)) }
 {
     if is_written {
         write_anew(alloc, files, dice, name, &opened.doc, &mut opened.sealing)
@@ -200,6 +204,8 @@ fn carry_out_on<F: FileStore, D: Dice>(
     ensures stream { LosesPrefix (D.stream dice.old) (D.stream dice.new) }
     ensures cause { IfErr result (IsCommandStop (target_of task.old.command)
         (F.faults files.old) (F.faults files.new) (D.faults dice.old) (D.faults dice.new)) }
+    ensures faultless { OnOk result ((F.faults files.new ≡ F.faults files.old)
+        × (D.faults dice.new ≡ D.faults dice.old)) }
 {
     let input = CommandInput {
         line: bytes_in(&task.lines.more),
@@ -263,6 +269,8 @@ pub fn carry_out<F: FileStore, D: Dice>(
     ensures stream { LosesPrefix (D.stream dice.old) (D.stream dice.new) }
     ensures cause { IfErr result (IsCommandStop (target_of task.command)
         (F.faults files.old) (F.faults files.new) (D.faults dice.old) (D.faults dice.new)) }
+    ensures faultless { OnOk result ((F.faults files.new ≡ F.faults files.old)
+        × (D.faults dice.new ≡ D.faults dice.old)) }
 {
     clear_unless(may_write(&task.command), &mut task.opened.sealing);
     let answer = carry_out_on(alloc, files, dice, &mut task, now);

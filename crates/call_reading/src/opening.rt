@@ -1,5 +1,5 @@
 //! The databases of a command.
-ghost use Rattle.std.specs.Prelude.{◌≡◌, ◌≤◌, IfErr, IfOk, IfSome, Ok, Some};
+ghost use Rattle.std.specs.Prelude.{◌≡◌, ◌≤◌, IfErr, IfOk, IfSome, Ok, Some, OnOk};
 ghost use Rattle.outside_core.specs.Files.{FileMap};
 ghost use Rattle.kdbx_frame.specs.Settings.{IsInOrder};
 ghost use Rattle.cli_answers.specs.Phases.{IsFileStop, Returns};
@@ -60,6 +60,7 @@ pub fn open_for<F: FileStore>(
     ensures files { F.files files.new ≡ F.files files.old }
     ensures draft_name { F.draft_name files.new ≡ F.draft_name files.old }
     ensures draft_bytes { F.draft_bytes files.new ≡ F.draft_bytes files.old }
+    ensures faultless { OnOk result (F.faults files.new ≡ F.faults files.old) }
 {
     let needs = cli_words::needs_of(command);
     match origin_of(command) {

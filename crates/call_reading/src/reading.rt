@@ -1,5 +1,5 @@
 //! What a call is to do, from its words, its input and its files.
-ghost use Rattle.std.specs.Prelude.{◌≡◌, ◌≤◌, ℕ, List, Ok, Err, Some, IfErr, IfOk, IfSome, is_some, map, not, string_bytes};
+ghost use Rattle.std.specs.Prelude.{◌≡◌, ◌≤◌, ℕ, List, Ok, Err, Some, IfErr, IfOk, IfSome, is_some, map, not, string_bytes, OnOk};
 ghost use Rattle.outside_core.specs.Files.{FileMap};
 ghost use Rattle.kdbx_frame.specs.Settings.{IsInOrder};
 ghost use Rattle.cli_answers.specs.Phases.{IsEarlyStop, IsWordsStop, Leaves, Returns, TellsStream};
@@ -59,6 +59,8 @@ pub fn read_task<F: FileStore, S: Source>(
     ensures files { F.files files.new ≡ F.files files.old }
     ensures draft_name { F.draft_name files.new ≡ F.draft_name files.old }
     ensures draft_bytes { F.draft_bytes files.new ≡ F.draft_bytes files.old }
+    ensures faultless { OnOk result ((F.faults files.new ≡ F.faults files.old)
+        × (S.faults input.new ≡ S.faults input.old)) }
 {
     let command = read_words(alloc, words)?;
     let needs = cli_words::needs_of(&command);

@@ -1,5 +1,5 @@
 //! The ids of the nodes that commands make.
-ghost use Rattle.std.specs.Prelude.{◌≡◌, ◌≤◌, ℕ, List, IfErr, IfOk, Ok, false};
+ghost use Rattle.std.specs.Prelude.{◌≡◌, ◌≤◌, ℕ, List, IfErr, IfOk, Ok, false, OnOk};
 ghost use Rattle.outside_core.specs.Counts.{Increased};
 ghost use Rattle.outside_core.specs.Streams.{LosesPrefix};
 ghost use Rattle.vault_model.specs.SeenDoc.{doc_seen};
@@ -48,6 +48,7 @@ pub(crate) fn draw_if<D: Dice>(dice: &mut D, is_made: bool) -> Result<Uuid, Dice
     ensures stream { LosesPrefix (D.stream dice.old) (D.stream dice.new) }
     ensures cause { IfErr result (λ _. Increased (D.faults dice.old) (D.faults dice.new)) }
     ensures faults { D.faults dice.old ≤ D.faults dice.new }
+    ensures faultless { OnOk result (D.faults dice.new ≡ D.faults dice.old) }
 {
     if !is_made {
         return Ok(Uuid::nil());

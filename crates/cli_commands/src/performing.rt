@@ -463,6 +463,7 @@ fn change_by<D: Dice>(
     ensures stream { LosesPrefix (D.stream dice.old) (D.stream dice.new) }
     ensures cause { IfErr result (IsStreamStop (D.faults dice.old) (D.faults dice.new)) }
     ensures faults { D.faults dice.old ≤ D.faults dice.new }
+    ensures faultless { OnOk result (D.faults dice.new ≡ D.faults dice.old) }
 {
     let Some(profile) = cli_words::generated_by(command) else {
         return change_document(alloc, command, input, id, doc);
@@ -508,6 +509,7 @@ pub fn perform<'a, D: Dice>(
     ensures stream { LosesPrefix (D.stream dice.old) (D.stream dice.new) }
     ensures cause { IfErr result (IsStreamStop (D.faults dice.old) (D.faults dice.new)) }
     ensures faults { D.faults dice.old ≤ D.faults dice.new }
+    ensures faultless { OnOk result (D.faults dice.new ≡ D.faults dice.old) }
 {
     match draw_if(dice, makes_node(command, doc)) {
         Ok(id) => change_by(alloc, dice, command, input, id, doc),

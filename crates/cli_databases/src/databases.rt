@@ -111,6 +111,7 @@ fn open_plain<F: FileStore>(alloc: Global, files: &mut F, name: &str) -> Result<
         (F.faults files.new) (F.absences files.old) (F.absences files.new)) }
     ensures leaves { LeavesFiles F.files F.draft_name F.draft_bytes F.faults F.absences files.old
         files.new }
+    ensures faultless { OnOk result (F.faults files.new ≡ F.faults files.old) }
 {
     match read_file(alloc, files, name, FILE_LIMIT) {
         Ok(bytes) => build(alloc, name, bytes),
@@ -159,6 +160,7 @@ fn open_under<F: FileStore>(
         (F.faults files.new) (F.absences files.old) (F.absences files.new)) }
     ensures leaves { LeavesFiles F.files F.draft_name F.draft_bytes F.faults F.absences files.old
         files.new }
+    ensures faultless { OnOk result (F.faults files.new ≡ F.faults files.old) }
 {
     match open_file(alloc, files, name, composite) {
         Ok(opened) => Ok(sealed_by(alloc, opened)),
@@ -187,6 +189,7 @@ pub fn open_sealed<F: FileStore>(
         (F.faults files.new) (F.absences files.old) (F.absences files.new)) }
     ensures leaves { LeavesFiles F.files F.draft_name F.draft_bytes F.faults F.absences files.old
         files.new }
+    ensures faultless { OnOk result (F.faults files.new ≡ F.faults files.old) }
 {
     open_under(alloc, files, name, composite(password, key))
 }
@@ -211,6 +214,7 @@ fn open_held<F: FileStore>(
         (F.faults files.old) (F.faults files.new) (F.absences files.old) (F.absences files.new)) }
     ensures leaves { LeavesFiles F.files F.draft_name F.draft_bytes F.faults F.absences files.old
         files.new }
+    ensures faultless { OnOk result (F.faults files.new ≡ F.faults files.old) }
 {
     if access.plain {
         return open_plain(alloc, files, file);
@@ -264,6 +268,7 @@ fn open_source<F: FileStore>(
         (F.faults files.old) (F.faults files.new) (F.absences files.old) (F.absences files.new)) }
     ensures leaves { LeavesFiles F.files F.draft_name F.draft_bytes F.faults F.absences files.old
         files.new }
+    ensures faultless { OnOk result (F.faults files.new ≡ F.faults files.old) }
 {
     match open_held(alloc, files, from, name.as_str(), password) {
         Ok(opened) => Ok(document(opened)),
@@ -309,6 +314,7 @@ fn open_sources<F: FileStore>(
         (F.faults files.old) (F.faults files.new) (F.absences files.old) (F.absences files.new)) }
     ensures leaves { LeavesFiles F.files F.draft_name F.draft_bytes F.faults F.absences files.old
         files.new }
+    ensures faultless { OnOk result (F.faults files.new ≡ F.faults files.old) }
 {
     let [name, names @ ..] = needs.sources else {
         return Ok(());
@@ -348,6 +354,7 @@ fn open_all<F: FileStore>(
         (F.faults files.old) (F.faults files.new) (F.absences files.old) (F.absences files.new)) }
     ensures leaves { LeavesFiles F.files F.draft_name F.draft_bytes F.faults F.absences files.old
         files.new }
+    ensures faultless { OnOk result (F.faults files.new ≡ F.faults files.old) }
 {
     let mut docs = List::new(alloc);
     let target = bytes_in(&lines.password);
@@ -390,6 +397,7 @@ pub fn open<F: FileStore>(
         (F.faults files.old) (F.faults files.new) (F.absences files.old) (F.absences files.new)) }
     ensures leaves { LeavesFiles F.files F.draft_name F.draft_bytes F.faults F.absences files.old
         files.new }
+    ensures faultless { OnOk result (F.faults files.new ≡ F.faults files.old) }
 {
     let password = bytes_in(&lines.password);
     let target = open_held(alloc, files, needs.access, needs.file.as_str(), password)?;

@@ -1,5 +1,5 @@
 //! The keys of key files.
-ghost use Rattle.std.specs.Prelude.{◌≡◌, ◌≢◌, [], ◌∷◌, IfErr, IfOk, IsSome, Some, option_map};
+ghost use Rattle.std.specs.Prelude.{◌≡◌, ◌≢◌, [], ◌∷◌, IfErr, IfOk, IsSome, Some, option_map, OnOk};
 ghost use Rattle.std.specs.FinMap as finmap;
 ghost use Rattle.outside_core.specs.Files.{FileMap};
 ghost use Rattle.key_core.specs.KeyFile.{key_file_key};
@@ -54,6 +54,7 @@ fn open_key_file<F: FileStore>(alloc: Global, files: &mut F, name: &str) -> Resu
         (F.faults files.new) (F.absences files.old) (F.absences files.new)) }
     ensures leaves { LeavesFiles F.files F.draft_name F.draft_bytes F.faults F.absences files.old
         files.new }
+    ensures faultless { OnOk result (F.faults files.new ≡ F.faults files.old) }
 {
     match read_file(alloc, files, name, FILE_LIMIT) {
         Ok(bytes) => key_by(alloc, name, &bytes),
@@ -77,6 +78,7 @@ pub fn key_of<F: FileStore>(
         (F.absences files.old) (F.absences files.new)) }
     ensures leaves { LeavesFiles F.files F.draft_name F.draft_bytes F.faults F.absences files.old
         files.new }
+    ensures faultless { OnOk result (F.faults files.new ≡ F.faults files.old) }
 {
     match key_file {
         Some(name) => match open_key_file(alloc, files, name) {

@@ -1,5 +1,5 @@
 //! A password that the dice choose.
-ghost use Rattle.std.specs.Prelude.{◌≡◌, ◌<◌, ◌≤◌, ℕ, List, Some, IfErr, IfOk, true};
+ghost use Rattle.std.specs.Prelude.{◌≡◌, ◌<◌, ◌≤◌, ℕ, List, Some, IfErr, IfOk, true, OnOk};
 ghost use Rattle.std.specs.List.{All};
 ghost use Rattle.std.specs.Str.{is_utf8};
 ghost use Rattle.outside_core.specs.Streams.{LosesPrefix};
@@ -39,6 +39,7 @@ pub fn choose_password<D: Dice>(
     ensures stream { LosesPrefix (D.stream dice.old) (D.stream dice.new) }
     ensures cause { IfErr result (IsStreamStop (D.faults dice.old) (D.faults dice.new)) }
     ensures faults { D.faults dice.old ≤ D.faults dice.new }
+    ensures faultless { OnOk result (D.faults dice.new ≡ D.faults dice.old) }
 {
     match generate(alloc, dice, alphabet, length) {
         Ok(password) => Ok(password),

@@ -1,5 +1,5 @@
 //! The database that an import makes.
-ghost use Rattle.std.specs.Prelude.{◌≡◌, [], ◌∷◌, IfErr, IfOk, IfSome, Some, option_map};
+ghost use Rattle.std.specs.Prelude.{◌≡◌, [], ◌∷◌, IfErr, IfOk, IfSome, Some, option_map, OnOk};
 ghost use Rattle.std.specs.FinMap as finmap;
 ghost use Rattle.outside_core.specs.Files.{FileMap};
 ghost use Rattle.kdbx_frame.specs.Settings.{IsInOrder};
@@ -42,6 +42,7 @@ pub fn refuse_existing<F: FileStore>(alloc: Global, files: &mut F, name: &str) -
         (F.faults files.new) (F.absences files.old) (F.absences files.new)) }
     ensures leaves { LeavesFiles F.files F.draft_name F.draft_bytes F.faults F.absences files.old
         files.new }
+    ensures faultless { OnOk result (F.faults files.new ≡ F.faults files.old) }
 {
     match files.size(name) {
         Ok(_) => Err(refused(alloc, Reason::FileExists, name)),
@@ -103,6 +104,7 @@ pub fn new_sealing<F: FileStore>(
         (F.faults files.old) (F.faults files.new) (F.absences files.old) (F.absences files.new)) }
     ensures leaves { LeavesFiles F.files F.draft_name F.draft_bytes F.faults F.absences files.old
         files.new }
+    ensures faultless { OnOk result (F.faults files.new ≡ F.faults files.old) }
 {
     if access.plain {
         return Ok(None);
@@ -143,6 +145,7 @@ pub fn import<F: FileStore>(
         (F.faults files.old) (F.faults files.new) (F.absences files.old) (F.absences files.new)) }
     ensures leaves { LeavesFiles F.files F.draft_name F.draft_bytes F.faults F.absences files.old
         files.new }
+    ensures faultless { OnOk result (F.faults files.new ≡ F.faults files.old) }
 {
     let source = read_source(alloc, files, import, bytes_in(&lines.password), now)?;
     if let Err(stop) = refuse_existing(alloc, files, import.file.as_str()) {

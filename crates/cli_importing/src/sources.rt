@@ -1,5 +1,5 @@
 //! The source of an import, and the document that it is.
-ghost use Rattle.std.specs.Prelude.{◌≡◌, ◌≢◌, ℕ, List, [], ◌∷◌, IfErr, IfOk, Some, option_map};
+ghost use Rattle.std.specs.Prelude.{◌≡◌, ◌≢◌, ℕ, List, [], ◌∷◌, IfErr, IfOk, Some, option_map, OnOk};
 ghost use Rattle.bitwarden_core.specs.Documents.{bitwarden_document};
 ghost use Rattle.outside_core.specs.Files.{FileMap};
 ghost use Rattle.psafe_core.specs.Outcome.{psafe_outcome};
@@ -280,6 +280,7 @@ pub(crate) fn read_source<F: FileStore>(
         (F.faults files.new) (F.absences files.old) (F.absences files.new)) }
     ensures leaves { LeavesFiles F.files F.draft_name F.draft_bytes F.faults F.absences files.old
         files.new }
+    ensures faultless { OnOk result (F.faults files.new ≡ F.faults files.old) }
 {
     let name = import.source.as_str();
     match read_file(alloc, files, name, FILE_LIMIT) {

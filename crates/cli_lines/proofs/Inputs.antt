@@ -1,6 +1,6 @@
 -- What is left of the input, where it reports that or where no line is due.
 use Rattle.std.proofs.Common.{◌≡◌, ◌≤◌, ℕ, List, refl, inl, inr, sym, ◌∙◌, ap, subst, arith, Bool, true, false, ◌||◌, Option, Some, None, option_map, Result, Ok, Err}
-use Rattle.std.specs.Prelude.{IfErr}
+use Rattle.std.specs.Prelude.{IfErr, OnOk}
 use Rattle.outside_core.specs.Counts.{Increased}
 use Rattle.cli_answers.specs.declared.answers.Refusal.{Refusal}
 use Rattle.cli_answers.specs.declared.answers.Stop.{Stop}
@@ -123,3 +123,9 @@ stops_later (Err (Refused refusal)) before mid now p h = h
 stops_later (Err (FileFault name)) before mid now p h = h
 stops_later (Err InputFault) before mid now p h = rose_before before mid now p h
 stops_later (Err NoMemory) before mid now p h = tt
+
+-- A count that a phase kept, and a later phase where it went well.
+pub kept_later : {X : Type 0} (result : Result X Stop) (before mid now : ℕ) → mid ≡ before → OnOk result (now ≡ mid)
+    → OnOk result (now ≡ before)
+kept_later (Ok x) before mid now same h = h ∙ same
+kept_later (Err stop) before mid now same h = tt

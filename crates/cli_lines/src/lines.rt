@@ -148,6 +148,7 @@ fn fill_line<S: Source>(
     ensures text { OnOk result (is_utf8 line.new.bytes ≡ true) }
     ensures cause { IfErr result (IsStreamStop (S.faults input.old) (S.faults input.new)) }
     ensures faults { S.faults input.old ≤ S.faults input.new }
+    ensures faultless { OnOk result (S.faults input.new ≡ S.faults input.old) }
 {
     let first = match next_byte(input, window) {
         Ok(Some(first)) => first,
@@ -169,6 +170,7 @@ fn read_line<S: Source>(alloc: Global, input: &mut S, number: u64) -> Result<Sec
     ensures text { IfOk result (λ line. is_utf8 line.bytes ≡ true) }
     ensures cause { IfErr result (IsStreamStop (S.faults input.old) (S.faults input.new)) }
     ensures faults { S.faults input.old ≤ S.faults input.new }
+    ensures faultless { OnOk result (S.faults input.new ≡ S.faults input.old) }
 {
     let Ok(mut window) = window(alloc) else {
         return Err(Stop::NoMemory);
@@ -202,6 +204,7 @@ fn read_if<S: Source>(
     ensures text { IfOk result (λ line. IsTextLine (line_seen line)) }
     ensures cause { IfErr result (IsStreamStop (S.faults input.old) (S.faults input.new)) }
     ensures faults { S.faults input.old ≤ S.faults input.new }
+    ensures faultless { OnOk result (S.faults input.new ≡ S.faults input.old) }
 {
     if !due {
         return Ok(None);
@@ -244,6 +247,7 @@ fn read_sources<S: Source>(
         ≡ map is_some (map line_seen lines.old) ++ map (λ name. due) names.now) }
     ensures cause { IfErr result (IsStreamStop (S.faults input.old) (S.faults input.new)) }
     ensures faults { S.faults input.old ≤ S.faults input.new }
+    ensures faultless { OnOk result (S.faults input.new ≡ S.faults input.old) }
 {
     let [_, names @ ..] = names else {
         return Ok(number);
@@ -305,6 +309,7 @@ fn read_passwords<S: Source>(
         (needs_seen needs.entry).sources) }
     ensures cause { IfErr result (IsStreamStop (S.faults input.old) (S.faults input.new)) }
     ensures faults { S.faults input.old ≤ S.faults input.new }
+    ensures faultless { OnOk result (S.faults input.new ≡ S.faults input.old) }
 {
     let due = cli_words::asks_passwords_from(needs);
     read_sources(alloc, input, due, needs.sources, number, lines)
@@ -334,6 +339,7 @@ fn read_last<S: Source>(
     ensures text { IfOk result (λ last. AreTextLines (line_seen last.more) (line_seen last.otp)) }
     ensures cause { IfErr result (IsStreamStop (S.faults input.old) (S.faults input.new)) }
     ensures faults { S.faults input.old ≤ S.faults input.new }
+    ensures faultless { OnOk result (S.faults input.new ≡ S.faults input.old) }
 {
     let more = read_if(alloc, input, needs.has_line, number)?;
     let Ok(next) = number_after(needs.has_line, number) else {
@@ -371,6 +377,7 @@ fn read_more<S: Source>(
         (lines_seen lines).otp) }
     ensures cause { IfErr result (IsStreamStop (S.faults input.old) (S.faults input.new)) }
     ensures faults { S.faults input.old ≤ S.faults input.new }
+    ensures faultless { OnOk result (S.faults input.new ≡ S.faults input.old) }
 {
     match read_last(alloc, input, needs, number) {
         Ok(last) => Ok(Lines {
@@ -407,6 +414,7 @@ fn read_after<S: Source>(
         (lines_seen lines).otp) }
     ensures cause { IfErr result (IsStreamStop (S.faults input.old) (S.faults input.new)) }
     ensures faults { S.faults input.old ≤ S.faults input.new }
+    ensures faultless { OnOk result (S.faults input.new ≡ S.faults input.old) }
 {
     let mut sources = List::new(alloc);
     match read_passwords(alloc, input, needs, number, &mut sources) {
@@ -429,6 +437,7 @@ pub fn read_lines<S: Source>(alloc: Global, input: &mut S, needs: Needs<'_>) -> 
         (lines_seen lines).otp) }
     ensures cause { IfErr result (IsStreamStop (S.faults input.old) (S.faults input.new)) }
     ensures faults { S.faults input.old ≤ S.faults input.new }
+    ensures faultless { OnOk result (S.faults input.new ≡ S.faults input.old) }
 {
     let asks = asks_password(needs.access);
     match read_if(alloc, input, asks, 1) {

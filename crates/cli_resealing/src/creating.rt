@@ -1,5 +1,5 @@
 //! The database that is made empty.
-ghost use Rattle.std.specs.Prelude.{◌≡◌, [], ◌∷◌, IfErr, IfOk, IfSome, None, Ok, Some};
+ghost use Rattle.std.specs.Prelude.{◌≡◌, [], ◌∷◌, IfErr, IfOk, IfSome, None, Ok, Some, OnOk};
 ghost use Rattle.outside_core.specs.Files.{FileMap};
 ghost use Rattle.vault_model.specs.SeenDoc.{doc_seen};
 ghost use Rattle.vault_model.specs.Empty.{empty_tree, new_group, new_meta};
@@ -152,6 +152,7 @@ pub fn create<F: FileStore>(
         (F.faults files.old) (F.faults files.new) (F.absences files.old) (F.absences files.new)) }
     ensures leaves { LeavesFiles F.files F.draft_name F.draft_bytes F.faults F.absences files.old
         files.new }
+    ensures faultless { OnOk result (F.faults files.new ≡ F.faults files.old) }
 {
     let file = create.file.as_str();
     refuse_existing(alloc, files, file)?;

@@ -1,5 +1,5 @@
 //! The database whose file is changed.
-ghost use Rattle.std.specs.Prelude.{◌≡◌, ◌++◌, ◌⊎◌, IfErr, IfOk, IfSome, IsSome, ℕ, List, Option, Some, option_map};
+ghost use Rattle.std.specs.Prelude.{◌≡◌, ◌++◌, ◌⊎◌, IfErr, IfOk, IfSome, IsSome, ℕ, List, Option, Some, option_map, OnOk};
 ghost use Rattle.outside_core.specs.Files.{FileMap};
 ghost use Rattle.kdbx_frame.specs.Settings.{IsInOrder};
 ghost use Rattle.cli_answers.specs.Phases.{IsFileStop, Returns};
@@ -70,6 +70,7 @@ fn new_key<F: FileStore>(
         (F.faults files.old) (F.faults files.new) (F.absences files.old) (F.absences files.new)) }
     ensures leaves { LeavesFiles F.files F.draft_name F.draft_bytes F.faults F.absences files.old
         files.new }
+    ensures faultless { OnOk result (F.faults files.new ≡ F.faults files.old) }
 {
     match change {
         KeyFileChange::Keep => Ok(old),
@@ -164,6 +165,7 @@ fn change_file<F: FileStore>(
         (F.faults files.old) (F.faults files.new) (F.absences files.old) (F.absences files.new)) }
     ensures leaves { LeavesFiles F.files F.draft_name F.draft_bytes F.faults F.absences files.old
         files.new }
+    ensures faultless { OnOk result (F.faults files.new ≡ F.faults files.old) }
 {
     let OpenedWithKey { opened, key } = before;
     match new_key(alloc, files, &change.key_file, key) {
@@ -206,6 +208,7 @@ pub fn edit_file<F: FileStore>(
         (F.faults files.old) (F.faults files.new) (F.absences files.old) (F.absences files.new)) }
     ensures leaves { LeavesFiles F.files F.draft_name F.draft_bytes F.faults F.absences files.old
         files.new }
+    ensures faultless { OnOk result (F.faults files.new ≡ F.faults files.old) }
 {
     let file = needs.file.as_str();
     let key = key_of(alloc, files, name_in(&needs.access.key_file))?;

@@ -70,6 +70,7 @@ fn draw_for<D: Dice>(settings: &Settings, dice: &mut D) -> Result<Draws, DiceFai
     ensures drawn { IfOk result (λ draws. AreDrawn settings.now draws) }
     ensures stream { LosesPrefix (D.stream dice.old) (D.stream dice.new) }
     ensures cause { IfErr result (λ _. Increased (D.faults dice.old) (D.faults dice.new)) }
+    ensures faultless { OnOk result (D.faults dice.new ≡ D.faults dice.old) }
 {
     match draw(settings, dice) {
         Ok(draws) => Ok(draws),
@@ -107,6 +108,8 @@ fn seal<F: FileStore, D: Dice>(
     ensures stream { LosesPrefix (D.stream dice.old) (D.stream dice.new) }
     ensures cause { IfErr result (IsCommandStop name.now (F.faults files.old) (F.faults files.new)
         (D.faults dice.old) (D.faults dice.new)) }
+    ensures faultless { OnOk result ((F.faults files.new ≡ F.faults files.old)
+        × (D.faults dice.new ≡ D.faults dice.old)) }
 {
     let draws = match draw_for(&sealing.settings, dice) {
         Ok(draws) => draws,
@@ -160,6 +163,8 @@ pub fn write_sealed<F: FileStore, D: Dice>(
     ensures cause { IfErr result (IsCommandStop name.now (F.faults files.old) (F.faults files.new)
         (D.faults dice.old) (D.faults dice.new)) }
     ensures composite { sealing.new.composite ≡ sealing.old.composite }
+    ensures faultless { OnOk result ((F.faults files.new ≡ F.faults files.old)
+        × (D.faults dice.new ≡ D.faults dice.old)) }
 {
     raise(&mut sealing.settings, doc);
     seal(alloc, files, dice, name, doc, sealing)

@@ -1,5 +1,5 @@
 -- What is drawn from the dice, and what is gone from them.
-use Rattle.std.proofs.Common.{◌≡◌, ◌≤◌, ℕ, List, ◌++◌, Option, None, Some, option_map, length, drop, take, replicate, refl, sym, ap, ◌∙◌, arith}
+use Rattle.std.proofs.Common.{◌≡◌, ◌≤◌, ℕ, List, ◌++◌, Option, None, Some, option_map, length, drop, take, replicate, sym, ap, ◌∙◌, arith}
 use Rattle.std.proofs.lemmas.List.{drop-append-le, drop_all, length-append, length-take-le, take-append-le, take_all}
 use Rattle.outside_core.specs.Streams.{LosesPrefix}
 use Rattle.cli_writing.specs.Drawing.{next_bytes}

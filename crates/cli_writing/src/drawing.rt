@@ -1,5 +1,5 @@
 //! What a command draws for the ids of new nodes.
-ghost use Rattle.std.specs.Prelude.{◌≡◌, ◌≤◌, ℕ, List, drop, length, IfErr, IfOk, Some};
+ghost use Rattle.std.specs.Prelude.{◌≡◌, ◌≤◌, ℕ, List, drop, length, IfErr, IfOk, Some, OnOk};
 ghost use Rattle.outside_core.specs.Counts.{Increased};
 ghost use Rattle.outside_core.specs.Streams.{LosesPrefix};
 ghost use Rattle.cli_writing.specs.Drawing.{next_bytes};
@@ -23,6 +23,7 @@ pub fn draw_id<D: Dice>(dice: &mut D) -> Result<[u8; 16], DiceFail>
     ensures stream { LosesPrefix (D.stream dice.old) (D.stream dice.new) }
     ensures cause { IfErr result (λ _. Increased (D.faults dice.old) (D.faults dice.new)) }
     ensures faults { D.faults dice.old ≤ D.faults dice.new }
+    ensures faultless { OnOk result (D.faults dice.new ≡ D.faults dice.old) }
 {
     match Fresh::<16>::draw(dice, 16) {
         Ok(fresh) => {

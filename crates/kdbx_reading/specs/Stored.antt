@@ -1,5 +1,5 @@
 -- What reading a payload from a store of files answers.
-use Rattle.std.specs.Prelude.{◌≡◌, ℕ, ◌≤◌, ◌<◌, List, length, take, Option, Some, None, option_map, IfSome, IsErrOf, Result, Ok, Err}
+use Rattle.std.specs.Prelude.{◌≡◌, ℕ, ◌≤◌, ◌<◌, List, length, take, Option, Some, None, option_map, IfSome, IsErrOf, OnOk, Result, Ok, Err}
 use Rattle.std.specs.FinMap as map
 use Rattle.outside_core.specs.Counts.{Increased}
 use Rattle.outside_core.specs.Files.{FileMap}
@@ -78,11 +78,12 @@ PayloadOfName seen files name limit composite result = (file : Option (List ℕ)
     × (IfSome files (λ m. map.get m name ≡ file) × PayloadIsRead seen file limit composite result)
 
 -- What each answer shows of the store's counts, which never fall, and of the limit, whether or not
--- the store reports its files.
+-- the store reports its files: where the file was read, the count of faults is as it was.
 pub record HasCauseOfReading {X : Type 0} (faults_before faults_now absences_before absences_now limit : ℕ)
     (result : Result X ReadFail) : Type 0 where
   pub faults_later : faults_before ≤ faults_now
   pub absences_later : absences_before ≤ absences_now
   pub fault : IsErrOf result FileFault → Increased faults_before faults_now
+  pub kept : OnOk result (faults_now ≡ faults_before)
   pub missing : IsErrOf result NoSuchFile → Increased absences_before absences_now
   pub large : (n : ℕ) → IsErrOf result (TooLarge n) → limit < n

@@ -1,6 +1,6 @@
 -- What a call answers, from its task.
 use Rattle.std.proofs.Common.{◌≡◌, ◌≤◌, ℕ, List, [], ◌∷◌, ◌++◌, refl, inl, inr, sym, ◌∙◌, ap, subst, arith, Bool, false, Option, None, Result, Ok, Err}
-use Rattle.std.specs.Prelude.{Contains, IfErr, IfOk, OnErr}
+use Rattle.std.specs.Prelude.{Contains, IfErr, IfOk, OnErr, OnOk}
 use Rattle.std.proofs.lemmas.List.Elements.{Contains-append_left, Contains-append_right}
 use Rattle.outside_core.specs.Counts.{Increased}
 use Rattle.cli_answers.specs.declared.answers.Refusal.{Refusal}
@@ -196,6 +196,17 @@ target_named (Create access file called cipher kdf) name is = (0, omega arith, i
 target_named (Export access format file) name is = opened_named (needs_of (Export access format file)) name is
 target_named (EditFile access file change) name is = changed_named access file change name is
 target_named (Info access file) name is = opened_named (needs_of (Info access file)) name is
+
+-- Where reading what to do went well, and so did what follows, no count of faults rose.
+pub faultless_after : (result : Result Output Stop) (f f' f'' i i' d d' : ℕ) → (f' ≡ f) × (i' ≡ i) → OnOk result ((f'' ≡ f') × (d' ≡ d))
+    → OnOk result ((f'' ≡ f) × (i' ≡ i) × (d' ≡ d))
+faultless_after (Ok output) f f' f'' i i' d d' read done = (done.0 ∙ read.0, read.1, done.1)
+faultless_after (Err stop) f f' f'' i i' d d' read done = tt
+
+-- What keeps only the count of the dice keeps all, where nothing else is asked.
+pub faultless_dice : (result : Result Output Stop) (f i d d' : ℕ) → OnOk result (d' ≡ d) → OnOk result ((f ≡ f) × (i ≡ i) × (d' ≡ d))
+faultless_dice (Ok output) f i d d' done = (refl, refl, done)
+faultless_dice (Err stop) f i d d' done = tt
 
 -- A stop of the command that the words are, as a stop of the call.
 pub command_caused : (result : Result Output Stop) (command : Command) (words : Result Command Refusal) (f f' f'' a a' i i' d d' : ℕ) → words ≡ Ok command

@@ -20,7 +20,7 @@ use Rattle.cli_words.specs.declared.command.Command.{Command}
 use Rattle.call_carrying.specs.Endings.{Ending, Ends, EndsSo, ending_without}
 use Rattle.keepass_call.specs.Held.{IsAuthentic, IsComplete, WritesTask}
 use Rattle.cli_pages.specs.Pages.{page_of}
-use Rattle.keepass_call.specs.Outcome.{AsksCommand, Counts, Gains, IsAsSaid, IsCut, IsOfSomeFile, IsOfTask, IsRefused, IsSafe, IsUsage, NoFaults, Outcome, Seen, Tells, WhereTold, World, answer_of, draws_with, draws_words, ended, may_write_by, outcome, page_or_answer}
+use Rattle.keepass_call.specs.Outcome.{AsksCommand, Counts, Gains, IsAsSaid, IsCut, IsOfSomeFile, IsOfTask, IsRefused, IsSafe, IsUsage, KeepsFaults, NoFaults, Outcome, Seen, Tells, WhereTold, World, answer_of, draws_with, draws_words, ended, may_write_by, outcome, page_or_answer}
 use Rattle.cli_profiles.specs.declared.profiles.PasswordProfile.{PasswordProfile}
 use Rattle.cli_words.specs.Words.{command_of, profile_of}
 use Rattle.cli_files.specs.Tasks.{draws_by}
@@ -56,6 +56,7 @@ pub record Printed (words : List (List ℕ)) (time : ℕ) (printed : List ℕ) (
       × IsLeft before.stream now.stream (answer_of words time w).left)
   pub left : WhereTold words before (λ w. IsLeft before.left now.left (left_of words w.input))
   pub wrote : IsPrinted printed result before.written now.written before.errors now.errors counts.out counts'.out
+  pub faultless : result ≡ 0 → KeepsFaults counts counts'
   pub draft : KeepsDraft before.store now.store
   pub held : AsksCommand words → WhereTold words before (λ w. IsOfTask words time w printed before.store now.store)
   pub unwritten : may_write_by (command_of words) ≡ false → IsSame before.store now.store
@@ -190,6 +191,7 @@ module _ (words : List (List ℕ)) (time : ℕ) (printed : List ℕ) (result : �
   printed_call = record {
     range = range;
     safe = safe;
+    faultless = p.faultless;
     reads_only = p.unwritten;
     draws_nothing = p.undrawn;
     page = p.page;
@@ -226,9 +228,9 @@ page_left words page before input e t = by (command_of words) refl
 
 -- A call whose words ask for a page, of which all that is seen is what it printed.
 pub page_call : (words : List (List ℕ)) (time : ℕ) (page : List ℕ) (result : ℕ) (before : Seen) (written errors : Option (List ℕ)) (counts counts' : Counts) → page_of words ≡ Some page
-    → IsPrinted page result before.written written before.errors errors counts.out counts'.out
+    → IsPrinted page result before.written written before.errors errors counts.out counts'.out → (result ≡ 0 → KeepsFaults counts counts')
     → IsCall words time result before (record before { written = written; errors = errors }) counts counts'
-page_call words time page result before written errors counts counts' e wrote =
+page_call words time page result before written errors counts counts' e wrote faultless =
     printed_call words time page result before (record before { written = written; errors = errors }) counts counts'
     (record {
       gives = λ w t.
@@ -244,6 +246,7 @@ page_call words time page result before written errors counts counts' e wrote =
           );
       left = λ w t. page_left words page before.left w.input e t.input;
       wrote = wrote;
+      faultless = faultless;
       draft = inr (refl, refl);
       held = λ none. absurd (no_none page (page_of words) e none.no_page);
       unwritten = λ r. record { files = refl; draft_name = refl; draft_bytes = refl };
@@ -267,7 +270,7 @@ pub starved_page : (words : List (List ℕ)) (time : ℕ) (before : Seen) (count
 starved_page words time before counts some =
     let page : (text : List ℕ) × (page_of words ≡ Some text) = some_text (page_of words) some in
     page_call words time page.0 9 before before.written before.errors counts counts page.1
-    (inr (inl refl, no_front before.written before.written page.0 refl), inl refl)
+    (inr (inl refl, no_front before.written before.written page.0 refl), inl refl) (λ zero. absurd (omega (arith, zero)))
 
 -- ---- a call that stopped
 
@@ -462,6 +465,7 @@ module _ (words : List (List ℕ)) (time result : ℕ) (before now : Seen) (coun
       draft = s.draft;
       stream = s.stream;
     };
+    faultless = λ zero. absurd (not_done stop s zero);
     reads_only = s.unwritten;
     draws_nothing = s.undrawn;
     page = λ text is. absurd (no_none text (page_of words) is s.no_page);

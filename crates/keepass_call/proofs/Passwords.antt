@@ -1,6 +1,6 @@
 -- Calls whose words ask for a password.
 use Rattle.std.proofs.Common.{◌≡◌, ◌++◌, ℕ, List, refl, inr, sym, ◌∙◌, ap, subst, true, false, Option, Some, None, Result, Ok, Err}
-use Rattle.std.specs.Prelude.{IfErr, IfOk, OnErr, codes}
+use Rattle.std.specs.Prelude.{IfErr, IfOk, OnErr, codes, OnOk}
 use Rattle.cli_answers.specs.declared.answers.Refusal.{Refusal}
 use Rattle.cli_answers.specs.declared.answers.Stop.{Stop}
 use Rattle.cli_answers.specs.declared.answers.Stop.TheVariants.{Refused, FileFault, InputFault, NoMemory}
@@ -59,6 +59,11 @@ password_refused (Refused refusal) profile d s old new told h =
 password_refused (FileFault name) profile d s old new told h = tt
 password_refused InputFault profile d s old new told h = tt
 password_refused NoMemory profile d s old new told h = tt
+
+-- Once the password is chosen, nothing more is drawn.
+pub faultless_text : (result : Result Output Stop) (faults faults' : ℕ) → faults' ≡ faults → OnOk result (faults' ≡ faults)
+faultless_text (Ok output) faults faults' same = same
+faultless_text (Err stop) faults faults' same = tt
 
 pub memory_stream : (result : Result Output Stop) (faults faults' : ℕ) → IfErr result IsMemoryStop → IfErr result (IsStreamStop faults faults')
 memory_stream (Ok output) faults faults' h = tt

@@ -4,7 +4,7 @@ use Rattle.cli_answers.specs.declared.answers.Refusal.{Refusal}
 use Rattle.cli_words.specs.Needs.{files_named}
 use Rattle.keepass_call.specs.Held.{IsAuthentic, IsComplete, WritesTask}
 use Rattle.keepass_call.specs.Merges.{MergesAgreed, MergesNothing}
-use Rattle.keepass_call.specs.Outcome.{AsksCommand, Counts, IsAsSaid, IsCut, IsRefused, IsSafe, IsUsage, NoFaults, PrintsOfSomeFile, Seen, WhereTold, draws_words, may_write_by, outcome}
+use Rattle.keepass_call.specs.Outcome.{AsksCommand, Counts, IsAsSaid, IsCut, IsRefused, IsSafe, IsUsage, KeepsFaults, NoFaults, PrintsOfSomeFile, Seen, WhereTold, draws_words, may_write_by, outcome}
 use Rattle.keepass_call.specs.Telling.{PrintsPage, TellsOneLine}
 use Rattle.cli_pages.specs.Pages.{page_of}
 use Rattle.cli_words.specs.Words.{command_of}
@@ -18,6 +18,8 @@ pub record IsCall (words : List (List ℕ)) (time result : ℕ) (before now : Se
   pub range : result ≤ 12
   -- Reported or not: statuses have their causes, and a refusal changes no file.
   pub safe : IsSafe result before now counts counts'
+  -- Reported or not: at status 0 no count of faults rose.
+  pub faultless : result ≡ 0 → KeepsFaults counts counts'
   -- Reported or not: words that are no command that may write change no file, and words that ask for
   -- no password and are no command that draws draw nothing.
   pub reads_only : may_write_by (command_of words) ≡ false → IsSame before.store now.store

@@ -154,6 +154,14 @@ pub record NoFaults (before now : Counts) : Type 0 where
   pub err : ¬ (Increased before.err now.err)
   pub dice : ¬ (Increased before.dice now.dice)
 
+-- No count of faults rose: each is as it was.
+pub record KeepsFaults (before now : Counts) : Type 0 where
+  pub files : now.files ≡ before.files
+  pub input : now.input ≡ before.input
+  pub out : now.out ≡ before.out
+  pub err : now.err ≡ before.err
+  pub dice : now.dice ≡ before.dice
+
 -- The text was written.
 abbrev pub Gains : Option (List ℕ) → Option (List ℕ) → List ℕ → Type 0
 Gains before now text = now ≡ option_map (λ w. w ++ text) before

@@ -1,5 +1,5 @@
 //! The one call of the program: from its words, and the objects of the outside, to its status.
-ghost use Rattle.std.specs.Prelude.{◌≡◌, ◌++◌, ℕ, List, None, Some, Err, IfErr, IfOk, OnErr, codes, false, map, string_bytes};
+ghost use Rattle.std.specs.Prelude.{◌≡◌, ◌++◌, ℕ, List, None, Some, Err, IfErr, IfOk, OnErr, codes, false, map, string_bytes, OnOk};
 ghost use Rattle.outside_core.specs.Streams.{GainsPrefix, LosesPrefix};
 ghost use Rattle.cli_answers.specs.Messages.{error_line, reason_text, status_of};
 ghost use Rattle.cli_answers.specs.Phases.{IsCaused, IsMemoryStop, IsStreamStop, IsWordsStop, Leaves, TellsStream};
@@ -95,6 +95,8 @@ fn answer<F: FileStore, S: Source, D: Dice>(
         (files_named (command_of (map string_bytes words.now))) (F.faults files.old)
         (F.faults files.new) (F.absences files.old) (F.absences files.new) (S.faults input.old)
         (S.faults input.new) (D.faults dice.old) (D.faults dice.new)) }
+    ensures faultless { OnOk result ((F.faults files.new ≡ F.faults files.old)
+        × (S.faults input.new ≡ S.faults input.old) × (D.faults dice.new ≡ D.faults dice.old)) }
 {
     let task = read_task(alloc, words, files, input, now)?;
     carry_out(alloc, files, dice, task, now)
@@ -127,6 +129,7 @@ fn password<D: Dice>(alloc: Global, dice: &mut D, profile: PasswordProfile) -> R
         → Ends result (password_answer profile d) s s (D.stream dice.old) (D.stream dice.new) }
     ensures stream { LosesPrefix (D.stream dice.old) (D.stream dice.new) }
     ensures cause { IfErr result (IsStreamStop (D.faults dice.old) (D.faults dice.new)) }
+    ensures faultless { OnOk result (D.faults dice.new ≡ D.faults dice.old) }
 {
     let alphabet = profile.alphabet.as_str().as_bytes();
     let chosen = choose_password(alloc, dice, alphabet, profile.length);
@@ -194,6 +197,8 @@ fn answer_words<F: FileStore, S: Source, D: Dice>(
         (files_named (command_of (map string_bytes words.now))) (F.faults files.old)
         (F.faults files.new) (F.absences files.old) (F.absences files.new) (S.faults input.old)
         (S.faults input.new) (D.faults dice.old) (D.faults dice.new)) }
+    ensures faultless { OnOk result ((F.faults files.new ≡ F.faults files.old)
+        × (S.faults input.new ≡ S.faults input.old) × (D.faults dice.new ≡ D.faults dice.old)) }
 {
     match read_profile(alloc, words) {
         Ok(Some(profile)) => password(alloc, dice, profile),
@@ -225,8 +230,10 @@ fn try_line<E: Sink>(err: &mut E, line: &[u8])
 // Writes what a call gave, and gives the status that goes with it. Where standard output fails, a
 // line that says so is tried on standard error.
 fn print<O: Sink, E: Sink>(out: &mut O, err: &mut E, text: &[u8]) -> u8
-    ensures { IsPrinted text.now result (O.written out.old) (O.written out.new)
+    ensures printed { IsPrinted text.now result (O.written out.old) (O.written out.new)
         (E.written err.old) (E.written err.new) (O.faults out.old) (O.faults out.new) }
+    ensures faultless { result ≡ 0 → (O.faults out.new ≡ O.faults out.old)
+        × (E.faults err.new ≡ E.faults err.old) }
 {
     match write_all(out, text) {
         Ok(()) => 0,
@@ -240,8 +247,10 @@ fn print<O: Sink, E: Sink>(out: &mut O, err: &mut E, text: &[u8]) -> u8
 
 // Writes a page, and gives the status that goes with it.
 fn print_page<O: Sink, E: Sink>(out: &mut O, err: &mut E, page: Bytes) -> u8
-    ensures { IsPrinted page result (O.written out.old) (O.written out.new)
+    ensures printed { IsPrinted page result (O.written out.old) (O.written out.new)
         (E.written err.old) (E.written err.new) (O.faults out.old) (O.faults out.new) }
+    ensures faultless { result ≡ 0 → (O.faults out.new ≡ O.faults out.old)
+        × (E.faults err.new ≡ E.faults err.old) }
 {
     let status = print(out, err, page.as_slice());
     drop(page);

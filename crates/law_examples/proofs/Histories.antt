@@ -29,12 +29,12 @@ use Rattle.keepass_call.proofs.Answered.{answer_is}
 use Rattle.keepass_call.proofs.Calls.{Printed, printed_call}
 use Rattle.keepass_call.proofs.HeldTasks.{task_given}
 use Rattle.keepass_call.proofs.Pages.{asks_command}
-use Rattle.call_histories.specs.Copies.{CallSeen, OpensCopies}
-use Rattle.call_histories.specs.Histories.{IsCallOn}
-use Rattle.call_examples.specs.Files.{plain_bytes, three_files}
-use Rattle.call_examples.specs.Histories.{plain_copies}
-use Rattle.call_examples.proofs.Files.{says, write_first}
-use Rattle.call_examples.proofs.Histories.{are_apart, holds}
+use Rattle.call_conditions.specs.Copies.{CallSeen, OpensCopies}
+use Rattle.call_conditions.specs.Histories.{IsCallOn}
+use Rattle.law_examples.specs.Files.{plain_bytes, three_files}
+use Rattle.law_examples.specs.PlainCopies.{plain_copies}
+use Rattle.law_examples.proofs.Files.{says, write_first}
+use Rattle.law_examples.proofs.PlainCopies.{are_apart, holds}
 use Rattle.merge_examples.proofs.Merged.{all_docs, doc_first}
 use Rattle.law_examples.specs.Calls.{add_generated, dice_left, with_dice}
 use Rattle.law_examples.specs.Histories.{ExampleHistory, adding_call, after_adding, before_adding, no_counts}
@@ -105,6 +105,7 @@ printed = record {
       );
   left = λ w t. ap Some t.input;
   wrote = (inl (refl, refl), inl refl);
+  faultless = λ zero. record { files = refl; input = refl; out = refl; err = refl; dice = refl };
   draft = inl refl;
   held = λ none w t. subst (λ (v : World). IsOfTask add_generated 50 v change.text before_adding.store now.store) (one_world w t)
       (record { task = task; gives = task_given add_generated 50 with_dice task is_adding; of_dice = of_dice });

@@ -33,6 +33,7 @@ pub trait FileStore {
         ensures draft_name { draft_name self.new ≡ draft_name self.old }
         ensures draft_bytes { draft_bytes self.new ≡ draft_bytes self.old }
         ensures faults { HasCause FileFail.Failed (faults self.old) (faults self.new) result }
+        ensures no_fault { IsErrOf result FileFail.NoSuchFile → faults self.new ≡ faults self.old }
         ensures absences { HasCause FileFail.NoSuchFile (absences self.old) (absences self.new)
             result };
 

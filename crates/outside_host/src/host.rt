@@ -98,6 +98,7 @@ impl<'a, R: Files<File = File> + RandomSource + Clock> HostFiles<'a, R> {
     fn open_anew(&mut self, name: &str) -> Result<OpenedFile, FileFail>
         ensures draft_name { self.new.draft_name ≡ self.old.draft_name }
         ensures faults { HasCause FileFail.Failed self.old.faults self.new.faults result }
+        ensures no_fault { IsErrOf result FileFail.NoSuchFile → self.new.faults ≡ self.old.faults }
         ensures absences { HasCause FileFail.NoSuchFile self.old.absences self.new.absences result }
     {
         let Ok(kept) = Text::of(self.alloc, name) else {
@@ -125,6 +126,7 @@ impl<'a, R: Files<File = File> + RandomSource + Clock> HostFiles<'a, R> {
     fn open(&mut self, name: &str) -> Result<OpenedFile, FileFail>
         ensures draft_name { self.new.draft_name ≡ self.old.draft_name }
         ensures faults { HasCause FileFail.Failed self.old.faults self.new.faults result }
+        ensures no_fault { IsErrOf result FileFail.NoSuchFile → self.new.faults ≡ self.old.faults }
         ensures absences { HasCause FileFail.NoSuchFile self.old.absences self.new.absences result }
     {
         match self.take_reading(name) {
@@ -154,6 +156,24 @@ impl<'a, R: Files<File = File> + RandomSource + Clock> HostFiles<'a, R> {
                 drop(kept);
                 Err(self.fault())
             }
+        }
+    }
+
+    /// Gives up the draft, if there is one, and removes its file; where that fails, it is a fault.
+    fn remove_draft(&mut self) -> Result<(), FileFail>
+        ensures no_draft { self.new.draft_name ≡ None }
+        ensures not_missing { ¬ IsErrOf result FileFail.NoSuchFile }
+        ensures faults { HasCause FileFail.Failed self.old.faults self.new.faults result }
+        ensures absences { self.new.absences ≡ self.old.absences }
+    {
+        let Some(draft) = self.draft.take() else {
+            return Ok(());
+        };
+        let removed = self.disk.remove(&draft.draft);
+        drop(draft);
+        match removed {
+            Ok(()) => Ok(()),
+            Err(_error) => Err(self.fault()),
         }
     }
 }
@@ -199,7 +219,7 @@ impl<'a, R: Files<File = File> + RandomSource + Clock> FileStore for HostFiles<'
     }
 
     fn begin(&mut self, name: &str) -> Result<(), FileFail> {
-        self.discard();
+        self.remove_draft()?;
         match self.new_draft(name) {
             Ok(draft) => {
                 self.draft = Some(draft);
@@ -235,12 +255,9 @@ impl<'a, R: Files<File = File> + RandomSource + Clock> FileStore for HostFiles<'
     }
 
     fn discard(&mut self) {
-        if let Some(draft) = self.draft.take() {
-            let removed = self.disk.remove(&draft.draft);
-            drop(draft);
-            if removed.is_err() {
-                self.faults = increment(self.faults);
-            }
+        match self.remove_draft() {
+            Ok(()) => {}
+            Err(_fail) => {}
         }
     }
 }

@@ -1,5 +1,5 @@
 //! Objects in memory some of whose calls fail, by their numbers. They report all that they hold.
-ghost use Rattle.std.specs.Prelude.{◌≡◌, ◌≤◌, Some, [], ◌∷◌, ◌++◌, ◌==◌, IsTrue, IfErr, OnOk, OnErr, if◌then◌else◌};
+ghost use Rattle.std.specs.Prelude.{◌≡◌, ◌≤◌, Some, [], ◌∷◌, ◌++◌, ◌==◌, IsTrue, false, IfErr, OnOk, OnErr, if◌then◌else◌};
 ghost use Rattle.std.specs.List.{list_any};
 ghost use Rattle.std.specs.Option.{option_copied};
 ghost use Rattle.std.specs.FinMap as map;
@@ -75,6 +75,7 @@ impl FailurePlan {
         } }
         ensures later { self.old.faults ≤ self.new.faults }
         ensures rose { IsTrue result → Increased self.old.faults self.new.faults }
+        ensures kept { result ≡ false → self.new.faults ≡ self.old.faults }
     {
         let call = self.calls;
         self.calls = increment(call);

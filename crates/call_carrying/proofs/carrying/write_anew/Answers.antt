@@ -1,6 +1,6 @@
 use Rattle.std.proofs.Common.{true, refl}
 use Rattle.cli_lines.proofs.Inputs.{told_by}
-use Rattle.call_carrying.proofs.Carried.{keeps_draft, plain_stop, plain_written, sealed_written}
+use Rattle.call_carrying.proofs.Carried.{keeps_draft, plain_kept, plain_stop, plain_written, sealed_written}
 use Rattle.cli_commands.proofs.Changes.{loses_none}
 use Rattle.call_carrying.proofs.carrying.write_anew.Goals as goal
 
@@ -16,6 +16,9 @@ returns-in-None-clause-stream g c = loses_none _
 
 pub returns-in-None-clause-cause : goal.returns-in-None-clause-cause
 returns-in-None-clause-cause g c = plain_stop c.write_plain.result _ _ _ _ c.write_plain.ensures.cause
+
+pub returns-in-None-clause-faultless : goal.returns-in-None-clause-faultless
+returns-in-None-clause-faultless g c = plain_kept c.write_plain.result _ _ _ c.write_plain.ensures.faultless
 
 pub returns-in-Some-clause-told : goal.returns-in-Some-clause-told
 returns-in-Some-clause-told g c = λ d t.

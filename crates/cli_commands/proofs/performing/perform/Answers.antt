@@ -1,6 +1,7 @@
 use Rattle.std.proofs.Common.{map}
 use Rattle.vault_model.specs.SeenDoc.{doc_seen}
 use Rattle.tree_core.specs.NewNodes.{lent_value}
+use Rattle.cli_lines.proofs.Inputs.{kept_later}
 use Rattle.cli_commands.specs.Commands.{change_by, drawn_id}
 use Rattle.cli_commands.specs.SeenChange.{lent_settings}
 use Rattle.cli_commands.proofs.Changes.{loses_both, returns_drawn, some_drawn, tells_generated, tells_made}
@@ -21,3 +22,6 @@ returns-in-Ok-clause-some_dice g c =
 
 pub returns-in-Ok-clause-stream : goal.returns-in-Ok-clause-stream
 returns-in-Ok-clause-stream g c = loses_both _ _ _ c.in-Ok.ensures.stream c.change_by.ensures.stream
+
+pub returns-in-Ok-clause-faultless : goal.returns-in-Ok-clause-faultless
+returns-in-Ok-clause-faultless g c = kept_later c.change_by.result _ _ _ c.in-Ok.ensures.faultless c.change_by.ensures.faultless

@@ -1,6 +1,7 @@
 use Rattle.std.proofs.Common.{map, option_map, refl, ◌∙◌, arith}
 use Rattle.vault_model.specs.SeenDoc.{doc_seen}
 use Rattle.cli_lines.specs.SeenLines.{line_seen}
+use Rattle.cli_lines.proofs.Inputs.{kept_later}
 use Rattle.cli_databases.proofs.Sources.{first_and_rest, line_and_rest, one_more, some_next, stops_first, stops_next, told_next, told_stop}
 use Rattle.cli_databases.proofs.databases.+open_sources.Goals as goal
 
@@ -62,3 +63,6 @@ returns-clause-leaves g t c =
       faults = omega (arith, first.faults, rest.faults);
       absences = omega (arith, first.absences, rest.absences);
     }
+
+pub returns-clause-faultless : goal.returns-clause-faultless
+returns-clause-faultless g t c = kept_later c.open_sources.result _ _ _ c.in-Ok.ensures.faultless c.open_sources.ensures.faultless

@@ -1,4 +1,5 @@
 use Rattle.std.proofs.Common.{◌∙◌, arith}
+use Rattle.cli_lines.proofs.Inputs.{kept_later}
 use Rattle.cli_files.proofs.FileStops.{later_at_file}
 use Rattle.cli_databases.proofs.databases.open_held.Goals as goal
 
@@ -17,3 +18,6 @@ returns-clause-leaves g c =
       faults = omega (arith, first.faults, rest.faults);
       absences = omega (arith, first.absences, rest.absences);
     }
+
+pub returns-clause-faultless : goal.returns-clause-faultless
+returns-clause-faultless g c = kept_later c.open_sealed.result _ _ _ c.in_ok-key.ensures.faultless c.open_sealed.ensures.faultless

@@ -6,7 +6,7 @@ use Rattle.cli_answers.specs.declared.answers.Stop.{Stop}
 use Rattle.cli_lines.specs.Lines.{line_if, lines_from, number_after, number_after_all}
 use Rattle.cli_lines.specs.SeenLines.{line_seen}
 use Rattle.cli_lines.proofs.Having.{one_more}
-use Rattle.cli_lines.proofs.Inputs.{later_returns, stops_later}
+use Rattle.cli_lines.proofs.Inputs.{kept_later, later_returns, stops_later}
 use Rattle.cli_lines.proofs.lines.+read_sources.Goals as goal
 
 tells_on : (due : Bool) (before mid : Option (List ℕ)) (input left : List ℕ) → TellsStream due before input → IsLeft before mid left → TellsStream due mid left
@@ -75,3 +75,6 @@ returns-clause-given g t c =
 
 pub returns-clause-cause : goal.returns-clause-cause
 returns-clause-cause g t c = stops_later c.read_sources.result _ _ _ c.in_ok-line.ensures.faults c.read_sources.ensures.cause
+
+pub returns-clause-faultless : goal.returns-clause-faultless
+returns-clause-faultless g t c = kept_later c.read_sources.result _ _ _ c.in_ok-line.ensures.faultless c.read_sources.ensures.faultless

@@ -1,4 +1,4 @@
-use Rattle.std.proofs.Common.{arith, ◌∙◌, ap, ◌∷◌}
+use Rattle.std.proofs.Common.{◌∙◌, ap, ◌∷◌}
 use Rattle.cli_lines.specs.Cutting.{cut}
 use Rattle.cli_lines.specs.Lines.{line_from}
 use Rattle.cli_lines.proofs.Bytes.{at_line_feed, came_end, came_next}
@@ -9,7 +9,7 @@ loop-byte-preserved g c =
     record {
       window = c.in_ok-next.ensures.window;
       room = c.put.ensures.room;
-      faults = omega (arith, c.loop-byte.invariant.faults, c.in_ok-next.ensures.cause.later);
+      faults = c.in_ok-next.ensures.cause.kept ∙ c.loop-byte.invariant.faults;
       told = λ i is.
           let known = c.loop-byte.invariant.told i is in
           came_next (line_from 0 (c.args.first ∷ i)) c.put.new.line.bytes c.in-Some.now known.0 c.in_ok-next.field-0 c.in-Some-2.next _

@@ -3,7 +3,7 @@ use Rattle.cli_words.specs.Needs.{asks_password, asks_passwords_from}
 use Rattle.cli_words.specs.SeenNeeds.{needs_seen}
 use Rattle.cli_lines.specs.Lines.{after_password, line_if}
 use Rattle.cli_lines.specs.SeenLines.{line_seen, lines_seen}
-use Rattle.cli_lines.proofs.Inputs.{first_stops, later_returns, stops_later, tells_first, tells_second}
+use Rattle.cli_lines.proofs.Inputs.{first_stops, kept_later, later_returns, stops_later, tells_first, tells_second}
 use Rattle.cli_lines.proofs.lines.read_lines.Goals as goal
 
 pub returns-in-Ok-clause-told : goal.returns-in-Ok-clause-told
@@ -19,6 +19,9 @@ returns-in-Ok-clause-told g c = λ i t.
 
 pub returns-in-Ok-clause-cause : goal.returns-in-Ok-clause-cause
 returns-in-Ok-clause-cause g c = stops_later c.read_after.result _ _ _ c.in-Ok.ensures.faults c.read_after.ensures.cause
+
+pub returns-in-Ok-clause-faultless : goal.returns-in-Ok-clause-faultless
+returns-in-Ok-clause-faultless g c = kept_later c.read_after.result _ _ _ c.in-Ok.ensures.faultless c.read_after.ensures.faultless
 
 pub returns-in-Err-clause-told : goal.returns-in-Err-clause-told
 returns-in-Err-clause-told g c = λ i t.

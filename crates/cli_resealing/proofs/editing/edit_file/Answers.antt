@@ -1,6 +1,7 @@
-use Rattle.std.proofs.Common.{option_map}
+use Rattle.std.proofs.Common.{option_map, ◌∙◌}
 use Rattle.cli_files.specs.SeenOpened.{opened_seen}
 use Rattle.cli_lines.specs.SeenLines.{lines_seen}
+use Rattle.cli_lines.proofs.Inputs.{kept_later}
 use Rattle.cli_words.specs.Needs.{database_files, key_files, new_key_files}
 use Rattle.cli_words.specs.SeenNeeds.{needs_seen}
 use Rattle.cli_resealing.proofs.Somes.{some_edited}
@@ -18,6 +19,10 @@ pub returns-in-Ok-clause-cause : goal.returns-in-Ok-clause-cause
 returns-in-Ok-clause-cause g c =
     stops_changed c.change_file.result (database_files c.args.needs.access.now c.args.needs.file.now) (new_key_files c.args.change.now.key_file) _ _ _ _ _ _ _ _
     c.in_ok-key.ensures.leaves.faults c.in-Ok.ensures.leaves.faults c.in_ok-key.ensures.leaves.absences c.in-Ok.ensures.leaves.absences c.change_file.ensures.cause
+
+pub returns-in-Ok-clause-faultless : goal.returns-in-Ok-clause-faultless
+returns-in-Ok-clause-faultless g c =
+    kept_later c.change_file.result _ _ _ (c.in-Ok.ensures.faultless ∙ c.in_ok-key.ensures.faultless) c.change_file.ensures.faultless
 
 pub returns-in-Err-clause-cause : goal.returns-in-Err-clause-cause
 returns-in-Err-clause-cause g c =

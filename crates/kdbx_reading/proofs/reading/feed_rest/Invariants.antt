@@ -2,7 +2,7 @@ use Rattle.std.proofs.Common.{◌-◌, ◌+◌, ◌≡◌, ◌≤◌, length, ta
 use Rattle.kdbx_reading.specs.Stored.{IsFedFrom}
 use Rattle.kdbx_reading.proofs.reading.feed_rest.Given as goal
 
--- What was read so far was fed, and the store is as it was but for its counts.
+-- What was read so far was fed, and the store and its counts are as they were.
 abbrev pub invariant-windows : goal.invariant-windows
 invariant-windows g l =
     record {
@@ -15,8 +15,8 @@ invariant-windows g l =
       files : g.F.FileStore.files l.files ≡ g.F.FileStore.files l.initial.files;
       draft_name : g.F.FileStore.draft_name l.files ≡ g.F.FileStore.draft_name l.initial.files;
       draft_bytes : g.F.FileStore.draft_bytes l.files ≡ g.F.FileStore.draft_bytes l.initial.files;
-      faults : g.F.FileStore.faults l.initial.files ≤ g.F.FileStore.faults l.files;
-      absences : g.F.FileStore.absences l.initial.files ≤ g.F.FileStore.absences l.files;
+      faults : g.F.FileStore.faults l.files ≡ g.F.FileStore.faults l.initial.files;
+      absences : g.F.FileStore.absences l.files ≡ g.F.FileStore.absences l.initial.files;
     }
 
 abbrev pub decreases-windows : goal.decreases-windows

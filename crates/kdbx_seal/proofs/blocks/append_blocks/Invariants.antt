@@ -9,7 +9,7 @@ invariant-pieces g l = record {
   index : l.writer.index + length l.left ≤ length l.content;
   draft : IsSome (g.F.FileStore.draft_name l.files);
   name : g.F.FileStore.draft_name l.files ≡ g.F.FileStore.draft_name l.fn.files;
-  faults : g.F.FileStore.faults l.fn.files ≤ g.F.FileStore.faults l.files;
+  faults : g.F.FileStore.faults l.files ≡ g.F.FileStore.faults l.fn.files;
   absences : g.F.FileStore.absences l.fn.files ≤ g.F.FileStore.absences l.files;
   files : g.F.FileStore.files l.files ≡ g.F.FileStore.files l.fn.files;
   bytes : IfSome (g.F.FileStore.files l.fn.files) (λ _. g.F.FileStore.draft_bytes l.files ++ blocks_to_end l.base l.writer.index (pieces l.left)

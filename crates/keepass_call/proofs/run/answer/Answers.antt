@@ -4,7 +4,7 @@ use Rattle.std.proofs.lemmas.Result.{err_from_is_err_and}
 use Rattle.cli_writing.specs.Writing.{store}
 use Rattle.cli_files.specs.SeenTask.{task_seen}
 use Rattle.cli_words.specs.Words.{command_of}
-use Rattle.keepass_call.proofs.Answered.{comes_to, command_caused, draft_after, draws_so, early_caused, ends_left, kept_after, of_task, prints_some, stop_leaves, stops_early, undrawn_after, unwritten_after}
+use Rattle.keepass_call.proofs.Answered.{comes_to, command_caused, draft_after, draws_so, early_caused, ends_left, faultless_after, kept_after, of_task, prints_some, stop_leaves, stops_early, undrawn_after, unwritten_after}
 use Rattle.cli_commands.proofs.Changes.{loses_none}
 use Rattle.keepass_call.proofs.run.answer.Goals as goal
 
@@ -59,6 +59,9 @@ pub returns-clause-cause : goal.returns-clause-cause
 returns-clause-cause g c =
     command_caused c.carry_out.result c.in_ok-task.task.command (command_of (map string_bytes c.args.words.now)) _ _ _ _ _ _ _ _ _ c.in_ok-task.ensures.command
     c.in_ok-task.ensures.faults c.carry_out.ensures.cause
+
+pub returns-clause-faultless : goal.returns-clause-faultless
+returns-clause-faultless g c = faultless_after c.carry_out.result _ _ _ _ _ _ _ c.in_ok-task.ensures.faultless c.carry_out.ensures.faultless
 
 pub returns-in_err-task-clause-told : goal.returns-in_err-task-clause-told
 returns-in_err-task-clause-told g c = λ world isF isS isD.

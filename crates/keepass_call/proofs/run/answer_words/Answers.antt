@@ -1,7 +1,7 @@
 use Rattle.std.proofs.Common.{map, sym, ◌∙◌, refl, inr}
 use Rattle.std.specs.Prelude.{string_bytes}
 use Rattle.cli_words.specs.Words.{command_of, profile_of}
-use Rattle.keepass_call.proofs.Answered.{command_draws, command_told, command_undrawn}
+use Rattle.keepass_call.proofs.Answered.{command_draws, command_told, command_undrawn, faultless_dice}
 use Rattle.keepass_call.proofs.Passwords.{asked_draws, asked_left, asked_none, asked_told, kept_same, password_caused, same}
 use Rattle.keepass_call.proofs.run.answer_words.Goals as goal
 
@@ -39,6 +39,9 @@ returns-in-Ok-Some-clause-undrawn g c = λ e.
 
 pub returns-in-Ok-Some-clause-cause : goal.returns-in-Ok-Some-clause-cause
 returns-in-Ok-Some-clause-cause g c = password_caused c.password.result _ _ _ _ _ _ c.password.ensures.cause
+
+pub returns-in-Ok-Some-clause-faultless : goal.returns-in-Ok-Some-clause-faultless
+returns-in-Ok-Some-clause-faultless g c = faultless_dice c.password.result _ _ _ _ c.password.ensures.faultless
 
 pub returns-in-Ok-None-clause-told : goal.returns-in-Ok-None-clause-told
 returns-in-Ok-None-clause-told g c = λ world isF isS isD.

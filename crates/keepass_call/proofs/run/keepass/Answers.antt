@@ -8,7 +8,15 @@ use Rattle.keepass_call.proofs.run.keepass.Goals as goal
 
 pub returns-in-Ok-Some : goal.returns-in-Ok-Some
 returns-in-Ok-Some g c =
-    page_call (map string_bytes c.args.words.now) c.args.now c.in-Ok-Some.page c.print_page.result _ _ _ _ _ (sym c.in-Ok-Some.ensures.page ∙ c.in-Ok-Some.field-0-is) c.print_page.ensures
+    page_call (map string_bytes c.args.words.now) c.args.now c.in-Ok-Some.page c.print_page.result _ _ _ _ _ (sym c.in-Ok-Some.ensures.page ∙ c.in-Ok-Some.field-0-is)
+    c.print_page.ensures.printed
+    (λ zero. record {
+      files = refl;
+      input = refl;
+      out = (c.print_page.ensures.faultless zero).0;
+      err = (c.print_page.ensures.faultless zero).1;
+      dice = refl;
+    })
 
 pub returns-in-Err : goal.returns-in-Err
 returns-in-Err g c = starved_page (map string_bytes c.args.words.now) c.args.now _ _ c.in-Err.ensures.memory
@@ -20,7 +28,14 @@ returns-in-Ok g c =
     (record {
       gives = λ w t. ends_as (map string_bytes c.args.words.now) c.args.now w (Ok c.in-Ok.output) _ _ _ _ none (c.in-Ok.ensures.told w t.files t.input t.dice);
       left = λ w t. c.in-Ok.ensures.left w.input t.input;
-      wrote = rw c.lend_text.ensures at c.print.ensures;
+      wrote = rw c.lend_text.ensures at c.print.ensures.printed;
+      faultless = λ zero. record {
+        files = c.in-Ok.ensures.faultless.0;
+        input = c.in-Ok.ensures.faultless.1;
+        out = (c.print.ensures.faultless zero).0;
+        err = (c.print.ensures.faultless zero).1;
+        dice = c.in-Ok.ensures.faultless.2;
+      };
       draft = c.in-Ok.ensures.draft;
       held = λ n w t. c.in-Ok.ensures.held n.no_password w t.files t.input t.dice;
       unwritten = c.in-Ok.ensures.unwritten;

@@ -1,5 +1,5 @@
 use Rattle.std.proofs.Common.{◌∙◌}
-use Rattle.keepass_call.proofs.Passwords.{memory_stream, password_ends, password_refused}
+use Rattle.keepass_call.proofs.Passwords.{faultless_text, memory_stream, password_ends, password_refused}
 use Rattle.keepass_call.proofs.run.password.Goals as goal
 
 pub returns-in-Ok-clause-told : goal.returns-in-Ok-clause-told
@@ -10,6 +10,9 @@ returns-in-Ok-clause-told g c = λ d s told.
 
 pub returns-in-Ok-clause-cause : goal.returns-in-Ok-clause-cause
 returns-in-Ok-clause-cause g c = memory_stream c.password_output.result _ _ c.password_output.ensures.cause
+
+pub returns-in-Ok-clause-faultless : goal.returns-in-Ok-clause-faultless
+returns-in-Ok-clause-faultless g c = faultless_text c.password_output.result _ _ c.in-Ok.ensures.faultless
 
 pub returns-in-Err-clause-told : goal.returns-in-Err-clause-told
 returns-in-Err-clause-told g c = λ d s told.

@@ -18,8 +18,8 @@ loop-at-preserved g c =
       files = c.in_ok-read.ensures.files ∙ kept.files;
       draft_name = c.in_ok-read.ensures.draft_name ∙ kept.draft_name;
       draft_bytes = c.in_ok-read.ensures.draft_bytes ∙ kept.draft_bytes;
-      faults = omega (arith, kept.faults, c.in_ok-read.ensures.faults.later);
-      absences = omega (arith, kept.absences, c.in_ok-read.ensures.absences.later);
+      faults = c.in_ok-read.ensures.faults.kept ∙ kept.faults;
+      absences = c.in_ok-read.ensures.absences.kept ∙ kept.absences;
     }
 
 pub returns-then-read-eq0-clause-told : goal.returns-then-read-eq0-clause-told

@@ -3,7 +3,7 @@ use Rattle.std.specs.FinMap as map
 use Rattle.outside_core.specs.Files.{FileMap}
 use Rattle.secret_core.proofs.files.read_prefix.Given as goal
 
--- What was read so far is the front of the file, and the store is as it was but for its counts.
+-- What was read so far is the front of the file, and the store and its counts are as they were.
 abbrev pub invariant-loop-at : goal.invariant-loop-at
 invariant-loop-at g l =
     record {
@@ -13,8 +13,8 @@ invariant-loop-at g l =
       files : g.F.FileStore.files l.files ≡ g.F.FileStore.files l.initial.files;
       draft_name : g.F.FileStore.draft_name l.files ≡ g.F.FileStore.draft_name l.initial.files;
       draft_bytes : g.F.FileStore.draft_bytes l.files ≡ g.F.FileStore.draft_bytes l.initial.files;
-      faults : g.F.FileStore.faults l.initial.files ≤ g.F.FileStore.faults l.files;
-      absences : g.F.FileStore.absences l.initial.files ≤ g.F.FileStore.absences l.files;
+      faults : g.F.FileStore.faults l.files ≡ g.F.FileStore.faults l.initial.files;
+      absences : g.F.FileStore.absences l.files ≡ g.F.FileStore.absences l.initial.files;
     }
 
 abbrev pub decreases-loop-at : goal.decreases-loop-at

@@ -6,4 +6,5 @@ pub returns-in-Err-clause-faults : goal.returns-in-Err-clause-faults
 returns-in-Err-clause-faults g c = rw (← c.self.view_is) (record {
   later = omega (arith, c.in_ok-opened.ensures.faults.later, c.fault.ensures.later);
   rose = λ refused. increased_before _ _ _ c.in_ok-opened.ensures.faults.later c.fault.ensures.rose;
+  kept = tt;
 })
