@@ -342,8 +342,8 @@ def said_of(item):
 
 
 def fields_of(item):
-    """The fields of an item by their keys, and the keys of those that are hidden. Of a key that stands already the first that is free with a
-    number is taken."""
+    """The fields of an item by their keys, and the keys of those that are hidden. If a key is taken, the first that is free
+    with a number after it serves."""
     fields, hidden = {}, []
     for key, text, is_hidden in said_of(item):
         key = key or ""
