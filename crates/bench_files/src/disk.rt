@@ -7,7 +7,7 @@ use crate::fault::Fault;
 use crate::sealing::{Target, open, seal};
 use kdbx_frame::Settings;
 use outside_core::FileStore;
-use outside_host::{HostDice, HostFiles};
+use outside_host::{HostDice, HostFiles, World};
 use std::alloc::Global;
 use std::fs::{self, File, Files};
 use std::random::RandomSource;
@@ -24,8 +24,9 @@ fn seal_often(
 ) -> Result<(), Fault>
     requires { IsInOrder settings.now }
 {
-    let mut files = HostFiles::new(rt, rt.alloc(), None);
-    let mut dice = HostDice::new(rt);
+    let world = World::any();
+    let mut files = HostFiles::new(rt, rt.alloc(), None, &world);
+    let mut dice = HostDice::new(rt, &world);
     for _ in 0..times {
         seal(rt.alloc(), doc, settings, target, &mut files, &mut dice)?;
     }
@@ -86,7 +87,8 @@ pub fn open_often(
     target: &Target<'_>,
     times: u32,
 ) -> Result<(), Fault> {
-    let mut files = HostFiles::new(rt, rt.alloc(), None);
+    let world = World::any();
+    let mut files = HostFiles::new(rt, rt.alloc(), None, &world);
     for _ in 0..times {
         open_once(rt.alloc(), target, &mut files)?;
     }

@@ -1,5 +1,6 @@
 //! Carrying a task out: what its command makes of its database, and the file that is written.
 ghost use Rattle.std.specs.Prelude.{◌≡◌, ℕ, List, IfErr, IfOk, IfSome, OnErr, OnOk, ◌&&◌, false, is_some, not, true};
+ghost use Rattle.outside_core.specs.Reports.{StaysTruthful};
 ghost use Rattle.outside_core.specs.Streams.{LosesPrefix};
 ghost use Rattle.secret_core.specs.Secret.{AllZero};
 ghost use Rattle.vault_model.specs.SeenDoc.{doc_seen};
@@ -89,7 +90,8 @@ fn write_anew<F: FileStore, D: Dice>(
     sealing: &mut Option<Sealing>,
 ) -> Result<(), Stop>
     requires { IfSome sealing.old (λ s. IsInOrder s.settings) }
-    ensures told { (d : List ℕ) → TellsStream (is_some sealing.old) (D.stream dice.old) d
+    ensures told { D.truthful dice.new ≡ true
+        → (d : List ℕ) → TellsStream (is_some sealing.old) (D.stream dice.old) d
         → WritesNew result (new_file name.now sealing.old (doc_seen doc.now) d)
         (store (F.files files.old) (F.draft_name files.old) (F.draft_bytes files.old))
         (store (F.files files.new) (F.draft_name files.new) (F.draft_bytes files.new))
@@ -103,8 +105,10 @@ fn write_anew<F: FileStore, D: Dice>(
     ensures draft { KeepsDraft
         (store (F.files files.old) (F.draft_name files.old) (F.draft_bytes files.old))
         (store (F.files files.new) (F.draft_name files.new) (F.draft_bytes files.new)) }
+    ensures files_truthful { StaysTruthful (F.truthful files.old) (F.truthful files.new) }
     ensures undrawn { is_some sealing.old ≡ false → D.stream dice.new ≡ D.stream dice.old }
     ensures stream { LosesPrefix (D.stream dice.old) (D.stream dice.new) }
+    ensures dice_truthful { StaysTruthful (D.truthful dice.old) (D.truthful dice.new) }
     ensures cause { IfErr result (IsCommandStop name.now (F.faults files.old) (F.faults files.new)
         (D.faults dice.old) (D.faults dice.new)) }
     ensures faultless { OnOk result ((F.faults files.new ≡ F.faults files.old)
@@ -126,7 +130,8 @@ fn write_if<F: FileStore, D: Dice>(
     opened: &mut Opened,
 ) -> Result<(), Stop>
     requires { IfSome opened.old.sealing (λ s. IsInOrder s.settings) }
-    ensures told { (printed d : List ℕ)
+    ensures told { D.truthful dice.new ≡ true
+        → (printed d : List ℕ)
         → TellsStream (is_written && is_some opened.old.sealing) (D.stream dice.old) d
         → EndsWith printed result (ended_with name.now opened.old.sealing printed
         (doc_if is_written (doc_seen opened.old.doc)) d)
@@ -143,12 +148,14 @@ fn write_if<F: FileStore, D: Dice>(
     ensures draft { KeepsDraft
         (store (F.files files.old) (F.draft_name files.old) (F.draft_bytes files.old))
         (store (F.files files.new) (F.draft_name files.new) (F.draft_bytes files.new)) }
+    ensures files_truthful { StaysTruthful (F.truthful files.old) (F.truthful files.new) }
     ensures unwritten { is_written ≡ false → IsSame
         (store (F.files files.old) (F.draft_name files.old) (F.draft_bytes files.old))
         (store (F.files files.new) (F.draft_name files.new) (F.draft_bytes files.new)) }
     ensures undrawn { (is_written && is_some opened.old.sealing) ≡ false
         → D.stream dice.new ≡ D.stream dice.old }
     ensures stream { LosesPrefix (D.stream dice.old) (D.stream dice.new) }
+    ensures dice_truthful { StaysTruthful (D.truthful dice.old) (D.truthful dice.new) }
     ensures cause { IfErr result (IsCommandStop name.now (F.faults files.old) (F.faults files.new)
         (D.faults dice.old) (D.faults dice.new)) }
     ensures faultless { OnOk result ((F.faults files.new ≡ F.faults files.old)
@@ -176,12 +183,14 @@ fn carry_out_on<F: FileStore, D: Dice>(
     requires in_order { IfSome task.old.opened.sealing (λ s. IsInOrder s.settings) }
     requires sealed { is_some task.old.opened.sealing
         ≡ not (target_access task.old.command).plain }
-    ensures told { (d : List ℕ) → TellsStream (draws task.old.command) (D.stream dice.old) d
+    ensures told { D.truthful dice.new ≡ true
+        → (d : List ℕ) → TellsStream (draws task.old.command) (D.stream dice.old) d
         → Ends result (carried_out now (task_seen task.old) d)
         (store (F.files files.old) (F.draft_name files.old) (F.draft_bytes files.old))
         (store (F.files files.new) (F.draft_name files.new) (F.draft_bytes files.new))
         (D.stream dice.old) (D.stream dice.new) }
-    ensures of_dice { (d : List ℕ)
+    ensures of_dice { D.truthful dice.new ≡ true
+        → (d : List ℕ)
         → TellsStream (draws task.old.command) (D.stream dice.old) d
         → IfOk result (λ output. IsOfDice now (task_seen task.old) d (output_text output)
         (store (F.files files.old) (F.draft_name files.old) (F.draft_bytes files.old))
@@ -196,12 +205,14 @@ fn carry_out_on<F: FileStore, D: Dice>(
     ensures draft { KeepsDraft
         (store (F.files files.old) (F.draft_name files.old) (F.draft_bytes files.old))
         (store (F.files files.new) (F.draft_name files.new) (F.draft_bytes files.new)) }
+    ensures files_truthful { StaysTruthful (F.truthful files.old) (F.truthful files.new) }
     ensures unwritten { may_write task.old.command ≡ false → IsSame
         (store (F.files files.old) (F.draft_name files.old) (F.draft_bytes files.old))
         (store (F.files files.new) (F.draft_name files.new) (F.draft_bytes files.new)) }
     ensures undrawn { draws task.old.command ≡ false
         → D.stream dice.new ≡ D.stream dice.old }
     ensures stream { LosesPrefix (D.stream dice.old) (D.stream dice.new) }
+    ensures dice_truthful { StaysTruthful (D.truthful dice.old) (D.truthful dice.new) }
     ensures cause { IfErr result (IsCommandStop (target_of task.old.command)
         (F.faults files.old) (F.faults files.new) (D.faults dice.old) (D.faults dice.new)) }
     ensures faultless { OnOk result ((F.faults files.new ≡ F.faults files.old)
@@ -243,12 +254,14 @@ pub fn carry_out<F: FileStore, D: Dice>(
     requires profile { IfSome (generated_by task.command) IsProfile }
     requires in_order { IfSome task.opened.sealing (λ s. IsInOrder s.settings) }
     requires sealed { is_some task.opened.sealing ≡ not (target_access task.command).plain }
-    ensures told { (d : List ℕ) → TellsStream (draws task.command) (D.stream dice.old) d
+    ensures told { D.truthful dice.new ≡ true
+        → (d : List ℕ) → TellsStream (draws task.command) (D.stream dice.old) d
         → Ends result (carried_out now (task_seen task) d)
         (store (F.files files.old) (F.draft_name files.old) (F.draft_bytes files.old))
         (store (F.files files.new) (F.draft_name files.new) (F.draft_bytes files.new))
         (D.stream dice.old) (D.stream dice.new) }
-    ensures of_dice { (d : List ℕ) → TellsStream (draws task.command) (D.stream dice.old) d
+    ensures of_dice { D.truthful dice.new ≡ true
+        → (d : List ℕ) → TellsStream (draws task.command) (D.stream dice.old) d
         → IfOk result (λ output. IsOfDice now (task_seen task) d (output_text output)
         (store (F.files files.old) (F.draft_name files.old) (F.draft_bytes files.old))
         (store (F.files files.new) (F.draft_name files.new) (F.draft_bytes files.new))) }
@@ -262,11 +275,13 @@ pub fn carry_out<F: FileStore, D: Dice>(
     ensures draft { KeepsDraft
         (store (F.files files.old) (F.draft_name files.old) (F.draft_bytes files.old))
         (store (F.files files.new) (F.draft_name files.new) (F.draft_bytes files.new)) }
+    ensures files_truthful { StaysTruthful (F.truthful files.old) (F.truthful files.new) }
     ensures unwritten { may_write task.command ≡ false → IsSame
         (store (F.files files.old) (F.draft_name files.old) (F.draft_bytes files.old))
         (store (F.files files.new) (F.draft_name files.new) (F.draft_bytes files.new)) }
     ensures undrawn { draws task.command ≡ false → D.stream dice.new ≡ D.stream dice.old }
     ensures stream { LosesPrefix (D.stream dice.old) (D.stream dice.new) }
+    ensures dice_truthful { StaysTruthful (D.truthful dice.old) (D.truthful dice.new) }
     ensures cause { IfErr result (IsCommandStop (target_of task.command)
         (F.faults files.old) (F.faults files.new) (D.faults dice.old) (D.faults dice.new)) }
     ensures faultless { OnOk result ((F.faults files.new ≡ F.faults files.old)

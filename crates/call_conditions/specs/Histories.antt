@@ -13,7 +13,7 @@ use Rattle.cli_commands.specs.Commands.{may_write}
 use Rattle.keepass_call.specs.Call.{IsCall}
 use Rattle.keepass_call.specs.Held.{IsTask}
 use Rattle.keepass_call.specs.Merges.{merges}
-use Rattle.keepass_call.specs.Outcome.{Tells, may_write_by}
+use Rattle.keepass_call.specs.Outcome.{IsWorldOf, may_write_by}
 use Rattle.call_conditions.specs.Copies.{AreApart, CallSeen, Copies, CopyHolds, Disks, OpensCopies}
 
 -- ---- events
@@ -23,11 +23,11 @@ pub data Event : Type 0 where
   call : CallSeen → Event
   copied : ℕ → ℕ → Event
 
--- A call keeps what is promised of calls, over a world that the outside reports and that has the
--- files of the copies as they are. A command that may write opens copies by their keys.
+-- A call keeps what is promised of calls, over a world that the outside reports and answers like and
+-- that has the files of the copies as they are. A command that may write opens copies by their keys.
 pub record IsCallOn (copies : Copies) (disks : Disks) (c : CallSeen) : Type 0 where
   pub is_call : IsCall c.words c.time c.result c.before c.now c.counts c.counts'
-  pub told : Tells c.words c.before c.world
+  pub told : IsWorldOf c.words c.before c.now c.world
   pub files : (i : ℕ) → i < copies.count → (copies.copy i).disk ≡ c.disk
       → get c.world.files (copies.copy i).name ≡ get (disks c.disk) (copies.copy i).name
   pub opens : (task : Task) → IsTask c.words c.time c.world task → may_write task.command ≡ true

@@ -1,6 +1,7 @@
 //! The databases of a command.
 ghost use Rattle.std.specs.Prelude.{◌≡◌, ◌≤◌, IfErr, IfOk, IfSome, Ok, Some, OnOk};
 ghost use Rattle.outside_core.specs.Files.{FileMap};
+ghost use Rattle.outside_core.specs.Reports.{StaysTruthful, reported};
 ghost use Rattle.kdbx_frame.specs.Settings.{IsInOrder};
 ghost use Rattle.cli_answers.specs.Phases.{IsFileStop, Returns};
 ghost use Rattle.cli_databases.specs.SeenOpened.{databases_seen};
@@ -47,7 +48,7 @@ pub fn open_for<F: FileStore>(
     requires target_key { HasKey (target_access command.now) }
     requires new_key { HasKeyAfter command.now }
     requires lines { HasLines (needs_of command.now) (lines_seen lines.now) }
-    ensures told { (m : FileMap) → F.files files.old ≡ Some m
+    ensures told { (m : FileMap) → reported (F.truthful files.new) (F.files files.old) ≡ Some m
         → Returns databases_seen result
         (databases_for command.now (lines_seen lines.now) now m) }
     ensures some_file { IfOk result (λ databases. SomeCommandDatabases command.now
@@ -60,6 +61,7 @@ pub fn open_for<F: FileStore>(
     ensures files { F.files files.new ≡ F.files files.old }
     ensures draft_name { F.draft_name files.new ≡ F.draft_name files.old }
     ensures draft_bytes { F.draft_bytes files.new ≡ F.draft_bytes files.old }
+    ensures truthful { StaysTruthful (F.truthful files.old) (F.truthful files.new) }
     ensures faultless { OnOk result (F.faults files.new ≡ F.faults files.old) }
 {
     let needs = cli_words::needs_of(command);

@@ -1,6 +1,7 @@
 //! What a call is to do, from its words, its input and its files.
-ghost use Rattle.std.specs.Prelude.{◌≡◌, ◌≤◌, ℕ, List, Ok, Err, Some, IfErr, IfOk, IfSome, is_some, map, not, string_bytes, OnOk};
+ghost use Rattle.std.specs.Prelude.{◌≡◌, ◌≤◌, ℕ, List, Ok, Err, Some, IfErr, IfOk, IfSome, is_some, map, not, string_bytes, OnOk, true};
 ghost use Rattle.outside_core.specs.Files.{FileMap};
+ghost use Rattle.outside_core.specs.Reports.{StaysTruthful, reported};
 ghost use Rattle.kdbx_frame.specs.Settings.{IsInOrder};
 ghost use Rattle.cli_answers.specs.Phases.{IsEarlyStop, IsWordsStop, Leaves, Returns, TellsStream};
 ghost use Rattle.cli_answers.specs.declared.answers.Refusal.{Refusal};
@@ -29,7 +30,8 @@ pub fn read_task<F: FileStore, S: Source>(
     input: &mut S,
     now: u64,
 ) -> Result<Task, Stop>
-    ensures told { (m : FileMap) (i : List ℕ) → F.files files.old ≡ Some m
+    ensures told { S.truthful input.new ≡ true → (m : FileMap) (i : List ℕ)
+        → reported (F.truthful files.new) (F.files files.old) ≡ Some m
         → TellsStream (asked_by (command_of (map string_bytes words.now))) (S.left input.old) i
         → Returns task_seen result (task_of (map string_bytes words.now) now i m) }
     ensures command { IfOk result (λ task. command_of (map string_bytes words.now)
@@ -43,12 +45,15 @@ pub fn read_task<F: FileStore, S: Source>(
         IsInOrder s.settings)) }
     ensures sealed { IfOk result (λ task. is_some task.opened.sealing
         ≡ not (target_access task.command).plain) }
-    ensures left { (i : List ℕ)
+    ensures left { S.truthful input.new ≡ true → (i : List ℕ)
         → TellsStream (asked_by (command_of (map string_bytes words.now))) (S.left input.old) i
         → Leaves result (S.left input.old) (S.left input.new)
         (left_of (map string_bytes words.now) i) }
     ensures unread { (refusal : Refusal) → command_of (map string_bytes words.now) ≡ Err refusal
         → S.left input.new ≡ S.left input.old }
+    ensures unasked { (refusal : Refusal) → command_of (map string_bytes words.now) ≡ Err refusal
+        → (F.truthful files.new ≡ F.truthful files.old)
+        × (S.truthful input.new ≡ S.truthful input.old) }
     ensures wrong { (refusal : Refusal) → command_of (map string_bytes words.now) ≡ Err refusal
         → IfErr result IsWordsStop }
     ensures cause { IfErr result (IsEarlyStop
@@ -59,6 +64,8 @@ pub fn read_task<F: FileStore, S: Source>(
     ensures files { F.files files.new ≡ F.files files.old }
     ensures draft_name { F.draft_name files.new ≡ F.draft_name files.old }
     ensures draft_bytes { F.draft_bytes files.new ≡ F.draft_bytes files.old }
+    ensures files_truthful { StaysTruthful (F.truthful files.old) (F.truthful files.new) }
+    ensures input_truthful { StaysTruthful (S.truthful input.old) (S.truthful input.new) }
     ensures faultless { OnOk result ((F.faults files.new ≡ F.faults files.old)
         × (S.faults input.new ≡ S.faults input.old)) }
 {

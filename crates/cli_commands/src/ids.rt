@@ -1,6 +1,7 @@
 //! The ids of the nodes that commands make.
-ghost use Rattle.std.specs.Prelude.{◌≡◌, ◌≤◌, ℕ, List, IfErr, IfOk, Ok, false, OnOk};
+ghost use Rattle.std.specs.Prelude.{◌≡◌, ◌≤◌, ℕ, List, IfErr, IfOk, Ok, false, OnOk, true};
 ghost use Rattle.outside_core.specs.Counts.{Increased};
+ghost use Rattle.outside_core.specs.Reports.{StaysTruthful};
 ghost use Rattle.outside_core.specs.Streams.{LosesPrefix};
 ghost use Rattle.vault_model.specs.SeenDoc.{doc_seen};
 ghost use Rattle.cli_answers.specs.Phases.{IsLeft, TellsStream};
@@ -40,12 +41,14 @@ pub(crate) fn makes_node(command: &Command, doc: &Doc) -> bool
 
 /// Draws the id of a node that is made. Where none is made, nothing is drawn and the id is nil.
 pub(crate) fn draw_if<D: Dice>(dice: &mut D, is_made: bool) -> Result<Uuid, DiceFail>
-    ensures told { (d : List ℕ) → TellsStream is_made (D.stream dice.old) d
+    ensures told { D.truthful dice.new ≡ true
+        → (d : List ℕ) → TellsStream is_made (D.stream dice.old) d
         → IfOk result (λ id. ((spec.drawn_id is_made d).answer ≡ Ok id)
         × IsLeft (D.stream dice.old) (D.stream dice.new) (spec.drawn_id is_made d).left) }
     ensures some_dice { IfOk result (λ id. IsDrawnBySome is_made id) }
     ensures undrawn { is_made ≡ false → D.stream dice.new ≡ D.stream dice.old }
     ensures stream { LosesPrefix (D.stream dice.old) (D.stream dice.new) }
+    ensures truthful { StaysTruthful (D.truthful dice.old) (D.truthful dice.new) }
     ensures cause { IfErr result (λ _. Increased (D.faults dice.old) (D.faults dice.new)) }
     ensures faults { D.faults dice.old ≤ D.faults dice.new }
     ensures faultless { OnOk result (D.faults dice.new ≡ D.faults dice.old) }

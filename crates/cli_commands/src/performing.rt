@@ -8,6 +8,7 @@ ghost use Rattle.tree_core.specs.Changes as changes;
 ghost use Rattle.tree_core.specs.NewNodes.{lent_value};
 ghost use Rattle.cli_answers.specs.Phases.{IsPlainStop, IsStreamStop, Returns, ReturnsAskedStream, TellsStream};
 ghost use Rattle.std.specs.Str.{is_utf8};
+ghost use Rattle.outside_core.specs.Reports.{StaysTruthful};
 ghost use Rattle.cli_lines.specs.Lines.{AreTextLines, IsTextLine};
 ghost use Rattle.cli_profiles.specs.Profiles.{IsProfile};
 ghost use Rattle.cli_words.specs.Needs.{generated_by, needs_of};
@@ -443,7 +444,8 @@ fn change_by<D: Dice>(
 ) -> Result<Change, Stop>
     requires text { AreTextLines (lent_value input.line) (lent_value input.otp) }
     requires profile { IfSome (generated_by command.now) IsProfile }
-    ensures told { (d : List ℕ)
+    ensures told { D.truthful dice.new ≡ true
+        → (d : List ℕ)
         → TellsStream (is_some (generated_by command.now)) (D.stream dice.old) d
         → ReturnsAskedStream (λ change. change_seen change (doc_seen doc.new)) result
         (D.stream dice.old) (D.stream dice.new)
@@ -461,6 +463,7 @@ fn change_by<D: Dice>(
     ensures undrawn { is_some (generated_by command.now) ≡ false
         → D.stream dice.new ≡ D.stream dice.old }
     ensures stream { LosesPrefix (D.stream dice.old) (D.stream dice.new) }
+    ensures truthful { StaysTruthful (D.truthful dice.old) (D.truthful dice.new) }
     ensures cause { IfErr result (IsStreamStop (D.faults dice.old) (D.faults dice.new)) }
     ensures faults { D.faults dice.old ≤ D.faults dice.new }
     ensures faultless { OnOk result (D.faults dice.new ≡ D.faults dice.old) }
@@ -490,7 +493,8 @@ pub fn perform<'a, D: Dice>(
 ) -> Result<Change, Stop>
     requires text { AreTextLines (lent_value input.line) (lent_value input.otp) }
     requires profile { IfSome (generated_by command.now) IsProfile }
-    ensures told { (d : List ℕ) → TellsStream (draws_change command.now) (D.stream dice.old) d
+    ensures told { D.truthful dice.new ≡ true
+        → (d : List ℕ) → TellsStream (draws_change command.now) (D.stream dice.old) d
         → ReturnsAskedStream (λ change. change_seen change (doc_seen doc.new)) result
         (D.stream dice.old) (D.stream dice.new)
         (change_of input.entry.now command.now (lent_value input.entry.line)
@@ -507,6 +511,7 @@ pub fn perform<'a, D: Dice>(
     ensures undrawn { draws_change command.now ≡ false
         → D.stream dice.new ≡ D.stream dice.old }
     ensures stream { LosesPrefix (D.stream dice.old) (D.stream dice.new) }
+    ensures truthful { StaysTruthful (D.truthful dice.old) (D.truthful dice.new) }
     ensures cause { IfErr result (IsStreamStop (D.faults dice.old) (D.faults dice.new)) }
     ensures faults { D.faults dice.old ≤ D.faults dice.new }
     ensures faultless { OnOk result (D.faults dice.new ≡ D.faults dice.old) }

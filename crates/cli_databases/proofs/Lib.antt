@@ -1,6 +1,7 @@
 pub mod HeldFiles
 pub mod NoDocuments
 pub mod Openable
+pub mod Phases
 pub mod Refusals
 pub mod SomeOpened
 pub mod Sources

@@ -10,7 +10,6 @@ use Rattle.vault_model.specs.Tree.{BareDoc}
 use Rattle.vault_model.specs.declared.documents.Doc.{Doc}
 use Rattle.cli_answers.specs.declared.answers.Refusal.{Refusal}
 use Rattle.cli_answers.specs.declared.answers.Stop.{Stop}
-use Rattle.cli_answers.specs.declared.answers.Stop.TheVariants.{FileFault, InputFault, NoMemory, Refused}
 use Rattle.cli_answers.specs.Phases.{IsFileStop, Returns, Stops}
 use Rattle.cli_words.specs.declared.command.Access.{Access}
 use Rattle.cli_words.specs.Needs.{database_files, source_files}
@@ -19,6 +18,7 @@ use Rattle.cli_files.specs.Files.{Opened}
 use Rattle.cli_databases.specs.Databases.{docs_from, document_in, password_from}
 use Rattle.cli_databases.specs.SomeFiles.{GainsSources, SomeHolds, SomeSources}
 use Rattle.cli_files.proofs.FileStops.{first_at_files, later_at_files}
+use Rattle.cli_databases.proofs.Phases.{stops_both}
 
 -- A list by its first element and what is left.
 pub first_and_rest : {A : Type 0} (items rest : List A) (item : A) → 1 ≤ length items → rest ≡ take (length items - 1) (drop 1 items)
@@ -95,13 +95,6 @@ stops_next (Ok x) from name names rest f f' f'' a a' a'' n p q h = tt
 stops_next (Err stop) from name names rest f f' f'' a a' a'' n p q h =
     subst (λ (ns : List (List ℕ)). IsFileStop (source_files from ns) f f'' a a'' stop) (sym n)
     (later_at_files (database_files from name) (source_files from rest) f f' f'' a a' a'' stop p q h)
-
--- A phase that stopped stops what comes after it.
-stops_both : {A B : Type 0} (stop : Stop) (phase : Result A Refusal) (next : A → Result B Refusal) → Stops stop phase → Stops stop (phase >>= next)
-stops_both (Refused refusal) phase next h = ap (λ r. r >>= next) h
-stops_both (FileFault name) phase next h = tt
-stops_both InputFault phase next h = tt
-stops_both NoMemory phase next h = tt
 
 -- The first source is not opened.
 pub told_stop : (stop : Stop) (from : Access) (same : Bool) (target password line : Option (List ℕ)) (name : List ℕ) (names rest : List (List ℕ))

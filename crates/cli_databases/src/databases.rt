@@ -2,6 +2,7 @@
 ghost use Rattle.std.specs.Prelude.{◌≡◌, ◌≢◌, ◌⊎◌, [], ◌∷◌, ◌++◌, IfErr, IfOk, IfSome, IsSome, OnOk, Some, false, map, option_map};
 ghost use Rattle.std.specs.FinMap as finmap;
 ghost use Rattle.outside_core.specs.Files.{FileMap};
+ghost use Rattle.outside_core.specs.Reports.{reported};
 ghost use Rattle.kdbx_frame.specs.Settings.{IsInOrder};
 ghost use Rattle.cli_files.specs.Files.{Opened as BareOpened};
 ghost use Rattle.cli_files.specs.LeavesFiles.{LeavesFiles};
@@ -102,15 +103,15 @@ fn unopened(alloc: Global, fail: OpenFail, name: &str) -> Stop
 
 // The plain document in a file.
 fn open_plain<F: FileStore>(alloc: Global, files: &mut F, name: &str) -> Result<Opened, Stop>
-    ensures told { (m : FileMap) → F.files files.old ≡ Some m
+    ensures told { (m : FileMap) → reported (F.truthful files.new) (F.files files.old) ≡ Some m
         → Returns opened_seen result (plain_of name.now (finmap.get m name.now)) }
     ensures some_file { IfOk result (λ opened. SomePlain (opened_seen opened)) }
     ensures in_order { IfOk result (λ opened. IfSome opened.sealing (λ sealing.
         IsInOrder sealing.settings)) }
     ensures cause { IfErr result (IsFileStop (name.now ∷ []) (F.faults files.old)
         (F.faults files.new) (F.absences files.old) (F.absences files.new)) }
-    ensures leaves { LeavesFiles F.files F.draft_name F.draft_bytes F.faults F.absences files.old
-        files.new }
+    ensures leaves { LeavesFiles F.files F.draft_name F.draft_bytes F.truthful F.faults
+        F.absences files.old files.new }
     ensures faultless { OnOk result (F.faults files.new ≡ F.faults files.old) }
 {
     match read_file(alloc, files, name, FILE_LIMIT) {
@@ -151,15 +152,15 @@ fn open_under<F: FileStore>(
     name: &str,
     composite: Key,
 ) -> Result<Opened, Stop>
-    ensures told { (m : FileMap) → F.files files.old ≡ Some m
+    ensures told { (m : FileMap) → reported (F.truthful files.new) (F.files files.old) ≡ Some m
         → Returns opened_seen result (held_under name.now m composite) }
     ensures some_file { IfOk result (λ opened. IsSealedUnder composite (opened_seen opened)) }
     ensures in_order { IfOk result (λ opened. IfSome opened.sealing (λ sealing.
         IsInOrder sealing.settings)) }
     ensures cause { IfErr result (IsFileStop (name.now ∷ []) (F.faults files.old)
         (F.faults files.new) (F.absences files.old) (F.absences files.new)) }
-    ensures leaves { LeavesFiles F.files F.draft_name F.draft_bytes F.faults F.absences files.old
-        files.new }
+    ensures leaves { LeavesFiles F.files F.draft_name F.draft_bytes F.truthful F.faults
+        F.absences files.old files.new }
     ensures faultless { OnOk result (F.faults files.new ≡ F.faults files.old) }
 {
     match open_file(alloc, files, name, composite) {
@@ -178,7 +179,7 @@ pub fn open_sealed<F: FileStore>(
     key: Option<Key>,
 ) -> Result<Opened, Stop>
     requires { IsSome password ⊎ IsSome key }
-    ensures told { (m : FileMap) → F.files files.old ≡ Some m
+    ensures told { (m : FileMap) → reported (F.truthful files.new) (F.files files.old) ≡ Some m
         → Returns opened_seen result (sealed_in name.now m
         (option_map (λ p. p.now) password.entry) key) }
     ensures some_file { IfOk result (λ opened. IsSealedUnder
@@ -187,8 +188,8 @@ pub fn open_sealed<F: FileStore>(
         IsInOrder sealing.settings)) }
     ensures cause { IfErr result (IsFileStop (name.now ∷ []) (F.faults files.old)
         (F.faults files.new) (F.absences files.old) (F.absences files.new)) }
-    ensures leaves { LeavesFiles F.files F.draft_name F.draft_bytes F.faults F.absences files.old
-        files.new }
+    ensures leaves { LeavesFiles F.files F.draft_name F.draft_bytes F.truthful F.faults
+        F.absences files.old files.new }
     ensures faultless { OnOk result (F.faults files.new ≡ F.faults files.old) }
 {
     open_under(alloc, files, name, composite(password, key))
@@ -203,7 +204,7 @@ fn open_held<F: FileStore>(
     password: Option<&[u8]>,
 ) -> Result<Opened, Stop>
     requires { access.now.plain ≡ false → IsSome password ⊎ IsSome access.now.key_file }
-    ensures told { (m : FileMap) → F.files files.old ≡ Some m
+    ensures told { (m : FileMap) → reported (F.truthful files.new) (F.files files.old) ≡ Some m
         → Returns opened_seen result (held_in access.now.plain access.now.key_file file.now
         (option_map (λ p. p.now) password.entry) m) }
     ensures some_file { IfOk result (λ opened. SomeHolds access.now.plain access.now.key_file
@@ -212,8 +213,8 @@ fn open_held<F: FileStore>(
         IsInOrder sealing.settings)) }
     ensures cause { IfErr result (IsFileStop (key_files access.now.key_file ++ file.now ∷ [])
         (F.faults files.old) (F.faults files.new) (F.absences files.old) (F.absences files.new)) }
-    ensures leaves { LeavesFiles F.files F.draft_name F.draft_bytes F.faults F.absences files.old
-        files.new }
+    ensures leaves { LeavesFiles F.files F.draft_name F.draft_bytes F.truthful F.faults
+        F.absences files.old files.new }
     ensures faultless { OnOk result (F.faults files.new ≡ F.faults files.old) }
 {
     if access.plain {
@@ -258,7 +259,7 @@ fn open_source<F: FileStore>(
     password: Option<&[u8]>,
 ) -> Result<Doc, Stop>
     requires { CanOpen from.now (option_map (λ p. p.now) password) }
-    ensures told { (m : FileMap) → F.files files.old ≡ Some m
+    ensures told { (m : FileMap) → reported (F.truthful files.new) (F.files files.old) ≡ Some m
         → Returns doc_seen result (document_in from.now name.now
         (option_map (λ p. p.now) password.entry) m) }
     ensures some_file { IfOk result (λ doc. (opened : BareOpened)
@@ -266,8 +267,8 @@ fn open_source<F: FileStore>(
         opened × (opened.doc ≡ doc_seen doc))) }
     ensures cause { IfErr result (IsFileStop (database_files from.now name.now)
         (F.faults files.old) (F.faults files.new) (F.absences files.old) (F.absences files.new)) }
-    ensures leaves { LeavesFiles F.files F.draft_name F.draft_bytes F.faults F.absences files.old
-        files.new }
+    ensures leaves { LeavesFiles F.files F.draft_name F.draft_bytes F.truthful F.faults
+        F.absences files.old files.new }
     ensures faultless { OnOk result (F.faults files.new ≡ F.faults files.old) }
 {
     match open_held(alloc, files, from, name.as_str(), password) {
@@ -302,7 +303,7 @@ fn open_sources<F: FileStore>(
 ) -> Result<(), Stop>
     requires { CanOpenAll needs.from.now needs.same (option_map (λ p. p.now) target)
         needs.sources.now (map line_seen lines.now) }
-    ensures told { (m : FileMap) → F.files files.old ≡ Some m
+    ensures told { (m : FileMap) → reported (F.truthful files.new) (F.files files.old) ≡ Some m
         → Returns (λ _. map doc_seen docs.new) result
         (docs_from needs.entry.from.now needs.entry.same (option_map (λ p. p.now) target.entry)
         needs.entry.sources.now (map line_seen lines.now) (map doc_seen docs.old) m) }
@@ -312,8 +313,8 @@ fn open_sources<F: FileStore>(
     ensures cause { IfErr result (IsFileStop
         (source_files needs.entry.from.now needs.entry.sources.now)
         (F.faults files.old) (F.faults files.new) (F.absences files.old) (F.absences files.new)) }
-    ensures leaves { LeavesFiles F.files F.draft_name F.draft_bytes F.faults F.absences files.old
-        files.new }
+    ensures leaves { LeavesFiles F.files F.draft_name F.draft_bytes F.truthful F.faults
+        F.absences files.old files.new }
     ensures faultless { OnOk result (F.faults files.new ≡ F.faults files.old) }
 {
     let [name, names @ ..] = needs.sources else {
@@ -343,7 +344,7 @@ fn open_all<F: FileStore>(
 ) -> Result<List<Doc>, Stop>
     requires { CanOpenAll needs.from.now needs.same (line_seen lines.now.password)
         needs.sources.now (map line_seen lines.now.sources) }
-    ensures told { (m : FileMap) → F.files files.old ≡ Some m
+    ensures told { (m : FileMap) → reported (F.truthful files.new) (F.files files.old) ≡ Some m
         → Returns (λ docs. map doc_seen docs) result
         (sources_of (needs_seen needs.entry) (lines_seen lines.now) m) }
     ensures some_file { IfOk result (λ docs. SomeSources needs.entry.from.now needs.entry.same
@@ -352,8 +353,8 @@ fn open_all<F: FileStore>(
     ensures cause { IfErr result (IsFileStop
         (source_files needs.entry.from.now needs.entry.sources.now)
         (F.faults files.old) (F.faults files.new) (F.absences files.old) (F.absences files.new)) }
-    ensures leaves { LeavesFiles F.files F.draft_name F.draft_bytes F.faults F.absences files.old
-        files.new }
+    ensures leaves { LeavesFiles F.files F.draft_name F.draft_bytes F.truthful F.faults
+        F.absences files.old files.new }
     ensures faultless { OnOk result (F.faults files.new ≡ F.faults files.old) }
 {
     let mut docs = List::new(alloc);
@@ -386,7 +387,7 @@ pub fn open<F: FileStore>(
 ) -> Result<Databases, Stop>
     requires keys { HasKeys (needs_seen needs) }
     requires lines { HasLines (needs_seen needs) (lines_seen lines.now) }
-    ensures told { (m : FileMap) → F.files files.old ≡ Some m
+    ensures told { (m : FileMap) → reported (F.truthful files.new) (F.files files.old) ≡ Some m
         → Returns databases_seen result
         (databases_of (needs_seen needs.entry) (lines_seen lines.now) m) }
     ensures some_file { IfOk result (λ databases. SomeDatabases (needs_seen needs.entry)
@@ -395,8 +396,8 @@ pub fn open<F: FileStore>(
         IsInOrder sealing.settings)) }
     ensures cause { IfErr result (IsFileStop (files_of (needs_seen needs.entry))
         (F.faults files.old) (F.faults files.new) (F.absences files.old) (F.absences files.new)) }
-    ensures leaves { LeavesFiles F.files F.draft_name F.draft_bytes F.faults F.absences files.old
-        files.new }
+    ensures leaves { LeavesFiles F.files F.draft_name F.draft_bytes F.truthful F.faults
+        F.absences files.old files.new }
     ensures faultless { OnOk result (F.faults files.new ≡ F.faults files.old) }
 {
     let password = bytes_in(&lines.password);

@@ -2,6 +2,7 @@
 ghost use Rattle.std.specs.Prelude.{◌≡◌, ◌≢◌, [], ◌∷◌, IfErr, IfOk, IsSome, Some, option_map, OnOk};
 ghost use Rattle.std.specs.FinMap as finmap;
 ghost use Rattle.outside_core.specs.Files.{FileMap};
+ghost use Rattle.outside_core.specs.Reports.{reported};
 ghost use Rattle.key_core.specs.KeyFile.{key_file_key};
 ghost use Rattle.cli_answers.specs.Phases.{IsFileStop, IsPlainStop, Returns};
 ghost use Rattle.cli_words.specs.Needs.{key_files};
@@ -47,13 +48,13 @@ fn key_by(alloc: Global, name: &str, bytes: &Secret) -> Result<Key, Stop>
 
 // The key of a key file.
 fn open_key_file<F: FileStore>(alloc: Global, files: &mut F, name: &str) -> Result<Key, Stop>
-    ensures told { (m : FileMap) → F.files files.old ≡ Some m
+    ensures told { (m : FileMap) → reported (F.truthful files.new) (F.files files.old) ≡ Some m
         → Returns (λ key. key) result (key_in name.now (finmap.get m name.now)) }
     ensures some_file { IfOk result IsSomeKey }
     ensures cause { IfErr result (IsFileStop (name.now ∷ []) (F.faults files.old)
         (F.faults files.new) (F.absences files.old) (F.absences files.new)) }
-    ensures leaves { LeavesFiles F.files F.draft_name F.draft_bytes F.faults F.absences files.old
-        files.new }
+    ensures leaves { LeavesFiles F.files F.draft_name F.draft_bytes F.truthful F.faults
+        F.absences files.old files.new }
     ensures faultless { OnOk result (F.faults files.new ≡ F.faults files.old) }
 {
     match read_file(alloc, files, name, FILE_LIMIT) {
@@ -68,7 +69,7 @@ pub fn key_of<F: FileStore>(
     files: &mut F,
     key_file: Option<&str>,
 ) -> Result<Option<Key>, Stop>
-    ensures told { (m : FileMap) → F.files files.old ≡ Some m
+    ensures told { (m : FileMap) → reported (F.truthful files.new) (F.files files.old) ≡ Some m
         → Returns (λ key. key) result
         (spec.key_of (option_map (λ name. name.now) key_file.entry) m) }
     ensures given { IfOk result (λ key. IsSome key_file.entry → IsSome key) }
@@ -76,8 +77,8 @@ pub fn key_of<F: FileStore>(
     ensures cause { IfErr result (IsFileStop (key_files
         (option_map (λ name. name.now) key_file.entry)) (F.faults files.old) (F.faults files.new)
         (F.absences files.old) (F.absences files.new)) }
-    ensures leaves { LeavesFiles F.files F.draft_name F.draft_bytes F.faults F.absences files.old
-        files.new }
+    ensures leaves { LeavesFiles F.files F.draft_name F.draft_bytes F.truthful F.faults
+        F.absences files.old files.new }
     ensures faultless { OnOk result (F.faults files.new ≡ F.faults files.old) }
 {
     match key_file {

@@ -2,6 +2,7 @@
 ghost use Rattle.std.specs.Prelude.{◌≡◌, ◌<◌, ◌≤◌, ℕ, List, Some, IfErr, IfOk, true, OnOk};
 ghost use Rattle.std.specs.List.{All};
 ghost use Rattle.std.specs.Str.{is_utf8};
+ghost use Rattle.outside_core.specs.Reports.{StaysTruthful};
 ghost use Rattle.outside_core.specs.Streams.{LosesPrefix};
 ghost use Rattle.gen_core.specs.Chosen.{IsAlphabet};
 ghost use Rattle.cli_answers.specs.Phases.{IsStreamStop, ReturnsStream};
@@ -30,13 +31,15 @@ pub fn choose_password<D: Dice>(
     requires ascii { All (λ b. b < 128) alphabet.now }
     requires wanted { 0 < length }
     requires limit { length ≤ 4096 }
-    ensures told { (d : List ℕ) → D.stream dice.old ≡ Some d
+    ensures told { D.truthful dice.new ≡ true
+        → (d : List ℕ) → D.stream dice.old ≡ Some d
         → ReturnsStream (λ password. password.bytes) result (D.stream dice.new)
         (generated alphabet.now length d) }
     ensures some_dice { IfOk result (λ password. (d : List ℕ)
         × ((generated alphabet.now length d).answer ≡ Ok password.bytes)) }
     ensures text { IfOk result (λ password. is_utf8 password.bytes ≡ true) }
     ensures stream { LosesPrefix (D.stream dice.old) (D.stream dice.new) }
+    ensures truthful { StaysTruthful (D.truthful dice.old) (D.truthful dice.new) }
     ensures cause { IfErr result (IsStreamStop (D.faults dice.old) (D.faults dice.new)) }
     ensures faults { D.faults dice.old ≤ D.faults dice.new }
     ensures faultless { OnOk result (D.faults dice.new ≡ D.faults dice.old) }

@@ -2,6 +2,7 @@
 ghost use Rattle.std.specs.Prelude.{◌≡◌, [], ◌∷◌, IfErr, IfOk, IfSome, Some, option_map, OnOk};
 ghost use Rattle.std.specs.FinMap as finmap;
 ghost use Rattle.outside_core.specs.Files.{FileMap};
+ghost use Rattle.outside_core.specs.Reports.{reported};
 ghost use Rattle.kdbx_frame.specs.Settings.{IsInOrder};
 ghost use Rattle.cli_answers.specs.Phases.{IsFault, IsFileStop, Returns};
 ghost use Rattle.cli_files.specs.LeavesFiles.{LeavesFiles};
@@ -36,12 +37,12 @@ fn faulty(alloc: Global, name: &str) -> Stop
 
 /// Refuses where a file of this name is there, which is not changed.
 pub fn refuse_existing<F: FileStore>(alloc: Global, files: &mut F, name: &str) -> Result<(), Stop>
-    ensures told { (m : FileMap) → F.files files.old ≡ Some m
+    ensures told { (m : FileMap) → reported (F.truthful files.new) (F.files files.old) ≡ Some m
         → Returns (λ u. u) result (refuse_file name.now (finmap.get m name.now)) }
     ensures cause { IfErr result (IsFileStop (name.now ∷ []) (F.faults files.old)
         (F.faults files.new) (F.absences files.old) (F.absences files.new)) }
-    ensures leaves { LeavesFiles F.files F.draft_name F.draft_bytes F.faults F.absences files.old
-        files.new }
+    ensures leaves { LeavesFiles F.files F.draft_name F.draft_bytes F.truthful F.faults
+        F.absences files.old files.new }
     ensures faultless { OnOk result (F.faults files.new ≡ F.faults files.old) }
 {
     match files.size(name) {
@@ -94,7 +95,7 @@ pub fn new_sealing<F: FileStore>(
     password: Option<&[u8]>,
 ) -> Result<Option<Sealing>, Stop>
     requires { CanOpen access.now (option_map (λ p. p.now) password) }
-    ensures told { (m : FileMap) → F.files files.old ≡ Some m
+    ensures told { (m : FileMap) → reported (F.truthful files.new) (F.files files.old) ≡ Some m
         → Returns (λ sealing. sealing) result (sealing_of access.now.plain access.now.key_file
         (option_map (λ p. p.now) password.entry) m) }
     ensures some_file { IfOk result (SomeSealing access.now.plain access.now.key_file
@@ -102,8 +103,8 @@ pub fn new_sealing<F: FileStore>(
     ensures in_order { IfOk result (λ sealing. IfSome sealing (λ s. IsInOrder s.settings)) }
     ensures cause { IfErr result (IsFileStop (key_files access.now.key_file)
         (F.faults files.old) (F.faults files.new) (F.absences files.old) (F.absences files.new)) }
-    ensures leaves { LeavesFiles F.files F.draft_name F.draft_bytes F.faults F.absences files.old
-        files.new }
+    ensures leaves { LeavesFiles F.files F.draft_name F.draft_bytes F.truthful F.faults
+        F.absences files.old files.new }
     ensures faultless { OnOk result (F.faults files.new ≡ F.faults files.old) }
 {
     if access.plain {
@@ -134,7 +135,7 @@ pub fn import<F: FileStore>(
     now: u64,
 ) -> Result<Opened, Stop>
     requires { CanOpen import.access.now (line_seen lines.now.more) }
-    ensures told { (m : FileMap) → F.files files.old ≡ Some m
+    ensures told { (m : FileMap) → reported (F.truthful files.new) (F.files files.old) ≡ Some m
         → Returns opened_seen result
         (imported_of (import_seen import.entry) (lines_seen lines.now) now m) }
     ensures some_file { IfOk result (λ opened. SomeImport (import_seen import.entry)
@@ -143,8 +144,8 @@ pub fn import<F: FileStore>(
     ensures cause { IfErr result (IsFileStop (import.entry.source.now
         ∷ import.entry.file.now ∷ key_files import.entry.access.now.key_file)
         (F.faults files.old) (F.faults files.new) (F.absences files.old) (F.absences files.new)) }
-    ensures leaves { LeavesFiles F.files F.draft_name F.draft_bytes F.faults F.absences files.old
-        files.new }
+    ensures leaves { LeavesFiles F.files F.draft_name F.draft_bytes F.truthful F.faults
+        F.absences files.old files.new }
     ensures faultless { OnOk result (F.faults files.new ≡ F.faults files.old) }
 {
     let source = read_source(alloc, files, import, bytes_in(&lines.password), now)?;

@@ -2,6 +2,7 @@
 ghost use Rattle.std.specs.Prelude.{◌≡◌, ◌≢◌, ℕ, List, [], ◌∷◌, IfErr, IfOk, Some, option_map, OnOk};
 ghost use Rattle.bitwarden_core.specs.Documents.{bitwarden_document};
 ghost use Rattle.outside_core.specs.Files.{FileMap};
+ghost use Rattle.outside_core.specs.Reports.{reported};
 ghost use Rattle.psafe_core.specs.Outcome.{psafe_outcome};
 ghost use Rattle.table_reading.specs.Columns.{passed_over};
 ghost use Rattle.table_reading.specs.Documents.{csv_document};
@@ -270,7 +271,7 @@ pub(crate) fn read_source<F: FileStore>(
     password: Option<&[u8]>,
     now: u64,
 ) -> Result<Source, Stop>
-    ensures told { (m : FileMap) → F.files files.old ≡ Some m
+    ensures told { (m : FileMap) → reported (F.truthful files.new) (F.files files.old) ≡ Some m
         → Returns source_seen result (source_of (import_seen import.entry)
         (option_map (λ p. p.now) password.entry) now m) }
     ensures some_file { IfOk result (λ source. (bytes : List ℕ)
@@ -278,8 +279,8 @@ pub(crate) fn read_source<F: FileStore>(
         (source_seen source)) }
     ensures cause { IfErr result (IsFileStop (import.entry.source.now ∷ []) (F.faults files.old)
         (F.faults files.new) (F.absences files.old) (F.absences files.new)) }
-    ensures leaves { LeavesFiles F.files F.draft_name F.draft_bytes F.faults F.absences files.old
-        files.new }
+    ensures leaves { LeavesFiles F.files F.draft_name F.draft_bytes F.truthful F.faults
+        F.absences files.old files.new }
     ensures faultless { OnOk result (F.faults files.new ≡ F.faults files.old) }
 {
     let name = import.source.as_str();

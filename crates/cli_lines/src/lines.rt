@@ -2,6 +2,7 @@
 ghost use Rattle.std.specs.Prelude.{◌≡◌, ◌≢◌, ◌≤◌, ◌<◌, ◌+◌, ◌||◌, [], ◌∷◌, ◌++◌, ℕ, List, length, map, IfErr, IfOk, IfSome, OnOk, is_some, Some, true};
 ghost use Rattle.std.specs.Str.{is_utf8};
 ghost use Rattle.outside_core.specs.Counts.{HasCause};
+ghost use Rattle.outside_core.specs.Reports.{StaysTruthful};
 ghost use Rattle.cli_lines.specs.Cutting.{ComesNext, Cuts, Ends, IsPushed, Puts, cut, weight};
 ghost use Rattle.cli_lines.specs.Lines as spec;
 ghost use Rattle.cli_lines.specs.Lines.{AreTextLines, HasLines, IsTextLine, after_password, after_passwords, last_lines, line_from, line_if, line_of, lines_from, lines_of, number_of_more};
@@ -34,8 +35,9 @@ fn window(alloc: Global) -> Result<Secret, NoMemory>
 fn next_byte<S: Source>(input: &mut S, window: &mut Secret) -> Result<Option<u8>, SourceFail>
     requires { length window.old.bytes ≡ 1 }
     ensures window { length window.new.bytes ≡ 1 }
-    ensures told { (i : List ℕ) → S.left input.old ≡ Some i
+    ensures told { S.truthful input.new ≡ true → (i : List ℕ) → S.left input.old ≡ Some i
         → ComesNext result i (S.left input.new) }
+    ensures truthful { StaysTruthful (S.truthful input.old) (S.truthful input.new) }
     ensures cause { HasCause SourceFail.Failed (S.faults input.old) (S.faults input.new) result }
 {
     let read = input.read(window.lend_mut())?;
@@ -96,8 +98,9 @@ fn read_from<S: Source>(
     requires window { length window.old.bytes ≡ 1 }
     requires bytes { line.old.bytes ≡ [] }
     requires spare { line.old.spare ≡ 4096 }
-    ensures told { (i : List ℕ) → S.left input.old ≡ Some i
+    ensures told { S.truthful input.new ≡ true → (i : List ℕ) → S.left input.old ≡ Some i
         → Cuts result line.new.bytes (S.left input.new) (line_from 0 (first ∷ i)) }
+    ensures truthful { StaysTruthful (S.truthful input.old) (S.truthful input.new) }
     ensures cause { HasCause SourceFail.Failed (S.faults input.old) (S.faults input.new) result }
 {
     let mut byte = first;
@@ -143,9 +146,10 @@ fn fill_line<S: Source>(
     requires window { length window.old.bytes ≡ 1 }
     requires bytes { line.old.bytes ≡ [] }
     requires spare { line.old.spare ≡ 4096 }
-    ensures told { (i : List ℕ) → S.left input.old ≡ Some i
+    ensures told { S.truthful input.new ≡ true → (i : List ℕ) → S.left input.old ≡ Some i
         → ReturnsStream (λ _. line.new.bytes) result (S.left input.new) (line_of number i) }
     ensures text { OnOk result (is_utf8 line.new.bytes ≡ true) }
+    ensures truthful { StaysTruthful (S.truthful input.old) (S.truthful input.new) }
     ensures cause { IfErr result (IsStreamStop (S.faults input.old) (S.faults input.new)) }
     ensures faults { S.faults input.old ≤ S.faults input.new }
     ensures faultless { OnOk result (S.faults input.new ≡ S.faults input.old) }
@@ -165,9 +169,10 @@ fn fill_line<S: Source>(
 
 // The line of this number.
 fn read_line<S: Source>(alloc: Global, input: &mut S, number: u64) -> Result<Secret, Stop>
-    ensures told { (i : List ℕ) → S.left input.old ≡ Some i
+    ensures told { S.truthful input.new ≡ true → (i : List ℕ) → S.left input.old ≡ Some i
         → ReturnsStream (λ line. line.bytes) result (S.left input.new) (line_of number i) }
     ensures text { IfOk result (λ line. is_utf8 line.bytes ≡ true) }
+    ensures truthful { StaysTruthful (S.truthful input.old) (S.truthful input.new) }
     ensures cause { IfErr result (IsStreamStop (S.faults input.old) (S.faults input.new)) }
     ensures faults { S.faults input.old ≤ S.faults input.new }
     ensures faultless { OnOk result (S.faults input.new ≡ S.faults input.old) }
@@ -197,11 +202,13 @@ fn read_if<S: Source>(
     due: bool,
     number: u64,
 ) -> Result<Option<Secret>, Stop>
-    ensures told { (i : List ℕ) → TellsStream due (S.left input.old) i
+    ensures told { S.truthful input.new ≡ true → (i : List ℕ)
+        → TellsStream due (S.left input.old) i
         → ReturnsAskedStream line_seen result (S.left input.old) (S.left input.new)
         (line_if due number i) }
     ensures given { IfOk result (λ line. is_some (line_seen line) ≡ due) }
     ensures text { IfOk result (λ line. IsTextLine (line_seen line)) }
+    ensures truthful { StaysTruthful (S.truthful input.old) (S.truthful input.new) }
     ensures cause { IfErr result (IsStreamStop (S.faults input.old) (S.faults input.new)) }
     ensures faults { S.faults input.old ≤ S.faults input.new }
     ensures faultless { OnOk result (S.faults input.new ≡ S.faults input.old) }
@@ -240,11 +247,13 @@ fn read_sources<S: Source>(
     lines: &mut List<Option<Secret>>,
 ) -> Result<u64, Stop>
     ensures next { IfOk result (λ next. next ≡ spec.number_after_all due names.now number) }
-    ensures told { (i : List ℕ) → TellsStream due (S.left input.old) i
+    ensures told { S.truthful input.new ≡ true → (i : List ℕ)
+        → TellsStream due (S.left input.old) i
         → ReturnsAskedStream (λ next. map line_seen lines.new) result (S.left input.old)
         (S.left input.new) (lines_from due names.now number (map line_seen lines.old) i) }
     ensures given { OnOk result (map is_some (map line_seen lines.new)
         ≡ map is_some (map line_seen lines.old) ++ map (λ name. due) names.now) }
+    ensures truthful { StaysTruthful (S.truthful input.old) (S.truthful input.new) }
     ensures cause { IfErr result (IsStreamStop (S.faults input.old) (S.faults input.new)) }
     ensures faults { S.faults input.old ≤ S.faults input.new }
     ensures faultless { OnOk result (S.faults input.new ≡ S.faults input.old) }
@@ -298,7 +307,7 @@ fn read_passwords<S: Source>(
     ensures next { IfOk result (λ next. next
         ≡ spec.number_after_all (asks_passwords_from (needs_seen needs.entry))
         (needs_seen needs.entry).sources number) }
-    ensures told { (i : List ℕ)
+    ensures told { S.truthful input.new ≡ true → (i : List ℕ)
         → TellsStream (asks_passwords_from (needs_seen needs.entry)) (S.left input.old) i
         → ReturnsAskedStream (λ next. map line_seen lines.new) result (S.left input.old)
         (S.left input.new) (lines_from (asks_passwords_from (needs_seen needs.entry))
@@ -307,6 +316,7 @@ fn read_passwords<S: Source>(
         ≡ map is_some (map line_seen lines.old)
         ++ map (λ name. asks_passwords_from (needs_seen needs.entry))
         (needs_seen needs.entry).sources) }
+    ensures truthful { StaysTruthful (S.truthful input.old) (S.truthful input.new) }
     ensures cause { IfErr result (IsStreamStop (S.faults input.old) (S.faults input.new)) }
     ensures faults { S.faults input.old ≤ S.faults input.new }
     ensures faultless { OnOk result (S.faults input.new ≡ S.faults input.old) }
@@ -330,13 +340,14 @@ fn read_last<S: Source>(
     number: u64,
 ) -> Result<LastLines, Stop>
     requires { number ≡ number_of_more (needs_seen needs) }
-    ensures told { (i : List ℕ)
+    ensures told { S.truthful input.new ≡ true → (i : List ℕ)
         → TellsStream (needs.entry.has_line || needs.entry.has_otp) (S.left input.old) i
         → ReturnsAskedStream last_seen result (S.left input.old) (S.left input.new)
         (last_lines (needs_seen needs.entry) i) }
     ensures more { IfOk result (λ last. is_some (line_seen last.more) ≡ needs.entry.has_line) }
     ensures otp { IfOk result (λ last. is_some (line_seen last.otp) ≡ needs.entry.has_otp) }
     ensures text { IfOk result (λ last. AreTextLines (line_seen last.more) (line_seen last.otp)) }
+    ensures truthful { StaysTruthful (S.truthful input.old) (S.truthful input.new) }
     ensures cause { IfErr result (IsStreamStop (S.faults input.old) (S.faults input.new)) }
     ensures faults { S.faults input.old ≤ S.faults input.new }
     ensures faultless { OnOk result (S.faults input.new ≡ S.faults input.old) }
@@ -368,13 +379,14 @@ fn read_more<S: Source>(
     requires password { is_some (line_seen password) ≡ words.asks_password needs.access.now }
     requires passwords { map is_some (map line_seen sources)
         ≡ map (λ name. asks_passwords_from (needs_seen needs)) needs.sources.now }
-    ensures told { (i : List ℕ)
+    ensures told { S.truthful input.new ≡ true → (i : List ℕ)
         → TellsStream (needs.entry.has_line || needs.entry.has_otp) (S.left input.old) i
         → ReturnsAskedStream lines_seen result (S.left input.old) (S.left input.new)
         (after_passwords (needs_seen needs.entry) (line_seen password) (map line_seen sources) i) }
     ensures given { IfOk result (λ lines. HasLines (needs_seen needs.entry) (lines_seen lines)) }
     ensures text { IfOk result (λ lines. AreTextLines (lines_seen lines).more
         (lines_seen lines).otp) }
+    ensures truthful { StaysTruthful (S.truthful input.old) (S.truthful input.new) }
     ensures cause { IfErr result (IsStreamStop (S.faults input.old) (S.faults input.new)) }
     ensures faults { S.faults input.old ≤ S.faults input.new }
     ensures faultless { OnOk result (S.faults input.new ≡ S.faults input.old) }
@@ -404,7 +416,7 @@ fn read_after<S: Source>(
 ) -> Result<Lines, Stop>
     requires number { number ≡ spec.number_from (needs_seen needs) }
     requires password { is_some (line_seen password) ≡ words.asks_password needs.access.now }
-    ensures told { (i : List ℕ)
+    ensures told { S.truthful input.new ≡ true → (i : List ℕ)
         → TellsStream (asks_passwords_from (needs_seen needs.entry)
         || (needs.entry.has_line || needs.entry.has_otp)) (S.left input.old) i
         → ReturnsAskedStream lines_seen result (S.left input.old) (S.left input.new)
@@ -412,6 +424,7 @@ fn read_after<S: Source>(
     ensures given { IfOk result (λ lines. HasLines (needs_seen needs.entry) (lines_seen lines)) }
     ensures text { IfOk result (λ lines. AreTextLines (lines_seen lines).more
         (lines_seen lines).otp) }
+    ensures truthful { StaysTruthful (S.truthful input.old) (S.truthful input.new) }
     ensures cause { IfErr result (IsStreamStop (S.faults input.old) (S.faults input.new)) }
     ensures faults { S.faults input.old ≤ S.faults input.new }
     ensures faultless { OnOk result (S.faults input.new ≡ S.faults input.old) }
@@ -429,12 +442,14 @@ fn read_after<S: Source>(
 
 /// The lines that a command asks for, one after another.
 pub fn read_lines<S: Source>(alloc: Global, input: &mut S, needs: Needs<'_>) -> Result<Lines, Stop>
-    ensures told { (i : List ℕ) → TellsStream (asks_line (needs_seen needs.entry))
+    ensures told { S.truthful input.new ≡ true → (i : List ℕ)
+        → TellsStream (asks_line (needs_seen needs.entry))
         (S.left input.old) i → ReturnsAskedStream lines_seen result (S.left input.old)
         (S.left input.new) (lines_of (needs_seen needs.entry) i) }
     ensures given { IfOk result (λ lines. HasLines (needs_seen needs.entry) (lines_seen lines)) }
     ensures text { IfOk result (λ lines. AreTextLines (lines_seen lines).more
         (lines_seen lines).otp) }
+    ensures truthful { StaysTruthful (S.truthful input.old) (S.truthful input.new) }
     ensures cause { IfErr result (IsStreamStop (S.faults input.old) (S.faults input.new)) }
     ensures faults { S.faults input.old ≤ S.faults input.new }
     ensures faultless { OnOk result (S.faults input.new ≡ S.faults input.old) }

@@ -2,5 +2,6 @@ mod Costs
 mod EditStops
 pub mod Helds
 mod Named
+mod Phases
 pub mod Sealed
 mod Somes

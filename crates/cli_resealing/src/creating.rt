@@ -1,6 +1,7 @@
 //! The database that is made empty.
 ghost use Rattle.std.specs.Prelude.{◌≡◌, [], ◌∷◌, IfErr, IfOk, IfSome, None, Ok, Some, OnOk};
 ghost use Rattle.outside_core.specs.Files.{FileMap};
+ghost use Rattle.outside_core.specs.Reports.{reported};
 ghost use Rattle.vault_model.specs.SeenDoc.{doc_seen};
 ghost use Rattle.vault_model.specs.Empty.{empty_tree, new_group, new_meta};
 ghost use Rattle.vault_model.specs.SeenNodes.{tree_seen};
@@ -141,7 +142,7 @@ pub fn create<F: FileStore>(
     now: u64,
 ) -> Result<Opened, Stop>
     requires { CanOpen create.access.now (line_seen lines.now.password) }
-    ensures told { (m : FileMap) → F.files files.old ≡ Some m
+    ensures told { (m : FileMap) → reported (F.truthful files.new) (F.files files.old) ≡ Some m
         → Returns opened_seen result
         (created_of (create_seen create.entry) (lines_seen lines.now) now m) }
     ensures some_file { IfOk result (λ opened. SomeCreated (create_seen create.entry)
@@ -150,8 +151,8 @@ pub fn create<F: FileStore>(
     ensures cause { IfErr result (IsFileStop
         (create.entry.file.now ∷ key_files create.entry.access.now.key_file)
         (F.faults files.old) (F.faults files.new) (F.absences files.old) (F.absences files.new)) }
-    ensures leaves { LeavesFiles F.files F.draft_name F.draft_bytes F.faults F.absences files.old
-        files.new }
+    ensures leaves { LeavesFiles F.files F.draft_name F.draft_bytes F.truthful F.faults
+        F.absences files.old files.new }
     ensures faultless { OnOk result (F.faults files.new ≡ F.faults files.old) }
 {
     let file = create.file.as_str();

@@ -1,6 +1,7 @@
 //! The database whose file is changed.
 ghost use Rattle.std.specs.Prelude.{◌≡◌, ◌++◌, ◌⊎◌, IfErr, IfOk, IfSome, IsSome, ℕ, List, Option, Some, option_map, OnOk};
 ghost use Rattle.outside_core.specs.Files.{FileMap};
+ghost use Rattle.outside_core.specs.Reports.{reported};
 ghost use Rattle.kdbx_frame.specs.Settings.{IsInOrder};
 ghost use Rattle.cli_answers.specs.Phases.{IsFileStop, Returns};
 ghost use Rattle.cli_files.specs.LeavesFiles.{LeavesFiles};
@@ -63,13 +64,13 @@ fn new_key<F: FileStore>(
     change: &KeyFileChange,
     old: Option<Key>,
 ) -> Result<Option<Key>, Stop>
-    ensures told { (m : FileMap) → F.files files.old ≡ Some m
+    ensures told { (m : FileMap) → reported (F.truthful files.new) (F.files files.old) ≡ Some m
         → Returns (λ key. key) result (key_after change.now old m) }
     ensures some_file { IfOk result (SomeKeyAfter change.now old) }
     ensures cause { IfErr result (IsFileStop (new_key_files change.now)
         (F.faults files.old) (F.faults files.new) (F.absences files.old) (F.absences files.new)) }
-    ensures leaves { LeavesFiles F.files F.draft_name F.draft_bytes F.faults F.absences files.old
-        files.new }
+    ensures leaves { LeavesFiles F.files F.draft_name F.draft_bytes F.truthful F.faults
+        F.absences files.old files.new }
     ensures faultless { OnOk result (F.faults files.new ≡ F.faults files.old) }
 {
     match change {
@@ -155,7 +156,7 @@ fn change_file<F: FileStore>(
     requires part { (key : Option (List ℕ)) → SomeKeyAfter change.now.key_file before.key key
         → IsSome (spec.password_after change.now.password (line_seen lines.now.password)
         (line_seen lines.now.more)) ⊎ IsSome key }
-    ensures told { (m : FileMap) → F.files files.old ≡ Some m
+    ensures told { (m : FileMap) → reported (F.truthful files.new) (F.files files.old) ≡ Some m
         → Returns opened_seen result (changed_of file.now change.now (lines_seen lines.now)
         before.key (opened_seen before.opened) m) }
     ensures some_file { IfOk result (λ opened. SomeChanged file.now change.now
@@ -163,8 +164,8 @@ fn change_file<F: FileStore>(
     ensures in_order { IfOk result (λ opened. IfSome opened.sealing (λ s. IsInOrder s.settings)) }
     ensures cause { IfErr result (IsFileStop (new_key_files change.now.key_file)
         (F.faults files.old) (F.faults files.new) (F.absences files.old) (F.absences files.new)) }
-    ensures leaves { LeavesFiles F.files F.draft_name F.draft_bytes F.faults F.absences files.old
-        files.new }
+    ensures leaves { LeavesFiles F.files F.draft_name F.draft_bytes F.truthful F.faults
+        F.absences files.old files.new }
     ensures faultless { OnOk result (F.faults files.new ≡ F.faults files.old) }
 {
     let OpenedWithKey { opened, key } = before;
@@ -197,7 +198,7 @@ pub fn edit_file<F: FileStore>(
     requires new_key { HasNewKey needs.access.now change.now }
     requires lines { HasLines (needs_seen needs) (lines_seen lines.now) }
     requires more { needs.has_line ≡ sets_password change.now.password }
-    ensures told { (m : FileMap) → F.files files.old ≡ Some m
+    ensures told { (m : FileMap) → reported (F.truthful files.new) (F.files files.old) ≡ Some m
         → Returns opened_seen result
         (edited_of (needs_seen needs.entry) change.now (lines_seen lines.now) m) }
     ensures some_file { IfOk result (λ opened. SomeEdited (needs_seen needs.entry) change.now
@@ -206,8 +207,8 @@ pub fn edit_file<F: FileStore>(
     ensures cause { IfErr result (IsFileStop (database_files needs.entry.access.now
         needs.entry.file.now ++ new_key_files change.now.key_file)
         (F.faults files.old) (F.faults files.new) (F.absences files.old) (F.absences files.new)) }
-    ensures leaves { LeavesFiles F.files F.draft_name F.draft_bytes F.faults F.absences files.old
-        files.new }
+    ensures leaves { LeavesFiles F.files F.draft_name F.draft_bytes F.truthful F.faults
+        F.absences files.old files.new }
     ensures faultless { OnOk result (F.faults files.new ≡ F.faults files.old) }
 {
     let file = needs.file.as_str();

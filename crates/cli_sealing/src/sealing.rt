@@ -1,6 +1,7 @@
 //! Sealing a document again under the key that opened its file.
-ghost use Rattle.std.specs.Prelude.{◌≡◌, ◌≤◌, ℕ, List, IfErr, IfOk, OnErr, OnOk, Some};
+ghost use Rattle.std.specs.Prelude.{◌≡◌, ◌≤◌, ℕ, List, IfErr, IfOk, OnErr, OnOk, Some, true};
 ghost use Rattle.outside_core.specs.Counts.{Increased};
+ghost use Rattle.outside_core.specs.Reports.{StaysTruthful};
 ghost use Rattle.outside_core.specs.Streams.{LosesPrefix};
 ghost use Rattle.vault_making.specs.NeededVersion.{later, needed_version};
 ghost use Rattle.vault_model.specs.SeenDoc.{doc_seen};
@@ -64,11 +65,13 @@ fn unsealed(alloc: Global, fail: SealFail, name: &str) -> Stop
 
 // Draws what a file of these settings is sealed with.
 fn draw_for<D: Dice>(settings: &Settings, dice: &mut D) -> Result<Draws, DiceFail>
-    ensures told { (d : List ℕ) → D.stream dice.old ≡ Some d
+    ensures told { D.truthful dice.new ≡ true
+        → (d : List ℕ) → D.stream dice.old ≡ Some d
         → IfOk result (λ draws. (draws ≡ draws_of settings.now d)
         × (D.stream dice.new ≡ Some (after_draws settings.now d))) }
     ensures drawn { IfOk result (λ draws. AreDrawn settings.now draws) }
     ensures stream { LosesPrefix (D.stream dice.old) (D.stream dice.new) }
+    ensures dice_truthful { StaysTruthful (D.truthful dice.old) (D.truthful dice.new) }
     ensures cause { IfErr result (λ _. Increased (D.faults dice.old) (D.faults dice.new)) }
     ensures faultless { OnOk result (D.faults dice.new ≡ D.faults dice.old) }
 {
@@ -90,7 +93,8 @@ fn seal<F: FileStore, D: Dice>(
     requires in_order { IsInOrder sealing.now.settings }
     requires needed { later (needed_version (doc_seen doc.now)) sealing.now.settings.version
         ≡ sealing.now.settings.version }
-    ensures told { (d : List ℕ) → D.stream dice.old ≡ Some d → Seals result
+    ensures told { D.truthful dice.new ≡ true
+        → (d : List ℕ) → D.stream dice.old ≡ Some d → Seals result
         (file_by name.now sealing.now.settings sealing.now.composite (doc_seen doc.now) d)
         (store (F.files files.old) (F.draft_name files.old) (F.draft_bytes files.old))
         (store (F.files files.new) (F.draft_name files.new) (F.draft_bytes files.new))
@@ -105,7 +109,9 @@ fn seal<F: FileStore, D: Dice>(
     ensures draft { KeepsDraft
         (store (F.files files.old) (F.draft_name files.old) (F.draft_bytes files.old))
         (store (F.files files.new) (F.draft_name files.new) (F.draft_bytes files.new)) }
+    ensures files_truthful { StaysTruthful (F.truthful files.old) (F.truthful files.new) }
     ensures stream { LosesPrefix (D.stream dice.old) (D.stream dice.new) }
+    ensures dice_truthful { StaysTruthful (D.truthful dice.old) (D.truthful dice.new) }
     ensures cause { IfErr result (IsCommandStop name.now (F.faults files.old) (F.faults files.new)
         (D.faults dice.old) (D.faults dice.new)) }
     ensures faultless { OnOk result ((F.faults files.new ≡ F.faults files.old)
@@ -143,7 +149,8 @@ pub fn write_sealed<F: FileStore, D: Dice>(
     sealing: &mut Sealing,
 ) -> Result<(), Stop>
     requires { IsInOrder sealing.old.settings }
-    ensures told { (d : List ℕ) → D.stream dice.old ≡ Some d → Seals result
+    ensures told { D.truthful dice.new ≡ true
+        → (d : List ℕ) → D.stream dice.old ≡ Some d → Seals result
         (sealed_file name.now sealing.old.settings sealing.old.composite (doc_seen doc.now) d)
         (store (F.files files.old) (F.draft_name files.old) (F.draft_bytes files.old))
         (store (F.files files.new) (F.draft_name files.new) (F.draft_bytes files.new))
@@ -159,7 +166,9 @@ pub fn write_sealed<F: FileStore, D: Dice>(
     ensures draft { KeepsDraft
         (store (F.files files.old) (F.draft_name files.old) (F.draft_bytes files.old))
         (store (F.files files.new) (F.draft_name files.new) (F.draft_bytes files.new)) }
+    ensures files_truthful { StaysTruthful (F.truthful files.old) (F.truthful files.new) }
     ensures stream { LosesPrefix (D.stream dice.old) (D.stream dice.new) }
+    ensures dice_truthful { StaysTruthful (D.truthful dice.old) (D.truthful dice.new) }
     ensures cause { IfErr result (IsCommandStop name.now (F.faults files.old) (F.faults files.new)
         (D.faults dice.old) (D.faults dice.new)) }
     ensures composite { sealing.new.composite ≡ sealing.old.composite }

@@ -1,7 +1,6 @@
 -- What is drawn from the dice, and what is gone from them.
 use Rattle.std.proofs.Common.{◌≡◌, ◌≤◌, ℕ, List, ◌++◌, Option, None, Some, option_map, length, drop, take, replicate, sym, ap, ◌∙◌, arith}
 use Rattle.std.proofs.lemmas.List.{drop-append-le, drop_all, length-append, length-take-le, take-append-le, take_all}
-use Rattle.outside_core.specs.Streams.{LosesPrefix}
 use Rattle.cli_writing.specs.Drawing.{next_bytes}
 
 -- The bytes that were drawn are the next ones.
@@ -19,15 +18,6 @@ next_drawn n fresh dice (Some rest) l e =
       ap Some (sym (ap (λ (xs : List ℕ). drop n xs) is ∙ drop-append-le n (take n fresh) rest (omega (arith, m))
           ∙ ap (λ (xs : List ℕ). xs ++ rest) (drop_all n (take n fresh) (omega (arith, m))))),
     )
-
--- Bytes are gone from the front.
-pub loses : (gone : List ℕ) (before now : Option (List ℕ)) → before ≡ option_map (λ rest. gone ++ rest) now → LosesPrefix before now
-loses gone before None e = (0, sym (ap (option_map (drop 0)) e))
-loses gone before (Some rest) e = (
-  length gone,
-  ap Some (sym (drop-append-le (length gone) gone rest (omega arith) ∙ ap (λ xs. xs ++ rest) (drop_all (length gone) gone (omega arith))))
-      ∙ sym (ap (option_map (drop (length gone))) e),
-)
 
 -- Bytes are the next ones of themselves.
 pub next_alone : (n : ℕ) (bytes : List ℕ) → length bytes ≡ n → bytes ≡ next_bytes n bytes

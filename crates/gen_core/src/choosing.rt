@@ -2,6 +2,7 @@
 
 ghost use Rattle.std.specs.Prelude.{◌≡◌, ◌<◌, ◌≤◌, [], length, slice_index, true, IfOk, IsErrOf, OnOk};
 ghost use Rattle.outside_core.specs.Counts.{HasCause};
+ghost use Rattle.outside_core.specs.Reports.{StaysTruthful};
 ghost use Rattle.outside_core.specs.Streams.{LosesPrefix};
 ghost use Rattle.gen_core.specs.Chosen.{Between, ChosenBySome, IsAlphabet, IsChosen, IsNext, bound, ok_then};
 ghost use Rattle.gen_core.specs.declared.choosing.GenFail.TheVariants as fail;
@@ -51,10 +52,12 @@ fn bound(alphabet: &[u8]) -> usize
 // Draws bytes until one is below the limit, and reports whether one was: after 128 others it gives
 // up.
 fn draw_next<D: Dice>(dice: &mut D, byte: &mut SecretKey<1>, limit: usize) -> Result<bool, DiceFail>
-    ensures told { IfOk result (λ accepted. Between (D.stream dice.old) (D.stream dice.new)
+    ensures told { D.truthful dice.new ≡ true
+        → IfOk result (λ accepted. Between (D.stream dice.old) (D.stream dice.new)
         (IsNext limit accepted byte.new)) }
     ensures below { IfOk result (λ accepted. accepted ≡ true → slice_index byte.new 0 < limit) }
     ensures stream { LosesPrefix (D.stream dice.old) (D.stream dice.new) }
+    ensures truthful { StaysTruthful (D.truthful dice.old) (D.truthful dice.new) }
     ensures faults { HasCause DiceFail.Failed (D.faults dice.old) (D.faults dice.new) result }
 {
     for i in 0..TRIES {
@@ -77,10 +80,11 @@ fn choose<D: Dice>(
     requires alphabet { IsAlphabet alphabet.now }
     requires empty { text.old.bytes ≡ [] }
     requires room { length ≤ text.old.spare }
-    ensures told { Between (D.stream dice.old) (D.stream dice.new)
+    ensures told { D.truthful dice.new ≡ true → Between (D.stream dice.old) (D.stream dice.new)
         (IsChosen alphabet.now length (ok_then result text.new)) }
     ensures some { OnOk result (ChosenBySome alphabet.now length text.new.bytes) }
     ensures stream { LosesPrefix (D.stream dice.old) (D.stream dice.new) }
+    ensures truthful { StaysTruthful (D.truthful dice.old) (D.truthful dice.new) }
     ensures faults { HasCause GenFail.Failed (D.faults dice.old) (D.faults dice.new) result }
     ensures memory { ¬ IsErrOf result GenFail.NoMemory }
 {
@@ -109,10 +113,11 @@ pub fn generate<D: Dice>(
     requires alphabet { IsAlphabet alphabet.now }
     requires wanted { 0 < length }
     requires limit { length ≤ 4096 }
-    ensures told { Between (D.stream dice.old) (D.stream dice.new)
+    ensures told { D.truthful dice.new ≡ true → Between (D.stream dice.old) (D.stream dice.new)
         (IsChosen alphabet.now length result) }
     ensures some { IfOk result (λ text. ChosenBySome alphabet.now length text.bytes) }
     ensures stream { LosesPrefix (D.stream dice.old) (D.stream dice.new) }
+    ensures truthful { StaysTruthful (D.truthful dice.old) (D.truthful dice.new) }
     ensures memory { IsErrOf result GenFail.NoMemory → dice.new ≡ dice.old }
     ensures faults { HasCause GenFail.Failed (D.faults dice.old) (D.faults dice.new) result }
 {

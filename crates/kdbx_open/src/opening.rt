@@ -2,6 +2,7 @@
 
 ghost use Rattle.std.specs.Prelude.{◌≡◌, ℕ, ◌≤◌, IfOk, IfSome, List, length};
 ghost use Rattle.std.specs.FinMap as map;
+ghost use Rattle.outside_core.specs.Reports.{StaysTruthful, reported};
 ghost use Rattle.vault_model.specs.SeenDoc.{doc_seen};
 ghost use Rattle.kdbx_frame.specs.Settings.{IsInOrder};
 ghost use Rattle.stream_core.specs.InnerStream.{IsAt};
@@ -91,7 +92,7 @@ fn open_named<F: FileStore>(
     name: &str,
     composite: &Key,
 ) -> Result<Unsealed, OpenFail>
-    ensures told { IfSome (F.files files.old)
+    ensures told { IfSome (reported (F.truthful files.new) (F.files files.old))
         (λ m. ReturnsFromStore unsealed_seen result
         (opening_of (map.get m name.now) composite.now)) }
     ensures some_file { ReturnsOfSomeFile unsealed_seen composite.now result }
@@ -101,6 +102,7 @@ fn open_named<F: FileStore>(
     ensures files { F.files files.new ≡ F.files files.old }
     ensures draft_name { F.draft_name files.new ≡ F.draft_name files.old }
     ensures draft_bytes { F.draft_bytes files.new ≡ F.draft_bytes files.old }
+    ensures truthful { StaysTruthful (F.truthful files.old) (F.truthful files.new) }
 {
     let answer = read_payload(alloc, files, name, composite, FILE_LIMIT)?;
     open_payload(alloc, answer)
@@ -128,9 +130,9 @@ pub fn open_file<F: FileStore>(
     name: &str,
     mut composite: Key,
 ) -> Result<Opened, OpenFail>
-    ensures told { IfSome (F.files files.old)
+    ensures told { IfSome (reported (F.truthful files.new) (F.files files.old))
         (λ m. ReturnsFromStore opened_seen result (opening_of (map.get m name.now) composite)) }
-    ensures sealed { IfSome (F.files files.old)
+    ensures sealed { IfSome (reported (F.truthful files.new) (F.files files.old))
         (λ m. IfOk result (λ o. Holds (map.get m name.now) composite (opened_seen o))) }
     ensures some_file { ReturnsOfSomeFile opened_seen composite result }
     ensures held { IfOk result (λ o. IsHeld composite (opened_seen o)) }
@@ -141,6 +143,7 @@ pub fn open_file<F: FileStore>(
     ensures files { F.files files.new ≡ F.files files.old }
     ensures draft_name { F.draft_name files.new ≡ F.draft_name files.old }
     ensures draft_bytes { F.draft_bytes files.new ≡ F.draft_bytes files.old }
+    ensures truthful { StaysTruthful (F.truthful files.old) (F.truthful files.new) }
 {
     match open_named(alloc, files, name, &composite) {
         Ok(Unsealed { settings, doc }) => Ok(Opened {

@@ -1,2 +1,3 @@
 mod StoredFiles
+mod StoredLater
 mod StoredPayloads

@@ -20,8 +20,8 @@ front_in file window = take file.len window
 
 -- Where the store reports its files, the file of this name begins with these bytes.
 abbrev pub IsFront : Option FileMap → List ℕ → List ℕ → Type 0
-IsFront files name front = (m : FileMap) (file : List ℕ) → files ≡ Some m → map.get m name ≡ Some file
-    → front ≡ take (length front) file
+IsFront files name front = (m : FileMap) (file : List ℕ) → files ≡ Some m
+    → map.get m name ≡ Some file → front ≡ take (length front) file
 
 -- Where the store reports its files, there is a file of this name, and it has this size.
 abbrev pub HasSize : Option FileMap → List ℕ → ℕ → Type 0
@@ -41,8 +41,8 @@ pub record IsFedFrom (files : Option FileMap) (name start : List ℕ) (reader : 
   pub front : IsFront files name bytes
 
 -- A reader was fed with a whole file of at most `size` bytes, the first of them these.
-pub record IsFedWhole (files : Option FileMap) (name start : List ℕ) (size : ℕ) (reader : TextReader)
-    : Type 0 where
+pub record IsFedWhole (files : Option FileMap) (name start : List ℕ) (size : ℕ)
+    (reader : TextReader) : Type 0 where
   pub bytes : List ℕ
   pub fed : IsFed reader bytes
   pub within : length bytes ≤ size
@@ -79,8 +79,9 @@ PayloadOfName seen files name limit composite result = (file : Option (List ℕ)
 
 -- What each answer shows of the store's counts, which never fall, and of the limit, whether or not
 -- the store reports its files: where the file was read, the count of faults is as it was.
-pub record HasCauseOfReading {X : Type 0} (faults_before faults_now absences_before absences_now limit : ℕ)
-    (result : Result X ReadFail) : Type 0 where
+pub record HasCauseOfReading {X : Type 0}
+    (faults_before faults_now absences_before absences_now limit : ℕ) (result : Result X ReadFail) :
+    Type 0 where
   pub faults_later : faults_before ≤ faults_now
   pub absences_later : absences_before ≤ absences_now
   pub fault : IsErrOf result FileFault → Increased faults_before faults_now

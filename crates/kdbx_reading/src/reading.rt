@@ -4,6 +4,7 @@ ghost use Rattle.std.specs.Prelude.{◌≡◌, ℕ, ◌+◌, ◌<◌, ◌≤◌,
 ghost use Rattle.std.specs.FinMap as map;
 ghost use Rattle.outside_core.specs.Counts.{HasCause};
 ghost use Rattle.outside_core.specs.Files.{FileMap};
+ghost use Rattle.outside_core.specs.Reports.{StaysTruthful, reported};
 ghost use Rattle.key_core.specs.Kdf.{IsChecked};
 ghost use Rattle.stream_core.specs.InnerStream.{IsAt};
 ghost use Rattle.kdbx_frame.specs.Fields.{header_limit};
@@ -49,18 +50,22 @@ fn feed_rest<F: FileStore>(
     requires size { file.now.len ≤ file.now.size }
     requires limit { file.now.size ≤ 2 ^ 38 }
     requires spare { file.now.size ≤ reader.old.content.spare + file.now.len }
-    requires sized { HasSize (F.files files.old) file.now.name.now file.now.size }
-    requires fed { IsFedFrom (F.files files.old) file.now.name.now
+    requires sized { HasSize (reported (F.truthful files.old) (F.files files.old))
+        file.now.name.now file.now.size }
+    requires fed { IsFedFrom (reported (F.truthful files.old) (F.files files.old)) file.now.name.now
         (front_in file.now window.old) reader.old file.now.len }
-    ensures fed { OnOk result (IsFedWhole (F.files files.old) file.now.name.now
+    ensures fed { OnOk result (IsFedWhole (reported (F.truthful files.new) (F.files files.old))
+        file.now.name.now
         (front_in file.now window.old) file.now.size reader.new) }
     ensures keys { reader.new.keys.now ≡ reader.old.keys.now }
     ensures header { reader.new.header.now ≡ reader.old.header.now }
     ensures missing { IsErrOf result FileFail.NoSuchFile
-        → IfSome (F.files files.old) (λ m. map.get m file.now.name.now ≡ None) }
+        → IfSome (reported (F.truthful files.new) (F.files files.old))
+        (λ m. map.get m file.now.name.now ≡ None) }
     ensures files { F.files files.new ≡ F.files files.old }
     ensures draft_name { F.draft_name files.new ≡ F.draft_name files.old }
     ensures draft_bytes { F.draft_bytes files.new ≡ F.draft_bytes files.old }
+    ensures truthful { StaysTruthful (F.truthful files.old) (F.truthful files.new) }
     ensures faults { HasCause FileFail.Failed (F.faults files.old) (F.faults files.new) result }
     ensures absences { HasCause FileFail.NoSuchFile (F.absences files.old) (F.absences files.new)
         result }
@@ -92,16 +97,21 @@ fn read_with_file_keys<F: FileStore>(
     requires within { header.now.size + sums_len header.now.settings.version ≤ file.now.len }
     requires size { file.now.len ≤ file.now.size }
     requires limit { file.now.size ≤ 2 ^ 38 }
-    requires sized { HasSize (F.files files.old) file.now.name.now file.now.size }
-    requires front { IsFront (F.files files.old) file.now.name.now (front_in file.now window.old) }
-    ensures of_file { IfOk result (OfFileWith (F.files files.old) file.now.name.now
+    requires sized { HasSize (reported (F.truthful files.old) (F.files files.old))
+        file.now.name.now file.now.size }
+    requires front { IsFront (reported (F.truthful files.old) (F.files files.old))
+        file.now.name.now (front_in file.now window.old) }
+    ensures of_file { IfOk result (OfFileWith (reported (F.truthful files.new) (F.files files.old))
+        file.now.name.now
         (front_in file.now window.old) file.now.size (λ s. s.bytes)
         (hidden_text header.now.settings.version keys.now.base keys.now.cipher header.now)) }
     ensures missing { IsErrOf result FileFail.NoSuchFile
-        → IfSome (F.files files.old) (λ m. map.get m file.now.name.now ≡ None) }
+        → IfSome (reported (F.truthful files.new) (F.files files.old))
+        (λ m. map.get m file.now.name.now ≡ None) }
     ensures files { F.files files.new ≡ F.files files.old }
     ensures draft_name { F.draft_name files.new ≡ F.draft_name files.old }
     ensures draft_bytes { F.draft_bytes files.new ≡ F.draft_bytes files.old }
+    ensures truthful { StaysTruthful (F.truthful files.old) (F.truthful files.new) }
     ensures faults { HasCause FileFail.Failed (F.faults files.old) (F.faults files.new) result }
     ensures absences { HasCause FileFail.NoSuchFile (F.absences files.old) (F.absences files.new)
         result }
@@ -135,16 +145,22 @@ fn read_with_composite<F: FileStore>(
     requires within { header.now.size + sums_len header.now.settings.version ≤ file.now.len }
     requires size { file.now.len ≤ file.now.size }
     requires limit { file.now.size ≤ 2 ^ 38 }
-    requires sized { HasSize (F.files files.old) file.now.name.now file.now.size }
-    requires front { IsFront (F.files files.old) file.now.name.now (front_in file.now window.old) }
-    ensures of_file { IfOk result (OfFileWith (F.files files.old) file.now.name.now
-        (front_in file.now window.old) file.now.size (λ s. s.bytes) (hidden_text header.now.settings.version
-        (base_of header.now composite.now) (key_of header.now composite.now) header.now)) }
+    requires sized { HasSize (reported (F.truthful files.old) (F.files files.old))
+        file.now.name.now file.now.size }
+    requires front { IsFront (reported (F.truthful files.old) (F.files files.old))
+        file.now.name.now (front_in file.now window.old) }
+    ensures of_file { IfOk result (OfFileWith (reported (F.truthful files.new) (F.files files.old))
+        file.now.name.now
+        (front_in file.now window.old) file.now.size (λ s. s.bytes)
+        (hidden_text header.now.settings.version (base_of header.now composite.now)
+        (key_of header.now composite.now) header.now)) }
     ensures missing { IsErrOf result FileFail.NoSuchFile
-        → IfSome (F.files files.old) (λ m. map.get m file.now.name.now ≡ None) }
+        → IfSome (reported (F.truthful files.new) (F.files files.old))
+        (λ m. map.get m file.now.name.now ≡ None) }
     ensures files { F.files files.new ≡ F.files files.old }
     ensures draft_name { F.draft_name files.new ≡ F.draft_name files.old }
     ensures draft_bytes { F.draft_bytes files.new ≡ F.draft_bytes files.old }
+    ensures truthful { StaysTruthful (F.truthful files.old) (F.truthful files.new) }
     ensures faults { HasCause FileFail.Failed (F.faults files.old) (F.faults files.new) result }
     ensures absences { HasCause FileFail.NoSuchFile (F.absences files.old) (F.absences files.new)
         result }
@@ -173,19 +189,25 @@ fn read_from_front<F: FileStore>(
     requires enough { file.now.len < header_limit → file.now.len ≡ file.now.size }
     requires size { file.now.len ≤ file.now.size }
     requires limit { file.now.size ≤ 2 ^ 38 }
-    requires sized { HasSize (F.files files.old) file.now.name.now file.now.size }
-    requires front { IsFront (F.files files.old) file.now.name.now (front_in file.now window.old) }
-    ensures of_file { IfOk result (OfFileWith (F.files files.old) file.now.name.now
-        (front_in file.now window.old) file.now.size payload_seen (λ file. payload_of file composite.now)) }
+    requires sized { HasSize (reported (F.truthful files.old) (F.files files.old))
+        file.now.name.now file.now.size }
+    requires front { IsFront (reported (F.truthful files.old) (F.files files.old))
+        file.now.name.now (front_in file.now window.old) }
+    ensures of_file { IfOk result (OfFileWith (reported (F.truthful files.new) (F.files files.old))
+        file.now.name.now
+        (front_in file.now window.old) file.now.size payload_seen
+        (λ file. payload_of file composite.now)) }
     ensures in_order { IfOk result (λ answer. IfOk answer (λ p. IsInOrder p.settings)) }
     ensures start { IfOk result (λ answer. IfOk answer (λ p. IsAt p.stream 0)) }
     ensures within { IfOk result (λ answer. IfOk answer
         (λ p. p.document ≤ length p.text.bytes)) }
     ensures missing { IsErrOf result FileFail.NoSuchFile
-        → IfSome (F.files files.old) (λ m. map.get m file.now.name.now ≡ None) }
+        → IfSome (reported (F.truthful files.new) (F.files files.old))
+        (λ m. map.get m file.now.name.now ≡ None) }
     ensures files { F.files files.new ≡ F.files files.old }
     ensures draft_name { F.draft_name files.new ≡ F.draft_name files.old }
     ensures draft_bytes { F.draft_bytes files.new ≡ F.draft_bytes files.old }
+    ensures truthful { StaysTruthful (F.truthful files.old) (F.truthful files.new) }
     ensures faults { HasCause FileFail.Failed (F.faults files.old) (F.faults files.new) result }
     ensures absences { HasCause FileFail.NoSuchFile (F.absences files.old) (F.absences files.new)
         result }
@@ -220,18 +242,21 @@ fn read_sized<F: FileStore>(
 ) -> Result<Result<Payload, PayloadFail>, FileFail>
     requires window { length window.old ≡ min size header_limit }
     requires limit { size ≤ 2 ^ 38 }
-    requires sized { HasSize (F.files files.old) name.now size }
-    ensures of_file { IfOk result (OfFileWith (F.files files.old) name.now [] size payload_seen
+    requires sized { HasSize (reported (F.truthful files.old) (F.files files.old)) name.now size }
+    ensures of_file { IfOk result (OfFileWith (reported (F.truthful files.new) (F.files files.old))
+        name.now [] size payload_seen
         (λ file. payload_of file composite.now)) }
     ensures in_order { IfOk result (λ answer. IfOk answer (λ p. IsInOrder p.settings)) }
     ensures start { IfOk result (λ answer. IfOk answer (λ p. IsAt p.stream 0)) }
     ensures within { IfOk result (λ answer. IfOk answer
         (λ p. p.document ≤ length p.text.bytes)) }
     ensures missing { IsErrOf result FileFail.NoSuchFile
-        → IfSome (F.files files.old) (λ m. map.get m name.now ≡ None) }
+        → IfSome (reported (F.truthful files.new) (F.files files.old))
+        (λ m. map.get m name.now ≡ None) }
     ensures files { F.files files.new ≡ F.files files.old }
     ensures draft_name { F.draft_name files.new ≡ F.draft_name files.old }
     ensures draft_bytes { F.draft_bytes files.new ≡ F.draft_bytes files.old }
+    ensures truthful { StaysTruthful (F.truthful files.old) (F.truthful files.new) }
     ensures faults { HasCause FileFail.Failed (F.faults files.old) (F.faults files.new) result }
     ensures absences { HasCause FileFail.NoSuchFile (F.absences files.old) (F.absences files.new)
         result }
@@ -285,7 +310,8 @@ pub fn read_payload<F: FileStore>(
     limit: u64,
 ) -> Result<Result<Payload, PayloadFail>, ReadFail>
     requires { limit ≤ 2 ^ 38 }
-    ensures of_file { PayloadOfName payload_seen (F.files files.old) name.now limit composite.now
+    ensures of_file { PayloadOfName payload_seen
+        (reported (F.truthful files.new) (F.files files.old)) name.now limit composite.now
         result }
     ensures cause { HasCauseOfReading (F.faults files.old) (F.faults files.new)
         (F.absences files.old) (F.absences files.new) limit result }
@@ -296,6 +322,7 @@ pub fn read_payload<F: FileStore>(
     ensures files { F.files files.new ≡ F.files files.old }
     ensures draft_name { F.draft_name files.new ≡ F.draft_name files.old }
     ensures draft_bytes { F.draft_bytes files.new ≡ F.draft_bytes files.old }
+    ensures truthful { StaysTruthful (F.truthful files.old) (F.truthful files.new) }
 {
     let size = files.size(name)?;
     if size > limit {

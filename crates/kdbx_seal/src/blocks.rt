@@ -3,6 +3,7 @@
 ghost use Rattle.std.specs.Prelude.{◌≡◌, ◌+◌, ◌-◌, ◌<◌, ◌≤◌, ◌^◌, ◌++◌, [], IfSome, IsSome, IsErrOf, OnOk, length, take, drop};
 ghost use Rattle.mac_core.specs.Blocks.{block};
 ghost use Rattle.outside_core.specs.Counts.{HasCause};
+ghost use Rattle.outside_core.specs.Reports.{StaysTruthful};
 ghost use Rattle.kdbx_seal.specs.PayloadMade.{blocks_to_end, pieces};
 
 use mac_core::BlockWriter;
@@ -29,6 +30,7 @@ fn append_block<F: FileStore>(
     ensures files { F.files files.new ≡ F.files files.old }
     ensures not_missing { ¬ IsErrOf result FileFail.NoSuchFile }
     ensures faults { HasCause FileFail.Failed (F.faults files.old) (F.faults files.new) result }
+    ensures truthful { StaysTruthful (F.truthful files.old) (F.truthful files.new) }
     ensures absences { F.absences files.old ≤ F.absences files.new }
 {
     let head = writer.head(piece);
@@ -62,6 +64,7 @@ pub fn append_blocks<F: FileStore>(
     ensures files { F.files files.new ≡ F.files files.old }
     ensures not_missing { ¬ IsErrOf result FileFail.NoSuchFile }
     ensures faults { HasCause FileFail.Failed (F.faults files.old) (F.faults files.new) result }
+    ensures truthful { StaysTruthful (F.truthful files.old) (F.truthful files.new) }
     ensures absences { F.absences files.old ≤ F.absences files.new }
 {
     let mut writer = BlockWriter::new(base);

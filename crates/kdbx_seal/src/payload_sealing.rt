@@ -3,6 +3,7 @@
 ghost use Rattle.std.specs.Prelude.{◌≡◌, ◌+◌, ◌≤◌, ◌^◌, ◌++◌, ℕ, IfSome, IsSome, IsErrOf, OnOk, None, Some, length};
 ghost use Rattle.key_core.specs.Kdf.{IsChecked};
 ghost use Rattle.outside_core.specs.Counts.{HasCause};
+ghost use Rattle.outside_core.specs.Reports.{StaysTruthful};
 ghost use Rattle.kdbx_frame.specs.Header.{sums_len};
 ghost use Rattle.kdbx_frame.specs.Settings.{IsInOrder};
 ghost use Rattle.kdbx_writing.specs.Draws.{AreDrawn};
@@ -41,6 +42,7 @@ fn append_file_4<F: FileStore>(
     ensures files { F.files files.new ≡ F.files files.old }
     ensures not_missing { ¬ IsErrOf result FileFail.NoSuchFile }
     ensures faults { HasCause FileFail.Failed (F.faults files.old) (F.faults files.new) result }
+    ensures truthful { StaysTruthful (F.truthful files.old) (F.truthful files.new) }
     ensures absences { F.absences files.old ≤ F.absences files.new }
 {
     files.append(header)?;
@@ -64,6 +66,7 @@ fn append_file<F: FileStore>(
     ensures files { F.files files.new ≡ F.files files.old }
     ensures not_missing { ¬ IsErrOf result FileFail.NoSuchFile }
     ensures faults { HasCause FileFail.Failed (F.faults files.old) (F.faults files.new) result }
+    ensures truthful { StaysTruthful (F.truthful files.old) (F.truthful files.new) }
     ensures absences { F.absences files.old ≤ F.absences files.new }
 {
     match version {
@@ -90,6 +93,7 @@ fn put_file<F: FileStore>(
     ensures no_draft { F.draft_name files.new ≡ None }
     ensures not_missing { ¬ IsErrOf result FileFail.NoSuchFile }
     ensures faults { HasCause FileFail.Failed (F.faults files.old) (F.faults files.new) result }
+    ensures truthful { StaysTruthful (F.truthful files.old) (F.truthful files.new) }
     ensures absences { F.absences files.old ≤ F.absences files.new }
 {
     files.begin(name)?;
@@ -124,6 +128,7 @@ fn put_with_file_keys<F: FileStore>(
     ensures no_draft { F.draft_name files.new ≡ None }
     ensures not_missing { ¬ IsErrOf result FileFail.NoSuchFile }
     ensures faults { HasCause FileFail.Failed (F.faults files.old) (F.faults files.new) result }
+    ensures truthful { StaysTruthful (F.truthful files.old) (F.truthful files.new) }
     ensures absences { F.absences files.old ≤ F.absences files.new }
 {
     let iv = parts.draws.iv.bytes();
@@ -159,6 +164,7 @@ fn put_with_composite<F: FileStore>(
     ensures no_draft { OnOk result (F.draft_name files.new ≡ None) }
     ensures not_missing { ¬ IsErrOf result FileFail.NoSuchFile }
     ensures faults { HasCause FileFail.Failed (F.faults files.old) (F.faults files.new) result }
+    ensures truthful { StaysTruthful (F.truthful files.old) (F.truthful files.new) }
     ensures absences { F.absences files.old ≤ F.absences files.new }
 {
     let kdf = with_salt(alloc, &parts.settings.kdf, parts.draws.kdf.bytes())?;
@@ -209,6 +215,7 @@ pub fn seal_payload<F: FileStore>(
     ensures no_draft { LeavesNoDraft result (F.draft_name files.new) }
     ensures faults { HasCause SealPayloadFail.FileFault (F.faults files.old) (F.faults files.new)
         result }
+    ensures truthful { StaysTruthful (F.truthful files.old) (F.truthful files.new) }
     ensures absences { F.absences files.old ≤ F.absences files.new }
 {
     let Ok(header) = write_header(alloc, settings, &draws) else {

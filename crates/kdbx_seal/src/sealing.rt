@@ -6,6 +6,7 @@ ghost use Rattle.vault_model.specs.SeenDoc.{doc_seen};
 ghost use Rattle.doc_spelling.specs.Ranges.{IsWritable};
 ghost use Rattle.vault_making.specs.NeededVersion.{later, needed_version};
 ghost use Rattle.outside_core.specs.Counts.{HasCause};
+ghost use Rattle.outside_core.specs.Reports.{StaysTruthful};
 ghost use Rattle.sha2.specs.Sha256.{sha256};
 ghost use Rattle.kdbx_frame.specs.Settings.{IsInOrder};
 ghost use Rattle.kdbx_writing.specs.Draws.{AreDrawn};
@@ -155,6 +156,7 @@ pub fn seal_file<F: FileStore>(
     ensures too_large { (n : ℕ) → IsErrOf result (SealFail.TooLarge n) → files.new ≡ files.old }
     ensures no_draft { LeavesNoDraft result (F.draft_name files.new) }
     ensures faults { HasCause SealFail.FileFault (F.faults files.old) (F.faults files.new) result }
+    ensures truthful { StaysTruthful (F.truthful files.old) (F.truthful files.new) }
     ensures absences { F.absences files.old ≤ F.absences files.new }
 {
     let content = match write_content(alloc, doc, settings, &draws) {

@@ -1,15 +1,11 @@
 -- Draws one after another.
-use Rattle.std.proofs.Common.{◌≡◌, ℕ, ◌+◌, List, ◌++◌, Option, None, Some, option_map, length, take, drop, refl, sym, ap, ◌∙◌, append_assoc, subst, arith, Result, Ok, Err, OnErr}
-use Rattle.std.proofs.lemmas.List.{take_all, drop_at, drop-drop}
+use Rattle.std.proofs.Common.{◌≡◌, ℕ, ◌+◌, List, ◌++◌, Option, None, Some, option_map, length, take, drop, sym, ap, ◌∙◌, append_assoc, subst, arith}
+use Rattle.std.proofs.lemmas.List.{take_all, drop-drop}
 use Rattle.outside_core.specs.Streams.{LosesPrefix}
 use Rattle.kdbx_frame.specs.declared.settings.Settings.{Settings}
 use Rattle.kdbx_frame.specs.Settings.{iv_len}
 use Rattle.kdbx_writing.specs.declared.draws.Draws.{Draws}
 use Rattle.kdbx_writing.specs.Draws.{drawn_bytes, start_len, stream_len}
-
-pub on_err : {X E : Type 0} (result : Result X E) (P : Type 0) → P → OnErr result P
-on_err (Ok x) P p = tt
-on_err (Err e) P p = p
 
 -- What is drawn of a stream.
 abbrev pub Drawn : Option (List ℕ) → List ℕ → Option (List ℕ) → Type 0
@@ -19,11 +15,11 @@ pub draws_more : (old mid new : Option (List ℕ)) (a b : List ℕ) → Drawn ol
 draws_more old mid None a b h g = h ∙ ap (option_map (λ (rest : List ℕ). a ++ rest)) g
 draws_more old mid (Some n) a b h g = h ∙ ap (option_map (λ (rest : List ℕ). a ++ rest)) g ∙ ap Some (sym (append_assoc a b n))
 
--- What is lost after what was drawn.
-pub loses_more : (old mid new : Option (List ℕ)) (a : List ℕ) → Drawn old a mid → LosesPrefix mid new → LosesPrefix old new
-loses_more old None new a h l = (length a + l.0, l.1 ∙ sym (ap (option_map (drop (length a + l.0))) h))
-loses_more old (Some m) new a h l =
-    (length a + l.0, l.1 ∙ ap Some (ap (drop l.0) (sym (drop_at a m (length a) refl)) ∙ drop-drop l.0 (length a) (a ++ m)) ∙ sym (ap (option_map (drop (length a + l.0))) h))
+-- What is lost by one draw after another.
+pub loses_both : (old mid new : Option (List ℕ)) → LosesPrefix old mid → LosesPrefix mid new → LosesPrefix old new
+loses_both None mid new first second = (first.0 + second.0, second.1 ∙ ap (option_map (drop second.0)) first.1)
+loses_both (Some stream) mid new first second =
+    (first.0 + second.0, second.1 ∙ ap (option_map (drop second.0)) first.1 ∙ ap Some (drop-drop second.0 first.0 stream))
 
 pub draws_all : (s : Settings) (d : Draws) (o0 o1 o2 o3 o4 o5 : Option (List ℕ)) (n3 n4 n5 : ℕ)
     → length d.kdf ≡ 32 → length d.seed ≡ 32 → n3 ≡ iv_len s.cipher → n4 ≡ stream_len s.version → n5 ≡ start_len s.version

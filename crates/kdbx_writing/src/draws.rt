@@ -1,7 +1,8 @@
 //! What is drawn for one file.
 
-ghost use Rattle.std.specs.Prelude.{◌≡◌, ◌≤◌, ◌++◌, IfOk, OnErr, option_map, take};
+ghost use Rattle.std.specs.Prelude.{◌≡◌, ◌≤◌, ◌++◌, IfOk, option_map, take, true};
 ghost use Rattle.outside_core.specs.Counts.{HasCause};
+ghost use Rattle.outside_core.specs.Reports.{StaysTruthful};
 ghost use Rattle.outside_core.specs.Streams.{LosesPrefix};
 ghost use Rattle.kdbx_frame.specs.Settings.{iv_len};
 ghost use Rattle.kdbx_writing.specs.Draws.{AreDrawn, AreFront, drawn_bytes, start_len, stream_len};
@@ -28,10 +29,11 @@ pub struct Draws {
 // Draws the first n bytes.
 fn draw_front<D: Dice, const N: usize>(dice: &mut D, n: usize) -> Result<Fresh<N>, DiceFail>
     requires { n ≤ N }
-    ensures stream { IfOk result (λ fresh. D.stream dice.old
+    ensures stream { D.truthful dice.new ≡ true → IfOk result (λ fresh. D.stream dice.old
         ≡ option_map (λ rest. take n fresh ++ rest) (D.stream dice.new)) }
     ensures drawn { IfOk result (λ fresh. AreFront n N fresh) }
-    ensures err { OnErr result (LosesPrefix (D.stream dice.old) (D.stream dice.new)) }
+    ensures lost { LosesPrefix (D.stream dice.old) (D.stream dice.new) }
+    ensures truthful { StaysTruthful (D.truthful dice.old) (D.truthful dice.new) }
     ensures faults { HasCause DiceFail.Failed (D.faults dice.old) (D.faults dice.new) result }
 {
     let fresh = Fresh::<N>::draw(dice, n)?;
@@ -77,10 +79,11 @@ fn start_len(version: FileVersion) -> usize
 ///
 /// The refusal is that of the dice, of which some bytes may be gone then.
 pub fn draw<D: Dice>(settings: &Settings, dice: &mut D) -> Result<Draws, DiceFail>
-    ensures stream { IfOk result (λ d. D.stream dice.old
+    ensures stream { D.truthful dice.new ≡ true → IfOk result (λ d. D.stream dice.old
         ≡ option_map (λ rest. drawn_bytes settings.now d ++ rest) (D.stream dice.new)) }
     ensures drawn { IfOk result (λ d. AreDrawn settings.now d) }
-    ensures err { OnErr result (LosesPrefix (D.stream dice.old) (D.stream dice.new)) }
+    ensures lost { LosesPrefix (D.stream dice.old) (D.stream dice.new) }
+    ensures truthful { StaysTruthful (D.truthful dice.old) (D.truthful dice.new) }
     ensures faults { HasCause DiceFail.Failed (D.faults dice.old) (D.faults dice.new) result }
 {
     let kdf = draw_front(dice, 32)?;

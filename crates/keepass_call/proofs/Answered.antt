@@ -23,7 +23,7 @@ use Rattle.cli_commands.specs.Commands.{may_write}
 use Rattle.cli_files.proofs.HeldKeys.{in_turn}
 use Rattle.call_carrying.specs.Endings.{Ending, Ends, EndsRefused, IsOfDice, IsOfSomeDice, carried_out}
 use Rattle.cli_pages.specs.Pages.{page_of}
-use Rattle.keepass_call.specs.Outcome.{AsksCommand, IsOfSomeFile, IsOfTask, World, answer_of, command_answer, draws_with, may_write_by, page_or_answer, password_or_command}
+use Rattle.keepass_call.specs.Outcome.{AsksCommand, IsOfSomeFile, IsOfTask, World, answer_of, command_answer, draws_with, may_write_by, page_or_answer, password_or_command, truth}
 use Rattle.keepass_call.proofs.Pages.{asks_command}
 use Rattle.cli_commands.specs.SeenChange.{output_text}
 use Rattle.cli_files.specs.Tasks.{Task, draws, draws_by}
@@ -88,6 +88,14 @@ stops_early (Refused refusal) words time world asked before now dice h s t =
 stops_early (FileFault name) words time world asked before now dice h s t = tt
 stops_early InputFault words time world asked before now dice h s t = tt
 stops_early NoMemory words time world asked before now dice h s t = tt
+
+-- Words that are a command are not refused.
+pub not_refused : (words : Result Command Refusal) (command : Command) (refusal : Refusal) → words ≡ Ok command → words ≡ Err refusal → ⊥
+not_refused words command refusal is wrong = cc (sym wrong ∙ is)
+
+-- All was truthful that was, where nothing was asked.
+pub truth_kept : (files files' input input' dice : Bool) → (files' ≡ files) × (input' ≡ input) → truth files' input' dice ≡ truth files input dice
+truth_kept files files' input input' dice same = ap (λ (t : Bool). truth t input' dice) same.0 ∙ ap (λ (t : Bool). truth files t dice) same.1
 
 -- ---- the store
 

@@ -20,7 +20,7 @@ use Rattle.cli_words.specs.declared.command.Command.{Command}
 use Rattle.call_carrying.specs.Endings.{Ending, Ends, EndsSo, ending_without}
 use Rattle.keepass_call.specs.Held.{IsAuthentic, IsComplete, WritesTask}
 use Rattle.cli_pages.specs.Pages.{page_of}
-use Rattle.keepass_call.specs.Outcome.{AsksCommand, Counts, Gains, IsAsSaid, IsCut, IsOfSomeFile, IsOfTask, IsRefused, IsSafe, IsUsage, KeepsFaults, NoFaults, Outcome, Seen, Tells, WhereTold, World, answer_of, draws_with, draws_words, ended, may_write_by, outcome, page_or_answer}
+use Rattle.keepass_call.specs.Outcome.{AsksCommand, Counts, ForEachWorld, Gains, IsAsSaid, IsCut, IsOfSomeFile, IsOfTask, IsRefused, IsSafe, IsUsage, IsWorldOf, KeepsFaults, NoFaults, Outcome, Seen, Truth, World, answer_of, draws_with, draws_words, ended, may_write_by, outcome, page_or_answer}
 use Rattle.cli_profiles.specs.declared.profiles.PasswordProfile.{PasswordProfile}
 use Rattle.cli_words.specs.Words.{command_of, profile_of}
 use Rattle.cli_files.specs.Tasks.{draws_by}
@@ -52,13 +52,13 @@ whole_front before now text gains =
 
 -- What is known of it.
 pub record Printed (words : List (List ℕ)) (time : ℕ) (printed : List ℕ) (result : ℕ) (before now : Seen) (counts counts' : Counts) : Type 0 where
-  pub gives : WhereTold words before (λ w. EndsSo printed (answer_of words time w).answer before.store now.store
+  pub gives : ForEachWorld words before now (λ w. EndsSo printed (answer_of words time w).answer before.store now.store
       × IsLeft before.stream now.stream (answer_of words time w).left)
-  pub left : WhereTold words before (λ w. IsLeft before.left now.left (left_of words w.input))
+  pub left : ForEachWorld words before now (λ w. IsLeft before.left now.left (left_of words w.input))
   pub wrote : IsPrinted printed result before.written now.written before.errors now.errors counts.out counts'.out
   pub faultless : result ≡ 0 → KeepsFaults counts counts'
   pub draft : KeepsDraft before.store now.store
-  pub held : AsksCommand words → WhereTold words before (λ w. IsOfTask words time w printed before.store now.store)
+  pub held : AsksCommand words → ForEachWorld words before now (λ w. IsOfTask words time w printed before.store now.store)
   pub unwritten : may_write_by (command_of words) ≡ false → IsSame before.store now.store
   pub undrawn : draws_words words ≡ false → now.stream ≡ before.stream
   pub stream : LosesPrefix before.stream now.stream
@@ -83,7 +83,7 @@ module _ (words : List (List ℕ)) (time : ℕ) (printed : List ℕ) (result : �
   errors_kept : result ≡ 0 → now.errors ≡ before.errors
   errors_kept zero = elim p.wrote.1 [ inl same ↦ same | inr failed ↦ absurd (omega (arith, failed.0, zero)) ]
 
-  one_line : WhereTold words before (λ w. TellsOneLine (files_named (command_of words)) (outcome words time w) before now counts counts')
+  one_line : ForEachWorld words before now (λ w. TellsOneLine (files_named (command_of words)) (outcome words time w) before now counts counts')
   one_line w t =
       elim p.wrote.1 [
         | inl same ↦ inl (no_front before.errors now.errors (outcome words time w).line same)
@@ -93,7 +93,7 @@ module _ (words : List (List ℕ)) (time : ℕ) (printed : List ℕ) (result : �
   range : result ≤ 12
   range = elim p.wrote.0 [ inl whole ↦ omega (arith, whole.0) | inr part ↦ elim part.0 [ inl nine ↦ omega (arith, nine) | inr ten ↦ omega (arith, ten.0) ] ]
 
-  done : (w : World) → Tells words before w → result ≡ 0 → Gains before.written now.written printed → IsAsSaid (outcome words time w) result before now
+  done : (w : World) → IsWorldOf words before now w → result ≡ 0 → Gains before.written now.written printed → IsAsSaid (outcome words time w) result before now
   done w t zero gains =
       let g = p.gives w t in
       subst (λ (o : Outcome). IsAsSaid o result before now) (sym (outcome_is words time w g.0.ending g.0.is))
@@ -106,7 +106,7 @@ module _ (words : List (List ℕ)) (time : ℕ) (printed : List ℕ) (result : �
         stream = g.1;
       })
 
-  as_said : WhereTold words before (λ w. (result ≡ 0) ⊎ ((result ≢ 9) × NoFaults counts counts') → IsAsSaid (outcome words time w) result before now)
+  as_said : ForEachWorld words before now (λ w. (result ≡ 0) ⊎ ((result ≢ 9) × NoFaults counts counts') → IsAsSaid (outcome words time w) result before now)
   as_said w t when =
       elim p.wrote.0 [
         | inl whole ↦ done w t whole.0 whole.1
@@ -119,7 +119,7 @@ module _ (words : List (List ℕ)) (time : ℕ) (printed : List ℕ) (result : �
   never : result ≢ 0 → result ≢ 9 → result ≢ 10 → ⊥
   never some nine ten = elim p.wrote.0 [ inl whole ↦ some whole.0 | inr part ↦ elim part.0 [ inl is ↦ nine is | inr is ↦ ten is.0 ] ]
 
-  cut : WhereTold words before (λ w. (result ≡ 9) ⊎ (result ≡ 10) → IsCut (outcome words time w) before now)
+  cut : ForEachWorld words before now (λ w. (result ≡ 9) ⊎ (result ≡ 10) → IsCut (outcome words time w) before now)
   cut w t when =
       let g = p.gives w t in
       subst (λ (o : Outcome). IsCut o before now) (sym (outcome_is words time w g.0.ending g.0.is))
@@ -129,7 +129,7 @@ module _ (words : List (List ℕ)) (time : ℕ) (printed : List ℕ) (result : �
         store = inr g.0.store;
       })
 
-  cut_writes : AsksCommand words → WhereTold words before (λ w. (result ≡ 9) ⊎ (result ≡ 10) → KeepsFiles before.store now.store ⊎ WritesTask words time w before now)
+  cut_writes : AsksCommand words → ForEachWorld words before now (λ w. (result ≡ 9) ⊎ (result ≡ 10) → KeepsFiles before.store now.store ⊎ WritesTask words time w before now)
   cut_writes none w t when =
       let h = p.held none w t in
       inr (record {
@@ -163,11 +163,11 @@ module _ (words : List (List ℕ)) (time : ℕ) (printed : List ℕ) (result : �
         stream = p.stream;
       }
 
-  complete : WhereTold words before (λ w. IsComplete words time w result counts counts')
+  complete : ForEachWorld words before now (λ w. IsComplete words time w result counts counts')
   complete w t ending carried calm =
       elim p.wrote.0 [ inl whole ↦ inl whole.0 | inr part ↦ elim part.0 [ inl nine ↦ inr nine | inr ten ↦ absurd (calm.out ten.1) ] ]
 
-  authentic : AsksCommand words → WhereTold words before (λ w. result ≡ 0 → IsAuthentic words time w before now)
+  authentic : AsksCommand words → ForEachWorld words before now (λ w. result ≡ 0 → IsAuthentic words time w before now)
   authentic none w t zero =
       let g = p.gives w t in
       let h = p.held none w t in
@@ -276,8 +276,8 @@ starved_page words time before counts some =
 
 -- What is known of it.
 pub record Stopped (words : List (List ℕ)) (time : ℕ) (stop : Stop) (result : ℕ) (before now : Seen) (counts counts' : Counts) : Type 0 where
-  pub gives : WhereTold words before (λ w. Ends (Err stop) (answer_of words time w) before.store now.store before.stream now.stream)
-  pub left : WhereTold words before (λ w. Leaves {X = Output} (Err stop) before.left now.left (left_of words w.input))
+  pub gives : ForEachWorld words before now (λ w. Ends (Err stop) (answer_of words time w) before.store now.store before.stream now.stream)
+  pub left : ForEachWorld words before now (λ w. Leaves {X = Output} (Err stop) before.left now.left (left_of words w.input))
   pub kept : KeepsFiles before.store now.store
   pub written : now.written ≡ before.written
   pub draft : KeepsDraft before.store now.store
@@ -289,19 +289,21 @@ pub record Stopped (words : List (List ℕ)) (time : ℕ) (stop : Stop) (result 
   pub told : IsTold stop result before.errors now.errors counts.err counts'.err
   pub no_page : page_of words ≡ None
   pub unread : (refusal : Refusal) → command_of words ≡ Err refusal → now.left ≡ before.left
+  pub unasked : (refusal : Refusal) → command_of words ≡ Err refusal → profile_of words ≡ None → now.truth ≡ before.truth
   pub wrong : (refusal : Refusal) → command_of words ≡ Err refusal → profile_of words ≡ None → IsWordsStop stop
 
 -- All but standard error is as before.
 untouched : (before now : Seen) → now.written ≡ before.written → now.store ≡ before.store → now.left ≡ before.left → now.stream ≡ before.stream
-    → now ≡ record before { errors = now.errors }
-untouched before now w s l d =
-    ap (λ (x : Option (List ℕ)). record { written = x; errors = now.errors; store = now.store; left = now.left; stream = now.stream }) w
-    ∙ ap (λ (x : Store). record { written = before.written; errors = now.errors; store = x; left = now.left; stream = now.stream }) s
-    ∙ ap (λ (x : Option (List ℕ)). record { written = before.written; errors = now.errors; store = before.store; left = x; stream = now.stream }) l
-    ∙ ap (λ (x : Option (List ℕ)). record { written = before.written; errors = now.errors; store = before.store; left = before.left; stream = x }) d
+    → now.truth ≡ before.truth → now ≡ record before { errors = now.errors }
+untouched before now w s l d t =
+    ap (λ (x : Option (List ℕ)). record { written = x; errors = now.errors; store = now.store; left = now.left; stream = now.stream; truth = now.truth }) w
+    ∙ ap (λ (x : Store). record { written = before.written; errors = now.errors; store = x; left = now.left; stream = now.stream; truth = now.truth }) s
+    ∙ ap (λ (x : Option (List ℕ)). record { written = before.written; errors = now.errors; store = before.store; left = x; stream = now.stream; truth = now.truth }) l
+    ∙ ap (λ (x : Option (List ℕ)). record { written = before.written; errors = now.errors; store = before.store; left = before.left; stream = x; truth = now.truth }) d
+    ∙ ap (λ (x : Truth). record { written = before.written; errors = now.errors; store = before.store; left = before.left; stream = before.stream; truth = x }) t
 
 module _ (words : List (List ℕ)) (time result : ℕ) (before now : Seen) (counts counts' : Counts) where
-  refused_so : (refusal : Refusal) → Stopped words time (Refused refusal) result before now counts counts' → (w : World) → Tells words before w
+  refused_so : (refusal : Refusal) → Stopped words time (Refused refusal) result before now counts counts' → (w : World) → IsWorldOf words before now w
       → result ≡ status_of refusal.reason → Gains before.errors now.errors (error_line refusal.subject (reason_text refusal.reason))
       → IsAsSaid (outcome words time w) result before now
   refused_so refusal s w t own line =
@@ -332,7 +334,7 @@ module _ (words : List (List ℕ)) (time result : ℕ) (before now : Seen) (coun
   fronted own line (inr part) = part.1
 
   stopped_line : (stop : Stop) → Stopped words time stop result before now counts counts'
-      → WhereTold words before (λ w. TellsOneLine (files_named (command_of words)) (outcome words time w) before now counts counts')
+      → ForEachWorld words before now (λ w. TellsOneLine (files_named (command_of words)) (outcome words time w) before now counts counts')
   stopped_line (Refused refusal) s w t =
       inl (subst (λ (o : Outcome). GainsPrefix before.errors now.errors o.line) (sym (refusal_is words time w refusal (s.gives w t).0.is))
       (fronted (status_of refusal.reason) (error_line refusal.subject (reason_text refusal.reason)) s.told))
@@ -355,7 +357,7 @@ module _ (words : List (List ℕ)) (time result : ℕ) (before now : Seen) (coun
   neither (inr is) nine ten = ten is.0
 
   stopped_said : (stop : Stop) → Stopped words time stop result before now counts counts'
-      → WhereTold words before (λ w. (result ≡ 0) ⊎ ((result ≢ 9) × NoFaults counts counts') → IsAsSaid (outcome words time w) result before now)
+      → ForEachWorld words before now (λ w. (result ≡ 0) ⊎ ((result ≢ 9) × NoFaults counts counts') → IsAsSaid (outcome words time w) result before now)
   stopped_said (Refused refusal) s w t when =
       elim s.told [ inl own ↦ refused_so refusal s w t own.0 own.1 | inr other ↦ absurd (untold other.0 when) ]
   stopped_said (FileFault name) s w t when =
@@ -374,7 +376,7 @@ module _ (words : List (List ℕ)) (time result : ℕ) (before now : Seen) (coun
   stopped_said NoMemory s w t when = absurd (untold (starved s.told) when)
 
   stopped_refused : (stop : Stop) → Stopped words time stop result before now counts counts'
-      → WhereTold words before (λ w. IsRefused (files_named (command_of words)) (outcome words time w) result before now counts counts')
+      → ForEachWorld words before now (λ w. IsRefused (files_named (command_of words)) (outcome words time w) result before now counts counts')
   stopped_refused (Refused refusal) s w t some nine ten =
       elim s.told [ inl own ↦ inl (refused_so refusal s w t own.0 own.1) | inr other ↦ absurd (neither other.0 nine ten) ]
   stopped_refused (FileFault name) s w t some nine ten =
@@ -429,7 +431,7 @@ module _ (words : List (List ℕ)) (time result : ℕ) (before now : Seen) (coun
   not_done NoMemory s h = neither (starved s.told) (λ x. omega (arith, x, h)) (λ x. omega (arith, x, h))
 
   stopped_complete : (stop : Stop) → Stopped words time stop result before now counts counts'
-      → WhereTold words before (λ w. IsComplete words time w result counts counts')
+      → ForEachWorld words before now (λ w. IsComplete words time w result counts counts')
   stopped_complete (Refused refusal) s w t ending carried calm =
       let e = sym (s.gives w t).0.is ∙ is_gained words time w ending carried in cc
   stopped_complete (FileFault name) s w t ending carried calm = absurd (calm.files s.caused.0)
@@ -449,7 +451,8 @@ module _ (words : List (List ℕ)) (time result : ℕ) (before now : Seen) (coun
   stopped_usage stop s refusal wrong none = record {
     status = usage_status stop s (s.wrong refusal wrong none);
     untouched = untouched before now s.written (same_store before.store now.store (s.unwritten (ap may_write_by wrong))) (s.unread refusal wrong)
-        (s.undrawn (ap (λ (p : Option PasswordProfile). draws_with p (command_of words)) none ∙ ap draws_by wrong));
+        (s.undrawn (ap (λ (p : Option PasswordProfile). draws_with p (command_of words)) none ∙ ap draws_by wrong))
+        (s.unasked refusal wrong none);
   }
 
   pub stopped_call : (stop : Stop) → Stopped words time stop result before now counts counts' → IsCall words time result before now counts counts'

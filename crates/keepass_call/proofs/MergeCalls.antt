@@ -52,7 +52,7 @@ use Rattle.cli_commands.specs.Commands.{Change, merged_change}
 use Rattle.call_carrying.specs.Endings.{Ending, HoldsNew, ReadsBack, carried_out, change_of_task, ended_with, ending_with, new_file}
 use Rattle.keepass_call.specs.Held.{IsAuthentic, IsTask}
 use Rattle.keepass_call.specs.Merges.{HoldsDatabase, HoldsUnder, IsUntouched, MergesAgreed, MergesNothing, MergesParts, TargetHolds, merges, unmodified_text}
-use Rattle.keepass_call.specs.Outcome.{AsksCommand, Counts, Gains, IsAsSaid, IsRefused, Seen, Tells, World, answer_of, draws_words, ended, outcome}
+use Rattle.keepass_call.specs.Outcome.{AsksCommand, Counts, Gains, IsAsSaid, IsRefused, IsWorldOf, Seen, World, answer_of, draws_words, ended, outcome}
 use Rattle.cli_files.specs.Tasks.{Task}
 use Rattle.keepass_call.proofs.Answered.{answer_is}
 use Rattle.keepass_call.proofs.HeldTasks.{task_given}
@@ -253,7 +253,7 @@ report_same : (quiet same : Bool) (file : List ℕ) (names : List (List ℕ)) (o
 report_same true same file names old new changes e = refl
 report_same false same file names old new changes e = ap (λ b. merge_report false (not (not b)) file names old new changes) e
 
-module _ (words : List (List ℕ)) (time result : ℕ) (before now : Seen) (counts counts' : Counts) (world : World) (told : Tells words before world)
+module _ (words : List (List ℕ)) (time result : ℕ) (before now : Seen) (counts counts' : Counts) (world : World) (told : IsWorldOf words before now world)
     (refused : IsRefused (files_named (command_of words)) (outcome words time world) result before now counts counts')
     (authentic : AsksCommand words → result ≡ 0 → IsAuthentic words time world before now)
     (said : result ≡ 0 → IsAsSaid (outcome words time world) result before now) where

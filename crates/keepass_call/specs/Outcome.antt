@@ -112,14 +112,23 @@ outcome words time world = ended (left_of words world.input) (answer_of words ti
 
 -- ---- what is seen
 
+-- Whether every answer so far of the store, of the input and of the dice was that of what they
+-- report.
+pub record Truth : Type 0 where
+  pub files : Bool
+  pub input : Bool
+  pub dice : Bool
+
 -- What the outside reports at one moment: what was written to standard output and to standard
--- error, the store of files, and what is left of the input and of the dice.
+-- error, the store of files, and what is left of the input and of the dice; and whether each of
+-- these was truthful so far.
 pub record Seen : Type 0 where
   pub written : Option (List ℕ)
   pub errors : Option (List ℕ)
   pub store : Store
   pub left : Option (List ℕ)
   pub stream : Option (List ℕ)
+  pub truth : Truth
 
 -- The counts of faults at one moment, and how often a file was missing.
 pub record Counts : Type 0 where
@@ -130,15 +139,20 @@ pub record Counts : Type 0 where
   pub err : ℕ
   pub dice : ℕ
 
+-- Whether each object was truthful, in the order of the record.
+abbrev pub truth : (files input dice : Bool) → Truth
+truth files input dice = record { files = files; input = input; dice = dice }
+
 -- What is reported of each object, in the order of the record.
 abbrev pub seen : Option (List ℕ) → Option (List ℕ) → Option FileMap → Option (List ℕ) → List ℕ
-    → Option (List ℕ) → Option (List ℕ) → Seen
-seen written errors files draft_name draft_bytes left stream = record {
+    → Option (List ℕ) → Option (List ℕ) → Truth → Seen
+seen written errors files draft_name draft_bytes left stream truth = record {
   written = written;
   errors = errors;
   store = store files draft_name draft_bytes;
   left = left;
   stream = stream;
+  truth = truth;
 }
 
 -- The count of each object, in the order of the record.
@@ -166,16 +180,24 @@ pub record KeepsFaults (before now : Counts) : Type 0 where
 abbrev pub Gains : Option (List ℕ) → Option (List ℕ) → List ℕ → Type 0
 Gains before now text = now ≡ option_map (λ w. w ++ text) before
 
--- The outside reports this world: the files; what is left of the input, where the words ask for a
--- line; and the dice, where the words draw.
-pub record Tells (words : List (List ℕ)) (before : Seen) (world : World) : Type 0 where
+-- Every answer so far was that of what was reported.
+pub record AreTruthful (truth : Truth) : Type 0 where
+  pub files : truth.files ≡ true
+  pub input : truth.input ≡ true
+  pub dice : truth.dice ≡ true
+
+-- The outside reports this world before a call: the files; what is left of the input, where the
+-- words ask for a line; and the dice, where the words draw. And after the call every answer was that
+-- of this world.
+pub record IsWorldOf (words : List (List ℕ)) (before now : Seen) (world : World) : Type 0 where
+  pub truthful : AreTruthful now.truth
   pub files : before.store.files ≡ Some world.files
   pub input : TellsStream (asked_by (command_of words)) before.left world.input
   pub dice : TellsStream (draws_words words) before.stream world.dice
 
--- This holds of the world that the outside reports, if it reports one.
-abbrev pub WhereTold : List (List ℕ) → Seen → (World → Type 0) → Type 0
-WhereTold words before P = (world : World) → Tells words before world → P world
+-- This holds of each world that the outside reports and answers like during a call.
+abbrev pub ForEachWorld : List (List ℕ) → Seen → Seen → (World → Type 0) → Type 0
+ForEachWorld words before now P = (world : World) → IsWorldOf words before now world → P world
 
 -- Whether words are a command that may write a file.
 abbrev pub may_write_by : Result Command Refusal → Bool

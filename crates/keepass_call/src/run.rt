@@ -1,5 +1,5 @@
 //! The one call of the program: from its words, and the objects of the outside, to its status.
-ghost use Rattle.std.specs.Prelude.{◌≡◌, ◌++◌, ℕ, List, None, Some, Err, IfErr, IfOk, OnErr, codes, false, map, string_bytes, OnOk};
+ghost use Rattle.std.specs.Prelude.{◌≡◌, ◌++◌, ℕ, List, None, Some, Err, IfErr, IfOk, OnErr, codes, false, map, string_bytes, OnOk, true};
 ghost use Rattle.outside_core.specs.Streams.{GainsPrefix, LosesPrefix};
 ghost use Rattle.cli_answers.specs.Messages.{error_line, reason_text, status_of};
 ghost use Rattle.cli_answers.specs.Phases.{IsCaused, IsMemoryStop, IsStreamStop, IsWordsStop, Leaves, TellsStream};
@@ -8,7 +8,7 @@ ghost use Rattle.cli_words.specs.Needs.{files_named};
 ghost use Rattle.cli_writing.specs.Writing.{IsSame, KeepsDraft, KeepsFiles, Store, store};
 ghost use Rattle.keepass_call.specs.Call.{IsCall};
 ghost use Rattle.call_carrying.specs.Endings.{Ends};
-ghost use Rattle.keepass_call.specs.Outcome.{IsOfSomeFile, IsOfTask, World, command_answer, counts, draws_words, may_write_by, password_answer, password_or_command, seen};
+ghost use Rattle.keepass_call.specs.Outcome.{AreTruthful, IsOfSomeFile, IsOfTask, World, command_answer, counts, draws_words, may_write_by, password_answer, password_or_command, seen, truth};
 ghost use Rattle.cli_commands.specs.SeenChange.{output_text};
 ghost use Rattle.cli_words.specs.Words.{command_of, profile_of};
 ghost use Rattle.cli_profiles.specs.Profiles.{IsProfile};
@@ -49,7 +49,9 @@ fn answer<F: FileStore, S: Source, D: Dice>(
     dice: &mut D,
     now: u64,
 ) -> Result<Output, Stop>
-    ensures told { (world : World) → F.files files.old ≡ Some world.files
+    ensures told { AreTruthful (truth (F.truthful files.new)
+        (S.truthful input.new) (D.truthful dice.new))
+        → (world : World) → F.files files.old ≡ Some world.files
         → TellsStream (asked_by (command_of (map string_bytes words.now))) (S.left input.old)
         world.input
         → TellsStream (draws_by (command_of (map string_bytes words.now)))
@@ -58,7 +60,9 @@ fn answer<F: FileStore, S: Source, D: Dice>(
         (store (F.files files.old) (F.draft_name files.old) (F.draft_bytes files.old))
         (store (F.files files.new) (F.draft_name files.new) (F.draft_bytes files.new))
         (D.stream dice.old) (D.stream dice.new) }
-    ensures held { (world : World) → F.files files.old ≡ Some world.files
+    ensures held { AreTruthful (truth (F.truthful files.new)
+        (S.truthful input.new) (D.truthful dice.new))
+        → (world : World) → F.files files.old ≡ Some world.files
         → TellsStream (asked_by (command_of (map string_bytes words.now))) (S.left input.old)
         world.input
         → TellsStream (draws_by (command_of (map string_bytes words.now)))
@@ -71,12 +75,15 @@ fn answer<F: FileStore, S: Source, D: Dice>(
         (output_text output)
         (store (F.files files.old) (F.draft_name files.old) (F.draft_bytes files.old))
         (store (F.files files.new) (F.draft_name files.new) (F.draft_bytes files.new))) }
-    ensures left { (i : List ℕ)
+    ensures left { S.truthful input.new ≡ true → (i : List ℕ)
         → TellsStream (asked_by (command_of (map string_bytes words.now))) (S.left input.old) i
         → Leaves result (S.left input.old) (S.left input.new)
         (left_of (map string_bytes words.now) i) }
     ensures unread { (refusal : Refusal) → command_of (map string_bytes words.now) ≡ Err refusal
         → S.left input.new ≡ S.left input.old }
+    ensures unasked { (refusal : Refusal) → command_of (map string_bytes words.now) ≡ Err refusal
+        → truth (F.truthful files.new) (S.truthful input.new) (D.truthful dice.new)
+        ≡ truth (F.truthful files.old) (S.truthful input.old) (D.truthful dice.old) }
     ensures wrong { (refusal : Refusal) → command_of (map string_bytes words.now) ≡ Err refusal
         → IfErr result IsWordsStop }
     ensures kept { OnErr result (KeepsFiles
@@ -125,7 +132,8 @@ fn password_output(alloc: Global, password: Secret) -> Result<Output, Stop>
 // The password that words ask for, chosen by the dice.
 fn password<D: Dice>(alloc: Global, dice: &mut D, profile: PasswordProfile) -> Result<Output, Stop>
     requires { IsProfile profile }
-    ensures told { (d : List ℕ) (s : Store) → D.stream dice.old ≡ Some d
+    ensures told { D.truthful dice.new ≡ true
+        → (d : List ℕ) (s : Store) → D.stream dice.old ≡ Some d
         → Ends result (password_answer profile d) s s (D.stream dice.old) (D.stream dice.new) }
     ensures stream { LosesPrefix (D.stream dice.old) (D.stream dice.new) }
     ensures cause { IfErr result (IsStreamStop (D.faults dice.old) (D.faults dice.new)) }
@@ -150,7 +158,9 @@ fn answer_words<F: FileStore, S: Source, D: Dice>(
     dice: &mut D,
     now: u64,
 ) -> Result<Output, Stop>
-    ensures told { (world : World) → F.files files.old ≡ Some world.files
+    ensures told { AreTruthful (truth (F.truthful files.new)
+        (S.truthful input.new) (D.truthful dice.new))
+        → (world : World) → F.files files.old ≡ Some world.files
         → TellsStream (asked_by (command_of (map string_bytes words.now))) (S.left input.old)
         world.input
         → TellsStream (draws_words (map string_bytes words.now)) (D.stream dice.old) world.dice
@@ -160,6 +170,7 @@ fn answer_words<F: FileStore, S: Source, D: Dice>(
         (store (F.files files.new) (F.draft_name files.new) (F.draft_bytes files.new))
         (D.stream dice.old) (D.stream dice.new) }
     ensures held { profile_of (map string_bytes words.now) ≡ None
+        → AreTruthful (truth (F.truthful files.new) (S.truthful input.new) (D.truthful dice.new))
         → (world : World) → F.files files.old ≡ Some world.files
         → TellsStream (asked_by (command_of (map string_bytes words.now))) (S.left input.old)
         world.input
@@ -173,12 +184,16 @@ fn answer_words<F: FileStore, S: Source, D: Dice>(
         (output_text output)
         (store (F.files files.old) (F.draft_name files.old) (F.draft_bytes files.old))
         (store (F.files files.new) (F.draft_name files.new) (F.draft_bytes files.new))) }
-    ensures left { (i : List ℕ)
+    ensures left { S.truthful input.new ≡ true → (i : List ℕ)
         → TellsStream (asked_by (command_of (map string_bytes words.now))) (S.left input.old) i
         → Leaves result (S.left input.old) (S.left input.new)
         (left_of (map string_bytes words.now) i) }
     ensures unread { (refusal : Refusal) → command_of (map string_bytes words.now) ≡ Err refusal
         → S.left input.new ≡ S.left input.old }
+    ensures unasked { (refusal : Refusal) → command_of (map string_bytes words.now) ≡ Err refusal
+        → profile_of (map string_bytes words.now) ≡ None
+        → truth (F.truthful files.new) (S.truthful input.new) (D.truthful dice.new)
+        ≡ truth (F.truthful files.old) (S.truthful input.old) (D.truthful dice.old) }
     ensures wrong { (refusal : Refusal) → command_of (map string_bytes words.now) ≡ Err refusal
         → profile_of (map string_bytes words.now) ≡ None → IfErr result IsWordsStop }
     ensures kept { OnErr result (KeepsFiles
@@ -323,9 +338,11 @@ pub fn keepass<F: FileStore, S: Source, O: Sink, E: Sink, D: Dice>(
 ) -> u8
     ensures { IsCall (map string_bytes words.now) now result
         (seen (O.written out.old) (E.written err.old) (F.files files.old) (F.draft_name files.old)
-        (F.draft_bytes files.old) (S.left input.old) (D.stream dice.old))
+        (F.draft_bytes files.old) (S.left input.old) (D.stream dice.old)
+        (truth (F.truthful files.old) (S.truthful input.old) (D.truthful dice.old)))
         (seen (O.written out.new) (E.written err.new) (F.files files.new) (F.draft_name files.new)
-        (F.draft_bytes files.new) (S.left input.new) (D.stream dice.new))
+        (F.draft_bytes files.new) (S.left input.new) (D.stream dice.new)
+        (truth (F.truthful files.new) (S.truthful input.new) (D.truthful dice.new)))
         (counts (F.faults files.old) (F.absences files.old) (S.faults input.old) (O.faults out.old)
         (E.faults err.old) (D.faults dice.old))
         (counts (F.faults files.new) (F.absences files.new) (S.faults input.new) (O.faults out.new)

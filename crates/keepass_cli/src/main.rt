@@ -3,7 +3,7 @@
 
 use keepass_call::{file_to_write, keepass};
 use outside_core::{NoMemory, Sink, write_all};
-use outside_host::{HostDice, HostFiles, HostInput, HostOutput};
+use outside_host::{HostDice, HostFiles, HostInput, HostOutput, World};
 use std::alloc::AllocGlobal;
 use std::env;
 use std::io::ErrorKind;
@@ -56,6 +56,8 @@ fn seconds(rt: &impl Clock) -> u64 {
 }
 
 fn main(rt: HostRuntime) -> ExitCode {
+    // What the host is taken to hold: nothing is known of it, and it takes no memory.
+    let world = World::any();
     let alloc = rt.alloc();
     let stderr = rt.stderr();
     let mut err = HostOutput::new(&stderr);
@@ -68,10 +70,10 @@ fn main(rt: HostRuntime) -> ExitCode {
         Err(NoMemory) => return ExitCode::from(refuse(&mut err, &NoWords::OutOfMemory)),
     };
     let now = seconds(&rt);
-    let mut files = HostFiles::new(&rt, alloc, target);
-    let mut input = HostInput::new(rt.reader());
+    let mut files = HostFiles::new(&rt, alloc, target, &world);
+    let mut input = HostInput::new(rt.reader(), &world);
     let mut out = HostOutput::new(&rt);
-    let mut dice = HostDice::new(&rt);
+    let mut dice = HostDice::new(&rt, &world);
     ExitCode::from(keepass(
         alloc,
         words.as_slice(),

@@ -24,7 +24,7 @@ use Rattle.cli_pages.specs.Pages.{page_of}
 use Rattle.call_carrying.specs.Endings.{EndsSo, HoldsNew, IsOfDice, ReadsBack}
 use Rattle.keepass_call.specs.Call.{IsCall}
 use Rattle.keepass_call.specs.Held.{IsTask}
-use Rattle.keepass_call.specs.Outcome.{IsOfTask, Seen, Tells, World, answer_of}
+use Rattle.keepass_call.specs.Outcome.{IsOfTask, IsWorldOf, Seen, World, answer_of}
 use Rattle.keepass_call.proofs.Answered.{answer_is}
 use Rattle.keepass_call.proofs.Calls.{Printed, printed_call}
 use Rattle.keepass_call.proofs.HeldTasks.{task_given}
@@ -81,15 +81,15 @@ of_dice = record { change = change; makes = makes; text = refl; reads_back = rea
 given : answer_of add_generated 50 with_dice ≡ record { answer = Ok (record { text = change.text; file = Some new_file }); left = dice_left }
 given = answer_is add_generated 50 with_dice task (task_given add_generated 50 with_dice task is_adding) ∙ carried
 
--- The outside reports one world.
-one_world : (w : World) → Tells add_generated before_adding w → with_dice ≡ w
+-- The outside reports one world, and answers like it.
+one_world : (w : World) → IsWorldOf add_generated before_adding now w → with_dice ≡ w
 one_world w t =
     ap (λ f. record with_dice { files = f }) (same_Some three_files w.files t.files)
     ∙ ap (λ i. record { files = w.files; input = i; dice = dice }) t.input
     ∙ ap (λ d. record { files = w.files; input = w.input; dice = d }) t.dice
 
-told : Tells add_generated before_adding with_dice
-told = record { files = refl; input = refl; dice = refl }
+told : IsWorldOf add_generated before_adding now with_dice
+told = record { truthful = record { files = refl; input = refl; dice = refl }; files = refl; input = refl; dice = refl }
 
 printed : Printed add_generated 50 change.text 0 before_adding now no_counts no_counts
 printed = record {

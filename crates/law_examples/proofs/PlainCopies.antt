@@ -9,7 +9,7 @@ use Rattle.cli_files.specs.Tasks.{Task}
 use Rattle.cli_commands.specs.Commands.{may_write}
 use Rattle.keepass_call.specs.Call.{IsCall}
 use Rattle.keepass_call.specs.Held.{IsTask}
-use Rattle.keepass_call.specs.Outcome.{Counts, Seen, Tells}
+use Rattle.keepass_call.specs.Outcome.{Counts, IsWorldOf, Seen}
 use Rattle.keepass_call.proofs.HeldTasks.{task_given}
 use Rattle.call_conditions.specs.Copies.{AreApart, CallSeen, CopyHolds, OpensCopies}
 use Rattle.call_conditions.specs.Histories.{IsCallOn}
@@ -57,7 +57,7 @@ module _ (time : ℕ) (before now : Seen) (counts counts' : Counts) where
       } in
       subst (OpensCopies plain_copies c) (sym same) these
 
-  on : IsCall merge_three time 0 before now counts counts' → Tells merge_three before (world_of three_files) → IsCallOn plain_copies (λ _. three_files) c
+  on : IsCall merge_three time 0 before now counts counts' → IsWorldOf merge_three before now (world_of three_files) → IsCallOn plain_copies (λ _. three_files) c
   on is_call told = record {
     is_call = is_call;
     told = told;

@@ -1,24 +1,30 @@
 -- A call that adds an entry, as all of it is seen, and a history that it begins.
-use Rattle.std.specs.Prelude.{ℕ, List, [], ◌∷◌, None, Some}
+use Rattle.std.specs.Prelude.{ℕ, true, List, [], ◌∷◌, None, Some}
 use Rattle.std.specs.FinMap.{insert}
 use Rattle.cli_writing.specs.Writing.{NewFile}
 use Rattle.merge_examples.specs.Cases.{example_docs}
 use Rattle.keepass_call.specs.Call.{IsCall}
-use Rattle.keepass_call.specs.Outcome.{Counts, Seen, counts, seen}
+use Rattle.keepass_call.specs.Outcome.{Counts, Seen, Truth, counts, seen, truth}
 use Rattle.call_conditions.specs.Copies.{CallSeen}
 use Rattle.call_conditions.specs.Histories.{IsHistory, call, copied}
 use Rattle.law_examples.specs.Files.{three_files}
 use Rattle.law_examples.specs.PlainCopies.{plain_copies}
 use Rattle.law_examples.specs.Calls.{add_generated, adding_dice, dice_left, with_dice}
 
+-- every answer is that of what is reported
+abbrev pub all_truthful : Truth
+all_truthful = truth true true true
+
 -- what is seen before it: nothing was written; the files and the dice are reported
 abbrev pub before_adding : Seen
 before_adding = seen (Some []) (Some []) (Some three_files) None [] (Some []) (Some adding_dice)
+    all_truthful
 
 -- what is seen after it, where this was printed and this file written
 abbrev pub after_adding : List ℕ → NewFile → Seen
 after_adding text file = seen (Some text) (Some [])
     (Some (insert three_files file.name file.bytes)) None [] (Some []) (Some dice_left)
+    all_truthful
 
 -- no fault was counted
 abbrev pub no_counts : Counts

@@ -2,7 +2,7 @@
 use Rattle.std.specs.Prelude.{ℕ, zero, suc, List, [], ◌∷◌, None, codes}
 use Rattle.merge_examples.specs.Cases.{example_docs}
 use Rattle.keepass_call.specs.Call.{IsCall}
-use Rattle.keepass_call.specs.Outcome.{Counts, Seen, Tells}
+use Rattle.keepass_call.specs.Outcome.{Counts, IsWorldOf, Seen}
 use Rattle.call_conditions.specs.Copies.{CallSeen, Copies}
 use Rattle.call_conditions.specs.Histories.{IsHistory, call, copied}
 use Rattle.law_examples.specs.Files.{merge_three, three_files, world_of}
@@ -38,6 +38,6 @@ merging time before now counts counts' = record {
 abbrev pub MergingIsAHistory : Type 0
 MergingIsAHistory = (time : ℕ) (before now : Seen) (counts counts' : Counts)
     → IsCall merge_three time 0 before now counts counts'
-    → Tells merge_three before (world_of three_files)
+    → IsWorldOf merge_three before now (world_of three_files)
     → IsHistory plain_copies example_docs (λ _. three_files)
     (call (merging time before now counts counts') ∷ copied 1 0 ∷ [])

@@ -1,3 +1,4 @@
 pub mod Fronts
 pub mod Results
 pub mod Causes
+pub mod Reports

@@ -1,10 +1,13 @@
-//! The four ways to the outside. What an object holds may be reported (its ghost member is `Some`)
-//! or not (`None`, as at a real disk). Clauses on content speak where it is reported, clauses on
-//! counts always.
-ghost use Rattle.std.specs.Prelude.{◌≡◌, ℕ, ◌≤◌, ◌<◌, List, [], ◌++◌, Option, length, take, option_map, IfOk, OnOk, OnErr, IfSome, IsSome, IsErrOf};
+//! The four ways to the outside. An object may report what it holds (its ghost member is `Some`),
+//! and is truthful as long as each of its answers was that of what it reports: an object in memory
+//! always, an object over the host until the disk, the input or the random bytes first answered
+//! otherwise. Clauses on content speak where the object is truthful after the call, clauses on
+//! counts and on what a call leaves as it was always.
+ghost use Rattle.std.specs.Prelude.{◌≡◌, ℕ, ◌≤◌, ◌<◌, Bool, List, [], ◌++◌, Option, length, take, option_map, IfOk, OnOk, OnErr, IfSome, IsSome, IsErrOf, true};
 ghost use Rattle.std.specs.FinMap as map;
 ghost use Rattle.outside_core.specs.Counts.{HasCause};
 ghost use Rattle.outside_core.specs.Files.{FileMap, window_of};
+ghost use Rattle.outside_core.specs.Reports.{StaysTruthful, reported};
 ghost use Rattle.outside_core.specs.Streams.{LosesPrefix};
 
 use crate::fails::{DiceFail, FileFail, SinkFail, SourceFail};
@@ -14,6 +17,8 @@ use crate::fails::{DiceFail, FileFail, SinkFail, SourceFail};
 pub trait FileStore {
     /// The files by the bytes of their names, where the store reports them.
     ghost files: { Self → Option FileMap };
+    /// Whether every answer on the files was that of the files that are reported.
+    ghost truthful: { Self → Bool };
     /// The name that the draft is for, if there is one; every store reports it.
     ghost draft_name: { Self → Option (List ℕ) };
     /// The bytes of the draft; they mean something where the files are reported.
@@ -25,13 +30,15 @@ pub trait FileStore {
 
     /// The length of a file in bytes.
     fn size(&mut self, name: &str) -> Result<u64, FileFail>
-        ensures told { IfOk result (λ n. IfSome (files self.old)
+        ensures told { IfOk result (λ n. IfSome (reported (truthful self.new) (files self.old))
             (λ m. option_map length (map.get m name.now) ≡ Some n)) }
         ensures missing { IsErrOf result FileFail.NoSuchFile
-            → IfSome (files self.old) (λ m. map.get m name.now ≡ None) }
+            → IfSome (reported (truthful self.new) (files self.old))
+            (λ m. map.get m name.now ≡ None) }
         ensures files { files self.new ≡ files self.old }
         ensures draft_name { draft_name self.new ≡ draft_name self.old }
         ensures draft_bytes { draft_bytes self.new ≡ draft_bytes self.old }
+        ensures truthful { StaysTruthful (truthful self.old) (truthful self.new) }
         ensures faults { HasCause FileFail.Failed (faults self.old) (faults self.new) result }
         ensures no_fault { IsErrOf result FileFail.NoSuchFile → faults self.new ≡ faults self.old }
         ensures absences { HasCause FileFail.NoSuchFile (absences self.old) (absences self.new)
@@ -41,13 +48,15 @@ pub trait FileStore {
     /// bytes read.
     fn read_at(&mut self, name: &str, from: u64, out: &mut [u8]) -> Result<usize, FileFail>
         ensures bound { IfOk result (λ n. n ≤ length out.new) }
-        ensures told { IfOk result (λ n. IfSome (files self.old)
+        ensures told { IfOk result (λ n. IfSome (reported (truthful self.new) (files self.old))
             (λ m. window_of m name.now from (length out.new) ≡ Some (take n out.new))) }
         ensures missing { IsErrOf result FileFail.NoSuchFile
-            → IfSome (files self.old) (λ m. map.get m name.now ≡ None) }
+            → IfSome (reported (truthful self.new) (files self.old))
+            (λ m. map.get m name.now ≡ None) }
         ensures files { files self.new ≡ files self.old }
         ensures draft_name { draft_name self.new ≡ draft_name self.old }
         ensures draft_bytes { draft_bytes self.new ≡ draft_bytes self.old }
+        ensures truthful { StaysTruthful (truthful self.old) (truthful self.new) }
         ensures faults { HasCause FileFail.Failed (faults self.old) (faults self.new) result }
         ensures absences { HasCause FileFail.NoSuchFile (absences self.old) (absences self.new)
             result };
@@ -60,6 +69,7 @@ pub trait FileStore {
         ensures err { OnErr result (draft_name self.new ≡ None) }
         ensures not_missing { ¬ IsErrOf result FileFail.NoSuchFile }
         ensures files { files self.new ≡ files self.old }
+        ensures truthful { StaysTruthful (truthful self.old) (truthful self.new) }
         ensures faults { HasCause FileFail.Failed (faults self.old) (faults self.new) result }
         ensures absences { absences self.old ≤ absences self.new };
 
@@ -72,6 +82,7 @@ pub trait FileStore {
         ensures name { draft_name self.new ≡ draft_name self.old }
         ensures not_missing { ¬ IsErrOf result FileFail.NoSuchFile }
         ensures files { files self.new ≡ files self.old }
+        ensures truthful { StaysTruthful (truthful self.old) (truthful self.new) }
         ensures faults { HasCause FileFail.Failed (faults self.old) (faults self.new) result }
         ensures absences { absences self.old ≤ absences self.new };
 
@@ -85,6 +96,7 @@ pub trait FileStore {
         ensures err { OnErr result (files self.new ≡ files self.old) }
         ensures no_draft { draft_name self.new ≡ None }
         ensures not_missing { ¬ IsErrOf result FileFail.NoSuchFile }
+        ensures truthful { StaysTruthful (truthful self.old) (truthful self.new) }
         ensures faults { HasCause FileFail.Failed (faults self.old) (faults self.new) result }
         ensures absences { absences self.old ≤ absences self.new };
 
@@ -92,6 +104,7 @@ pub trait FileStore {
     fn discard(&mut self)
         ensures no_draft { draft_name self.new ≡ None }
         ensures files { files self.new ≡ files self.old }
+        ensures truthful { StaysTruthful (truthful self.old) (truthful self.new) }
         ensures faults { faults self.old ≤ faults self.new }
         ensures absences { absences self.old ≤ absences self.new };
 }
@@ -100,6 +113,8 @@ pub trait FileStore {
 pub trait Source {
     /// The bytes that are still to come, where the source reports them.
     ghost left: { Self → Option (List ℕ) };
+    /// Whether every answer was that of the bytes that are reported.
+    ghost truthful: { Self → Bool };
     /// How often something went wrong; it sticks at 2^64 - 1.
     ghost faults: { Self → ℕ };
 
@@ -107,10 +122,11 @@ pub trait Source {
     /// empty `out` or at the end. What a refusal leaves to be read is open.
     fn read(&mut self, out: &mut [u8]) -> Result<usize, SourceFail>
         ensures bound { IfOk result (λ n. n ≤ length out.new) }
-        ensures told { IfOk result (λ n. left self.old
+        ensures told { truthful self.new ≡ true → IfOk result (λ n. left self.old
             ≡ option_map (λ rest. take n out.new ++ rest) (left self.new)) }
         ensures end { IfOk result (λ n. n ≡ 0 → 0 < length out.new
-            → IfSome (left self.old) (λ rest. rest ≡ [])) }
+            → IfSome (reported (truthful self.new) (left self.old)) (λ rest. rest ≡ [])) }
+        ensures truthful { StaysTruthful (truthful self.old) (truthful self.new) }
         ensures faults { HasCause SourceFail.Failed (faults self.old) (faults self.new) result };
 }
 
@@ -136,14 +152,17 @@ pub trait Sink {
 pub trait Dice {
     /// The bytes that are still to be drawn, where the dice report them.
     ghost stream: { Self → Option (List ℕ) };
+    /// Whether every answer was that of the bytes that are reported.
+    ghost truthful: { Self → Bool };
     /// How often something went wrong; it sticks at 2^64 - 1.
     ghost faults: { Self → ℕ };
 
     /// Fills `out` with the next bytes of the stream. After a refusal `out` is not known, and a
-    /// prefix of the stream may be gone.
+    /// prefix of the stream may be gone. What is left of the stream is left of it in every case.
     fn fill(&mut self, out: &mut [u8]) -> Result<(), DiceFail>
-        ensures ok { OnOk result (stream self.old
+        ensures ok { truthful self.new ≡ true → OnOk result (stream self.old
             ≡ option_map (λ rest. out.new ++ rest) (stream self.new)) }
-        ensures err { OnErr result (LosesPrefix (stream self.old) (stream self.new)) }
+        ensures lost { LosesPrefix (stream self.old) (stream self.new) }
+        ensures truthful { StaysTruthful (truthful self.old) (truthful self.new) }
         ensures faults { HasCause DiceFail.Failed (faults self.old) (faults self.new) result };
 }

@@ -1,5 +1,5 @@
 //! Objects in memory some of whose calls fail, by their numbers. They report all that they hold.
-ghost use Rattle.std.specs.Prelude.{◌≡◌, ◌≤◌, Some, [], ◌∷◌, ◌++◌, ◌==◌, IsTrue, false, IfErr, OnOk, OnErr, if◌then◌else◌};
+ghost use Rattle.std.specs.Prelude.{◌≡◌, ◌≤◌, Some, [], ◌∷◌, ◌++◌, ◌==◌, IsTrue, false, IfErr, OnOk, OnErr, if◌then◌else◌, true};
 ghost use Rattle.std.specs.List.{list_any};
 ghost use Rattle.std.specs.Option.{option_copied};
 ghost use Rattle.std.specs.FinMap as map;
@@ -158,6 +158,8 @@ impl MemoryFiles {
 impl FileStore for MemoryFiles {
     ghost files = { λ m. Some m.store.files };
 
+    ghost truthful = { λ _. true };
+
     ghost draft_name = { λ m. m.store.draft_name };
 
     ghost draft_bytes = { λ m. m.store.draft_bytes };
@@ -265,6 +267,8 @@ impl MemorySource {
 
 impl Source for MemorySource {
     ghost left = { λ m. Some m.bytes };
+
+    ghost truthful = { λ _. true };
 
     ghost faults = { λ m. m.failures.faults };
 
@@ -398,6 +402,8 @@ impl MemoryDice {
 
 impl Dice for MemoryDice {
     ghost stream = { λ m. Some m.bytes };
+
+    ghost truthful = { λ _. true };
 
     ghost faults = { λ m. m.failures.faults };
 

@@ -1,5 +1,5 @@
 //! Objects in memory that fail only when memory runs out. They report all that they hold.
-ghost use Rattle.std.specs.Prelude.{◌≡◌, ◌<◌, ◌≤◌, [], ◌++◌, length, take, drop, find, Some, IfErr, IfOk, OnOk, OnErr};
+ghost use Rattle.std.specs.Prelude.{◌≡◌, ◌<◌, ◌≤◌, [], ◌++◌, length, take, drop, find, Some, IfErr, IfOk, OnOk, OnErr, true};
 ghost use Rattle.std.specs.Option.{option_copied};
 ghost use Rattle.std.specs.Str.{bytes_eq};
 ghost use Rattle.std.specs.FinMap as map;
@@ -144,6 +144,8 @@ impl SureFiles {
 impl FileStore for SureFiles {
     ghost files = { λ s. Some s.files };
 
+    ghost truthful = { λ _. true };
+
     ghost draft_name = { λ s. s.draft_name };
 
     ghost draft_bytes = { λ s. s.draft_bytes };
@@ -269,6 +271,8 @@ impl SureSource {
 
 impl Source for SureSource {
     ghost left = { λ s. Some s };
+
+    ghost truthful = { λ _. true };
 
     ghost faults = { λ s. 0 };
 

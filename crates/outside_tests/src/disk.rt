@@ -3,7 +3,7 @@
 //! not, and only a regular file is read.
 use crate::files::{keeps_a_file, read_at, reads, size_of, write_whole};
 use outside_core::{Dice, FileFail, FileStore};
-use outside_host::{HostDice, HostFiles};
+use outside_host::{HostDice, HostFiles, World};
 use std::alloc::Global;
 use std::fs::Files;
 use std::io::Read;
@@ -14,7 +14,7 @@ use std::{fs, io};
 /// A folder of its own for a test on the disk.
 fn scratch(rt: &HostRuntime) -> Result<String, Fail> {
     let mut number = [0; 8];
-    HostDice::new(rt).fill(&mut number)?;
+    HostDice::new(rt, &World::any()).fill(&mut number)?;
     let number = u64::from_le_bytes(number);
     let folder = format!(in rt.alloc(); "/tmp/outside_tests_{number:x}")?;
     fs::create_dir(rt, folder.as_str())?;
@@ -76,8 +76,9 @@ fn keeps_the_first(
     name: &str,
     count: usize,
 ) {
-    let mut one = HostFiles::new(host, rt.alloc(), None);
-    let mut other = HostFiles::new(host, rt.alloc(), None);
+    let world = World::any();
+    let mut one = HostFiles::new(host, rt.alloc(), None, &world);
+    let mut other = HostFiles::new(host, rt.alloc(), None, &world);
     assert_eq!(rt;
         publish_late(&mut one, &mut other, name),
         Err(FileFail::Failed)
@@ -106,7 +107,7 @@ fn keeps_files(
     name: &str,
     missing: &str,
 ) {
-    let mut files = HostFiles::new(host, rt.alloc(), None);
+    let mut files = HostFiles::new(host, rt.alloc(), None, &World::any());
     keeps_a_file(rt, &mut files, name);
     gives_up_a_draft(rt, &mut files, host, folder, name);
     misses_a_folder(rt, &mut files, missing);

@@ -1,7 +1,7 @@
 //! The host's input, output and random bytes, and what becomes of their errors.
 use crate::streams::{gives, write_text};
 use outside_core::{Dice, DiceFail, Sink, SinkFail, Source, SourceFail};
-use outside_host::{HostDice, HostInput, HostOutput};
+use outside_host::{HostDice, HostInput, HostOutput, World};
 use std::fmt::Display;
 use std::io;
 use std::io::{ErrorKind, Read};
@@ -48,11 +48,12 @@ impl Print for Broken {
 
 #[test]
 fn the_host_reads_input(rt: HostRuntime) {
-    let mut input = HostInput::new(b"hello".as_slice());
+    let world = World::any();
+    let mut input = HostInput::new(b"hello".as_slice(), &world);
     for bytes in [b"hel".as_slice(), b"lo", b""] {
         assert!(rt; gives(&mut input, bytes));
     }
-    let mut broken = HostInput::new(Broken { fails: true });
+    let mut broken = HostInput::new(Broken { fails: true }, &world);
     assert_eq!(rt; broken.read(&mut []), Err(SourceFail::Failed));
 }
 
@@ -74,7 +75,8 @@ fn the_host_writes_output(rt: HostRuntime) {
 
 #[test]
 fn the_host_gives_random_bytes(rt: HostRuntime) {
-    let mut dice = HostDice::new(&rt);
+    let world = World::any();
+    let mut dice = HostDice::new(&rt, &world);
     let mut one = [0; 32];
     let mut other = [0; 32];
     assert_eq!(rt; dice.fill(&mut one), Ok(()));
@@ -82,7 +84,7 @@ fn the_host_gives_random_bytes(rt: HostRuntime) {
     assert!(rt; one != other);
     let broken = Broken { fails: true };
     assert_eq!(rt;
-        HostDice::new(&broken).fill(&mut one),
+        HostDice::new(&broken, &world).fill(&mut one),
         Err(DiceFail::Failed)
     );
 }

@@ -18,9 +18,11 @@ struct TrickleFiles {
 }
 
 impl FileStore for TrickleFiles {
-    ghost use Rattle.std.specs.Prelude.{Some, None, [], if◌then◌else◌};
+    ghost use Rattle.std.specs.Prelude.{Some, None, [], true, if◌then◌else◌};
 
     ghost files = { λ _. None };
+
+    ghost truthful = { λ _. true };
 
     ghost draft_name = { λ s. if s.drafts then Some [] else None };
 

@@ -1,6 +1,7 @@
 //! Random bytes that are drawn for one use.
-ghost use Rattle.std.specs.Prelude.{◌≡◌, ◌-◌, ◌≤◌, ◌++◌, IfOk, IsOk, OnErr, drop, option_map, replicate, take};
+ghost use Rattle.std.specs.Prelude.{◌≡◌, ◌-◌, ◌≤◌, ◌++◌, IfOk, IsOk, drop, option_map, replicate, take, true};
 ghost use Rattle.outside_core.specs.Counts.{HasCause};
+ghost use Rattle.outside_core.specs.Reports.{StaysTruthful};
 ghost use Rattle.outside_core.specs.Streams.{LosesPrefix};
 
 use outside_core::{Dice, DiceFail};
@@ -29,11 +30,12 @@ impl<const N: usize> Fresh<N> {
     /// The refusal is that of the dice, of which some bytes may be gone then.
     pub fn draw<D: Dice>(dice: &mut D, n: usize) -> Result<Fresh<N>, DiceFail>
         requires { n ≤ N }
-        ensures front { IfOk result (λ fresh. D.stream dice.old
+        ensures front { D.truthful dice.new ≡ true → IfOk result (λ fresh. D.stream dice.old
             ≡ option_map (λ rest. take n fresh ++ rest) (D.stream dice.new)) }
         ensures rest { IfOk result (λ fresh. drop n fresh ≡ replicate (N - n) 0) }
         ensures none { n ≡ 0 → IsOk result × (dice.new ≡ dice.old) }
-        ensures err { OnErr result (LosesPrefix (D.stream dice.old) (D.stream dice.new)) }
+        ensures lost { LosesPrefix (D.stream dice.old) (D.stream dice.new) }
+        ensures truthful { StaysTruthful (D.truthful dice.old) (D.truthful dice.new) }
         ensures faults { HasCause DiceFail.Failed (D.faults dice.old) (D.faults dice.new) result }
     {
         let mut bytes = [0; N];

@@ -3,6 +3,7 @@ ghost use Rattle.std.specs.Prelude.{◌≡◌, ◌+◌, ◌≤◌, IfOk, IfSome,
 ghost use Rattle.std.specs.FinMap as map;
 ghost use Rattle.outside_core.specs.Counts.{HasCause};
 ghost use Rattle.outside_core.specs.Files.{FileMap};
+ghost use Rattle.outside_core.specs.Reports.{StaysTruthful, reported};
 ghost use Rattle.secret_core.specs.ReadFail.{HasReadCause, IsOfSomeFile, IsRead, read_fail_of};
 ghost use Rattle.secret_core.specs.declared.files.ReadFail.TheVariants as read;
 
@@ -61,14 +62,17 @@ pub fn read_prefix<F: FileStore>(
     out: &mut [u8],
 ) -> Result<usize, FileFail>
     ensures bound { IfOk result (λ n. n ≤ length out.new) }
-    ensures told { (m : FileMap) (bytes : List ℕ) → F.files files.old ≡ Some m
+    ensures told { (m : FileMap) (bytes : List ℕ)
+        → reported (F.truthful files.new) (F.files files.old) ≡ Some m
         → map.get m name.now ≡ Some bytes
         → IfOk result (λ n. take (length out.new) bytes ≡ take n out.new) }
     ensures missing { IsErrOf result FileFail.NoSuchFile
-        → IfSome (F.files files.old) (λ m. map.get m name.now ≡ None) }
+        → IfSome (reported (F.truthful files.new) (F.files files.old))
+        (λ m. map.get m name.now ≡ None) }
     ensures files { F.files files.new ≡ F.files files.old }
     ensures draft_name { F.draft_name files.new ≡ F.draft_name files.old }
     ensures draft_bytes { F.draft_bytes files.new ≡ F.draft_bytes files.old }
+    ensures truthful { StaysTruthful (F.truthful files.old) (F.truthful files.new) }
     ensures faults { HasCause FileFail.Failed (F.faults files.old) (F.faults files.new) result }
     ensures absences { HasCause FileFail.NoSuchFile (F.absences files.old) (F.absences files.new)
         result }
@@ -89,14 +93,17 @@ pub fn read_prefix<F: FileStore>(
 fn fill_secret<F: FileStore>(files: &mut F, name: &str, secret: &mut Secret) -> Result<(), FileFail>
     ensures bound { OnOk result (length secret.new.bytes ≤ length secret.old.bytes +
         secret.old.spare) }
-    ensures told { (m : FileMap) (bytes : List ℕ) → F.files files.old ≡ Some m
+    ensures told { (m : FileMap) (bytes : List ℕ)
+        → reported (F.truthful files.new) (F.files files.old) ≡ Some m
         → map.get m name.now ≡ Some bytes
         → OnOk result (secret.new.bytes ≡ take (length secret.old.bytes + secret.old.spare) bytes) }
     ensures missing { IsErrOf result FileFail.NoSuchFile
-        → IfSome (F.files files.old) (λ m. map.get m name.now ≡ None) }
+        → IfSome (reported (F.truthful files.new) (F.files files.old))
+        (λ m. map.get m name.now ≡ None) }
     ensures files { F.files files.new ≡ F.files files.old }
     ensures draft_name { F.draft_name files.new ≡ F.draft_name files.old }
     ensures draft_bytes { F.draft_bytes files.new ≡ F.draft_bytes files.old }
+    ensures truthful { StaysTruthful (F.truthful files.old) (F.truthful files.new) }
     ensures faults { HasCause FileFail.Failed (F.faults files.old) (F.faults files.new) result }
     ensures absences { HasCause FileFail.NoSuchFile (F.absences files.old) (F.absences files.new)
         result }
@@ -117,13 +124,15 @@ pub fn read_file<F: FileStore>(
     name: &str,
     limit: u64,
 ) -> Result<Secret, ReadFail>
-    ensures told { IfSome (F.files files.old) (λ m. IsRead (map.get m name.now) limit result) }
+    ensures told { IfSome (reported (F.truthful files.new) (F.files files.old))
+        (λ m. IsRead (map.get m name.now) limit result) }
     ensures some_file { IsOfSomeFile limit result }
     ensures cause { HasReadCause (F.faults files.old) (F.faults files.new) (F.absences files.old)
         (F.absences files.new) limit result }
     ensures files { F.files files.new ≡ F.files files.old }
     ensures draft_name { F.draft_name files.new ≡ F.draft_name files.old }
     ensures draft_bytes { F.draft_bytes files.new ≡ F.draft_bytes files.old }
+    ensures truthful { StaysTruthful (F.truthful files.old) (F.truthful files.new) }
 {
     let size = files.size(name)?;
     if size > limit {

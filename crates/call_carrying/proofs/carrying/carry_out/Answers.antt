@@ -13,18 +13,18 @@ carry_out_on-answer-requires-clause-sealed g c =
     sealed_kept c.clear_unless.new.sealing c.args.task.opened.sealing c.clear_unless.ensures.settings ∙ c.requires.sealed
 
 pub returns-clause-told : goal.returns-clause-told
-returns-clause-told g c = λ d t.
+returns-clause-told g c = λ truthful d t.
     ends_kept c.args.now c.args.task.command (lines_seen c.args.task.lines) (map doc_seen c.args.task.sources) (doc_seen c.args.task.opened.doc) c.args.task.opened.passed_over c.clear_unless.new.sealing c.args.task.opened.sealing d
     c.carry_out_on-answer.result _ _ _ _
     c.clear_unless.ensures.settings (λ w. c.clear_unless.ensures.whole (c.may_write.ensures ∙ w))
-    (c.carry_out_on-answer.ensures.told d t)
+    (c.carry_out_on-answer.ensures.told truthful d t)
 
 pub returns-clause-of_dice : goal.returns-clause-of_dice
-returns-clause-of_dice g c = λ d t.
+returns-clause-of_dice g c = λ truthful d t.
     all_kept c.args.now c.args.task.command (lines_seen c.args.task.lines) (map doc_seen c.args.task.sources) (doc_seen c.args.task.opened.doc) c.args.task.opened.passed_over c.clear_unless.new.sealing c.args.task.opened.sealing d
     c.carry_out_on-answer.result _ _
     c.clear_unless.ensures.settings (λ w. c.clear_unless.ensures.whole (c.may_write.ensures ∙ w))
-    (c.carry_out_on-answer.ensures.of_dice d t)
+    (c.carry_out_on-answer.ensures.of_dice truthful d t)
 
 pub returns-clause-some_dice : goal.returns-clause-some_dice
 returns-clause-some_dice g c =

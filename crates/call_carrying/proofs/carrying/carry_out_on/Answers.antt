@@ -16,16 +16,16 @@ perform-requires-clause-text g c = record {
 }
 
 pub returns-clause-told : goal.returns-clause-told
-returns-clause-told g c = λ d t.
-    let made = rw (c.as_slice.ensures, c.as_slice-2.ensures) at (c.in_ok-change.ensures.told d (tells_change c.args.task.now.command _ d t)) in
+returns-clause-told g c = λ truthful d t.
+    let made = rw (c.as_slice.ensures, c.as_slice-2.ensures) at (c.in_ok-change.ensures.told (c.in_ok-write_if.ensures.dice_truthful truthful) d (tells_change c.args.task.now.command _ d t)) in
     ends_by c.args.now (task_seen c.args.task.now)
     (lent_value c.bytes_in.result) (lent_value c.bytes_in-2.result) (lent_settings c.settings_of.result) d c.file_of.result.now (change_seen c.in_ok-change.change (doc_seen c.perform.new.doc)) _ _ _ _ _
     c.bytes_in.ensures c.bytes_in-2.ensures c.settings_of.ensures c.file_of.ensures made.0 made.1
-    (c.in_ok-write_if.ensures.told _ _ (tells_after _ _ _ _ d _ (λ e. undrawn_unsealed c.args.task.now.command _ c.in_ok-change.change.is_written c.in_ok-change.ensures.unwritten c.requires.sealed e) t made.1))
+    (c.in_ok-write_if.ensures.told truthful _ _ (tells_after _ _ _ _ d _ (λ e. undrawn_unsealed c.args.task.now.command _ c.in_ok-change.change.is_written c.in_ok-change.ensures.unwritten c.requires.sealed e) t made.1))
 
 pub returns-clause-of_dice : goal.returns-clause-of_dice
-returns-clause-of_dice g c = λ d t.
-    let made = rw (c.as_slice.ensures, c.as_slice-2.ensures) at (c.in_ok-change.ensures.told d (tells_change c.args.task.now.command _ d t)) in
+returns-clause-of_dice g c = λ truthful d t.
+    let made = rw (c.as_slice.ensures, c.as_slice-2.ensures) at (c.in_ok-change.ensures.told (c.in_ok-write_if.ensures.dice_truthful truthful) d (tells_change c.args.task.now.command _ d t)) in
     of_dice c.args.now (task_seen c.args.task.now)
     (lent_value c.bytes_in.result) (lent_value c.bytes_in-2.result) (lent_settings c.settings_of.result) d c.file_of.result.now _ (change_seen c.in_ok-change.change (doc_seen c.perform.new.doc)) _ _
     c.bytes_in.ensures c.bytes_in-2.ensures c.settings_of.ensures c.file_of.ensures refl made.0 c.in_ok-write_if.ensures.held
@@ -50,11 +50,11 @@ pub returns-clause-stream : goal.returns-clause-stream
 returns-clause-stream g c = loses_both _ _ _ c.in_ok-change.ensures.stream c.in_ok-write_if.ensures.stream
 
 pub returns-in_err-change-clause-told : goal.returns-in_err-change-clause-told
-returns-in_err-change-clause-told g c = λ d t.
+returns-in_err-change-clause-told g c = λ truthful d t.
     let p = err_from_is_err_and c.from_residual.result c.from_residual.ensures.1 in
     rw (p.1, p.2) (change_refused c.in_err-change.field-0.0 c.args.now
     (task_seen c.args.task.now) (lent_value c.bytes_in.result) (lent_value c.bytes_in-2.result) (lent_settings c.settings_of.result) d _ _ _ c.bytes_in.ensures c.bytes_in-2.ensures c.settings_of.ensures
-    (rw (c.as_slice.ensures, c.as_slice-2.ensures) at (c.in_err-change.ensures.told d (tells_change c.args.task.now.command _ d t))))
+    (rw (c.as_slice.ensures, c.as_slice-2.ensures) at (c.in_err-change.ensures.told truthful d (tells_change c.args.task.now.command _ d t))))
 
 pub returns-in_err-change-clause-undrawn : goal.returns-in_err-change-clause-undrawn
 returns-in_err-change-clause-undrawn g c = λ e. c.in_err-change.ensures.undrawn (no_change c.args.task.now.command e)
@@ -65,13 +65,13 @@ returns-in_err-change-clause-cause g c =
     rw (p.1, p.2) (stream_command c.in_err-change.field-0.0 _ _ _ _ c.in_err-change.ensures.cause)
 
 pub returns-in_err-write_if-clause-told : goal.returns-in_err-write_if-clause-told
-returns-in_err-write_if-clause-told g c = λ d t.
-    let made = rw (c.as_slice.ensures, c.as_slice-2.ensures) at (c.in_ok-change.ensures.told d (tells_change c.args.task.now.command _ d t)) in
+returns-in_err-write_if-clause-told g c = λ truthful d t.
+    let made = rw (c.as_slice.ensures, c.as_slice-2.ensures) at (c.in_ok-change.ensures.told (c.in_err-write_if.ensures.dice_truthful truthful) d (tells_change c.args.task.now.command _ d t)) in
     let p = err_from_is_err_and c.from_residual-in_err-write_if.result c.from_residual-in_err-write_if.ensures.1 in
     rw (p.1, p.2) (file_refused c.in_err-write_if.field-0.0 c.args.now
     (task_seen c.args.task.now) (lent_value c.bytes_in.result) (lent_value c.bytes_in-2.result) (lent_settings c.settings_of.result) d c.file_of.result.now
     (change_seen c.in_ok-change.change (doc_seen c.perform.new.doc)) _ _ _ _ _ c.bytes_in.ensures c.bytes_in-2.ensures c.settings_of.ensures c.file_of.ensures made.0 made.1
-    (c.in_err-write_if.ensures.told _ _ (tells_after _ _ _ _ d _ (λ e. undrawn_unsealed c.args.task.now.command _ c.in_ok-change.change.is_written c.in_ok-change.ensures.unwritten c.requires.sealed e) t made.1)))
+    (c.in_err-write_if.ensures.told truthful _ _ (tells_after _ _ _ _ d _ (λ e. undrawn_unsealed c.args.task.now.command _ c.in_ok-change.change.is_written c.in_ok-change.ensures.unwritten c.requires.sealed e) t made.1)))
 
 pub returns-in_err-write_if-clause-unwritten : goal.returns-in_err-write_if-clause-unwritten
 returns-in_err-write_if-clause-unwritten g c = λ e. c.in_err-write_if.ensures.unwritten (c.in_ok-change.ensures.unwritten e)

@@ -4,9 +4,9 @@ use Rattle.call_carrying.proofs.Carried.{asked_written, none_written, reads_same
 use Rattle.call_carrying.proofs.carrying.write_if.Goals as goal
 
 pub returns-then-is_written-clause-told : goal.returns-then-is_written-clause-told
-returns-then-is_written-clause-told g c = λ printed d t.
+returns-then-is_written-clause-told g c = λ truthful printed d t.
     written_so c.write_anew.result printed c.args.name.now c.args.is_written c.args.opened.now.sealing (doc_seen c.args.opened.now.doc) d _ _ _ _
-    c.if-is_written.true (c.write_anew.ensures.told d (asked_written c.args.is_written _ _ d c.if-is_written.true t))
+    c.if-is_written.true (c.write_anew.ensures.told truthful d (asked_written c.args.is_written _ _ d c.if-is_written.true t))
 
 pub returns-then-is_written-clause-held : goal.returns-then-is_written-clause-held
 returns-then-is_written-clause-held g c =
@@ -17,7 +17,7 @@ pub returns-then-is_written-clause-unwritten : goal.returns-then-is_written-clau
 returns-then-is_written-clause-unwritten g c = λ e. (let no : true ≡ false = sym c.if-is_written.true ∙ e in cc)
 
 pub returns-else-is_written-clause-told : goal.returns-else-is_written-clause-told
-returns-else-is_written-clause-told g c = λ printed d t.
+returns-else-is_written-clause-told g c = λ truthful printed d t.
     none_written printed c.args.name.now c.args.is_written c.args.opened.now.sealing (doc_seen c.args.opened.now.doc) d _ _ _ c.if-is_written.false t
 
 pub returns-else-is_written-clause-held : goal.returns-else-is_written-clause-held

@@ -1,4 +1,6 @@
-use Rattle.std.proofs.Common.{map, option_map, refl, ◌∙◌, arith}
+use Rattle.std.proofs.Common.{map, option_map, refl, ap, ◌∙◌, arith}
+use Rattle.outside_core.specs.Reports.{reported}
+use Rattle.outside_core.proofs.Reports.{reported_before, stays_on}
 use Rattle.vault_model.specs.SeenDoc.{doc_seen}
 use Rattle.cli_lines.specs.SeenLines.{line_seen}
 use Rattle.cli_lines.proofs.Inputs.{kept_later}
@@ -31,8 +33,8 @@ returns-clause-told g t c = λ m is.
     (line_and_rest c.args.lines.now _ c.own-item.result c.in-len1-up-lines.len_at_least refl c.own-item.is)
     c.password_from-password.ensures
     (one_more c.args.docs.now c.put_document.new.docs c.in-Ok.doc c.in_ok-put_document-in-Ok.ensures.ok)
-    (c.in-Ok.ensures.told m is)
-    (c.open_sources.ensures.told m (c.in-Ok.ensures.leaves.files ∙ is))
+    (c.in-Ok.ensures.told m (reported_before _ _ _ m c.open_sources.ensures.leaves.truthful is))
+    (c.open_sources.ensures.told m (ap (reported _) c.in-Ok.ensures.leaves.files ∙ is))
 
 pub returns-clause-some_file : goal.returns-clause-some_file
 returns-clause-some_file g t c =
@@ -60,6 +62,7 @@ returns-clause-leaves g t c =
       files = rest.files ∙ first.files;
       draft_name = rest.draft_name ∙ first.draft_name;
       draft_bytes = rest.draft_bytes ∙ first.draft_bytes;
+      truthful = stays_on _ _ _ first.truthful rest.truthful;
       faults = omega (arith, first.faults, rest.faults);
       absences = omega (arith, first.absences, rest.absences);
     }

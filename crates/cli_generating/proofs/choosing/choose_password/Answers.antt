@@ -6,7 +6,7 @@ use Rattle.gen_core.specs.Chosen.{Choice}
 use Rattle.cli_generating.proofs.choosing.choose_password.Goals as goal
 
 pub returns-in-Ok-clause-told : goal.returns-in-Ok-clause-told
-returns-in-Ok-clause-told g c = λ d told. password_returned _ _ _ _ d _ told c.generate.ensures.stream c.in-Ok.ensures.told
+returns-in-Ok-clause-told g c = λ truthful d told. password_returned _ _ _ _ d _ told c.generate.ensures.stream (c.in-Ok.ensures.told truthful)
 
 pub returns-in-Ok-clause-some_dice : goal.returns-in-Ok-clause-some_dice
 returns-in-Ok-clause-some_dice g c =
@@ -16,5 +16,5 @@ pub returns-in-Ok-clause-text : goal.returns-in-Ok-clause-text
 returns-in-Ok-clause-text g c = chosen_is_utf8 _ _ _ c.requires.alphabet c.requires.ascii c.in-Ok.ensures.some
 
 pub returns-in-Err-Spent-clause-told : goal.returns-in-Err-Spent-clause-told
-returns-in-Err-Spent-clause-told g c = λ d told. spent_returned _ _ _ _ _ _ d _ told c.generate.ensures.stream c.in-Err-Spent.field-0-is
-    c.in-Err-Spent.ensures.told c.refused.ensures
+returns-in-Err-Spent-clause-told g c = λ truthful d told. spent_returned _ _ _ _ _ _ d _ told c.generate.ensures.stream c.in-Err-Spent.field-0-is
+    (c.in-Err-Spent.ensures.told truthful) c.refused.ensures

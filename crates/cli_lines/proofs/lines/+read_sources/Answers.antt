@@ -58,13 +58,13 @@ returns-clause-next g t c =
     next_more c.read_sources.result c.args.due c.args.names.now c.args.number c.in-Ok.next c.in-len1-up.len_at_least c.in-Ok.ensures c.read_sources.ensures.next
 
 pub returns-clause-told : goal.returns-clause-told
-returns-clause-told g t c = λ i tells.
-    let first = c.in_ok-line.ensures.told i tells in
+returns-clause-told g t c = λ truthful i tells.
+    let first = c.in_ok-line.ensures.told (c.read_sources.ensures.truthful truthful) i tells in
     let left = (line_if c.args.due c.args.number i).left in
     told_more c.read_sources.result c.args.due c.args.names.now c.args.number c.in-Ok.next (map line_seen c.args.lines.now) (map line_seen c.push.new.self)
     (map line_seen c.read_sources.new.lines) (line_seen c.in_ok-line.line) _ _ _ i c.in-len1-up.len_at_least c.in-Ok.ensures
     (ap (map line_seen) c.in_default-push.ensures.ok ∙ map_push line_seen c.args.lines.now c.in_ok-line.line) first.0 first.1
-    (c.read_sources.ensures.told left (tells_on c.args.due _ _ i left tells first.1))
+    (c.read_sources.ensures.told truthful left (tells_on c.args.due _ _ i left tells first.1))
 
 pub returns-clause-given : goal.returns-clause-given
 returns-clause-given g t c =

@@ -1,4 +1,5 @@
-use Rattle.std.proofs.Common.{◌≡◌, ◌+◌, ◌∷◌, ℕ, List, length, Some}
+use Rattle.std.proofs.Common.{true, ◌≡◌, ◌+◌, ◌∷◌, ℕ, List, length, Some}
+use Rattle.outside_core.specs.Reports.{StaysTruthful}
 use Rattle.cli_lines.specs.Cutting.{cut, weight}
 use Rattle.cli_lines.specs.Lines.{line_from}
 use Rattle.cli_lines.proofs.lines.read_from.Given as goal
@@ -10,7 +11,8 @@ invariant-loop-byte g l =
       window : length l.window.bytes ≡ 1;
       room : length l.line.bytes + l.line.spare ≡ 4096;
       faults : g.S.Source.faults l.input ≡ g.S.Source.faults l.fn.input;
-      told : (i : List ℕ) → g.S.Source.left l.fn.input ≡ Some i
+      truthful : StaysTruthful (g.S.Source.truthful l.fn.input) (g.S.Source.truthful l.input);
+      told : g.S.Source.truthful l.input ≡ true → (i : List ℕ) → g.S.Source.left l.fn.input ≡ Some i
           → (rest : List ℕ) × ((g.S.Source.left l.input ≡ Some rest) × (line_from 0 (l.first ∷ i) ≡ cut l.line.bytes l.returned (l.byte ∷ rest)));
     }
 

@@ -6,10 +6,10 @@ use Rattle.cli_lines.proofs.Inputs.{first_stops, lines_given}
 use Rattle.cli_lines.proofs.lines.read_more.Goals as goal
 
 pub returns-in-Ok-clause-told : goal.returns-in-Ok-clause-told
-returns-in-Ok-clause-told g c = λ i t.
-    let last = c.in-Ok.ensures.told i t in
+returns-in-Ok-clause-told g c = λ truthful i t.
+    let last = c.in-Ok.ensures.told truthful i t in
     lines_given (needs_seen c.args.needs) (line_seen c.args.password) (map line_seen c.args.sources) _ _ i (last_seen c.in-Ok.last) last.0 last.1
 
 pub returns-in-Err-clause-told : goal.returns-in-Err-clause-told
-returns-in-Err-clause-told g c = λ i t.
-    first_stops c.in-Err.stop _ _ (last_lines (needs_seen c.args.needs) i) _ (c.in-Err.ensures.told i t)
+returns-in-Err-clause-told g c = λ truthful i t.
+    first_stops c.in-Err.stop _ _ (last_lines (needs_seen c.args.needs) i) _ (c.in-Err.ensures.told truthful i t)

@@ -1,4 +1,6 @@
-use Rattle.std.proofs.Common.{◌∷◌, [], option_map}
+use Rattle.std.proofs.Common.{◌∷◌, [], ◌∙◌, ap, option_map}
+use Rattle.outside_core.specs.Reports.{reported}
+use Rattle.outside_core.proofs.Reports.{reported_before}
 use Rattle.cli_words.specs.Needs.{key_files}
 use Rattle.cli_files.proofs.FileStops.{later_at_files}
 use Rattle.vault_model.specs.SeenDoc.{doc_seen}
@@ -6,7 +8,29 @@ use Rattle.cli_lines.specs.SeenLines.{lines_seen}
 use Rattle.cli_words.specs.SeenNeeds.{create_seen}
 use Rattle.cli_resealing.specs.Asked.{asked_settings}
 use Rattle.cli_resealing.proofs.Somes.{asked_same, some_created}
+use Rattle.cli_resealing.proofs.Phases.{created_returns, moment_refused, sealing_refused}
 use Rattle.cli_resealing.proofs.creating.create.Goals as goal
+
+pub returns-in-Err-clause-told : goal.returns-in-Err-clause-told
+returns-in-Err-clause-told g c = λ m is.
+    sealing_refused (create_seen c.args.create) (lines_seen c.args.lines.now) c.args.now m c.as_str-file.result.now (option_map (λ w. w.now) c.bytes_in.result) _
+    c.as_str-file.ensures c.bytes_in.ensures (c.in_ok-refuse_existing.ensures.told m (reported_before _ _ _ m c.in-Err.ensures.leaves.truthful is))
+    c.in-Err.stop (c.in-Err.ensures.told m (ap (reported _) c.in_ok-refuse_existing.ensures.leaves.files ∙ is))
+
+pub returns-in-Err-empty_at-clause-told : goal.returns-in-Err-empty_at-clause-told
+returns-in-Err-empty_at-clause-told g c = λ m is.
+    moment_refused (create_seen c.args.create) (lines_seen c.args.lines.now) c.args.now m c.as_str-file.result.now (option_map (λ w. w.now) c.bytes_in.result) _
+    c.as_str-file.ensures c.bytes_in.ensures (c.in_ok-refuse_existing.ensures.told m (reported_before _ _ _ m c.in-Ok.ensures.leaves.truthful is))
+    c.in-Ok.sealing (c.in-Ok.ensures.told m (ap (reported _) c.in_ok-refuse_existing.ensures.leaves.files ∙ is))
+    c.in-Err-empty_at.stop c.in-Err-empty_at.ensures.told
+
+pub returns-in-Ok-empty_at-clause-told : goal.returns-in-Ok-empty_at-clause-told
+returns-in-Ok-empty_at-clause-told g c = λ m is.
+    created_returns (create_seen c.args.create) (lines_seen c.args.lines.now) c.args.now m c.as_str-file.result.now (option_map (λ w. w.now) c.bytes_in.result) _
+    c.as_str-file.ensures c.bytes_in.ensures (c.in_ok-refuse_existing.ensures.told m (reported_before _ _ _ m c.in-Ok.ensures.leaves.truthful is))
+    c.in-Ok.sealing (c.in-Ok.ensures.told m (ap (reported _) c.in_ok-refuse_existing.ensures.leaves.files ∙ is))
+    (doc_seen c.in-Ok-empty_at.doc) (asked_settings c.asked_of.result.cipher c.asked_of.result.kdf c.asked_of.result.version) c.with_asked.result
+    c.in-Ok-empty_at.ensures.told (asked_same _ _ _ _ _ _ c.asked_of.ensures.cipher c.asked_of.ensures.kdf c.asked_of.ensures.version) c.with_asked.ensures.told
 
 pub returns-in-Ok-empty_at-clause-some_file : goal.returns-in-Ok-empty_at-clause-some_file
 returns-in-Ok-empty_at-clause-some_file g c =

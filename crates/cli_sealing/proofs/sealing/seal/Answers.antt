@@ -6,8 +6,8 @@ use Rattle.cli_sealing.proofs.Sealed.{sealed_so, unsealed_caused, unsealed_draft
 use Rattle.cli_sealing.proofs.sealing.seal.Goals as goal
 
 pub returns-in-Ok-seal_file-clause-told : goal.returns-in-Ok-seal_file-clause-told
-returns-in-Ok-seal_file-clause-told g c = λ d is.
-    let drew = c.in-Ok.ensures.told d is in
+returns-in-Ok-seal_file-clause-told g c = λ truthful d is.
+    let drew = c.in-Ok.ensures.told truthful d is in
     sealed_so c.args.name.now c.args.sealing.now.settings c.args.sealing.now.composite (doc_seen c.args.doc.now) d c.in-Ok.draws _ _ _ drew.0 drew.1
     c.in-Ok-seal_file.ensures.refusal (record { files = c.in-Ok-seal_file.ensures.files; draft_name = c.in-Ok-seal_file.ensures.no_draft })
 
@@ -17,8 +17,8 @@ returns-in-Ok-seal_file-clause-held g c =
     (is_doc c.args.doc.now) c.in-Ok-seal_file.ensures.writable c.in-Ok-seal_file.ensures.sealed (record { files = c.in-Ok-seal_file.ensures.files; draft_name = c.in-Ok-seal_file.ensures.no_draft })
 
 pub returns-in-Err-seal_file-clause-told : goal.returns-in-Err-seal_file-clause-told
-returns-in-Err-seal_file-clause-told g c = λ d is.
-    let drew = c.in-Ok.ensures.told d is in
+returns-in-Err-seal_file-clause-told g c = λ truthful d is.
+    let drew = c.in-Ok.ensures.told truthful d is in
     unsealed_so c.in-Err-seal_file.fail c.unsealed.result c.args.name.now c.args.sealing.now.settings c.args.sealing.now.composite (doc_seen c.args.doc.now) d c.in-Ok.draws _ _ _
     c.unsealed.ensures drew.0 drew.1 c.in-Err-seal_file.ensures.refusal
     (λ n e. record {

@@ -2,6 +2,7 @@ use Rattle.std.proofs.Common.{◌≡◌, ◌<◌, ◌∙◌, ◌++◌, length, t
 use Rattle.std.proofs.Math.Seq.{take-append_seam}
 use Rattle.std.proofs.lemmas.List.{length-take-le}
 use Rattle.sha2.specs.Sha256.{sha256}
+use Rattle.outside_core.specs.Reports.{reported}
 use Rattle.kdbx_payload.specs.Payloads.{payload_of}
 use Rattle.kdbx_payload.specs.Results.{of_frame}
 use Rattle.kdbx_payload.specs.Seen.{payload_seen}
@@ -11,7 +12,7 @@ use Rattle.kdbx_reading.proofs.reading.read_from_front.Goals as goal
 pub returns-in-Err-clause-of_file : goal.returns-in-Err-clause-of_file
 returns-in-Err-clause-of_file g c =
     let start = take c.args.file.now.len c.args.window.now in
-    rw c.from.ensures (refused_at_front (g.F.FileStore.files c.args.files.now) c.args.file.now.name.now start c.args.file.now.size payload_seen
+    rw c.from.ensures (refused_at_front (reported (g.F.FileStore.truthful c.args.files.now) (g.F.FileStore.files c.args.files.now)) c.args.file.now.name.now start c.args.file.now.size payload_seen
     (λ file. payload_of file c.args.composite.now) (of_frame c.in-Err.fail)
     c.requires.sized c.requires.front (omega (arith, length-take-le c.args.file.now.len c.args.window.now c.requires.len, c.requires.size))
     (λ more len. header_refused (start ++ more) c.args.composite.now c.in-Err.fail

@@ -1,5 +1,6 @@
 use Rattle.std.proofs.Common.{◌≡◌, ℕ, List, Option, [], ◌++◌, length, ap, arith, sym, ◌∙◌, subst, IfSome, IsSome, length-drop}
 use Rattle.outside_core.specs.Files.{FileMap}
+use Rattle.outside_core.proofs.Reports.{stays_on}
 use Rattle.mac_core.specs.Blocks.{block}
 use Rattle.kdbx_seal.specs.PayloadMade.{pieces, blocks_to_end}
 use Rattle.kdbx_seal.proofs.Appended.{appended, ended, ok_more, some_more}
@@ -25,6 +26,7 @@ pieces-preserved g c =
       draft = subst (λ (n : Option (List ℕ)). IsSome n) (sym e.name) inv.draft;
       name = e.name ∙ inv.name;
       faults = e.faults.kept ∙ inv.faults;
+      truthful = stays_on _ _ _ inv.truthful e.truthful;
       absences = omega (arith, inv.absences, e.absences);
       files = e.files ∙ inv.files;
       bytes = some_more (g.F.FileStore.files c.args.files.now) (old ++ blocks_to_end base c.pieces.writer.index (pieces c.pieces.left.now) ≡ start ++ whole) put _ inv.bytes (subst said inv.files e.bytes)

@@ -1,4 +1,5 @@
 use Rattle.std.proofs.Common.{◌≡◌, ◌+◌, ◌≤◌, ◌++◌, length, IfSome, IsSome}
+use Rattle.outside_core.specs.Reports.{StaysTruthful}
 use Rattle.kdbx_seal.specs.PayloadMade.{pieces, blocks_to_end}
 use Rattle.kdbx_seal.proofs.blocks.append_blocks.Given as goal
 
@@ -10,6 +11,7 @@ invariant-pieces g l = record {
   draft : IsSome (g.F.FileStore.draft_name l.files);
   name : g.F.FileStore.draft_name l.files ≡ g.F.FileStore.draft_name l.fn.files;
   faults : g.F.FileStore.faults l.files ≡ g.F.FileStore.faults l.fn.files;
+  truthful : StaysTruthful (g.F.FileStore.truthful l.fn.files) (g.F.FileStore.truthful l.files);
   absences : g.F.FileStore.absences l.fn.files ≤ g.F.FileStore.absences l.files;
   files : g.F.FileStore.files l.files ≡ g.F.FileStore.files l.fn.files;
   bytes : IfSome (g.F.FileStore.files l.fn.files) (λ _. g.F.FileStore.draft_bytes l.files ++ blocks_to_end l.base l.writer.index (pieces l.left)

@@ -1,26 +1,27 @@
 use Rattle.std.proofs.Common.{map}
 use Rattle.std.specs.Prelude.{string_bytes}
 use Rattle.std.proofs.lemmas.Result.{err_from_is_err_and}
+use Rattle.outside_core.proofs.Reports.{is_reported}
 use Rattle.cli_writing.specs.Writing.{store}
 use Rattle.cli_files.specs.SeenTask.{task_seen}
 use Rattle.cli_words.specs.Words.{command_of}
-use Rattle.keepass_call.proofs.Answered.{comes_to, command_caused, draft_after, draws_so, early_caused, ends_left, faultless_after, kept_after, of_task, prints_some, stop_leaves, stops_early, undrawn_after, unwritten_after}
+use Rattle.keepass_call.proofs.Answered.{comes_to, command_caused, draft_after, draws_so, early_caused, ends_left, faultless_after, kept_after, not_refused, of_task, prints_some, stop_leaves, stops_early, truth_kept, undrawn_after, unwritten_after}
 use Rattle.cli_commands.proofs.Changes.{loses_none}
 use Rattle.keepass_call.proofs.run.answer.Goals as goal
 
 pub returns-clause-told : goal.returns-clause-told
-returns-clause-told g c = λ world isF isS isD.
+returns-clause-told g c = λ truthful world isF isS isD.
     comes_to (map string_bytes c.args.words.now) c.args.now world (task_seen c.in_ok-task.task) c.carry_out.result _ _ _ _ _
-    (c.in_ok-task.ensures.told world.files world.input isF isS)
+    (c.in_ok-task.ensures.told truthful.input world.files world.input (is_reported _ _ _ (c.carry_out.ensures.files_truthful truthful.files) isF) isS)
     (record { files = c.in_ok-task.ensures.files; draft_name = c.in_ok-task.ensures.draft_name; draft_bytes = c.in_ok-task.ensures.draft_bytes })
-    (c.carry_out.ensures.told world.dice (draws_so _ _ _ _ c.in_ok-task.ensures.command isD))
+    (c.carry_out.ensures.told truthful.dice world.dice (draws_so _ _ _ _ c.in_ok-task.ensures.command isD))
 
 pub returns-clause-held : goal.returns-clause-held
-returns-clause-held g c = λ world isF isS isD.
+returns-clause-held g c = λ truthful world isF isS isD.
     of_task (map string_bytes c.args.words.now) c.args.now world (task_seen c.in_ok-task.task) c.carry_out.result _ _ _
-    (c.in_ok-task.ensures.told world.files world.input isF isS)
+    (c.in_ok-task.ensures.told truthful.input world.files world.input (is_reported _ _ _ (c.carry_out.ensures.files_truthful truthful.files) isF) isS)
     (record { files = c.in_ok-task.ensures.files; draft_name = c.in_ok-task.ensures.draft_name; draft_bytes = c.in_ok-task.ensures.draft_bytes })
-    (c.carry_out.ensures.of_dice world.dice (draws_so _ _ _ _ c.in_ok-task.ensures.command isD))
+    (c.carry_out.ensures.of_dice truthful.dice world.dice (draws_so _ _ _ _ c.in_ok-task.ensures.command isD))
 
 pub returns-clause-some_file : goal.returns-clause-some_file
 returns-clause-some_file g c =
@@ -29,7 +30,10 @@ returns-clause-some_file g c =
     c.carry_out.ensures.some_dice
 
 pub returns-clause-left : goal.returns-clause-left
-returns-clause-left g c = λ i isS. ends_left c.carry_out.result _ _ _ (c.in_ok-task.ensures.left i isS)
+returns-clause-left g c = λ truthful i isS. ends_left c.carry_out.result _ _ _ (c.in_ok-task.ensures.left truthful i isS)
+
+pub returns-clause-unasked : goal.returns-clause-unasked
+returns-clause-unasked g c = λ refusal wrong. absurd (not_refused _ c.in_ok-task.task.command refusal c.in_ok-task.ensures.command wrong)
 
 pub returns-clause-kept : goal.returns-clause-kept
 returns-clause-kept g c =
@@ -64,16 +68,19 @@ pub returns-clause-faultless : goal.returns-clause-faultless
 returns-clause-faultless g c = faultless_after c.carry_out.result _ _ _ _ _ _ _ c.in_ok-task.ensures.faultless c.carry_out.ensures.faultless
 
 pub returns-in_err-task-clause-told : goal.returns-in_err-task-clause-told
-returns-in_err-task-clause-told g c = λ world isF isS isD.
+returns-in_err-task-clause-told g c = λ truthful world isF isS isD.
     let p = err_from_is_err_and c.from_residual.result c.from_residual.ensures.1 in
     rw (p.1, p.2) (stops_early c.in_err-task.field-0.0 (map string_bytes c.args.words.now) c.args.now world _ _ _ _
-    (c.in_err-task.ensures.told world.files world.input isF isS)
+    (c.in_err-task.ensures.told truthful.input world.files world.input (is_reported _ _ _ truthful.files isF) isS)
     (record { files = c.in_err-task.ensures.files; draft_name = c.in_err-task.ensures.draft_name; draft_bytes = c.in_err-task.ensures.draft_bytes }) isD)
 
 pub returns-in_err-task-clause-left : goal.returns-in_err-task-clause-left
-returns-in_err-task-clause-left g c = λ i isS.
+returns-in_err-task-clause-left g c = λ truthful i isS.
     let p = err_from_is_err_and c.from_residual.result c.from_residual.ensures.1 in
-    rw (p.1, p.2) (stop_leaves c.in_err-task.field-0.0 _ _ _ (c.in_err-task.ensures.left i isS))
+    rw (p.1, p.2) (stop_leaves c.in_err-task.field-0.0 _ _ _ (c.in_err-task.ensures.left truthful i isS))
+
+pub returns-in_err-task-clause-unasked : goal.returns-in_err-task-clause-unasked
+returns-in_err-task-clause-unasked g c = λ refusal wrong. truth_kept _ _ _ _ _ (c.in_err-task.ensures.unasked refusal wrong)
 
 pub returns-in_err-task-clause-stream : goal.returns-in_err-task-clause-stream
 returns-in_err-task-clause-stream g c = loses_none _

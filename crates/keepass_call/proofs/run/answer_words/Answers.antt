@@ -6,10 +6,10 @@ use Rattle.keepass_call.proofs.Passwords.{asked_draws, asked_left, asked_none, a
 use Rattle.keepass_call.proofs.run.answer_words.Goals as goal
 
 pub returns-in-Ok-Some-clause-told : goal.returns-in-Ok-Some-clause-told
-returns-in-Ok-Some-clause-told g c = λ world isF isS isD.
+returns-in-Ok-Some-clause-told g c = λ truthful world isF isS isD.
     let words = map string_bytes c.args.words.now in
     asked_told (profile_of words) c.in-Ok-Some.profile words c.args.now world (command_of words) c.password.result _ _ _
-    (sym c.in-Ok-Some.ensures.told ∙ c.in-Ok-Some.field-0-is) isD c.password.ensures.told
+    (sym c.in-Ok-Some.ensures.told ∙ c.in-Ok-Some.field-0-is) isD (c.password.ensures.told truthful.dice)
 
 pub returns-in-Ok-Some-clause-held : goal.returns-in-Ok-Some-clause-held
 returns-in-Ok-Some-clause-held g c = λ none. absurd (asked_none _ _ (sym c.in-Ok-Some.ensures.told ∙ c.in-Ok-Some.field-0-is) none)
@@ -18,11 +18,14 @@ pub returns-in-Ok-Some-clause-some_file : goal.returns-in-Ok-Some-clause-some_fi
 returns-in-Ok-Some-clause-some_file g c = λ none. absurd (asked_none _ _ (sym c.in-Ok-Some.ensures.told ∙ c.in-Ok-Some.field-0-is) none)
 
 pub returns-in-Ok-Some-clause-left : goal.returns-in-Ok-Some-clause-left
-returns-in-Ok-Some-clause-left g c = λ i isS.
+returns-in-Ok-Some-clause-left g c = λ truthful i isS.
     asked_left (map string_bytes c.args.words.now) c.in-Ok-Some.profile c.password.result _ i (sym c.in-Ok-Some.ensures.told ∙ c.in-Ok-Some.field-0-is) isS
 
 pub returns-in-Ok-Some-clause-wrong : goal.returns-in-Ok-Some-clause-wrong
 returns-in-Ok-Some-clause-wrong g c = λ refusal wrong none. absurd (asked_none _ _ (sym c.in-Ok-Some.ensures.told ∙ c.in-Ok-Some.field-0-is) none)
+
+pub returns-in-Ok-Some-clause-unasked : goal.returns-in-Ok-Some-clause-unasked
+returns-in-Ok-Some-clause-unasked g c = λ refusal wrong none. absurd (asked_none _ _ (sym c.in-Ok-Some.ensures.told ∙ c.in-Ok-Some.field-0-is) none)
 
 pub returns-in-Ok-Some-clause-kept : goal.returns-in-Ok-Some-clause-kept
 returns-in-Ok-Some-clause-kept g c = kept_same c.password.result _
@@ -44,16 +47,16 @@ pub returns-in-Ok-Some-clause-faultless : goal.returns-in-Ok-Some-clause-faultle
 returns-in-Ok-Some-clause-faultless g c = faultless_dice c.password.result _ _ _ _ c.password.ensures.faultless
 
 pub returns-in-Ok-None-clause-told : goal.returns-in-Ok-None-clause-told
-returns-in-Ok-None-clause-told g c = λ world isF isS isD.
+returns-in-Ok-None-clause-told g c = λ truthful world isF isS isD.
     let words = map string_bytes c.args.words.now in
     let none = sym c.in-Ok-None.ensures.told ∙ c.in-Ok-None.field-0-is in
     command_told (profile_of words) words c.args.now world c.answer.result _ _ _ _ none
-    (c.answer.ensures.told world isF isS (command_draws (profile_of words) (command_of words) _ _ none isD))
+    (c.answer.ensures.told truthful world isF isS (command_draws (profile_of words) (command_of words) _ _ none isD))
 
 pub returns-in-Ok-None-clause-held : goal.returns-in-Ok-None-clause-held
-returns-in-Ok-None-clause-held g c = λ none world isF isS isD.
+returns-in-Ok-None-clause-held g c = λ none truthful world isF isS isD.
     let words = map string_bytes c.args.words.now in
-    c.answer.ensures.held world isF isS (command_draws (profile_of words) (command_of words) _ _ none isD)
+    c.answer.ensures.held truthful world isF isS (command_draws (profile_of words) (command_of words) _ _ none isD)
 
 pub returns-in-Ok-None-clause-undrawn : goal.returns-in-Ok-None-clause-undrawn
 returns-in-Ok-None-clause-undrawn g c = λ e.

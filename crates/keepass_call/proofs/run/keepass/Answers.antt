@@ -26,8 +26,8 @@ returns-in-Ok g c =
     let none : page_of (map string_bytes c.args.words.now) ≡ None = sym c.in-Ok-None.ensures.page ∙ c.in-Ok-None.field-0-is in
     printed_call (map string_bytes c.args.words.now) c.args.now (output_text c.in-Ok.output) c.print.result _ _ _ _
     (record {
-      gives = λ w t. ends_as (map string_bytes c.args.words.now) c.args.now w (Ok c.in-Ok.output) _ _ _ _ none (c.in-Ok.ensures.told w t.files t.input t.dice);
-      left = λ w t. c.in-Ok.ensures.left w.input t.input;
+      gives = λ w t. ends_as (map string_bytes c.args.words.now) c.args.now w (Ok c.in-Ok.output) _ _ _ _ none (c.in-Ok.ensures.told t.truthful w t.files t.input t.dice);
+      left = λ w t. c.in-Ok.ensures.left t.truthful.input w.input t.input;
       wrote = rw c.lend_text.ensures at c.print.ensures.printed;
       faultless = λ zero. record {
         files = c.in-Ok.ensures.faultless.0;
@@ -37,7 +37,7 @@ returns-in-Ok g c =
         dice = c.in-Ok.ensures.faultless.2;
       };
       draft = c.in-Ok.ensures.draft;
-      held = λ n w t. c.in-Ok.ensures.held n.no_password w t.files t.input t.dice;
+      held = λ n w t. c.in-Ok.ensures.held n.no_password t.truthful w t.files t.input t.dice;
       unwritten = c.in-Ok.ensures.unwritten;
       undrawn = c.in-Ok.ensures.undrawn;
       stream = c.in-Ok.ensures.stream;
@@ -50,8 +50,8 @@ returns-in-Err-answer_words g c =
     let none : page_of (map string_bytes c.args.words.now) ≡ None = sym c.in-Ok-None.ensures.page ∙ c.in-Ok-None.field-0-is in
     stopped_call (map string_bytes c.args.words.now) c.args.now c.tell.result _ _ _ _ c.in-Err-answer_words.stop
     (record {
-      gives = λ w t. ends_as (map string_bytes c.args.words.now) c.args.now w (Err c.in-Err-answer_words.stop) _ _ _ _ none (c.in-Err-answer_words.ensures.told w t.files t.input t.dice);
-      left = λ w t. c.in-Err-answer_words.ensures.left w.input t.input;
+      gives = λ w t. ends_as (map string_bytes c.args.words.now) c.args.now w (Err c.in-Err-answer_words.stop) _ _ _ _ none (c.in-Err-answer_words.ensures.told t.truthful w t.files t.input t.dice);
+      left = λ w t. c.in-Err-answer_words.ensures.left t.truthful.input w.input t.input;
       kept = c.in-Err-answer_words.ensures.kept;
       written = refl;
       draft = c.in-Err-answer_words.ensures.draft;
@@ -62,5 +62,6 @@ returns-in-Err-answer_words g c =
       told = c.tell.ensures;
       no_page = none;
       unread = c.in-Err-answer_words.ensures.unread;
+      unasked = c.in-Err-answer_words.ensures.unasked;
       wrong = c.in-Err-answer_words.ensures.wrong;
     })

@@ -1,5 +1,7 @@
 use Rattle.std.proofs.lemmas.Result.{err_from_is_err_and}
 use Rattle.std.proofs.Common.{◌≡◌, ◌+◌, ◌≤◌, Ok, Err, length, take, ap, ◌∙◌, arith}
+use Rattle.outside_core.specs.Reports.{reported}
+use Rattle.outside_core.proofs.Reports.{holds_later}
 use Rattle.secret_core.specs.declared.files.ReadFail.TheVariants.{TooLarge}
 use Rattle.secret_core.proofs.Causes.{caused_before, passed_on}
 use Rattle.secret_core.proofs.SomeFiles.{some_file}
@@ -11,9 +13,10 @@ returns-in-Ok-clause-told g c =
     let size = c.in_ok-size.size in
     let room : length c.in_ok-secret.secret.bytes + c.in_ok-secret.secret.spare ≡ size =
     omega (arith, ap length c.in_ok-secret.ensures.bytes, c.in_ok-secret.ensures.spare) in
-    whole_told _ c.args.name.now size c.args.limit c.fill_secret.new.secret c.in_ok-size.ensures.told
+    whole_told _ c.args.name.now size c.args.limit c.fill_secret.new.secret
+    (holds_later _ _ _ _ c.in-Ok.ensures.truthful c.in_ok-size.ensures.told)
     (λ m bytes told found.
-    c.in-Ok.ensures.told m bytes (c.in_ok-size.ensures.files ∙ told) found
+    c.in-Ok.ensures.told m bytes (ap (reported _) c.in_ok-size.ensures.files ∙ told) found
     ∙ ap (λ n. take n bytes) room)
     (omega (arith, c.if-size-limit.false))
 
