@@ -245,9 +245,9 @@ pub record IsCut (said : Outcome) (before now : Seen) : Type 0 where
   pub text : GainsPrefix before.written now.written said.text
   pub store : KeepsFiles before.store now.store ⊎ Stores said.file before.store now.store
 
--- Whatever is reported: statuses 7, 10 and 11 have their causes, a refusal prints nothing and
--- changes no file, a call that was carried out writes nothing on standard error, the draft is the
--- one of before, or there is none, and of the dice a prefix is gone.
+-- Whatever is reported and answered: statuses 7, 10 and 11 have their causes, a refusal prints
+-- nothing and changes no file, a call that was carried out writes nothing on standard error, the
+-- draft is the one of before, or there is none, and of the dice a prefix is gone.
 pub record IsSafe (result : ℕ) (before now : Seen) (counts counts' : Counts) : Type 0 where
   pub store : result ≡ 7 → Increased counts.absences counts'.absences
       ⊎ Increased counts.files counts'.files
@@ -260,8 +260,9 @@ pub record IsSafe (result : ℕ) (before now : Seen) (counts counts' : Counts) :
   pub draft : KeepsDraft before.store now.store
   pub stream : LosesPrefix before.stream now.stream
 
--- A call of words that are no command, ask for no page and for no password: the status is that of wrong words, or memory ran out or the
--- output failed, and nothing but standard error is touched: nothing is printed, read or drawn.
+-- A call of words that are no command, ask for no page and for no password: the status is that of
+-- wrong words, or memory ran out or the output failed, and nothing but standard error is touched:
+-- nothing is printed, read or drawn.
 pub record IsUsage (result : ℕ) (before now : Seen) : Type 0 where
   pub status : (result ≡ 1) ⊎ (result ≡ 9) ⊎ (result ≡ 10)
   pub untouched : now ≡ record before { errors = now.errors }

@@ -315,17 +315,19 @@ fn tell<E: Sink>(alloc: Global, err: &mut E, stop: Stop) -> u8
 /// One call of the program, whose words are those after its name; `now` is in seconds since the
 /// year 1. Gives the program's status.
 ///
-/// Where no object of the outside fails and memory does not run out, all that is seen of the call
-/// is as the outcome of its words, the moment, its input, its files and its dice says; these have
-/// one outcome. What is printed or written at status 0 is made of documents that the files hold:
-/// each by itself, or sealed under the composite key of its line of input and its key file. A
-/// refusal changes no file, and what was printed where an object fails is a prefix of the outcome's
-/// text. Standard error gains a prefix of one line at most: the outcome's, or that of what failed.
-/// Words that ask for a page print it, and touch nothing else; words that ask for a password print
-/// one that the dice choose, and touch no file and no input. Words that are no command that may write
-/// change no file. Words that can be carried out give status 0 where nothing fails. Copies of one database that are parts of an
-/// agreed set are merged into the join of all of them, and what the target has already changes
-/// nothing.
+/// For each world (files, input and dice) that the outside reports before the call and answered like
+/// until its end: where no object of the outside fails and memory does not run out, all that is seen
+/// of the call is as the outcome of its words and the moment over this world says, and there is one
+/// outcome. What is printed or written at status 0 is made of documents that the files hold: each by
+/// itself, or sealed under the composite key of its line of input and its key file. What was printed
+/// where an object fails is a prefix of the outcome's text. Standard error gains a prefix of one line
+/// at most: the outcome's, or that of what failed. Words that can be carried out give status 0 where
+/// nothing fails. Copies of one database that are parts of an agreed set are merged into the join of
+/// all of them, and what the target has already changes nothing.
+///
+/// Whatever the outside reports and answered: a refusal changes no file; words that ask for a page
+/// print it, and touch nothing else; words that ask for a password touch no file and no input; and
+/// words that are no command that may write change no file.
 pub fn keepass<F: FileStore, S: Source, O: Sink, E: Sink, D: Dice>(
     alloc: Global,
     words: &[String],
