@@ -13,9 +13,9 @@ use Rattle.doc_write.specs.Written.{write_outcome}
 use Rattle.kdbx_frame.specs.declared.settings.Settings.{Settings}
 use Rattle.kdbx_frame.specs.declared.sealings.Sealing.{Sealing}
 use Rattle.kdbx_seal.specs.Answers.{size_refusal}
-use Rattle.cli_words.specs.declared.command.Command.{Command}
-use Rattle.cli_words.specs.declared.command.Command.TheVariants.{Ls, Show, Search, Add, Edit, Move, Remove, MakeGroup, RemoveGroup, Merge, Import, Create, Export, EditFile, Info}
-use Rattle.cli_words.specs.Needs.{generated_by}
+use Rattle.cli_parse.specs.declared.command.Command.{Command}
+use Rattle.cli_parse.specs.declared.command.Command.TheVariants.{Ls, Show, Search, Add, Edit, Move, Remove, MakeGroup, RemoveGroup, Merge, Import, Create, Export, EditFile, Info}
+use Rattle.cli_parse.specs.Needs.{generated_by}
 use Rattle.cli_profiles.specs.declared.profiles.PasswordProfile.{PasswordProfile}
 use Rattle.cli_codes.specs.Codes.{code_refusal}
 use Rattle.cli_printing.specs.Listing.{tree_listed}
@@ -27,7 +27,7 @@ use Rattle.cli_changes.specs.Nodes.{names_group}
 use Rattle.tree_core.specs.Changes.{is_free}
 use Rattle.cli_commands.specs.Commands.{Change, bin_id, change_with, makes_node}
 use Rattle.cli_files.specs.Tasks.{Task}
-use Rattle.call_carrying.specs.Endings.{change_of_task, settings_in}
+use Rattle.call_run.specs.Endings.{change_of_task, settings_in}
 use Rattle.keepass_call.specs.Held.{IsTask}
 use Rattle.keepass_call.specs.Outcome.{World}
 

@@ -7,9 +7,9 @@ use Rattle.vault_model.specs.Tree.{BareDoc}
 use Rattle.doc_forms.specs.Documents.{DocumentAndHash}
 use Rattle.kdbx_open.specs.Opening.{FileContents}
 use Rattle.kdbx_open.specs.Sealed.{Sealed}
-use Rattle.cli_words.specs.declared.command.Access.{Access}
-use Rattle.cli_words.specs.Needs as from
-use Rattle.cli_words.specs.Needs.{needs_of, origin_of}
+use Rattle.cli_parse.specs.declared.command.Access.{Access}
+use Rattle.cli_parse.specs.Needs as from
+use Rattle.cli_parse.specs.Needs.{needs_of, origin_of}
 use Rattle.cli_files.specs.Files.{plain_document}
 use Rattle.cli_files.specs.Held.{GivesKey}
 use Rattle.cli_files.specs.Tasks.{Task}

@@ -9,7 +9,7 @@ use Rattle.command_laws.proofs.Commands.{adding_is_free}
 use Rattle.run_laws.specs.FreeRuns.{AreFreeDocEvents, IsFreeDocEvent}
 use Rattle.run_laws.specs.TrimmedRuns.{AreDocEvents, DocEvent, IsDocEvent, after_doc_event, growth, joining, overwriting}
 use Rattle.run_laws.proofs.RunLaws.{doc_after, free_runs_agree}
-use Rattle.call_carrying.specs.Endings.{settings_in}
+use Rattle.call_run.specs.Endings.{settings_in}
 use Rattle.change_laws.specs.Adding.{made_id}
 use Rattle.change_laws.proofs.Adding.{commands_add}
 use Rattle.call_histories.specs.FreeHistories.{AreFreeEvents, FreeCallsAgree, IsFreeEvent, known_with}

@@ -15,8 +15,8 @@ use Rattle.history_laws.proofs.CurrentAgreed.{agreed_alike}
 use Rattle.history_laws.proofs.HistoryLaws.{there}
 use Rattle.run_laws.specs.TrimmedRuns.{AreDocEvents, DocEvent, after_doc_event, after_doc_events, growth, joining, overwriting, world_after}
 use Rattle.run_laws.proofs.RunLaws.{are_docs, doc_after, runs_join}
-use Rattle.cli_words.specs.declared.command.Command.{Command}
-use Rattle.cli_words.specs.declared.command.Command.TheVariants.{Ls, Show, Search, Add, Edit, Move, Remove, MakeGroup, RemoveGroup, Merge, Import, Create, Export, EditFile, Info}
+use Rattle.cli_parse.specs.declared.command.Command.{Command}
+use Rattle.cli_parse.specs.declared.command.Command.TheVariants.{Ls, Show, Search, Add, Edit, Move, Remove, MakeGroup, RemoveGroup, Merge, Import, Create, Export, EditFile, Info}
 use Rattle.cli_commands.specs.Commands.{may_write}
 use Rattle.keepass_call.specs.Merges.{IsAgreedMerge, merges}
 use Rattle.call_histories.specs.HistoryLaws.{MergesGoOn}

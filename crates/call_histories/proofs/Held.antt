@@ -26,14 +26,14 @@ use Rattle.kdbx_open.specs.Documents.{attachment, document_or_refusal}
 use Rattle.kdbx_open.specs.Opening.{FileContents}
 use Rattle.kdbx_open.specs.declared.fail.OpenFail.{OpenFail}
 use Rattle.kdbx_open.proofs.SealedFiles.{one_vault}
-use Rattle.cli_words.specs.declared.command.Access.{Access}
+use Rattle.cli_parse.specs.declared.command.Access.{Access}
 use Rattle.cli_files.specs.Files.{Opened, plain_document}
 use Rattle.cli_databases.specs.Databases.{password_from}
 use Rattle.cli_databases.specs.Held.{HoldAll, HoldsBy}
 use Rattle.cli_writing.specs.Writing.{Store}
 use Rattle.cli_sealing.specs.Held.{contents_with}
 use Rattle.cli_sealing.specs.Sealing.{settings_for}
-use Rattle.call_carrying.specs.Endings.{HoldsNew, ReadsBack}
+use Rattle.call_run.specs.Endings.{HoldsNew, ReadsBack}
 use Rattle.call_conditions.specs.Copies.{AreApart, AreOpened, CallSeen, Copies, CopyHolds, Disks, HoldsDoc, IsKeyOf, IsOpened}
 use Rattle.call_conditions.specs.Histories.{put_files}
 

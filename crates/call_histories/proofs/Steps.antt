@@ -16,20 +16,20 @@ use Rattle.document_merge.specs.Merging.{merge_result}
 use Rattle.agreed_laws.specs.Runs.{docs_of}
 use Rattle.command_laws.specs.Growing.{GrowsInCurrent}
 use Rattle.run_laws.specs.TrimmedRuns.{AreDocEvents, DocEvent, after_doc_events, growth, joining, overwriting}
-use Rattle.cli_answers.specs.declared.answers.Refusal.{Refusal}
-use Rattle.cli_words.specs.declared.command.Access.{Access}
-use Rattle.cli_words.specs.declared.command.Command.{Command}
-use Rattle.cli_words.specs.declared.command.Command.TheVariants.{Ls, Show, Search, Add, Edit, Move, Remove, MakeGroup, RemoveGroup, Merge, Import, Create, Export, EditFile, Info}
-use Rattle.cli_words.specs.Needs as from
-use Rattle.cli_words.specs.Needs.{Origin, needs_of, origin_of, target_of}
-use Rattle.cli_words.specs.Words.{command_of}
+use Rattle.cli_messages.specs.declared.answers.Refusal.{Refusal}
+use Rattle.cli_parse.specs.declared.command.Access.{Access}
+use Rattle.cli_parse.specs.declared.command.Command.{Command}
+use Rattle.cli_parse.specs.declared.command.Command.TheVariants.{Ls, Show, Search, Add, Edit, Move, Remove, MakeGroup, RemoveGroup, Merge, Import, Create, Export, EditFile, Info}
+use Rattle.cli_parse.specs.Needs as from
+use Rattle.cli_parse.specs.Needs.{Origin, needs_of, origin_of, target_of}
+use Rattle.cli_parse.specs.Words.{command_of}
 use Rattle.cli_files.specs.Tasks.{Task, databases_in}
 use Rattle.cli_databases.specs.Held.{HoldDatabases}
-use Rattle.call_reading.specs.Opening.{HoldByOrigin}
+use Rattle.call_input.specs.Opening.{HoldByOrigin}
 use Rattle.cli_commands.specs.Commands.{Change, change_of, may_write}
 use Rattle.change_laws.specs.Changes.{edits}
 use Rattle.change_laws.proofs.Changed.{commands_grow, merges_merge}
-use Rattle.call_carrying.specs.Endings.{ReadsBack, change_of_task, settings_in}
+use Rattle.call_run.specs.Endings.{ReadsBack, change_of_task, settings_in}
 use Rattle.keepass_call.specs.Held.{IsTask, WritesTask}
 use Rattle.keepass_call.specs.Merges.{merges}
 use Rattle.keepass_call.specs.Outcome.{may_write_by}

@@ -5,11 +5,11 @@ use Rattle.vault_model.specs.Tree.{BareDoc, IsDoc}
 use Rattle.tree_core.specs.After.{AfterRemoval, after_add, after_edit, after_make_group, after_move_entry, after_remove_entry, needs_bin}
 use Rattle.command_laws.proofs.Commands.{add_adds, edit_adds, make_group_adds, move_entry_adds, recycling_adds}
 use Rattle.kdbx_frame.specs.declared.settings.Settings.{Settings}
-use Rattle.cli_answers.specs.Phases.{StreamAnswer, then_left}
+use Rattle.cli_messages.specs.Phases.{StreamAnswer, then_left}
 use Rattle.cli_codes.specs.Codes.{code_refusal}
-use Rattle.cli_words.specs.declared.command.Command.{Command}
-use Rattle.cli_words.specs.declared.command.Command.TheVariants.{Ls, Show, Search, Add, Edit, Move, Remove, MakeGroup, RemoveGroup, Merge, Import, Create, Export, EditFile, Info}
-use Rattle.cli_words.specs.Needs.{generated_by}
+use Rattle.cli_parse.specs.declared.command.Command.{Command}
+use Rattle.cli_parse.specs.declared.command.Command.TheVariants.{Ls, Show, Search, Add, Edit, Move, Remove, MakeGroup, RemoveGroup, Merge, Import, Create, Export, EditFile, Info}
+use Rattle.cli_parse.specs.Needs.{generated_by}
 use Rattle.cli_writing.specs.Drawing.{next_bytes}
 use Rattle.cli_changes.specs.Entries.{after_add_command, after_edit_command, entry_title, values_of}
 use Rattle.cli_changes.specs.Ids.{new_id}

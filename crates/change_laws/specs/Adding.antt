@@ -7,8 +7,8 @@ use Rattle.tree_core.specs.After.{AfterRemoval, after_remove_entry}
 use Rattle.tree_core.specs.declared.fails.Removed.TheVariants.{Recycled}
 use Rattle.command_laws.specs.Adding.{AddsOnly}
 use Rattle.kdbx_frame.specs.declared.settings.Settings.{Settings}
-use Rattle.cli_words.specs.declared.command.Command.{Command}
-use Rattle.cli_words.specs.declared.command.Command.TheVariants.{Add, Edit, Move, Remove, MakeGroup}
+use Rattle.cli_parse.specs.declared.command.Command.{Command}
+use Rattle.cli_parse.specs.declared.command.Command.TheVariants.{Add, Edit, Move, Remove, MakeGroup}
 use Rattle.cli_writing.specs.Drawing.{next_bytes}
 use Rattle.cli_changes.specs.Ids.{new_id}
 use Rattle.cli_changes.specs.Nodes.{names_group}

@@ -5,9 +5,9 @@ use Rattle.vault_model.specs.Tree.{BareDoc, IsDoc}
 use Rattle.document_merge.specs.Merging.{merge_result}
 use Rattle.command_laws.specs.Growing.{GrowsInCurrent}
 use Rattle.kdbx_frame.specs.declared.settings.Settings.{Settings}
-use Rattle.cli_words.specs.declared.command.Access.{Access}
-use Rattle.cli_words.specs.declared.command.Command.{Command}
-use Rattle.cli_words.specs.declared.command.Command.TheVariants.{Ls, Show, Search, Add, Edit, Move, Remove, MakeGroup, RemoveGroup, Merge, Import, Create, Export, EditFile, Info}
+use Rattle.cli_parse.specs.declared.command.Access.{Access}
+use Rattle.cli_parse.specs.declared.command.Command.{Command}
+use Rattle.cli_parse.specs.declared.command.Command.TheVariants.{Ls, Show, Search, Add, Edit, Move, Remove, MakeGroup, RemoveGroup, Merge, Import, Create, Export, EditFile, Info}
 use Rattle.cli_commands.specs.Commands.{Change, change_of}
 
 -- A command changes the document that it opens by itself: it is no merge, makes no database, changes

@@ -4,21 +4,21 @@ use Rattle.std.specs.Prelude.{not, ◌&&◌, ◌||◌, if◌then◌else◌, is_s
 use Rattle.std.proofs.lemmas.Bool.{le-ltb, lt-ltb, ltb-false, ltb-true, ne_eqb}
 use Rattle.std.proofs.lemmas.Option.{slice_get_cases}
 use Rattle.std.specs.Option.{option_and_then, option_map, option_map_or, option_or}
-use Rattle.cli_saying.specs.declared.names.CommandName.{CommandName}
-use Rattle.cli_saying.specs.declared.names.CommandName.TheVariants as name
-use Rattle.cli_saying.specs.declared.forms.CommandOption.TheVariants as option
-use Rattle.cli_saying.specs.Credentials.{is_fit, is_fit_from, is_fit_new, is_whole}
-use Rattle.cli_saying.specs.Options.{command_named}
-use Rattle.cli_saying.specs.Said.{Said, is_due, is_given, nothing_said, text_of, with_word, with_words}
+use Rattle.cli_options.specs.declared.names.CommandName.{CommandName}
+use Rattle.cli_options.specs.declared.names.CommandName.TheVariants as name
+use Rattle.cli_options.specs.declared.forms.CommandOption.TheVariants as option
+use Rattle.cli_options.specs.Credentials.{is_fit, is_fit_from, is_fit_new, is_whole}
+use Rattle.cli_options.specs.Options.{command_named}
+use Rattle.cli_options.specs.Said.{Said, is_due, is_given, nothing_said, text_of, with_word, with_words}
 use Rattle.cli_profiles.specs.Generating.{generated_in, has_profile_option}
 use Rattle.cli_profiles.specs.Profiles.{alphabet_of, length_asked, length_named, profile_in, profile_with}
 use Rattle.cli_profiles.specs.declared.profiles.PasswordProfile.{PasswordProfile}
-use Rattle.cli_words.specs.declared.command.Asked.{Asked}
-use Rattle.cli_words.specs.declared.command.Command.{Command}
-use Rattle.cli_words.specs.declared.command.Command.TheVariants.{Add, Edit}
-use Rattle.cli_words.specs.declared.command.ExportFormat.{ExportFormat}
-use Rattle.cli_words.specs.declared.command.ImportFormat.{ImportFormat}
-use Rattle.cli_words.specs.Words.{access_of, asked_of, asked_with, command_at, command_by, command_in, command_saying, create_at, edit_file_at, export_as, export_at, format_asked, format_named, has_change, import_as, import_at, import_format_asked, import_format_named, is_mergeable, merge_at, merge_of, profile_at, profile_by, profile_of, profile_saying, show_of}
+use Rattle.cli_parse.specs.declared.command.Asked.{Asked}
+use Rattle.cli_parse.specs.declared.command.Command.{Command}
+use Rattle.cli_parse.specs.declared.command.Command.TheVariants.{Add, Edit}
+use Rattle.cli_parse.specs.declared.command.ExportFormat.{ExportFormat}
+use Rattle.cli_parse.specs.declared.command.ImportFormat.{ImportFormat}
+use Rattle.cli_parse.specs.Words.{access_of, asked_of, asked_with, command_at, command_by, command_in, command_saying, create_at, edit_file_at, export_as, export_at, format_asked, format_named, has_change, import_as, import_at, import_format_asked, import_format_named, is_mergeable, merge_at, merge_of, profile_at, profile_by, profile_of, profile_saying, show_of}
 use Rattle.cli_causes.specs.declared.cause.Cause.{Cause}
 use Rattle.cli_causes.specs.declared.cause.Cause.TheVariants.{FewPositions, NeedsGenerate, NoKeyFile, NoKeyFileFrom, NotTogether, NotWithPlain, NotWithSame, NothingToChange, UnknownExportFormat, UnknownImportFormat, UnknownLength}
 use Rattle.cli_causes.specs.Files.{new_key_cause}

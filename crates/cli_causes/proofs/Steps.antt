@@ -1,8 +1,8 @@
 -- One word more.
 use Rattle.std.proofs.Common.{◌≡◌, ℕ, List, [], ◌∷◌, Option, Some, None, refl}
 use Rattle.std.specs.Option.{option_and_then}
-use Rattle.cli_saying.specs.declared.names.CommandName.{CommandName}
-use Rattle.cli_saying.specs.Said.{Said, with_word, with_words}
+use Rattle.cli_options.specs.declared.names.CommandName.{CommandName}
+use Rattle.cli_options.specs.Said.{Said, with_word, with_words}
 
 then_kept : (command : CommandName) (o : Option Said) → option_and_then (with_words command []) o ≡ o
 then_kept command None = refl

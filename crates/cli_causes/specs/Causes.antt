@@ -2,16 +2,16 @@
 -- all of them lack or what does not go together.
 use Rattle.std.specs.Prelude.{ℕ, not, ◌&&◌, ◌==◌, nat_lt, if◌then◌else◌, is_some, length, drop, List, [], ◌∷◌, codes, slice_get, Option, None, Some, option_map, unwrap_or}
 use Rattle.std.specs.Option.{option_map_or, option_or}
-use Rattle.cli_saying.specs.declared.names.CommandName.{CommandName}
-use Rattle.cli_saying.specs.declared.names.CommandName.TheVariants as name
-use Rattle.cli_saying.specs.declared.forms.CommandOption.{CommandOption}
-use Rattle.cli_saying.specs.declared.forms.CommandOption.TheVariants as option
-use Rattle.cli_saying.specs.Laws.{is_flag_letter}
-use Rattle.cli_saying.specs.Options.{command_named, has_value, letter_option, name_option}
-use Rattle.cli_saying.specs.Prefixes.{after_sign, before_sign, strip_prefix}
-use Rattle.cli_saying.specs.Said.{Said, is_given, is_option, nothing_said, text_of, with_word}
+use Rattle.cli_options.specs.declared.names.CommandName.{CommandName}
+use Rattle.cli_options.specs.declared.names.CommandName.TheVariants as name
+use Rattle.cli_options.specs.declared.forms.CommandOption.{CommandOption}
+use Rattle.cli_options.specs.declared.forms.CommandOption.TheVariants as option
+use Rattle.cli_options.specs.Laws.{is_flag_letter}
+use Rattle.cli_options.specs.Options.{command_named, has_value, letter_option, name_option}
+use Rattle.cli_options.specs.Prefixes.{after_sign, before_sign, strip_prefix}
+use Rattle.cli_options.specs.Said.{Said, is_given, is_option, nothing_said, text_of, with_word}
 use Rattle.cli_profiles.specs.Profiles.{alphabet_of, length_named}
-use Rattle.cli_words.specs.Words.{format_named, has_change, import_format_named}
+use Rattle.cli_parse.specs.Words.{format_named, has_change, import_format_named}
 use Rattle.cli_causes.specs.Files.{create_cause, edit_file_cause, new_key_cause}
 use Rattle.cli_causes.specs.First.{first_of}
 use Rattle.cli_causes.specs.declared.cause.Cause.{Cause}

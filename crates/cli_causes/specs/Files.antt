@@ -1,15 +1,15 @@
 -- What is wrong in what is said of the key and the settings of a file.
 use Rattle.std.specs.Prelude.{ℕ, not, ◌&&◌, ◌||◌, if◌then◌else◌, is_some, List, [], ◌∷◌, Option, None, Some}
 use Rattle.std.specs.Option.{option_map_or, option_or}
-use Rattle.cli_saying.specs.declared.names.CommandName.{CommandName}
-use Rattle.cli_saying.specs.declared.names.CommandName.TheVariants as name
-use Rattle.cli_saying.specs.declared.forms.CommandOption.{CommandOption}
-use Rattle.cli_saying.specs.declared.forms.CommandOption.TheVariants as option
-use Rattle.cli_saying.specs.Credentials.{has_part}
-use Rattle.cli_saying.specs.Numbers.{number_of}
-use Rattle.cli_saying.specs.Said.{Said, is_given, text_of}
-use Rattle.cli_words.specs.declared.command.KdfKind.{KdfKind}
-use Rattle.cli_words.specs.Settings.{cipher_named, has_file_change, is_argon, kdf_named, version_named}
+use Rattle.cli_options.specs.declared.names.CommandName.{CommandName}
+use Rattle.cli_options.specs.declared.names.CommandName.TheVariants as name
+use Rattle.cli_options.specs.declared.forms.CommandOption.{CommandOption}
+use Rattle.cli_options.specs.declared.forms.CommandOption.TheVariants as option
+use Rattle.cli_options.specs.Credentials.{has_part}
+use Rattle.cli_options.specs.Numbers.{number_of}
+use Rattle.cli_options.specs.Said.{Said, is_given, text_of}
+use Rattle.cli_parse.specs.declared.command.KdfKind.{KdfKind}
+use Rattle.cli_parse.specs.Settings.{cipher_named, has_file_change, is_argon, kdf_named, version_named}
 use Rattle.cli_causes.specs.declared.cause.Cause.{Cause}
 use Rattle.cli_causes.specs.declared.cause.Cause.TheVariants.{KeyFileChangesNothing, NeedsArgon, NeedsKdf, NoFileChange, NoKeyLeft, NoNewKey, NotTogether, NotWithPlain, UnknownCipher, UnknownCost, UnknownKdf, UnknownVersion}
 use Rattle.cli_causes.specs.First.{first_of}

@@ -1,6 +1,6 @@
 //! Why words are no command.
 
-use cli_saying::{CommandName, CommandOption};
+use cli_options::{CommandName, CommandOption};
 use outside_core::Text;
 
 /// Why words are no command, with those of them that say so.

@@ -2,15 +2,15 @@
 ghost use Rattle.std.specs.Prelude.{◌≡◌, codes, drop, IfOk, None, is_some, map, string_bytes};
 ghost use Rattle.cli_causes.specs.Causes as spec;
 ghost use Rattle.cli_causes.specs.declared.cause.Cause.TheVariants as cause;
-ghost use Rattle.cli_saying.specs.Laws.{is_flag_letter};
-ghost use Rattle.cli_saying.specs.Prefixes as prefixes;
-ghost use Rattle.cli_saying.specs.Prefixes.{after_sign, before_sign};
-ghost use Rattle.cli_saying.specs.SaidWords.{Gives, reading_seen, said_seen, text_seen};
-ghost use Rattle.cli_saying.specs.Said as said_spec;
+ghost use Rattle.cli_options.specs.Laws.{is_flag_letter};
+ghost use Rattle.cli_options.specs.Prefixes as prefixes;
+ghost use Rattle.cli_options.specs.Prefixes.{after_sign, before_sign};
+ghost use Rattle.cli_options.specs.SaidWords.{Gives, reading_seen, said_seen, text_seen};
+ghost use Rattle.cli_options.specs.Said as said_spec;
 
 use crate::cause::Cause;
 use crate::whole::said_cause;
-use cli_saying::{
+use cli_options::{
     CommandName, CommandOption, GivenTexts, ReadingState, SaidWords, WordsFail, add_words,
     command_named, empty_state, has_value, letter_option, name_option, no_texts,
 };

@@ -1,14 +1,14 @@
 //! Finding what is wrong in what is said of the key and the settings of a file.
 ghost use Rattle.std.specs.Prelude.{◌≡◌, IfOk};
 ghost use Rattle.cli_causes.specs.Files as spec;
-ghost use Rattle.cli_saying.specs.Said.{text_of};
-ghost use Rattle.cli_saying.specs.SaidWords.{said_seen, text_seen};
+ghost use Rattle.cli_options.specs.Said.{text_of};
+ghost use Rattle.cli_options.specs.SaidWords.{said_seen, text_seen};
 
 use crate::cause::Cause;
-use cli_saying::{
+use cli_options::{
     CommandName, CommandOption, SaidWords, is_fit_change, is_given, number_of, text_of,
 };
-use cli_words::{KdfKind, cipher_named, has_file_change, is_argon, kdf_named, version_named};
+use cli_parse::{KdfKind, cipher_named, has_file_change, is_argon, kdf_named, version_named};
 use outside_core::{NoMemory, Text};
 use std::alloc::Global;
 

@@ -2,11 +2,11 @@
 ghost use Rattle.std.specs.Prelude.{◌≡◌, IfOk};
 ghost use Rattle.cli_causes.specs.Causes as spec;
 ghost use Rattle.cli_profiles.specs.Profiles.{alphabet_of};
-ghost use Rattle.cli_saying.specs.SaidWords.{said_seen, text_seen};
+ghost use Rattle.cli_options.specs.SaidWords.{said_seen, text_seen};
 
 use crate::cause::Cause;
+use cli_options::{CommandOption, SaidWords, is_given, text_of};
 use cli_profiles::{alphabet_of, length_named};
-use cli_saying::{CommandOption, SaidWords, is_given, text_of};
 use outside_core::{NoMemory, Text};
 use std::alloc::Global;
 

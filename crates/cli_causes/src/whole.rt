@@ -2,13 +2,13 @@
 ghost use Rattle.std.specs.Prelude.{◌≡◌, IfOk};
 ghost use Rattle.std.specs.Option.{option_or};
 ghost use Rattle.cli_causes.specs.Causes as spec;
-ghost use Rattle.cli_saying.specs.SaidWords.{said_seen, text_seen};
+ghost use Rattle.cli_options.specs.SaidWords.{said_seen, text_seen};
 
 use crate::cause::Cause;
 use crate::files::{create_cause, edit_file_cause, new_key_cause};
 use crate::generating::{generated_cause, profile_cause};
-use cli_saying::{CommandName, CommandOption, SaidWords, is_given, text_of};
-use cli_words::{format_named, has_change, import_format_named};
+use cli_options::{CommandName, CommandOption, SaidWords, is_given, text_of};
+use cli_parse::{format_named, has_change, import_format_named};
 use outside_core::{NoMemory, Text};
 use std::alloc::Global;
 

@@ -13,9 +13,9 @@ use Rattle.vault_model.specs.Tree.{BareDoc, beside, node, none}
 use Rattle.tree_core.specs.Finding.{entry_found, group_found, has_group_path}
 use Rattle.tree_core.specs.Changes.{entry_at}
 use Rattle.tree_core.specs.NewNodes.{GivenValues, field, new_entry, new_fields}
-use Rattle.cli_answers.specs.Messages.{error_line, reason_text, refusal_of}
-use Rattle.cli_answers.specs.declared.answers.Reason.TheVariants.{IdTaken, IntoItself, OtpForm}
-use Rattle.cli_answers.specs.declared.answers.Refusal.{Refusal}
+use Rattle.cli_messages.specs.Messages.{error_line, reason_text, refusal_of}
+use Rattle.cli_messages.specs.declared.answers.Reason.TheVariants.{IdTaken, IntoItself, OtpForm}
+use Rattle.cli_messages.specs.declared.answers.Refusal.{Refusal}
 use Rattle.otp_core.specs.Reading.{base32, bytes32, equals_after, otp_of_label, otp_of_uri, parts_between, with_parameter, with_parameters, with_value, within_limits}
 use Rattle.cli_codes.specs.Codes.{code_refusal}
 use Rattle.cli_changes.specs.Entries.{AfterCommand, after_edit_command}

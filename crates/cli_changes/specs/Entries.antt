@@ -12,11 +12,11 @@ use Rattle.tree_core.specs.NewNodes.{GivenValues}
 use Rattle.tree_core.specs.NewPaths.{after_last}
 use Rattle.tree_core.specs.declared.fails.TreeFail.{TreeFail}
 use Rattle.tree_core.specs.declared.fails.TreeFail.TheVariants.{StampLimit}
-use Rattle.cli_answers.specs.Phases.{Stops}
-use Rattle.cli_answers.specs.declared.answers.Refusal.{Refusal}
-use Rattle.cli_answers.specs.declared.answers.Stop.{Stop}
+use Rattle.cli_messages.specs.Phases.{Stops}
+use Rattle.cli_messages.specs.declared.answers.Refusal.{Refusal}
+use Rattle.cli_messages.specs.declared.answers.Stop.{Stop}
 use Rattle.cli_codes.specs.Codes.{code_refusal}
-use Rattle.cli_words.specs.declared.command.Asked.{Asked}
+use Rattle.cli_parse.specs.declared.command.Asked.{Asked}
 use Rattle.cli_changes.specs.Fails.{change_or_refusal}
 use Rattle.cli_changes.specs.Texts.{report}
 

@@ -1,11 +1,11 @@
 -- The answers of commands that change no document.
 use Rattle.std.specs.Prelude.{ℕ, List, Result, Ok, Err}
-use Rattle.cli_answers.specs.Messages.{Refuses, refusal_of}
-use Rattle.cli_answers.specs.Phases.{IsMemoryStop}
-use Rattle.cli_answers.specs.declared.answers.Reason.{Reason}
-use Rattle.cli_answers.specs.declared.answers.Reason.TheVariants as answer
-use Rattle.cli_answers.specs.declared.answers.Refusal.{Refusal}
-use Rattle.cli_answers.specs.declared.answers.Stop.{Stop}
+use Rattle.cli_messages.specs.Messages.{Refuses, refusal_of}
+use Rattle.cli_messages.specs.Phases.{IsMemoryStop}
+use Rattle.cli_messages.specs.declared.answers.Reason.{Reason}
+use Rattle.cli_messages.specs.declared.answers.Reason.TheVariants as answer
+use Rattle.cli_messages.specs.declared.answers.Refusal.{Refusal}
+use Rattle.cli_messages.specs.declared.answers.Stop.{Stop}
 use Rattle.tree_core.specs.declared.fails.TreeFail.{TreeFail}
 use Rattle.tree_core.specs.declared.fails.TreeFail.TheVariants as fail
 

@@ -9,7 +9,7 @@ use Rattle.tree_core.specs.Finding.{without_slashes}
 use Rattle.tree_core.specs.After.{AfterRemoval, after_make_group, after_move_entry, after_move_group, after_remove_entry, after_remove_group, group_named}
 use Rattle.tree_core.specs.NewPaths.{after_last}
 use Rattle.tree_core.specs.declared.fails.TreeFail.{TreeFail}
-use Rattle.cli_answers.specs.declared.answers.Refusal.{Refusal}
+use Rattle.cli_messages.specs.declared.answers.Refusal.{Refusal}
 use Rattle.cli_changes.specs.Entries.{AfterCommand, entry_title, time_of}
 use Rattle.cli_changes.specs.Fails.{change_or_refusal}
 use Rattle.cli_changes.specs.Reports.{removal_report, report}

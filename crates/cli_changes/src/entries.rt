@@ -4,15 +4,15 @@ ghost use Rattle.std.specs.Str.{is_utf8};
 ghost use Rattle.vault_model.specs.SeenDoc.{doc_seen};
 ghost use Rattle.tree_core.specs.After.{Changes};
 ghost use Rattle.tree_core.specs.NewNodes as nodes;
-ghost use Rattle.cli_answers.specs.Phases.{IsPlainStop};
+ghost use Rattle.cli_messages.specs.Phases.{IsPlainStop};
 ghost use Rattle.cli_changes.specs.Entries as spec;
 ghost use Rattle.cli_changes.specs.Entries.{CommandChanges, after_add_command, after_edit_command};
 
 use crate::fails::unchanged;
 use crate::texts::report;
-use cli_answers::Stop;
 use cli_codes::check_code;
-use cli_words::Asked;
+use cli_messages::Stop;
+use cli_parse::Asked;
 use outside_core::Text;
 use secret_core::Secret;
 use std::alloc::Global;

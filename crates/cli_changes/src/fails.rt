@@ -1,10 +1,10 @@
 //! The answers of commands that change no document.
 ghost use Rattle.std.specs.Prelude.{◌≡◌, ◌≢◌};
-ghost use Rattle.cli_answers.specs.Phases.{IsPlainStop};
+ghost use Rattle.cli_messages.specs.Phases.{IsPlainStop};
 ghost use Rattle.cli_changes.specs.Fails as spec;
 ghost use Rattle.cli_changes.specs.Fails.{IsUnchanged};
 
-use cli_answers::{Reason, Stop, refused};
+use cli_messages::{Reason, Stop, refused};
 use std::alloc::Global;
 use tree_core::TreeFail;
 

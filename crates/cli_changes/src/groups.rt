@@ -4,13 +4,13 @@ ghost use Rattle.vault_model.specs.SeenDoc.{doc_seen};
 ghost use Rattle.vault_model.specs.SeenNodes.{tree_seen};
 ghost use Rattle.vault_model.specs.Walk.{name_of};
 ghost use Rattle.tree_core.specs.After.{Changes};
-ghost use Rattle.cli_answers.specs.Phases.{IsPlainStop};
+ghost use Rattle.cli_messages.specs.Phases.{IsPlainStop};
 ghost use Rattle.cli_changes.specs.Entries.{CommandChanges};
 ghost use Rattle.cli_changes.specs.Nodes as spec;
 
 use crate::reports::report;
 use crate::{Given, time_of, unchanged};
-use cli_answers::Stop;
+use cli_messages::Stop;
 use secret_core::Secret;
 use std::alloc::Global;
 use tree_core::{TreeFail, find_group};

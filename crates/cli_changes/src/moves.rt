@@ -2,14 +2,14 @@
 ghost use Rattle.std.specs.Prelude.{◌≡◌, IfErr};
 ghost use Rattle.vault_model.specs.SeenDoc.{doc_seen};
 ghost use Rattle.tree_core.specs.After.{Changes};
-ghost use Rattle.cli_answers.specs.Phases.{IsPlainStop};
+ghost use Rattle.cli_messages.specs.Phases.{IsPlainStop};
 ghost use Rattle.cli_changes.specs.Entries.{CommandChanges};
 ghost use Rattle.cli_changes.specs.Nodes as spec;
 
 use crate::groups::group_name;
 use crate::reports::report;
 use crate::{Given, entry_title, time_of, unchanged};
-use cli_answers::Stop;
+use cli_messages::Stop;
 use secret_core::Secret;
 use std::alloc::Global;
 use tree_core::TreeFail;

@@ -6,12 +6,12 @@ use Rattle.otp_core.specs.declared.fails.OtpFail.{OtpFail}
 use Rattle.otp_core.specs.declared.fails.OtpFail.TheVariants as fail
 use Rattle.otp_core.specs.Codes.{code}
 use Rattle.otp_core.specs.Reading.{BareOtp, otp_of_entry, otp_of_uri}
-use Rattle.cli_answers.specs.Messages.{Refuses, refusal_of}
-use Rattle.cli_answers.specs.Phases.{IsMemoryStop}
-use Rattle.cli_answers.specs.declared.answers.Reason.{Reason}
-use Rattle.cli_answers.specs.declared.answers.Reason.TheVariants.{NoOtp, OtpForm, OtpUnknown, OtpLimit, OutOfMemory}
-use Rattle.cli_answers.specs.declared.answers.Refusal.{Refusal}
-use Rattle.cli_answers.specs.declared.answers.Stop.{Stop}
+use Rattle.cli_messages.specs.Messages.{Refuses, refusal_of}
+use Rattle.cli_messages.specs.Phases.{IsMemoryStop}
+use Rattle.cli_messages.specs.declared.answers.Reason.{Reason}
+use Rattle.cli_messages.specs.declared.answers.Reason.TheVariants.{NoOtp, OtpForm, OtpUnknown, OtpLimit, OutOfMemory}
+use Rattle.cli_messages.specs.declared.answers.Refusal.{Refusal}
+use Rattle.cli_messages.specs.declared.answers.Stop.{Stop}
 
 -- ---- the line of a code
 

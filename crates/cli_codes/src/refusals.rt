@@ -1,9 +1,9 @@
 //! What is refused of one-time codes.
 ghost use Rattle.std.specs.Prelude.{◌≡◌, IfErr, option_map};
-ghost use Rattle.cli_answers.specs.Phases.{IsPlainStop, Returns};
+ghost use Rattle.cli_messages.specs.Phases.{IsPlainStop, Returns};
 ghost use Rattle.cli_codes.specs.Codes.{IsCodeStop, code_refusal};
 
-use cli_answers::{Reason, Stop, refused};
+use cli_messages::{Reason, Stop, refused};
 use otp_core::{OtpFail, read_otp_fields};
 use std::alloc::Global;
 

@@ -8,19 +8,19 @@ use Rattle.std.proofs.lemmas.List.{drop-drop, drop_at}
 use Rattle.vault_model.specs.Db.{NodeId, nil_id}
 use Rattle.cli_profiles.specs.Profiles.{IsProfile}
 use Rattle.cli_profiles.specs.declared.profiles.PasswordProfile.{PasswordProfile}
-use Rattle.cli_words.specs.Needs.{generated_by}
+use Rattle.cli_parse.specs.Needs.{generated_by}
 use Rattle.vault_model.specs.Tree.{BareDoc, Tree}
 use Rattle.tree_core.specs.After.{needs_bin}
 use Rattle.tree_core.specs.NewNodes.{lent_value}
-use Rattle.cli_answers.specs.declared.answers.Refusal.{Refusal}
-use Rattle.cli_answers.specs.declared.answers.Stop.{Stop}
-use Rattle.cli_answers.specs.declared.answers.Stop.TheVariants.{Refused, FileFault, InputFault, NoMemory}
-use Rattle.cli_answers.specs.Phases.{IsLeft, IsPlainStop, IsStreamStop, RefusesAskedStream, RefusesStream, Returns, ReturnsAskedStream, StreamAnswer, TellsStream, after_left, then_left, with_left}
+use Rattle.cli_messages.specs.declared.answers.Refusal.{Refusal}
+use Rattle.cli_messages.specs.declared.answers.Stop.{Stop}
+use Rattle.cli_messages.specs.declared.answers.Stop.TheVariants.{Refused, FileFault, InputFault, NoMemory}
+use Rattle.cli_messages.specs.Phases.{IsLeft, IsPlainStop, IsStreamStop, RefusesAskedStream, RefusesStream, Returns, ReturnsAskedStream, StreamAnswer, TellsStream, after_left, then_left, with_left}
 use Rattle.cli_changes.specs.Ids.{new_id}
 use Rattle.cli_writing.proofs.Drawn.{next_first}
 use Rattle.cli_lines.specs.Lines.{IsTextLine}
-use Rattle.cli_words.specs.declared.command.Command.{Command}
-use Rattle.cli_words.specs.declared.command.Command.TheVariants.{Ls, Show, Search, Add, Edit, Move, Remove, MakeGroup, RemoveGroup, Merge, Import, Create, Export, EditFile, Info}
+use Rattle.cli_parse.specs.declared.command.Command.{Command}
+use Rattle.cli_parse.specs.declared.command.Command.TheVariants.{Ls, Show, Search, Add, Edit, Move, Remove, MakeGroup, RemoveGroup, Merge, Import, Create, Export, EditFile, Info}
 use Rattle.cli_commands.specs.declared.output.Change as declared
 use Rattle.cli_commands.specs.Commands.{Change, bin_id, change_by, change_of, change_with, drawn_id, draws_change, draws_id, password_of, some_password, listing_of, makes_node, may_write, merged_change, printed_text}
 use Rattle.cli_printing.specs.Exporting.{exported}

@@ -6,16 +6,16 @@ use Rattle.vault_model.specs.Tree as tree
 use Rattle.vault_model.specs.Tree.{BareDoc, Tree}
 use Rattle.tree_core.specs.Changes.{is_free}
 use Rattle.tree_core.specs.After.{needs_bin}
-use Rattle.cli_answers.specs.declared.answers.Reason.TheVariants.{IdTaken, NoSuchPath}
-use Rattle.cli_answers.specs.declared.answers.Refusal.{Refusal}
-use Rattle.cli_answers.specs.Messages.{refusal_of}
-use Rattle.cli_answers.specs.Phases.{StreamAnswer, then_left, with_left}
-use Rattle.cli_words.specs.declared.command.Command.{Command}
-use Rattle.cli_words.specs.declared.command.Command.TheVariants.{Ls, Show, Search, Add, Edit, Move, Remove, MakeGroup, RemoveGroup, Merge, Import, Create, Export, EditFile, Info}
+use Rattle.cli_messages.specs.declared.answers.Reason.TheVariants.{IdTaken, NoSuchPath}
+use Rattle.cli_messages.specs.declared.answers.Refusal.{Refusal}
+use Rattle.cli_messages.specs.Messages.{refusal_of}
+use Rattle.cli_messages.specs.Phases.{StreamAnswer, then_left, with_left}
+use Rattle.cli_parse.specs.declared.command.Command.{Command}
+use Rattle.cli_parse.specs.declared.command.Command.TheVariants.{Ls, Show, Search, Add, Edit, Move, Remove, MakeGroup, RemoveGroup, Merge, Import, Create, Export, EditFile, Info}
 use Rattle.outside_core.specs.Results.{◌>>=◌}
 use Rattle.cli_profiles.specs.declared.profiles.PasswordProfile.{PasswordProfile}
 use Rattle.cli_generating.specs.Generated.{generated}
-use Rattle.cli_words.specs.Needs.{generated_by}
+use Rattle.cli_parse.specs.Needs.{generated_by}
 use Rattle.cli_printing.specs.Listing.{group_lines, tree_listed}
 use Rattle.cli_showing.specs.Showing.{code_shown, entries_shown, entry_shown}
 use Rattle.cli_printing.specs.Exporting.{exported}

@@ -4,13 +4,13 @@ use Rattle.std.specs.Borrow.{Bor}
 use Rattle.kdbx_frame.specs.declared.settings.Settings.{Settings}
 use Rattle.secret_core.specs.Secret.{SecretBuffer}
 use Rattle.vault_model.specs.Tree.{BareDoc}
-use Rattle.cli_answers.specs.declared.answers.Stop.{Stop}
+use Rattle.cli_messages.specs.declared.answers.Stop.{Stop}
 use Rattle.cli_commands.specs.declared.output.Change as declared
 use Rattle.cli_commands.specs.declared.output.Output.{Output}
 use Rattle.cli_commands.specs.declared.output.Output.TheVariants.{Listing, Report}
 use Rattle.cli_merging.specs.declared.merging.MergeReport.{MergeReport}
 use Rattle.vault_model.specs.Db.{NodeId}
-use Rattle.cli_answers.specs.Phases.{with_left}
+use Rattle.cli_messages.specs.Phases.{with_left}
 use Rattle.cli_commands.specs.Commands.{Change, drawn_id}
 
 -- The text that a command prints.

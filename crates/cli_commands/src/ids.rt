@@ -4,12 +4,12 @@ ghost use Rattle.outside_core.specs.Counts.{Increased};
 ghost use Rattle.outside_core.specs.Reports.{StaysTruthful};
 ghost use Rattle.outside_core.specs.Streams.{LosesPrefix};
 ghost use Rattle.vault_model.specs.SeenDoc.{doc_seen};
-ghost use Rattle.cli_answers.specs.Phases.{IsLeft, TellsStream};
+ghost use Rattle.cli_messages.specs.Phases.{IsLeft, TellsStream};
 ghost use Rattle.cli_commands.specs.Commands as spec;
 ghost use Rattle.cli_commands.specs.SeenChange.{IsDrawnBySome};
 
 use cli_changes::new_id;
-use cli_words::Command;
+use cli_parse::Command;
 use cli_writing::draw_id;
 use outside_core::{Dice, DiceFail};
 use tree_moves::needs_bin;

@@ -2,8 +2,8 @@
 ghost use Rattle.std.specs.Prelude.{◌≡◌};
 ghost use Rattle.cli_commands.specs.SeenChange as spec;
 
-use cli_answers::Stop;
 use cli_merging::MergeReport;
+use cli_messages::Stop;
 use outside_core::Bytes;
 use secret_core::Secret;
 

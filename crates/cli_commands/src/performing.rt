@@ -6,12 +6,12 @@ ghost use Rattle.vault_model.specs.Tree.{BareDoc};
 ghost use Rattle.vault_model.specs.SeenNodes.{tree_seen};
 ghost use Rattle.tree_core.specs.Changes as changes;
 ghost use Rattle.tree_core.specs.NewNodes.{lent_value};
-ghost use Rattle.cli_answers.specs.Phases.{IsPlainStop, IsStreamStop, Returns, ReturnsAskedStream, TellsStream};
+ghost use Rattle.cli_messages.specs.Phases.{IsPlainStop, IsStreamStop, Returns, ReturnsAskedStream, TellsStream};
 ghost use Rattle.std.specs.Str.{is_utf8};
 ghost use Rattle.outside_core.specs.Reports.{StaysTruthful};
 ghost use Rattle.cli_lines.specs.Lines.{AreTextLines, IsTextLine};
 ghost use Rattle.cli_profiles.specs.Profiles.{IsProfile};
-ghost use Rattle.cli_words.specs.Needs.{generated_by, needs_of};
+ghost use Rattle.cli_parse.specs.Needs.{generated_by, needs_of};
 ghost use Rattle.cli_printing.specs.Listing.{tree_listed};
 ghost use Rattle.cli_commands.specs.Commands as spec;
 ghost use Rattle.cli_commands.specs.Commands.{change_of, change_with, changed_text, created_change, created_or_refusal, draws_change, imported_text, listing_of, passed_lines, rooted_at, text_unless, with_root_id};
@@ -20,15 +20,15 @@ ghost use Rattle.cli_printing.specs.Info.{info_shown};
 
 use crate::ids::{bin_id, draw_if, makes_node};
 use crate::output::{Change, Output, merge_change, printed, reported};
-use cli_answers::{Reason, Stop, refused};
 use cli_changes::{
     Given, add_entry, edit_entry, make_group_of, move_node, remove_entry_of, remove_group_of,
 };
 use cli_generating::choose_password;
 use cli_merging::{MergeGiven, merge_into};
+use cli_messages::{Reason, Stop, refused};
+use cli_parse::Command;
 use cli_printing::{Manner, add_group, export, group_listed, info};
 use cli_showing::{CodeGiven, ShowGiven, search_entries, show_code, show_entry};
-use cli_words::Command;
 use kdbx_frame::Settings;
 use outside_core::{Bytes, Dice, NoMemory, Text};
 use secret_core::Secret;
@@ -112,7 +112,7 @@ fn given_of<'a>(command: &'a Command, input: CommandInput<'a>) -> Given<'a>
     ensures otp { result.otp ≡ input.entry.otp }
     ensures now { result.now ≡ input.entry.now }
 {
-    let needs = cli_words::needs_of(command);
+    let needs = cli_parse::needs_of(command);
     Given {
         file: needs.file.as_str(),
         quiet: needs.access.quiet,
@@ -468,7 +468,7 @@ fn change_by<D: Dice>(
     ensures faults { D.faults dice.old ≤ D.faults dice.new }
     ensures faultless { OnOk result (D.faults dice.new ≡ D.faults dice.old) }
 {
-    let Some(profile) = cli_words::generated_by(command) else {
+    let Some(profile) = cli_parse::generated_by(command) else {
         return change_document(alloc, command, input, id, doc);
     };
     let alphabet = profile.alphabet.as_str().as_bytes();

@@ -6,12 +6,12 @@ use Rattle.doc_forms.specs.Documents.{DocumentAndHash}
 use Rattle.doc_forms.specs.Refusals as reader
 use Rattle.doc_forms.specs.declared.fails.DocFail.{DocFail}
 use Rattle.doc_forms.specs.declared.fails.DocFail.TheVariants as doc
-use Rattle.cli_answers.specs.Messages.{refusal_of, Refuses}
-use Rattle.cli_answers.specs.Phases.{IsMemoryStop, IsPlainStop, Stops}
-use Rattle.cli_answers.specs.declared.answers.Reason.TheVariants.{NoSuchFile}
-use Rattle.cli_answers.specs.declared.answers.Refusal.{Refusal}
-use Rattle.cli_answers.specs.declared.answers.Stop.{Stop}
-use Rattle.cli_answers.specs.declared.answers.Stop.TheVariants.{Refused, FileFault, InputFault, NoMemory}
+use Rattle.cli_messages.specs.Messages.{refusal_of, Refuses}
+use Rattle.cli_messages.specs.Phases.{IsMemoryStop, IsPlainStop, Stops}
+use Rattle.cli_messages.specs.declared.answers.Reason.TheVariants.{NoSuchFile}
+use Rattle.cli_messages.specs.declared.answers.Refusal.{Refusal}
+use Rattle.cli_messages.specs.declared.answers.Stop.{Stop}
+use Rattle.cli_messages.specs.declared.answers.Stop.TheVariants.{Refused, FileFault, InputFault, NoMemory}
 use Rattle.cli_files.specs.Answers.{document_answer}
 use Rattle.cli_databases.specs.Databases.{document_or_refusal}
 use Rattle.cli_databases.specs.NoDocument.{IsNoDocument}

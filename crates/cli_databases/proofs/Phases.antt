@@ -3,11 +3,11 @@ use Rattle.std.proofs.Common.{◌≡◌, ℕ, List, sym, ◌∙◌, ap, subst, B
 use Rattle.outside_core.specs.Files.{FileMap}
 use Rattle.outside_core.specs.Results.{◌>>=◌}
 use Rattle.vault_model.specs.Tree.{BareDoc}
-use Rattle.cli_answers.specs.declared.answers.Refusal.{Refusal}
-use Rattle.cli_answers.specs.declared.answers.Stop.{Stop}
-use Rattle.cli_answers.specs.declared.answers.Stop.TheVariants.{FileFault, InputFault, NoMemory, Refused}
-use Rattle.cli_answers.specs.Phases.{Returns, Stops}
-use Rattle.cli_words.specs.Needs.{Needs}
+use Rattle.cli_messages.specs.declared.answers.Refusal.{Refusal}
+use Rattle.cli_messages.specs.declared.answers.Stop.{Stop}
+use Rattle.cli_messages.specs.declared.answers.Stop.TheVariants.{FileFault, InputFault, NoMemory, Refused}
+use Rattle.cli_messages.specs.Phases.{Returns, Stops}
+use Rattle.cli_parse.specs.Needs.{Needs}
 use Rattle.cli_lines.specs.Lines.{Lines}
 use Rattle.cli_files.specs.Files.{Databases, Opened, key_of}
 use Rattle.cli_files.specs.SeenOpened.{opened_seen}

@@ -10,11 +10,11 @@ use Rattle.kdbx_open.specs.Files.{opening_of}
 use Rattle.kdbx_open.specs.Results.{meaning_from_store}
 use Rattle.kdbx_open.specs.declared.fail.OpenFail.{OpenFail}
 use Rattle.kdbx_open.specs.declared.fail.OpenFail.TheVariants as sealed
-use Rattle.cli_answers.specs.Messages.{refusal_of, Refuses}
-use Rattle.cli_answers.specs.Phases.{IsFault, IsMemoryStop, Stops}
-use Rattle.cli_answers.specs.declared.answers.Refusal.{Refusal}
-use Rattle.cli_answers.specs.declared.answers.Stop.{Stop}
-use Rattle.cli_answers.specs.declared.answers.Stop.TheVariants.{Refused, FileFault, InputFault, NoMemory}
+use Rattle.cli_messages.specs.Messages.{refusal_of, Refuses}
+use Rattle.cli_messages.specs.Phases.{IsFault, IsMemoryStop, Stops}
+use Rattle.cli_messages.specs.declared.answers.Refusal.{Refusal}
+use Rattle.cli_messages.specs.declared.answers.Stop.{Stop}
+use Rattle.cli_messages.specs.declared.answers.Stop.TheVariants.{Refused, FileFault, InputFault, NoMemory}
 use Rattle.cli_files.specs.Files.{Opened}
 use Rattle.cli_databases.specs.Databases.{IsUnopened, held_under, open_answer, vault_or_refusal}
 

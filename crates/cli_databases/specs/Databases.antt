@@ -17,17 +17,17 @@ use Rattle.kdbx_open.specs.declared.fail.OpenFail.{OpenFail}
 use Rattle.kdbx_open.specs.declared.fail.OpenFail.TheVariants as sealed
 use Rattle.kdbx_open.specs.Files.{opening_of}
 use Rattle.kdbx_open.specs.Opening.{FileContents}
-use Rattle.cli_answers.specs.declared.answers.Reason.{Reason}
-use Rattle.cli_answers.specs.declared.answers.Reason.TheVariants as answer
-use Rattle.cli_answers.specs.declared.answers.Reason.TheVariants.{NoSuchFile, TooLarge, OutOfMemory}
-use Rattle.cli_answers.specs.declared.answers.Refusal.{Refusal}
-use Rattle.cli_answers.specs.declared.answers.Stop.{Stop}
-use Rattle.cli_words.specs.declared.command.Access.{Access}
-use Rattle.cli_words.specs.Needs.{Needs}
+use Rattle.cli_messages.specs.declared.answers.Reason.{Reason}
+use Rattle.cli_messages.specs.declared.answers.Reason.TheVariants as answer
+use Rattle.cli_messages.specs.declared.answers.Reason.TheVariants.{NoSuchFile, TooLarge, OutOfMemory}
+use Rattle.cli_messages.specs.declared.answers.Refusal.{Refusal}
+use Rattle.cli_messages.specs.declared.answers.Stop.{Stop}
+use Rattle.cli_parse.specs.declared.command.Access.{Access}
+use Rattle.cli_parse.specs.Needs.{Needs}
 use Rattle.cli_lines.specs.Lines.{CanOpen, Lines}
-use Rattle.cli_answers.specs.Messages.{refusal_of, Refuses}
+use Rattle.cli_messages.specs.Messages.{refusal_of, Refuses}
 use Rattle.outside_core.specs.Results.{◌>>=◌}
-use Rattle.cli_answers.specs.Phases.{IsMemoryStop}
+use Rattle.cli_messages.specs.Phases.{IsMemoryStop}
 use Rattle.cli_files.specs.Answers.{IsUnread, document_answer}
 use Rattle.cli_files.specs.Files.{Databases, Opened, key_of, of_file, plain_document}
 

@@ -7,9 +7,9 @@ use Rattle.outside_core.specs.Results.{◌>>=◌}
 use Rattle.key_core.specs.KeyFile.{key_file_key}
 use Rattle.key_core.specs.declared.key_file.KeyFileFail.{KeyFileFail}
 use Rattle.kdbx_frame.specs.Fields.{file_limit}
-use Rattle.cli_answers.specs.Messages.{refusal_of}
-use Rattle.cli_answers.specs.declared.answers.Reason.TheVariants.{TooLarge}
-use Rattle.cli_answers.specs.declared.answers.Refusal.{Refusal}
+use Rattle.cli_messages.specs.Messages.{refusal_of}
+use Rattle.cli_messages.specs.declared.answers.Reason.TheVariants.{TooLarge}
+use Rattle.cli_messages.specs.declared.answers.Refusal.{Refusal}
 use Rattle.cli_files.specs.Files.{key_in, key_of, key_or_refusal, of_file}
 use Rattle.cli_files.specs.Held.{GivesKey, IsThere}
 

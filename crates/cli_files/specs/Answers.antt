@@ -6,12 +6,12 @@ use Rattle.key_core.specs.declared.key_file.KeyFileFail.{KeyFileFail}
 use Rattle.key_core.specs.declared.key_file.KeyFileFail.TheVariants as key
 use Rattle.doc_forms.specs.declared.fails.DocFail.{DocFail}
 use Rattle.doc_forms.specs.declared.fails.DocFail.TheVariants as doc
-use Rattle.cli_answers.specs.Messages.{refusal_of, Refuses}
-use Rattle.cli_answers.specs.Phases.{IsFault, IsMemoryStop}
-use Rattle.cli_answers.specs.declared.answers.Reason.{Reason}
-use Rattle.cli_answers.specs.declared.answers.Reason.TheVariants as answer
-use Rattle.cli_answers.specs.declared.answers.Reason.TheVariants.{NoSuchFile, OutOfMemory, TooLarge}
-use Rattle.cli_answers.specs.declared.answers.Stop.{Stop}
+use Rattle.cli_messages.specs.Messages.{refusal_of, Refuses}
+use Rattle.cli_messages.specs.Phases.{IsFault, IsMemoryStop}
+use Rattle.cli_messages.specs.declared.answers.Reason.{Reason}
+use Rattle.cli_messages.specs.declared.answers.Reason.TheVariants as answer
+use Rattle.cli_messages.specs.declared.answers.Reason.TheVariants.{NoSuchFile, OutOfMemory, TooLarge}
+use Rattle.cli_messages.specs.declared.answers.Stop.{Stop}
 
 -- A refusal of the document's reader.
 abbrev pub document_answer : DocFail → Reason

@@ -1,7 +1,7 @@
 //! Stops at files that cannot be read.
 ghost use Rattle.cli_files.specs.Answers.{IsUnread};
 
-use cli_answers::{Reason, Stop, refused};
+use cli_messages::{Reason, Stop, refused};
 use outside_core::{NoMemory, Text};
 use secret_core::ReadFail;
 use std::alloc::Global;

@@ -1,7 +1,7 @@
 //! What a call is to do.
 use crate::Opened;
 use cli_lines::Lines;
-use cli_words::Command;
+use cli_parse::Command;
 use outside_core::List;
 use vault_model::Doc;
 

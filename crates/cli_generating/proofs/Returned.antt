@@ -4,12 +4,12 @@ use Rattle.outside_core.specs.Streams.{LosesPrefix}
 use Rattle.gen_core.specs.declared.choosing.GenFail.{GenFail}
 use Rattle.gen_core.specs.declared.choosing.GenFail.TheVariants as fail
 use Rattle.gen_core.specs.Chosen.{Between, Choice, IsChosen, choose, chosen, spent}
-use Rattle.cli_answers.specs.declared.answers.Reason.TheVariants.{Spent}
-use Rattle.cli_answers.specs.declared.answers.Stop.{Stop}
-use Rattle.cli_answers.specs.declared.answers.Stop.TheVariants.{Refused, FileFault, InputFault, NoMemory}
-use Rattle.cli_answers.specs.declared.answers.Refusal.{Refusal}
-use Rattle.cli_answers.specs.Messages.{Refuses, refusal_of}
-use Rattle.cli_answers.specs.Phases.{RefusesStream, StreamAnswer}
+use Rattle.cli_messages.specs.declared.answers.Reason.TheVariants.{Spent}
+use Rattle.cli_messages.specs.declared.answers.Stop.{Stop}
+use Rattle.cli_messages.specs.declared.answers.Stop.TheVariants.{Refused, FileFault, InputFault, NoMemory}
+use Rattle.cli_messages.specs.declared.answers.Refusal.{Refusal}
+use Rattle.cli_messages.specs.Messages.{Refuses, refusal_of}
+use Rattle.cli_messages.specs.Phases.{RefusesStream, StreamAnswer}
 use Rattle.cli_generating.specs.Generated.{generated, password_chosen}
 
 -- What is left of a stream that is reported is reported.

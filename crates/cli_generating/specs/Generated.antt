@@ -1,8 +1,8 @@
 -- The password that dice choose.
 use Rattle.std.specs.Prelude.{ℕ, List, [], codes, Ok, Err}
-use Rattle.cli_answers.specs.Messages.{refusal_of}
-use Rattle.cli_answers.specs.Phases.{StreamAnswer, with_left}
-use Rattle.cli_answers.specs.declared.answers.Reason.TheVariants.{Spent}
+use Rattle.cli_messages.specs.Messages.{refusal_of}
+use Rattle.cli_messages.specs.Phases.{StreamAnswer, with_left}
+use Rattle.cli_messages.specs.declared.answers.Reason.TheVariants.{Spent}
 use Rattle.gen_core.specs.Chosen.{Choice, choose, chosen, ended, spent}
 
 -- What a choice gives, and what it leaves of the dice: a password, or the refusal of dice of which

@@ -5,10 +5,10 @@ ghost use Rattle.std.specs.Str.{is_utf8};
 ghost use Rattle.outside_core.specs.Reports.{StaysTruthful};
 ghost use Rattle.outside_core.specs.Streams.{LosesPrefix};
 ghost use Rattle.gen_core.specs.Chosen.{IsAlphabet};
-ghost use Rattle.cli_answers.specs.Phases.{IsStreamStop, ReturnsStream};
+ghost use Rattle.cli_messages.specs.Phases.{IsStreamStop, ReturnsStream};
 ghost use Rattle.cli_generating.specs.Generated.{generated};
 
-use cli_answers::{Reason, Stop, refused};
+use cli_messages::{Reason, Stop, refused};
 use gen_core::{GenFail, generate};
 use outside_core::Dice;
 use secret_core::Secret;

@@ -17,12 +17,12 @@ use Rattle.psafe_file.specs.declared.fails.PsafeFail.TheVariants as safe
 use Rattle.table_reading.specs.Refusals as table_reader
 use Rattle.table_reading.specs.declared.fails.TableFail.{TableFail}
 use Rattle.table_reading.specs.declared.fails.TableFail.TheVariants as table
-use Rattle.cli_answers.specs.Messages.{Refuses, refusal_of}
-use Rattle.cli_answers.specs.Phases.{IsMemoryStop, Stops}
-use Rattle.cli_answers.specs.declared.answers.Reason.{Reason}
-use Rattle.cli_answers.specs.declared.answers.Refusal.{Refusal}
-use Rattle.cli_answers.specs.declared.answers.Stop.{Stop}
-use Rattle.cli_answers.specs.declared.answers.Stop.TheVariants.{Refused, FileFault, InputFault, NoMemory}
+use Rattle.cli_messages.specs.Messages.{Refuses, refusal_of}
+use Rattle.cli_messages.specs.Phases.{IsMemoryStop, Stops}
+use Rattle.cli_messages.specs.declared.answers.Reason.{Reason}
+use Rattle.cli_messages.specs.declared.answers.Refusal.{Refusal}
+use Rattle.cli_messages.specs.declared.answers.Stop.{Stop}
+use Rattle.cli_messages.specs.declared.answers.Stop.TheVariants.{Refused, FileFault, InputFault, NoMemory}
 use Rattle.cli_files.specs.Answers.{document_answer}
 use Rattle.cli_importing.specs.Answers.{IsBitwardenStop, IsDocumentStop, IsSafeStop, IsTableStop, bitwarden_answer, safe_answer, table_answer}
 use Rattle.cli_importing.specs.Imports.{bitwarden_or_refusal, plain_or_refusal, safe_or_refusal, table_or_refusal, with_passed}

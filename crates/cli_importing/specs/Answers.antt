@@ -2,11 +2,11 @@
 use Rattle.std.specs.Prelude.{ℕ, List}
 use Rattle.bitwarden_forms.specs.declared.fails.BitwardenFail.{BitwardenFail}
 use Rattle.bitwarden_forms.specs.declared.fails.BitwardenFail.TheVariants as bitwarden
-use Rattle.cli_answers.specs.declared.answers.Reason.{Reason}
-use Rattle.cli_answers.specs.declared.answers.Reason.TheVariants as answer
-use Rattle.cli_answers.specs.declared.answers.Stop.{Stop}
-use Rattle.cli_answers.specs.Messages.{refusal_of, Refuses}
-use Rattle.cli_answers.specs.Phases.{IsMemoryStop}
+use Rattle.cli_messages.specs.declared.answers.Reason.{Reason}
+use Rattle.cli_messages.specs.declared.answers.Reason.TheVariants as answer
+use Rattle.cli_messages.specs.declared.answers.Stop.{Stop}
+use Rattle.cli_messages.specs.Messages.{refusal_of, Refuses}
+use Rattle.cli_messages.specs.Phases.{IsMemoryStop}
 use Rattle.cli_files.specs.Answers.{document_answer}
 use Rattle.doc_forms.specs.declared.fails.DocFail.{DocFail}
 use Rattle.doc_forms.specs.declared.fails.DocFail.TheVariants as doc

@@ -6,11 +6,11 @@ ghost use Rattle.outside_core.specs.Reports.{reported};
 ghost use Rattle.psafe_core.specs.Outcome.{psafe_outcome};
 ghost use Rattle.table_reading.specs.Columns.{passed_over};
 ghost use Rattle.table_reading.specs.Documents.{csv_document};
-ghost use Rattle.cli_answers.specs.Phases.{IsFileStop, IsPlainStop, Returns};
+ghost use Rattle.cli_messages.specs.Phases.{IsFileStop, IsPlainStop, Returns};
 ghost use Rattle.cli_files.specs.Files.{plain_document};
 ghost use Rattle.cli_files.specs.LeavesFiles.{LeavesFiles};
-ghost use Rattle.cli_words.specs.declared.command.ImportFormat.TheVariants as format;
-ghost use Rattle.cli_words.specs.SeenNeeds.{import_seen};
+ghost use Rattle.cli_parse.specs.declared.command.ImportFormat.TheVariants as format;
+ghost use Rattle.cli_parse.specs.SeenNeeds.{import_seen};
 ghost use Rattle.cli_importing.specs.Answers as spec;
 ghost use Rattle.cli_importing.specs.Answers.{IsBitwardenStop, IsDocumentStop, IsSafeStop, IsTableStop};
 ghost use Rattle.cli_importing.specs.Held.{IsSourceBy};
@@ -19,9 +19,9 @@ ghost use Rattle.cli_importing.specs.Imports.{bitwarden_or_refusal, given_passwo
 
 use bitwarden_core::import_bitwarden;
 use bitwarden_forms::BitwardenFail;
-use cli_answers::{Reason, Stop, refused};
 use cli_files::{document_answer, read_plain, unread};
-use cli_words::{ImportFormat, ImportNeeds};
+use cli_messages::{Reason, Stop, refused};
+use cli_parse::{ImportFormat, ImportNeeds};
 use doc_read::{DocFail, ReadDoc};
 use kdbx_frame::FILE_LIMIT;
 use outside_core::{FileStore, List, Text};

@@ -5,15 +5,15 @@ use Rattle.std.proofs.lemmas.Bool.{le-ltb, lt-ltb, ne_eqb}
 use Rattle.std.proofs.lemmas.List.{length-append}
 use Rattle.secret_core.specs.Secret.{SecretBuffer}
 use Rattle.std.specs.Str.{is_utf8}
-use Rattle.cli_answers.specs.declared.answers.Reason.TheVariants.{InputEnded, LineForm, LineLimit}
-use Rattle.cli_answers.specs.declared.answers.Refusal.{Refusal}
-use Rattle.cli_answers.specs.declared.answers.Stop.{Stop}
-use Rattle.cli_answers.specs.declared.answers.Stop.TheVariants.{Refused, FileFault, InputFault, NoMemory}
+use Rattle.cli_messages.specs.declared.answers.Reason.TheVariants.{InputEnded, LineForm, LineLimit}
+use Rattle.cli_messages.specs.declared.answers.Refusal.{Refusal}
+use Rattle.cli_messages.specs.declared.answers.Stop.{Stop}
+use Rattle.cli_messages.specs.declared.answers.Stop.TheVariants.{Refused, FileFault, InputFault, NoMemory}
 use Rattle.cli_lines.specs.Cutting.{ComesNext, Cuts, Ends, IsPushed, cut, with_bytes}
 use Rattle.cli_lines.specs.Lines.{as_text, ends_next, line_from, line_of, too_long, whole, with_byte}
-use Rattle.cli_answers.specs.Messages.{Refuses, refusal_of}
+use Rattle.cli_messages.specs.Messages.{Refuses, refusal_of}
 use Rattle.outside_core.specs.Results.{◌>>=◌}
-use Rattle.cli_answers.specs.Phases.{StreamAnswer, RefusesStream}
+use Rattle.cli_messages.specs.Phases.{StreamAnswer, RefusesStream}
 
 -- ---- bytes in front
 

@@ -3,9 +3,9 @@ use Rattle.std.proofs.Common.{◌≡◌, ℕ, List, [], ◌∷◌, ◌++◌, map
 use Rattle.std.specs.Prelude.{is_some}
 use Rattle.std.proofs.lemmas.List.{map-append}
 use Rattle.outside_core.specs.Results.{◌>>=◌}
-use Rattle.cli_answers.specs.declared.answers.Refusal.{Refusal}
-use Rattle.cli_answers.specs.Phases.{StreamAnswer, after_left, with_left}
-use Rattle.cli_words.specs.Needs.{Needs, asks_password, asks_passwords_from}
+use Rattle.cli_messages.specs.declared.answers.Refusal.{Refusal}
+use Rattle.cli_messages.specs.Phases.{StreamAnswer, after_left, with_left}
+use Rattle.cli_parse.specs.Needs.{Needs, asks_password, asks_passwords_from}
 use Rattle.cli_lines.specs.Lines.{HasLines, LastLines, Lines, after_more, last_lines, lines_with, number_of_otp, after_password, after_passwords, line_if, line_of, lines_from, lines_of, number_after, number_from, number_of_more}
 
 ok_is : {A : Type 0} (a b : A) → ◌≡◌ {A = Result A Refusal} (Ok a) (Ok b) → a ≡ b

@@ -2,12 +2,12 @@
 use Rattle.std.proofs.Common.{◌≡◌, ◌≤◌, ℕ, List, refl, inl, inr, sym, ◌∙◌, ap, subst, arith, Bool, true, false, ◌||◌, Option, Some, None, option_map, Result, Ok, Err}
 use Rattle.std.specs.Prelude.{IfErr, OnOk}
 use Rattle.outside_core.specs.Counts.{Increased}
-use Rattle.cli_answers.specs.declared.answers.Refusal.{Refusal}
-use Rattle.cli_answers.specs.declared.answers.Stop.{Stop}
-use Rattle.cli_answers.specs.declared.answers.Stop.TheVariants.{Refused, FileFault, InputFault, NoMemory}
+use Rattle.cli_messages.specs.declared.answers.Refusal.{Refusal}
+use Rattle.cli_messages.specs.declared.answers.Stop.{Stop}
+use Rattle.cli_messages.specs.declared.answers.Stop.TheVariants.{Refused, FileFault, InputFault, NoMemory}
 use Rattle.outside_core.specs.Results.{◌>>=◌}
-use Rattle.cli_answers.specs.Phases.{StreamAnswer, IsLeft, IsStreamStop, RefusesAskedStream, RefusesStream, ReturnsAskedStream, TellsStream, then_left, with_left}
-use Rattle.cli_words.specs.Needs.{Needs}
+use Rattle.cli_messages.specs.Phases.{StreamAnswer, IsLeft, IsStreamStop, RefusesAskedStream, RefusesStream, ReturnsAskedStream, TellsStream, then_left, with_left}
+use Rattle.cli_parse.specs.Needs.{Needs}
 use Rattle.cli_lines.specs.Lines.{LastLines, Lines, after_more, after_passwords, last_lines, line_if, line_of, lines_with, number_of_otp}
 
 -- An input that is not read.

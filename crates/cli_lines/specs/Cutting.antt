@@ -3,7 +3,7 @@ use Rattle.std.specs.Prelude.{◌≡◌, ℕ, ◌+◌, ◌*◌, Bool, true, fals
 use Rattle.outside_core.specs.declared.fails.SourceFail.{SourceFail}
 use Rattle.secret_core.specs.Secret.{SecretBuffer}
 use Rattle.cli_lines.specs.Lines.{line_from, too_long, with_byte}
-use Rattle.cli_answers.specs.Phases.{StreamAnswer}
+use Rattle.cli_messages.specs.Phases.{StreamAnswer}
 
 -- The next byte came, or the end. A fault says nothing.
 abbrev pub ComesNext : Result (Option ℕ) SourceFail → List ℕ → Option (List ℕ) → Type 0

@@ -1,13 +1,13 @@
 -- The lines that a call takes from its input.
 use Rattle.std.specs.Prelude.{◌≡◌, ◌⊎◌, ◌++◌, map, ℕ, ◌+◌, Bool, true, false, ◌&&◌, ◌==◌, if◌then◌else◌, nat_lt, drop, is_some, IsSome, List, [], ◌∷◌, codes, Option, None, Some, Result, Ok, Err}
 use Rattle.std.specs.Str.{is_utf8}
-use Rattle.cli_answers.specs.declared.answers.Reason.TheVariants.{LineLimit, LineForm, InputEnded}
-use Rattle.cli_answers.specs.declared.answers.Refusal.{Refusal}
-use Rattle.cli_words.specs.declared.command.Access.{Access}
-use Rattle.cli_words.specs.Needs.{Needs, asks_password, asks_passwords_from}
-use Rattle.cli_answers.specs.Messages.{refusal_of}
+use Rattle.cli_messages.specs.declared.answers.Reason.TheVariants.{LineLimit, LineForm, InputEnded}
+use Rattle.cli_messages.specs.declared.answers.Refusal.{Refusal}
+use Rattle.cli_parse.specs.declared.command.Access.{Access}
+use Rattle.cli_parse.specs.Needs.{Needs, asks_password, asks_passwords_from}
+use Rattle.cli_messages.specs.Messages.{refusal_of}
 use Rattle.outside_core.specs.Results.{◌>>=◌}
-use Rattle.cli_answers.specs.Phases.{StreamAnswer, then_left, with_left}
+use Rattle.cli_messages.specs.Phases.{StreamAnswer, then_left, with_left}
 
 -- A line that ends here.
 abbrev pub whole : List ℕ → StreamAnswer (List ℕ)

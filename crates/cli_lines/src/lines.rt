@@ -7,13 +7,13 @@ ghost use Rattle.cli_lines.specs.Cutting.{ComesNext, Cuts, Ends, IsPushed, Puts,
 ghost use Rattle.cli_lines.specs.Lines as spec;
 ghost use Rattle.cli_lines.specs.Lines.{AreTextLines, HasLines, IsTextLine, after_password, after_passwords, last_lines, line_from, line_if, line_of, lines_from, lines_of, number_of_more};
 ghost use Rattle.cli_lines.specs.SeenLines.{last_seen, line_seen, lines_seen};
-ghost use Rattle.cli_words.specs.Needs as words;
-ghost use Rattle.cli_words.specs.Needs.{asks_line, asks_passwords_from};
-ghost use Rattle.cli_words.specs.SeenNeeds.{needs_seen};
-ghost use Rattle.cli_answers.specs.Phases.{IsStreamStop, ReturnsAskedStream, ReturnsStream, TellsStream};
+ghost use Rattle.cli_parse.specs.Needs as words;
+ghost use Rattle.cli_parse.specs.Needs.{asks_line, asks_passwords_from};
+ghost use Rattle.cli_parse.specs.SeenNeeds.{needs_seen};
+ghost use Rattle.cli_messages.specs.Phases.{IsStreamStop, ReturnsAskedStream, ReturnsStream, TellsStream};
 
-use cli_answers::{Reason, Stop, refused};
-use cli_words::{Needs, asks_password};
+use cli_messages::{Reason, Stop, refused};
+use cli_parse::{Needs, asks_password};
 use outside_core::{List, NoMemory, Source, SourceFail, Text};
 use secret_core::Secret;
 use std::alloc::Global;
@@ -321,7 +321,7 @@ fn read_passwords<S: Source>(
     ensures faults { S.faults input.old ≤ S.faults input.new }
     ensures faultless { OnOk result (S.faults input.new ≡ S.faults input.old) }
 {
-    let due = cli_words::asks_passwords_from(needs);
+    let due = cli_parse::asks_passwords_from(needs);
     read_sources(alloc, input, due, needs.sources, number, lines)
 }
 

@@ -9,11 +9,11 @@ use Rattle.document_merge.specs.Merging.{IsMergeResult, MergeResult, merge_resul
 use Rattle.document_merge.specs.declared.merging.MergeFail.{MergeFail}
 use Rattle.document_merge.specs.declared.merging.MergeFail.TheVariants as fail
 use Rattle.document_merge.specs.declared.merging.Merged.{Merged}
-use Rattle.cli_answers.specs.Messages.{Refuses, refusal_of}
-use Rattle.cli_answers.specs.Phases.{Stops}
-use Rattle.cli_answers.specs.declared.answers.Refusal.{Refusal}
-use Rattle.cli_answers.specs.declared.answers.Stop.{Stop}
-use Rattle.cli_answers.specs.declared.answers.Stop.TheVariants.{Refused, FileFault, InputFault, NoMemory}
+use Rattle.cli_messages.specs.Messages.{Refuses, refusal_of}
+use Rattle.cli_messages.specs.Phases.{Stops}
+use Rattle.cli_messages.specs.declared.answers.Refusal.{Refusal}
+use Rattle.cli_messages.specs.declared.answers.Stop.{Stop}
+use Rattle.cli_messages.specs.declared.answers.Stop.TheVariants.{Refused, FileFault, InputFault, NoMemory}
 use Rattle.cli_merging.specs.Merging.{AfterMerge, IsUnmerged, after_merge, after_merged, changes_between, merge_answer, merged_or_refusal}
 
 -- A document is changed exactly where the test of equality fails.

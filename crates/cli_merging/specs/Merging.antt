@@ -10,12 +10,12 @@ use Rattle.merge_changes.specs.declared.changes.Change.{Change}
 use Rattle.document_merge.specs.Merging.{MergeResult, merge_result}
 use Rattle.document_merge.specs.declared.merging.MergeFail.{MergeFail}
 use Rattle.document_merge.specs.declared.merging.MergeFail.TheVariants as fail
-use Rattle.cli_answers.specs.Messages.{refusal_of, Refuses}
-use Rattle.cli_answers.specs.Phases.{IsMemoryStop, Stops}
-use Rattle.cli_answers.specs.declared.answers.Reason.{Reason}
-use Rattle.cli_answers.specs.declared.answers.Reason.TheVariants as answer
-use Rattle.cli_answers.specs.declared.answers.Refusal.{Refusal}
-use Rattle.cli_answers.specs.declared.answers.Stop.{Stop}
+use Rattle.cli_messages.specs.Messages.{refusal_of, Refuses}
+use Rattle.cli_messages.specs.Phases.{IsMemoryStop, Stops}
+use Rattle.cli_messages.specs.declared.answers.Reason.{Reason}
+use Rattle.cli_messages.specs.declared.answers.Reason.TheVariants as answer
+use Rattle.cli_messages.specs.declared.answers.Refusal.{Refusal}
+use Rattle.cli_messages.specs.declared.answers.Stop.{Stop}
 use Rattle.cli_merging.specs.declared.merging.MergeReport.{MergeReport}
 use Rattle.cli_merging.specs.Reports.{merge_report}
 

@@ -1,14 +1,14 @@
 //! What `merge` makes of its target.
 ghost use Rattle.std.specs.Prelude.{◌≡◌, ◌≢◌, ◌&&◌, not, if◌then◌else◌, None, Some, IfErr, IfOk, OnErr, map, true, false};
 ghost use Rattle.vault_model.specs.SeenDoc.{doc_seen};
-ghost use Rattle.cli_answers.specs.Messages.{Refuses, refusal_of};
-ghost use Rattle.cli_answers.specs.Phases.{IsPlainStop};
+ghost use Rattle.cli_messages.specs.Messages.{Refuses, refusal_of};
+ghost use Rattle.cli_messages.specs.Phases.{IsPlainStop};
 ghost use Rattle.cli_merging.specs.Reports.{merge_report};
 ghost use Rattle.cli_merging.specs.Merging as spec;
 ghost use Rattle.cli_merging.specs.Merging.{IsUnmerged, MergeChanges, after_merge};
 
 use crate::{MergeFiles, MergeOutcome, report};
-use cli_answers::{Reason, Stop, refused};
+use cli_messages::{Reason, Stop, refused};
 use document_merge::merging::{MergeFail, Merged, merge_lent};
 use outside_core::{NoMemory, Text};
 use secret_core::Secret;

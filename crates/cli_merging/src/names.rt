@@ -5,8 +5,8 @@ ghost use Rattle.vault_model.specs.SeenNodes.{entry_row, tree_seen};
 ghost use Rattle.cli_merging.specs.Names as spec;
 ghost use Rattle.cli_merging.specs.Reports.{name_in};
 
+use merge_tables::tables::Table;
 use outside_core::NoMemory;
-use reference_tables::tables::Table;
 use std::alloc::Global;
 use std::marker::Model;
 use tree_core::title;

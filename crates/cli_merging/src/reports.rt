@@ -11,8 +11,8 @@ ghost use Rattle.cli_merging.specs.Reports.{change_line, change_lines, merge_rep
 use crate::append;
 use crate::names::{Names, name_at, names_of};
 use merge_changes::changes::{Change, Kind};
+use merge_tables::tables::Table;
 use outside_core::{NoMemory, Text};
-use reference_tables::tables::Table;
 use secret_core::Secret;
 use std::alloc::Global;
 use uuid_core::Uuid;

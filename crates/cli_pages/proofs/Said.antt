@@ -3,10 +3,10 @@ use Rattle.std.proofs.Common.{◌≡◌, ◌≢◌, ℕ, Bool, true, false, List
 use Rattle.std.specs.Prelude.{◌⊎◌, not, ◌&&◌, ◌||◌, ◌==◌, nat_lt, if◌then◌else◌, is_some}
 use Rattle.std.specs.List.{list_all}
 use Rattle.std.proofs.lemmas.List.Folds.{list_all-map}
-use Rattle.cli_answers.specs.Pages as alone
-use Rattle.cli_words.specs.declared.command.Command.{Command}
+use Rattle.cli_messages.specs.Pages as alone
+use Rattle.cli_parse.specs.declared.command.Command.{Command}
 use Rattle.cli_profiles.specs.declared.profiles.PasswordProfile.{PasswordProfile}
-use Rattle.cli_words.specs.Words.{command_in, command_of, or_wrong_words, profile_of}
+use Rattle.cli_parse.specs.Words.{command_in, command_of, or_wrong_words, profile_of}
 use Rattle.cli_causes.specs.declared.cause.Cause.{Cause}
 use Rattle.cli_causes.specs.Causes.{cause_of}
 use Rattle.cli_pages.specs.Laws.{IsCommandPageOrProfile, IsLine}

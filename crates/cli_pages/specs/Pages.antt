@@ -2,7 +2,7 @@
 -- own, which open no file and read no line.
 use Rattle.std.specs.Prelude.{ℕ, Bool, false, ◌||◌, if◌then◌else◌, is_some, List, [], ◌∷◌, codes, Option, None, Some}
 use Rattle.std.specs.Str.{bytes_eq}
-use Rattle.cli_answers.specs.Pages as alone
+use Rattle.cli_messages.specs.Pages as alone
 use Rattle.cli_causes.specs.Causes.{cause_of}
 use Rattle.cli_pages.specs.Texts.{cause_line}
 

@@ -4,7 +4,7 @@ ghost use Rattle.cli_pages.specs.Texts as spec;
 
 use crate::near::{command_text, near_command, near_option, option_text};
 use cli_causes::Cause;
-use cli_saying::{CommandName, CommandOption};
+use cli_options::{CommandName, CommandOption};
 use outside_core::{Bytes, NoMemory};
 use std::alloc::Global;
 

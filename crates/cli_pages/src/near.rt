@@ -3,7 +3,7 @@ ghost use Rattle.std.specs.Prelude.{◌≡◌, IfOk};
 ghost use Rattle.std.specs.List.{find};
 ghost use Rattle.cli_pages.specs.Texts as spec;
 
-use cli_saying::{CommandName, CommandOption, name_option};
+use cli_options::{CommandName, CommandOption, name_option};
 use outside_core::NoMemory;
 use std::alloc::Global;
 use strsim::levenshtein;

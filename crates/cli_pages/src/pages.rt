@@ -3,8 +3,8 @@ ghost use Rattle.std.specs.Prelude.{◌≡◌, IfErr, IfOk, IsSome, map, string_
 ghost use Rattle.cli_pages.specs.Pages as spec;
 
 use crate::lines::cause_line;
-use cli_answers::page_of as page_alone;
 use cli_causes::cause_of;
+use cli_messages::page_of as page_alone;
 use outside_core::{Bytes, NoMemory};
 use std::alloc::Global;
 

@@ -1,9 +1,9 @@
 -- What `export` prints.
 use Rattle.std.specs.Prelude.{ℕ, List, None, Result, Ok, Err}
-use Rattle.cli_answers.specs.Messages.{refusal_of}
-use Rattle.cli_answers.specs.declared.answers.Refusal.{Refusal}
-use Rattle.cli_words.specs.declared.command.ExportFormat.{ExportFormat}
-use Rattle.cli_words.specs.declared.command.ExportFormat.TheVariants.{Csv, Xml}
+use Rattle.cli_messages.specs.Messages.{refusal_of}
+use Rattle.cli_messages.specs.declared.answers.Refusal.{Refusal}
+use Rattle.cli_parse.specs.declared.command.ExportFormat.{ExportFormat}
+use Rattle.cli_parse.specs.declared.command.ExportFormat.TheVariants.{Csv, Xml}
 use Rattle.cli_writing.specs.Writing.{write_answer}
 use Rattle.doc_write.specs.Written.{write_outcome}
 use Rattle.doc_write.specs.declared.writing.WriteFail.{WriteFail}

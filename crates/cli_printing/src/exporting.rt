@@ -1,14 +1,14 @@
 //! A database written for other programs.
 ghost use Rattle.std.specs.Prelude.{◌≡◌, IfErr, IfOk, None};
-ghost use Rattle.cli_answers.specs.Phases.{IsPlainStop, Returns};
+ghost use Rattle.cli_messages.specs.Phases.{IsPlainStop, Returns};
 ghost use Rattle.cli_printing.specs.Exporting.{exported, text_or_refusal};
 ghost use Rattle.doc_write.specs.Written.{write_outcome};
 ghost use Rattle.stream_core.specs.InnerStream.{NoKeystream};
 ghost use Rattle.vault_model.specs.SeenDoc.{doc_seen};
 ghost use Rattle.vault_model.specs.declared.forms.DocForm.TheVariants.{Plain};
 
-use cli_answers::Stop;
-use cli_words::ExportFormat;
+use cli_messages::Stop;
+use cli_parse::ExportFormat;
 use cli_writing::{plain_text, unwritten};
 use secret_core::Secret;
 use std::alloc::Global;

@@ -2,14 +2,14 @@
 
 ghost use Rattle.std.specs.Prelude.{◌≡◌, ◌++◌, IfErr, IfOk, OnOk, option_map};
 ghost use Rattle.std.specs.Fmt.{decimal};
-ghost use Rattle.cli_answers.specs.Phases.{IsMemoryStop};
+ghost use Rattle.cli_messages.specs.Phases.{IsMemoryStop};
 ghost use Rattle.cli_printing.specs.Info.{content_lines, info_shown, name_lines};
 ghost use Rattle.cli_printing.specs.Info as spec;
 ghost use Rattle.vault_model.specs.SeenDoc.{doc_seen};
 
 use crate::counts::{count_entries, count_groups};
 use crate::file::{add_file_lines, add_line};
-use cli_answers::Stop;
+use cli_messages::Stop;
 use kdbx_frame::Settings;
 use outside_core::{Bytes, NoMemory};
 use secret_core::Secret;

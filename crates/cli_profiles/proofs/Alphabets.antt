@@ -12,9 +12,9 @@ use Rattle.std.proofs.lemmas.Map.Made.{AllPairs-from_IsDistinct}
 use Rattle.std.proofs.lemmas.Str.{encode_ascii}
 use Rattle.std.proofs.Math.Seq.{drop-cons}
 use Rattle.gen_core.specs.Chosen.{IsAlphabet}
-use Rattle.cli_saying.specs.declared.forms.CommandOption.TheVariants as option
-use Rattle.cli_saying.specs.Numbers.{number_of}
-use Rattle.cli_saying.specs.Said.{Said, is_given, text_of}
+use Rattle.cli_options.specs.declared.forms.CommandOption.TheVariants as option
+use Rattle.cli_options.specs.Numbers.{number_of}
+use Rattle.cli_options.specs.Said.{Said, is_given, text_of}
 use Rattle.cli_profiles.specs.Generating.{generated_in, has_profile_option, profile_alone}
 use Rattle.cli_profiles.specs.Profiles.{IsProfile, alphabet_of, as_length, characters, is_wanted, length_asked, profile_in, profile_with}
 use Rattle.cli_profiles.specs.declared.profiles.PasswordProfile.{PasswordProfile}

@@ -1,7 +1,7 @@
 -- Whether the password of an entry is to be generated.
 use Rattle.std.specs.Prelude.{Bool, ◌||◌, if◌then◌else◌, Option, None, Some, option_map}
-use Rattle.cli_saying.specs.declared.forms.CommandOption.TheVariants as option
-use Rattle.cli_saying.specs.Said.{Said, is_given}
+use Rattle.cli_options.specs.declared.forms.CommandOption.TheVariants as option
+use Rattle.cli_options.specs.Said.{Said, is_given}
 use Rattle.cli_profiles.specs.Profiles.{has_class, profile_in}
 use Rattle.cli_profiles.specs.declared.profiles.PasswordProfile.{PasswordProfile}
 

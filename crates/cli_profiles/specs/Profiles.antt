@@ -3,9 +3,9 @@
 use Rattle.std.specs.Prelude.{Bool, true, false, not, ◌&&◌, ◌||◌, ◌==◌, ℕ, ◌<◌, ◌≤◌, nat_le, if◌then◌else◌, All, List, [], ◌∷◌, ◌++◌, length, codes, filter, Option, None, Some, option_and_then}
 use Rattle.std.specs.List.{list_any}
 use Rattle.gen_core.specs.Chosen.{IsAlphabet}
-use Rattle.cli_saying.specs.declared.forms.CommandOption.TheVariants as option
-use Rattle.cli_saying.specs.Numbers.{number_of}
-use Rattle.cli_saying.specs.Said.{Said, is_given, text_of}
+use Rattle.cli_options.specs.declared.forms.CommandOption.TheVariants as option
+use Rattle.cli_options.specs.Numbers.{number_of}
+use Rattle.cli_options.specs.Said.{Said, is_given, text_of}
 use Rattle.cli_profiles.specs.declared.profiles.Classes.{Classes}
 use Rattle.cli_profiles.specs.declared.profiles.PasswordProfile.{PasswordProfile}
 

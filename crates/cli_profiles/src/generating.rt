@@ -1,10 +1,10 @@
 //! Whether the password of an entry is to be generated.
 ghost use Rattle.std.specs.Prelude.{◌≡◌};
-ghost use Rattle.cli_saying.specs.SaidWords.{Gives, said_seen};
+ghost use Rattle.cli_options.specs.SaidWords.{Gives, said_seen};
 ghost use Rattle.cli_profiles.specs.Generating as spec;
 
 use crate::profiles::{PasswordProfile, has_class, profile_in};
-use cli_saying::{CommandOption, SaidWords, WordsFail, is_given};
+use cli_options::{CommandOption, SaidWords, WordsFail, is_given};
 use std::alloc::Global;
 
 /// Reports whether an option of a profile is given.

@@ -1,6 +1,6 @@
 //! What holds of the profiles of generated passwords. The functions do nothing, and take no memory.
 ghost use Rattle.std.specs.Prelude.{◌≡◌, Some};
-ghost use Rattle.cli_saying.specs.Said.{Said};
+ghost use Rattle.cli_options.specs.Said.{Said};
 ghost use Rattle.cli_profiles.specs.Generating.{generated_in};
 ghost use Rattle.cli_profiles.specs.Profiles.{IsProfile, profile_in};
 ghost use Rattle.cli_profiles.specs.declared.profiles.PasswordProfile.{PasswordProfile};

@@ -1,9 +1,9 @@
 //! Of which characters a generated password is made, and of how many.
 ghost use Rattle.std.specs.Prelude.{◌≡◌, IfOk};
-ghost use Rattle.cli_saying.specs.SaidWords.{Gives, said_seen, text_seen};
+ghost use Rattle.cli_options.specs.SaidWords.{Gives, said_seen, text_seen};
 ghost use Rattle.cli_profiles.specs.Profiles as spec;
 
-use cli_saying::{CommandOption, SaidWords, WordsFail, is_given, number_of, text_of};
+use cli_options::{CommandOption, SaidWords, WordsFail, is_given, number_of, text_of};
 use outside_core::{NoMemory, Text};
 use std::alloc::Global;
 

@@ -1,8 +1,8 @@
 -- Stops at the files of a database whose file is changed.
 use Rattle.std.proofs.Common.{◌≡◌, ◌≤◌, ℕ, List, [], ◌∷◌, ◌++◌, arith, subst, Result, Ok, Err}
 use Rattle.std.specs.Prelude.{IfErr}
-use Rattle.cli_answers.specs.Phases.{IsFileStop}
-use Rattle.cli_answers.specs.declared.answers.Stop.{Stop}
+use Rattle.cli_messages.specs.Phases.{IsFileStop}
+use Rattle.cli_messages.specs.declared.answers.Stop.{Stop}
 use Rattle.cli_files.proofs.FileStops.{first_at_files, later_at_files}
 
 -- A stop at the new key file, after the database was opened.

@@ -6,11 +6,11 @@ use Rattle.vault_model.specs.declared.forms.FileVersion.{FileVersion}
 use Rattle.kdbx_frame.specs.declared.sealings.Sealing.{Sealing}
 use Rattle.kdbx_frame.specs.declared.settings.Cipher.{Cipher}
 use Rattle.kdbx_settings.specs.declared.changing.SettingsChange.{SettingsChange}
-use Rattle.cli_answers.specs.Phases.{Returns}
-use Rattle.cli_answers.specs.declared.answers.Stop.{Stop}
-use Rattle.cli_words.specs.Needs.{CreateNeeds, Needs}
-use Rattle.cli_words.specs.declared.command.FileChange.{FileChange}
-use Rattle.cli_words.specs.declared.command.KdfAsked.{KdfAsked}
+use Rattle.cli_messages.specs.Phases.{Returns}
+use Rattle.cli_messages.specs.declared.answers.Stop.{Stop}
+use Rattle.cli_parse.specs.Needs.{CreateNeeds, Needs}
+use Rattle.cli_parse.specs.declared.command.FileChange.{FileChange}
+use Rattle.cli_parse.specs.declared.command.KdfAsked.{KdfAsked}
 use Rattle.cli_lines.specs.Lines.{Lines}
 use Rattle.cli_files.specs.Files.{Opened}
 use Rattle.cli_files.specs.SeenOpened.{opened_seen}

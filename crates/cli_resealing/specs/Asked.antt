@@ -17,16 +17,16 @@ use Rattle.kdbx_settings.specs.Changed.{changed_settings, kdf_needs, refuse_cost
 use Rattle.kdbx_settings.specs.declared.changing.SettingsChange.{SettingsChange}
 use Rattle.kdbx_settings.specs.declared.changing.SettingsFail.{SettingsFail}
 use Rattle.kdbx_settings.specs.declared.changing.SettingsFail.TheVariants.{NeedsVersion, KdfLimit}
-use Rattle.cli_answers.specs.Messages.{refusal_of}
-use Rattle.cli_answers.specs.declared.answers.NeededVersion.{NeededVersion}
-use Rattle.cli_answers.specs.declared.answers.NeededVersion.TheVariants as needed
-use Rattle.cli_answers.specs.declared.answers.Reason.{Reason}
-use Rattle.cli_answers.specs.declared.answers.Reason.TheVariants as answer
-use Rattle.cli_answers.specs.declared.answers.Refusal.{Refusal}
+use Rattle.cli_messages.specs.Messages.{refusal_of}
+use Rattle.cli_messages.specs.declared.answers.NeededVersion.{NeededVersion}
+use Rattle.cli_messages.specs.declared.answers.NeededVersion.TheVariants as needed
+use Rattle.cli_messages.specs.declared.answers.Reason.{Reason}
+use Rattle.cli_messages.specs.declared.answers.Reason.TheVariants as answer
+use Rattle.cli_messages.specs.declared.answers.Refusal.{Refusal}
 use Rattle.cli_files.specs.Files.{Opened}
-use Rattle.cli_words.specs.declared.command.KdfAsked.{KdfAsked}
-use Rattle.cli_words.specs.declared.command.KdfKind.{KdfKind}
-use Rattle.cli_words.specs.declared.command.KdfKind.TheVariants as kind
+use Rattle.cli_parse.specs.declared.command.KdfAsked.{KdfAsked}
+use Rattle.cli_parse.specs.declared.command.KdfKind.{KdfKind}
+use Rattle.cli_parse.specs.declared.command.KdfKind.TheVariants as kind
 
 -- Argon2 of this kind with these costs, the memory being in KiB; its salt is drawn as the file is
 -- written.

@@ -2,15 +2,15 @@
 ghost use Rattle.std.specs.Prelude.{◌≡◌, ◌*◌, [], IfErr, IfOk, IfSome, Some, replicate};
 ghost use Rattle.vault_model.specs.SeenDoc.{doc_seen};
 ghost use Rattle.kdbx_frame.specs.Settings.{IsInOrder};
-ghost use Rattle.cli_answers.specs.Phases.{IsPlainStop, Returns};
+ghost use Rattle.cli_messages.specs.Phases.{IsPlainStop, Returns};
 ghost use Rattle.cli_files.specs.SeenOpened.{opened_seen};
 ghost use Rattle.cli_resealing.specs.Asked as spec;
 ghost use Rattle.cli_resealing.specs.Asked.{AsksFor, IsOrPasses, StandsFor, asked_settings, derivation_of, resealed, with_resealed};
 
 use argon_core::ArgonKind;
-use cli_answers::{NeededVersion, Reason, Stop, refused};
 use cli_files::Opened;
-use cli_words::{KdfAsked, KdfKind};
+use cli_messages::{NeededVersion, Reason, Stop, refused};
+use cli_parse::{KdfAsked, KdfKind};
 use kdbx_frame::{Cipher, FileVersion, Sealing, release_key};
 use kdbx_settings::{SettingsChange, SettingsFail, change_settings};
 use key_core::Kdf;

@@ -3,23 +3,23 @@ ghost use Rattle.std.specs.Prelude.{◌≡◌, ◌++◌, ◌⊎◌, IfErr, IfOk,
 ghost use Rattle.outside_core.specs.Files.{FileMap};
 ghost use Rattle.outside_core.specs.Reports.{reported};
 ghost use Rattle.kdbx_frame.specs.Settings.{IsInOrder};
-ghost use Rattle.cli_answers.specs.Phases.{IsFileStop, Returns};
+ghost use Rattle.cli_messages.specs.Phases.{IsFileStop, Returns};
 ghost use Rattle.cli_files.specs.LeavesFiles.{LeavesFiles};
 ghost use Rattle.cli_files.specs.SeenOpened.{opened_seen};
 ghost use Rattle.cli_lines.specs.Lines.{HasLines};
 ghost use Rattle.cli_lines.specs.SeenLines.{line_seen, lines_seen};
-ghost use Rattle.cli_words.specs.Needs.{HasKey, HasNewKey, database_files, new_key_files, sets_password};
-ghost use Rattle.cli_words.specs.SeenNeeds.{needs_seen};
+ghost use Rattle.cli_parse.specs.Needs.{HasKey, HasNewKey, database_files, new_key_files, sets_password};
+ghost use Rattle.cli_parse.specs.SeenNeeds.{needs_seen};
 ghost use Rattle.cli_resealing.specs.Edited as spec;
 ghost use Rattle.cli_resealing.specs.Edited.{changed_of, edited_of, key_after};
 ghost use Rattle.cli_resealing.specs.Held.{SomeChanged, SomeEdited, SomeKeyAfter};
 
 use crate::asked::{AskedSettings, close, with_asked};
-use cli_answers::Stop;
 use cli_databases::open_sealed;
 use cli_files::{Opened, bytes_in, key_of, name_in};
 use cli_lines::Lines;
-use cli_words::{FileChange, KeyFileChange, Needs, PasswordChange};
+use cli_messages::Stop;
+use cli_parse::{FileChange, KeyFileChange, Needs, PasswordChange};
 use kdbx_frame::Sealing;
 use key_core::composite;
 use outside_core::FileStore;

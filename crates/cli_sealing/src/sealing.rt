@@ -7,14 +7,14 @@ ghost use Rattle.vault_making.specs.NeededVersion.{later, needed_version};
 ghost use Rattle.vault_model.specs.SeenDoc.{doc_seen};
 ghost use Rattle.kdbx_frame.specs.Settings.{IsInOrder};
 ghost use Rattle.kdbx_writing.specs.Draws.{AreDrawn};
-ghost use Rattle.cli_answers.specs.Phases.{IsCommandStop, IsFault};
+ghost use Rattle.cli_messages.specs.Phases.{IsCommandStop, IsFault};
 ghost use Rattle.cli_writing.specs.Held.{IsWritten};
 ghost use Rattle.cli_writing.specs.Writing.{KeepsDraft, KeepsFiles, store};
 ghost use Rattle.cli_sealing.specs.Draws.{after_draws, draws_of};
 ghost use Rattle.cli_sealing.specs.Held.{HoldsSealed};
 ghost use Rattle.cli_sealing.specs.Sealing.{IsUnsealed, Seals, file_by, sealed_file, settings_for};
 
-use cli_answers::{Reason, Stop, refused};
+use cli_messages::{Reason, Stop, refused};
 use kdbx_frame::{Sealing, Settings};
 use kdbx_seal::{Draws, SealFail, draw, seal_file};
 use outside_core::{Dice, DiceFail, FileStore, NoMemory, Text};

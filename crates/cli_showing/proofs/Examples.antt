@@ -13,8 +13,8 @@ use Rattle.tree_core.specs.Finding.{entry_found}
 use Rattle.find_references.specs.Terms.{term_before, terms_of}
 use Rattle.find_references.specs.References.{reference_at}
 use Rattle.find_references.specs.Resolved.{resolved}
-use Rattle.cli_answers.specs.Messages.{refusal_of}
-use Rattle.cli_answers.specs.declared.answers.Reason.TheVariants.{EmptyTerm, NoAttribute, NoResult, NoSuchPath}
+use Rattle.cli_messages.specs.Messages.{refusal_of}
+use Rattle.cli_messages.specs.declared.answers.Reason.TheVariants.{EmptyTerm, NoAttribute, NoResult, NoSuchPath}
 use Rattle.cli_showing.specs.Paths.{paths_found}
 use Rattle.cli_showing.specs.Showing.{entries_shown, entry_shown, paths_or_refusal}
 

@@ -2,11 +2,11 @@
 use Rattle.std.specs.Prelude.{ℕ, List, codes, Result, Ok, Err}
 use Rattle.find_references.specs.declared.fail.FindFail.{FindFail}
 use Rattle.find_references.specs.declared.fail.FindFail.TheVariants as fail
-use Rattle.cli_answers.specs.Messages.{Refuses, refusal_of}
-use Rattle.cli_answers.specs.Phases.{IsMemoryStop}
-use Rattle.cli_answers.specs.declared.answers.Reason.TheVariants as answer
-use Rattle.cli_answers.specs.declared.answers.Refusal.{Refusal}
-use Rattle.cli_answers.specs.declared.answers.Stop.{Stop}
+use Rattle.cli_messages.specs.Messages.{Refuses, refusal_of}
+use Rattle.cli_messages.specs.Phases.{IsMemoryStop}
+use Rattle.cli_messages.specs.declared.answers.Reason.TheVariants as answer
+use Rattle.cli_messages.specs.declared.answers.Refusal.{Refusal}
+use Rattle.cli_messages.specs.declared.answers.Stop.{Stop}
 
 -- The refusal that comes of a search or of a value with references. A term without a text is a
 -- fault of the words, and all else is about the file.

@@ -15,9 +15,9 @@ use Rattle.find_references.specs.declared.fail.FindFail.{FindFail}
 use Rattle.find_references.specs.Fields.{fields_of, is_other, named_keys}
 use Rattle.find_references.specs.Resolved.{resolved}
 use Rattle.find_core.specs.Search.{entries_found}
-use Rattle.cli_answers.specs.Messages.{refusal_of}
-use Rattle.cli_answers.specs.declared.answers.Reason.TheVariants.{NoAttribute, NoResult, NoSuchPath}
-use Rattle.cli_answers.specs.declared.answers.Refusal.{Refusal}
+use Rattle.cli_messages.specs.Messages.{refusal_of}
+use Rattle.cli_messages.specs.declared.answers.Reason.TheVariants.{NoAttribute, NoResult, NoSuchPath}
+use Rattle.cli_messages.specs.declared.answers.Refusal.{Refusal}
 use Rattle.cli_codes.specs.Codes.{code_line, code_or_refusal}
 use Rattle.cli_showing.specs.Paths.{paths_found}
 use Rattle.cli_showing.specs.Refusals.{found_or_refusal}

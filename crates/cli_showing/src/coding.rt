@@ -3,7 +3,7 @@ ghost use Rattle.std.specs.Prelude.{[], IfErr, map};
 ghost use Rattle.outside_core.specs.Results as results;
 ghost use Rattle.vault_model.specs.Seen.{bare_field};
 ghost use Rattle.vault_model.specs.SeenDoc.{doc_seen};
-ghost use Rattle.cli_answers.specs.Phases.{IsPlainStop, Returns};
+ghost use Rattle.cli_messages.specs.Phases.{IsPlainStop, Returns};
 ghost use Rattle.find_references.specs.Results.{meaning_of};
 ghost use Rattle.cli_showing.specs.Showing.{code_shown, with_code, with_names};
 
@@ -11,8 +11,8 @@ use crate::refusals::{lacking, unfound};
 use crate::showing::entry_named;
 use crate::texts::append;
 use crate::values::{append_names, missing_name};
-use cli_answers::{Reason, Stop, refused};
 use cli_codes::refused_code;
+use cli_messages::{Reason, Stop, refused};
 use find_references::FindFail;
 use outside_core::{NoMemory, Text};
 use secret_core::Secret;

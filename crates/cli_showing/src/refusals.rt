@@ -1,10 +1,10 @@
 //! What `show` and `search` refuse with.
-ghost use Rattle.cli_answers.specs.Messages.{Refuses, refusal_of};
-ghost use Rattle.cli_answers.specs.Phases.{IsPlainStop};
-ghost use Rattle.cli_answers.specs.declared.answers.Reason.TheVariants as answer;
+ghost use Rattle.cli_messages.specs.Messages.{Refuses, refusal_of};
+ghost use Rattle.cli_messages.specs.Phases.{IsPlainStop};
+ghost use Rattle.cli_messages.specs.declared.answers.Reason.TheVariants as answer;
 ghost use Rattle.cli_showing.specs.Refusals.{IsUnfound};
 
-use cli_answers::{Reason, Stop, refused};
+use cli_messages::{Reason, Stop, refused};
 use find_references::FindFail;
 use outside_core::{NoMemory, Text};
 use std::alloc::Global;

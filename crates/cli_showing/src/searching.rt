@@ -3,13 +3,13 @@ ghost use Rattle.std.specs.Prelude.{IfErr};
 ghost use Rattle.find_references.specs.Results.{meaning_of};
 ghost use Rattle.outside_core.specs.Results as results;
 ghost use Rattle.vault_model.specs.SeenDoc.{doc_seen};
-ghost use Rattle.cli_answers.specs.Phases.{IsPlainStop, Returns};
+ghost use Rattle.cli_messages.specs.Phases.{IsPlainStop, Returns};
 ghost use Rattle.cli_showing.specs.Showing.{entries_shown};
 ghost use Rattle.cli_showing.specs.inside.Searching.{entries_sought};
 
 use crate::paths::paths_of;
 use crate::refusals::unfound;
-use cli_answers::{Reason, Stop, refused};
+use cli_messages::{Reason, Stop, refused};
 use find_core::{Ids, search};
 use find_references::{FindFail, parse_terms};
 use outside_core::NoMemory;

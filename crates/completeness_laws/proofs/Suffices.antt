@@ -20,17 +20,17 @@ use Rattle.merge_changes.specs.Equality.{same_doc}
 use Rattle.kdbx_frame.specs.declared.settings.Settings.{Settings}
 use Rattle.kdbx_frame.specs.declared.sealings.Sealing.{Sealing}
 use Rattle.kdbx_seal.specs.Made.{made_file}
-use Rattle.cli_answers.specs.Messages.{refusal_of}
-use Rattle.cli_answers.specs.declared.answers.Reason.TheVariants.{IdTaken}
-use Rattle.cli_answers.specs.declared.answers.Refusal.{Refusal}
-use Rattle.cli_answers.specs.Phases.{StreamAnswer, after_left, then_left, with_left}
+use Rattle.cli_messages.specs.Messages.{refusal_of}
+use Rattle.cli_messages.specs.declared.answers.Reason.TheVariants.{IdTaken}
+use Rattle.cli_messages.specs.declared.answers.Refusal.{Refusal}
+use Rattle.cli_messages.specs.Phases.{StreamAnswer, after_left, then_left, with_left}
 use Rattle.cli_codes.specs.Codes.{code_refusal}
 use Rattle.cli_showing.specs.Showing.{code_shown, entry_shown}
 use Rattle.cli_profiles.specs.declared.profiles.PasswordProfile.{PasswordProfile}
-use Rattle.cli_words.specs.declared.command.Command.{Command}
-use Rattle.cli_words.specs.declared.command.Command.TheVariants.{Ls, Show, Search, Add, Edit, Move, Remove, MakeGroup, RemoveGroup, Merge, Import, Create, Export, EditFile, Info}
-use Rattle.cli_words.specs.Needs as from
-use Rattle.cli_words.specs.Needs.{generated_by, origin_of, target_of}
+use Rattle.cli_parse.specs.declared.command.Command.{Command}
+use Rattle.cli_parse.specs.declared.command.Command.TheVariants.{Ls, Show, Search, Add, Edit, Move, Remove, MakeGroup, RemoveGroup, Merge, Import, Create, Export, EditFile, Info}
+use Rattle.cli_parse.specs.Needs as from
+use Rattle.cli_parse.specs.Needs.{generated_by, origin_of, target_of}
 use Rattle.cli_printing.specs.Listing.{tree_listed}
 use Rattle.cli_writing.specs.Writing.{file_or_refusal}
 use Rattle.cli_sealing.specs.Draws.{after_draws, draws_of}
@@ -41,7 +41,7 @@ use Rattle.cli_changes.specs.Nodes.{after_entry_move, after_group_move, after_mk
 use Rattle.tree_core.specs.Changes.{is_free}
 use Rattle.cli_commands.specs.Commands.{Change, bin_id, change_by, change_with, created_change, created_or_refusal, drawn_id, listing_of, makes_node, merged_change, new_document, password_of, printed_text}
 use Rattle.cli_merging.specs.Merging.{after_merge, after_merged, changes_between, merged_or_refusal}
-use Rattle.call_carrying.specs.Endings.{carried_out, change_of_task, ended_with, ending_with, settings_in}
+use Rattle.call_run.specs.Endings.{carried_out, change_of_task, ended_with, ending_with, settings_in}
 use Rattle.keepass_call.proofs.TaskDocs.{task_docs}
 use Rattle.call_conditions.specs.Conditions.{Answers, CanChange, CanGenerate, CanMove, CanShowEntry, FitsFile, dice_after_id, id_for}
 use Rattle.completeness_laws.specs.Laws.{CommandsSucceed, ConditionsSuffice}

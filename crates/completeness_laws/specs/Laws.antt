@@ -5,8 +5,8 @@ use Rattle.vault_model.specs.Db.{NodeId}
 use Rattle.vault_model.specs.Tree.{BareDoc}
 use Rattle.agreed_laws.specs.Merges.{AreDocs}
 use Rattle.kdbx_frame.specs.declared.settings.Settings.{Settings}
-use Rattle.cli_words.specs.declared.command.Command.{Command}
-use Rattle.call_carrying.specs.Endings.{Ending}
+use Rattle.cli_parse.specs.declared.command.Command.{Command}
+use Rattle.call_run.specs.Endings.{Ending}
 use Rattle.keepass_call.specs.Held.{IsCarried}
 use Rattle.keepass_call.specs.Outcome.{World}
 use Rattle.call_conditions.specs.Conditions.{Answers, CanBeCarried, CanChange}

@@ -22,8 +22,8 @@ use Rattle.merge_checks.proofs.OwnDocs.{is_doc}
 use Rattle.document_merge.specs.declared.merging.MergeFail.{MergeFail}
 use Rattle.document_merge.specs.declared.merging.MergeFail.TheVariants.{RootClash, KindClash, MoveCycle, TooDeep, NoMemory}
 use Rattle.document_merge.specs.Merging.{IsFailOf, IsMergeResult, level_stage, path_stage, unless_found}
-use Rattle.reference_tables.specs.declared.databases.Database.{Database}
-use Rattle.reference_tables.specs.Databases.{database}
+use Rattle.merge_tables.specs.declared.databases.Database.{Database}
+use Rattle.merge_tables.specs.Databases.{database}
 
 pub are_docs : (ds : List Doc) (s : BareDoc) → IsIn s (map doc_seen ds) → IsDoc s
 are_docs ds s h = let f = from_map doc_seen ds s h in subst IsDoc f.1.1 (is_doc f.0)

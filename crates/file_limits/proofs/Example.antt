@@ -31,7 +31,7 @@ use Rattle.cli_writing.specs.Drawing.{next_bytes}
 use Rattle.cli_writing.specs.Writing.{file_or_refusal}
 use Rattle.cli_sealing.specs.Draws.{after_draws}
 use Rattle.cli_sealing.specs.Sealing.{file_by, file_unless}
-use Rattle.cli_answers.specs.Phases.{with_left}
+use Rattle.cli_messages.specs.Phases.{with_left}
 use Rattle.file_limits.proofs.Within.{are_drawn}
 use Rattle.file_limits.specs.Example.{ExampleFiles, composite, dice, draws, settings}
 

@@ -33,7 +33,7 @@ use Rattle.kdbx_seal.specs.PayloadMade.{blocks_to_end, chacha_keystream, content
 use Rattle.kdbx_seal.specs.declared.fail.SealFail.{SealFail}
 use Rattle.kdbx_seal.specs.declared.fail.SealFail.TheVariants as seal
 use Rattle.kdbx_seal.proofs.HashedPieces.{hashed_to_end_len}
-use Rattle.cli_answers.specs.declared.answers.Refusal.{Refusal}
+use Rattle.cli_messages.specs.declared.answers.Refusal.{Refusal}
 use Rattle.cli_writing.specs.Drawing.{next_bytes}
 use Rattle.cli_writing.specs.Writing.{NewFile, file_or_refusal}
 use Rattle.cli_sealing.specs.Draws.{after_iv, after_stream, draws_of, front_of}

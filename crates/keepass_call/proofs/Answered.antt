@@ -3,31 +3,31 @@ use Rattle.std.proofs.Common.{◌≡◌, ◌≤◌, ℕ, List, [], ◌∷◌, �
 use Rattle.std.specs.Prelude.{Contains, IfErr, IfOk, OnErr, OnOk}
 use Rattle.std.proofs.lemmas.List.Elements.{Contains-append_left, Contains-append_right}
 use Rattle.outside_core.specs.Counts.{Increased}
-use Rattle.cli_answers.specs.declared.answers.Refusal.{Refusal}
-use Rattle.cli_answers.specs.declared.answers.Stop.{Stop}
-use Rattle.cli_answers.specs.declared.answers.Stop.TheVariants.{Refused, FileFault, InputFault, NoMemory}
-use Rattle.cli_answers.specs.Phases.{IsCaused, IsCommandStop, IsEarlyStop, IsLeft, Leaves, Stops, StreamAnswer, TellsStream, then_left, with_left}
+use Rattle.cli_messages.specs.declared.answers.Refusal.{Refusal}
+use Rattle.cli_messages.specs.declared.answers.Stop.{Stop}
+use Rattle.cli_messages.specs.declared.answers.Stop.TheVariants.{Refused, FileFault, InputFault, NoMemory}
+use Rattle.cli_messages.specs.Phases.{IsCaused, IsCommandStop, IsEarlyStop, IsLeft, Leaves, Stops, StreamAnswer, TellsStream, then_left, with_left}
 use Rattle.cli_files.proofs.FileStops.{rose_before}
 use Rattle.cli_lines.proofs.Inputs.{left_alone}
-use Rattle.cli_words.specs.Needs.{Needs, database_files, files_named, files_of, key_files, needs_of, new_key_files, source_files, target_of}
-use Rattle.cli_words.specs.declared.command.Access.{Access}
-use Rattle.cli_words.specs.declared.command.FileChange.{FileChange}
-use Rattle.cli_words.specs.declared.command.Command.TheVariants.{Ls, Show, Search, Add, Edit, Move, Remove, MakeGroup, RemoveGroup, Merge, Import, Create, Export, EditFile, Info}
+use Rattle.cli_parse.specs.Needs.{Needs, database_files, files_named, files_of, key_files, needs_of, new_key_files, source_files, target_of}
+use Rattle.cli_parse.specs.declared.command.Access.{Access}
+use Rattle.cli_parse.specs.declared.command.FileChange.{FileChange}
+use Rattle.cli_parse.specs.declared.command.Command.TheVariants.{Ls, Show, Search, Add, Edit, Move, Remove, MakeGroup, RemoveGroup, Merge, Import, Create, Export, EditFile, Info}
 use Rattle.cli_profiles.specs.declared.profiles.PasswordProfile.{PasswordProfile}
-use Rattle.cli_words.specs.Words.{command_of, profile_of}
-use Rattle.cli_words.specs.declared.command.Command.{Command}
+use Rattle.cli_parse.specs.Words.{command_of, profile_of}
+use Rattle.cli_parse.specs.declared.command.Command.{Command}
 use Rattle.cli_writing.specs.Writing.{IsSame, KeepsDraft, KeepsFiles, Store}
 use Rattle.cli_commands.specs.declared.output.Output.{Output}
 use Rattle.cli_files.specs.declared.task.Task as memory
 use Rattle.cli_commands.specs.Commands.{may_write}
 use Rattle.cli_files.proofs.HeldKeys.{in_turn}
-use Rattle.call_carrying.specs.Endings.{Ending, Ends, EndsRefused, IsOfDice, IsOfSomeDice, carried_out}
+use Rattle.call_run.specs.Endings.{Ending, Ends, EndsRefused, IsOfDice, IsOfSomeDice, carried_out}
 use Rattle.cli_pages.specs.Pages.{page_of}
 use Rattle.keepass_call.specs.Outcome.{AsksCommand, IsOfSomeFile, IsOfTask, World, answer_of, command_answer, draws_with, may_write_by, page_or_answer, password_or_command, truth}
 use Rattle.keepass_call.proofs.Pages.{asks_command}
 use Rattle.cli_commands.specs.SeenChange.{output_text}
 use Rattle.cli_files.specs.Tasks.{Task, draws, draws_by}
-use Rattle.call_reading.specs.Reading.{HasSomeFile, task_of}
+use Rattle.call_input.specs.Reading.{HasSomeFile, task_of}
 
 pub same_store : (before mid : Store) → IsSame before mid → mid ≡ before
 same_store before mid h =

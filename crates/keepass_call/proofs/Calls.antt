@@ -4,27 +4,27 @@ use Rattle.std.specs.Prelude.{◌⊎◌, ◌++◌, IsSome, Result, Ok, Err, opti
 use Rattle.std.proofs.Math.Seq.{take-length}
 use Rattle.outside_core.specs.Counts.{Increased}
 use Rattle.outside_core.specs.Streams.{GainsPrefix, LosesPrefix}
-use Rattle.cli_answers.specs.declared.answers.Refusal.{Refusal}
-use Rattle.cli_answers.specs.declared.answers.Stop.{Stop}
-use Rattle.cli_answers.specs.declared.answers.Stop.TheVariants.{Refused, FileFault, InputFault, NoMemory}
-use Rattle.cli_answers.proofs.Statuses.{own, seven_missing}
-use Rattle.cli_answers.specs.Messages.{error_line, reason_text, status_of}
-use Rattle.cli_answers.specs.Phases.{IsCaused, IsLeft, IsWordsStop, Leaves, StreamAnswer, TellsStream, with_left}
-use Rattle.cli_words.specs.Needs.{files_named}
+use Rattle.cli_messages.specs.declared.answers.Refusal.{Refusal}
+use Rattle.cli_messages.specs.declared.answers.Stop.{Stop}
+use Rattle.cli_messages.specs.declared.answers.Stop.TheVariants.{Refused, FileFault, InputFault, NoMemory}
+use Rattle.cli_messages.proofs.Statuses.{own, seven_missing}
+use Rattle.cli_messages.specs.Messages.{error_line, reason_text, status_of}
+use Rattle.cli_messages.specs.Phases.{IsCaused, IsLeft, IsWordsStop, Leaves, StreamAnswer, TellsStream, with_left}
+use Rattle.cli_parse.specs.Needs.{files_named}
 use Rattle.cli_writing.specs.Writing.{IsSame, KeepsDraft, KeepsFiles, Store}
 use Rattle.cli_commands.specs.declared.output.Output.{Output}
 use Rattle.keepass_call.specs.Call.{IsCall}
 use Rattle.cli_commands.proofs.Changes.{loses_none}
 use Rattle.cli_lines.proofs.Inputs.{left_alone}
-use Rattle.cli_words.specs.declared.command.Command.{Command}
-use Rattle.call_carrying.specs.Endings.{Ending, Ends, EndsSo, ending_without}
+use Rattle.cli_parse.specs.declared.command.Command.{Command}
+use Rattle.call_run.specs.Endings.{Ending, Ends, EndsSo, ending_without}
 use Rattle.keepass_call.specs.Held.{IsAuthentic, IsComplete, WritesTask}
 use Rattle.cli_pages.specs.Pages.{page_of}
 use Rattle.keepass_call.specs.Outcome.{AsksCommand, Counts, ForEachWorld, Gains, IsAsSaid, IsCut, IsOfSomeFile, IsOfTask, IsRefused, IsSafe, IsUsage, IsWorldOf, KeepsFaults, NoFaults, Outcome, Seen, Truth, World, answer_of, draws_with, draws_words, ended, may_write_by, outcome, page_or_answer}
 use Rattle.cli_profiles.specs.declared.profiles.PasswordProfile.{PasswordProfile}
-use Rattle.cli_words.specs.Words.{command_of, profile_of}
+use Rattle.cli_parse.specs.Words.{command_of, profile_of}
 use Rattle.cli_files.specs.Tasks.{draws_by}
-use Rattle.call_reading.specs.Reading.{asked_by, left_behind, left_of}
+use Rattle.call_input.specs.Reading.{asked_by, left_behind, left_of}
 use Rattle.keepass_call.specs.Telling.{IsPrinted, IsTold, PrintsPage, TellsLine, TellsOneLine, memory_line}
 use Rattle.keepass_call.proofs.Answered.{answer_is, same_store}
 use Rattle.keepass_call.proofs.HeldTasks.{is_gained, is_task}

@@ -2,23 +2,23 @@
 use Rattle.std.proofs.Common.{◌≡◌, ℕ, List, Option, inl, inr, ◌∙◌, ap, subst, Result, Ok}
 use Rattle.std.specs.Prelude.{◌⊎◌}
 use Rattle.cli_profiles.specs.declared.profiles.PasswordProfile.{PasswordProfile}
-use Rattle.cli_answers.specs.declared.answers.Refusal.{Refusal}
-use Rattle.cli_answers.specs.Phases.{StreamAnswer}
+use Rattle.cli_messages.specs.declared.answers.Refusal.{Refusal}
+use Rattle.cli_messages.specs.Phases.{StreamAnswer}
 use Rattle.cli_files.proofs.HeldKeys.{in_turn}
-use Rattle.call_reading.proofs.Opened.{databases_follow, databases_hold}
-use Rattle.call_reading.specs.Opening.{databases_for}
+use Rattle.call_input.proofs.Opened.{databases_follow, databases_hold}
+use Rattle.call_input.specs.Opening.{databases_for}
 use Rattle.cli_lines.proofs.Having.{lines_have}
 use Rattle.cli_lines.specs.Lines.{lines_of}
-use Rattle.cli_words.specs.Needs.{needs_of}
-use Rattle.call_carrying.specs.Endings.{Ending}
+use Rattle.cli_parse.specs.Needs.{needs_of}
+use Rattle.call_run.specs.Endings.{Ending}
 use Rattle.keepass_call.specs.Held.{IsCarried, IsGenerated, IsTask}
 use Rattle.keepass_call.specs.Outcome.{World, answer_of, password_or_command}
-use Rattle.cli_words.specs.Words.{command_of}
+use Rattle.cli_parse.specs.Words.{command_of}
 use Rattle.cli_files.specs.Tasks.{Task, databases_in, task_with}
-use Rattle.call_reading.specs.Reading.{task_of}
+use Rattle.call_input.specs.Reading.{task_of}
 use Rattle.keepass_call.proofs.Answered.{answer_is, unpaged}
 use Rattle.keepass_call.proofs.Pages.{password_no_page}
-use Rattle.call_reading.proofs.ReadTasks.{task_is}
+use Rattle.call_input.proofs.ReadTasks.{task_is}
 
 ok_is : {A : Type 0} (a b : A) → ◌≡◌ {A = Result A Refusal} (Ok a) (Ok b) → a ≡ b
 ok_is a b h = cc

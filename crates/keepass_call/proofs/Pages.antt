@@ -2,20 +2,20 @@
 use Rattle.std.proofs.Common.{◌≡◌, ℕ, Bool, true, false, List, [], ◌∷◌, codes, bytes_eq, Option, Some, None, Result, Ok, Err, inl, inr, refl, subst}
 use Rattle.std.specs.Prelude.{◌⊎◌, if◌then◌else◌}
 use Rattle.std.proofs.lemmas.Slice.Eq.{bytes_eq-Decides}
-use Rattle.cli_answers.specs.Messages.{refusal_of}
-use Rattle.cli_answers.specs.declared.answers.Reason.TheVariants.{WrongWords}
-use Rattle.cli_answers.specs.declared.answers.Refusal.{Refusal}
-use Rattle.cli_answers.specs.Pages as alone
+use Rattle.cli_messages.specs.Messages.{refusal_of}
+use Rattle.cli_messages.specs.declared.answers.Reason.TheVariants.{WrongWords}
+use Rattle.cli_messages.specs.declared.answers.Refusal.{Refusal}
+use Rattle.cli_messages.specs.Pages as alone
 use Rattle.cli_pages.specs.Pages.{asks_why, page_of, why}
 use Rattle.std.specs.Prelude.{option_and_then}
 use Rattle.cli_profiles.specs.declared.profiles.PasswordProfile.{PasswordProfile}
-use Rattle.cli_saying.specs.Credentials.{is_whole}
-use Rattle.cli_saying.specs.Options.{command_named}
-use Rattle.cli_saying.specs.Said.{Said, nothing_said, with_words}
-use Rattle.cli_saying.specs.declared.names.CommandName.{CommandName}
-use Rattle.cli_saying.specs.declared.names.CommandName.TheVariants as n
-use Rattle.cli_words.specs.Words.{command_at, command_by, command_in, command_of, command_saying, or_wrong_words, profile_at, profile_by, profile_of, profile_saying}
-use Rattle.cli_words.specs.declared.command.Command.{Command}
+use Rattle.cli_options.specs.Credentials.{is_whole}
+use Rattle.cli_options.specs.Options.{command_named}
+use Rattle.cli_options.specs.Said.{Said, nothing_said, with_words}
+use Rattle.cli_options.specs.declared.names.CommandName.{CommandName}
+use Rattle.cli_options.specs.declared.names.CommandName.TheVariants as n
+use Rattle.cli_parse.specs.Words.{command_at, command_by, command_in, command_of, command_saying, or_wrong_words, profile_at, profile_by, profile_of, profile_saying}
+use Rattle.cli_parse.specs.declared.command.Command.{Command}
 use Rattle.keepass_call.specs.Outcome.{AsksCommand}
 
 one_of : (first second : Bool) (one other page : List ℕ) → (if first then Some one else (if second then Some other else None)) ≡ Some page

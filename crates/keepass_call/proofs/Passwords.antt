@@ -1,20 +1,20 @@
 -- Calls whose words ask for a password.
 use Rattle.std.proofs.Common.{◌≡◌, ◌++◌, ℕ, List, refl, inr, sym, ◌∙◌, ap, subst, true, false, Option, Some, None, Result, Ok, Err}
 use Rattle.std.specs.Prelude.{IfErr, IfOk, OnErr, codes, OnOk}
-use Rattle.cli_answers.specs.declared.answers.Refusal.{Refusal}
-use Rattle.cli_answers.specs.declared.answers.Stop.{Stop}
-use Rattle.cli_answers.specs.declared.answers.Stop.TheVariants.{Refused, FileFault, InputFault, NoMemory}
-use Rattle.cli_answers.specs.Phases.{IsCaused, IsLeft, IsMemoryStop, IsStreamStop, Leaves, RefusesStream, StreamAnswer, TellsStream, then_left, with_left}
+use Rattle.cli_messages.specs.declared.answers.Refusal.{Refusal}
+use Rattle.cli_messages.specs.declared.answers.Stop.{Stop}
+use Rattle.cli_messages.specs.declared.answers.Stop.TheVariants.{Refused, FileFault, InputFault, NoMemory}
+use Rattle.cli_messages.specs.Phases.{IsCaused, IsLeft, IsMemoryStop, IsStreamStop, Leaves, RefusesStream, StreamAnswer, TellsStream, then_left, with_left}
 use Rattle.cli_profiles.specs.declared.profiles.PasswordProfile.{PasswordProfile}
 use Rattle.cli_generating.specs.Generated.{generated}
-use Rattle.cli_words.specs.Words.{command_of, profile_of}
-use Rattle.cli_words.specs.declared.command.Command.{Command}
+use Rattle.cli_parse.specs.Words.{command_of, profile_of}
+use Rattle.cli_parse.specs.declared.command.Command.{Command}
 use Rattle.cli_writing.specs.Writing.{IsSame, KeepsFiles, Store}
 use Rattle.cli_commands.specs.declared.output.Output.{Output}
 use Rattle.cli_commands.specs.SeenChange.{output_text}
 use Rattle.cli_lines.proofs.Inputs.{left_alone, left_so}
-use Rattle.call_carrying.specs.Endings.{Ending, Ends, EndsRefused, EndsSo}
-use Rattle.call_reading.specs.Reading.{asked_by, left_behind, left_of}
+use Rattle.call_run.specs.Endings.{Ending, Ends, EndsRefused, EndsSo}
+use Rattle.call_input.specs.Reading.{asked_by, left_behind, left_of}
 use Rattle.keepass_call.specs.Outcome.{World, draws_with, password_answer, password_or_command, printed_password}
 use Rattle.keepass_call.proofs.Answered.{ends_left}
 use Rattle.keepass_call.proofs.Pages.{password_words}

@@ -13,14 +13,14 @@ use Rattle.kdbx_open.specs.Documents.{attachment, document_or_refusal}
 use Rattle.kdbx_open.specs.Opening.{FileContents}
 use Rattle.kdbx_open.specs.Sealed.{Sealed}
 use Rattle.kdbx_open.specs.declared.fail.OpenFail.{OpenFail}
-use Rattle.cli_words.specs.declared.command.Access.{Access}
+use Rattle.cli_parse.specs.declared.command.Access.{Access}
 use Rattle.cli_files.specs.Files.{Opened, plain_document}
 use Rattle.cli_databases.specs.Databases.{password_from}
 use Rattle.cli_databases.specs.Held.{HoldAll, HoldDatabases, HoldsBy}
-use Rattle.call_reading.specs.Opening.{HoldByOrigin}
+use Rattle.call_input.specs.Opening.{HoldByOrigin}
 use Rattle.agreed_laws.specs.Merges.{AreDocs}
-use Rattle.cli_words.specs.Needs as from
-use Rattle.cli_words.specs.Needs.{Origin, needs_of, origin_of}
+use Rattle.cli_parse.specs.Needs as from
+use Rattle.cli_parse.specs.Needs.{Origin, needs_of, origin_of}
 use Rattle.keepass_call.specs.Held.{IsTask}
 use Rattle.keepass_call.specs.Outcome.{World}
 use Rattle.cli_files.specs.Tasks.{Task, databases_in}

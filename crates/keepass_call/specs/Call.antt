@@ -1,13 +1,13 @@
 -- What the program promises of each call.
 use Rattle.std.specs.Prelude.{◌≡◌, ◌≢◌, ◌≤◌, ◌⊎◌, ℕ, List, Some, Err, false}
-use Rattle.cli_answers.specs.declared.answers.Refusal.{Refusal}
-use Rattle.cli_words.specs.Needs.{files_named}
+use Rattle.cli_messages.specs.declared.answers.Refusal.{Refusal}
+use Rattle.cli_parse.specs.Needs.{files_named}
 use Rattle.keepass_call.specs.Held.{IsAuthentic, IsComplete, WritesTask}
 use Rattle.keepass_call.specs.Merges.{MergesAgreed, MergesNothing}
 use Rattle.keepass_call.specs.Outcome.{AsksCommand, Counts, ForEachWorld, IsAsSaid, IsCut, IsRefused, IsSafe, IsUsage, KeepsFaults, NoFaults, PrintsOfSomeFile, Seen, draws_words, may_write_by, outcome}
 use Rattle.keepass_call.specs.Telling.{PrintsPage, TellsOneLine}
 use Rattle.cli_pages.specs.Pages.{page_of}
-use Rattle.cli_words.specs.Words.{command_of}
+use Rattle.cli_parse.specs.Words.{command_of}
 use Rattle.cli_writing.specs.Writing.{IsSame, KeepsFiles}
 
 -- A call with these words at a moment, its status, what is seen before and after it, and the counts

@@ -1,13 +1,13 @@
 -- What a call that was carried out rests on: files that hold what was used of them, speaking of all
 -- their bytes.
 use Rattle.std.specs.Prelude.{◌≡◌, ℕ, List, ◌⊎◌, Ok, Some}
-use Rattle.cli_words.specs.Needs.{needs_of, target_of}
+use Rattle.cli_parse.specs.Needs.{needs_of, target_of}
 use Rattle.cli_profiles.specs.declared.profiles.PasswordProfile.{PasswordProfile}
-use Rattle.cli_words.specs.Words.{command_of, profile_of}
+use Rattle.cli_parse.specs.Words.{command_of, profile_of}
 use Rattle.cli_lines.specs.Lines.{lines_of}
-use Rattle.call_reading.specs.Opening.{HoldCommandDatabases}
+use Rattle.call_input.specs.Opening.{HoldCommandDatabases}
 use Rattle.cli_commands.specs.Commands.{Change}
-use Rattle.call_carrying.specs.Endings.{Ending, ReadsBack, Stores, carried_out, change_of_task}
+use Rattle.call_run.specs.Endings.{Ending, ReadsBack, Stores, carried_out, change_of_task}
 use Rattle.keepass_call.specs.Outcome.{Counts, Gains, NoFaults, Seen, World, password_answer}
 use Rattle.cli_files.specs.Tasks.{Task, databases_in}
 

@@ -12,9 +12,9 @@ use Rattle.doc_forms.specs.Documents.{DocumentAndHash}
 use Rattle.kdbx_open.specs.Opening.{FileContents}
 use Rattle.kdbx_open.specs.Sealed.{Sealed}
 use Rattle.kdbx_frame.specs.declared.sealings.Sealing.{Sealing}
-use Rattle.cli_words.specs.declared.command.Command.{Command}
-use Rattle.cli_words.specs.declared.command.Command.TheVariants.{Ls, Show, Search, Add, Edit, Move, Remove, MakeGroup, RemoveGroup, Merge, Import, Create, Export, EditFile, Info}
-use Rattle.cli_words.specs.Needs.{needs_of}
+use Rattle.cli_parse.specs.declared.command.Command.{Command}
+use Rattle.cli_parse.specs.declared.command.Command.TheVariants.{Ls, Show, Search, Add, Edit, Move, Remove, MakeGroup, RemoveGroup, Merge, Import, Create, Export, EditFile, Info}
+use Rattle.cli_parse.specs.Needs.{needs_of}
 use Rattle.cli_files.specs.Files.{plain_document}
 use Rattle.cli_writing.specs.Writing.{IsSame, Store}
 use Rattle.keepass_call.specs.Held.{IsTask}

@@ -3,20 +3,20 @@ use Rattle.std.specs.Prelude.{◌≡◌, ◌≢◌, ℕ, Bool, true, false, List
 use Rattle.outside_core.specs.Counts.{Increased}
 use Rattle.outside_core.specs.Files.{FileMap}
 use Rattle.outside_core.specs.Streams.{GainsPrefix, LosesPrefix}
-use Rattle.cli_answers.specs.declared.answers.Refusal.{Refusal}
-use Rattle.cli_answers.specs.Messages.{status_of, reason_text, error_line}
-use Rattle.cli_answers.specs.Phases.{IsLeft, StreamAnswer, TellsStream, then_left, with_left}
+use Rattle.cli_messages.specs.declared.answers.Refusal.{Refusal}
+use Rattle.cli_messages.specs.Messages.{status_of, reason_text, error_line}
+use Rattle.cli_messages.specs.Phases.{IsLeft, StreamAnswer, TellsStream, then_left, with_left}
 use Rattle.cli_writing.specs.Writing.{KeepsDraft, KeepsFiles, NewFile, Store, store}
 use Rattle.cli_commands.specs.Commands.{may_write}
 use Rattle.cli_pages.specs.Pages.{page_of}
-use Rattle.cli_words.specs.Needs.{target_of}
-use Rattle.cli_words.specs.Words.{command_of, profile_of}
+use Rattle.cli_parse.specs.Needs.{target_of}
+use Rattle.cli_parse.specs.Words.{command_of, profile_of}
 use Rattle.cli_profiles.specs.declared.profiles.PasswordProfile.{PasswordProfile}
 use Rattle.cli_generating.specs.Generated.{generated}
-use Rattle.cli_words.specs.declared.command.Command.{Command}
+use Rattle.cli_parse.specs.declared.command.Command.{Command}
 use Rattle.cli_files.specs.Tasks.{Task, draws_by}
-use Rattle.call_reading.specs.Reading.{HasSomeFile, asked_by, left_of, task_of}
-use Rattle.call_carrying.specs.Endings.{Ending, IsOfDice, IsOfSomeDice, Stores, carried_out, ending_without}
+use Rattle.call_input.specs.Reading.{HasSomeFile, asked_by, left_of, task_of}
+use Rattle.call_run.specs.Endings.{Ending, IsOfDice, IsOfSomeDice, Stores, carried_out, ending_without}
 
 -- ---- what is defined
 

@@ -3,9 +3,9 @@ use Rattle.std.specs.Prelude.{◌≡◌, ℕ, List, Option, codes, ◌⊎◌, Co
 use Rattle.outside_core.specs.Counts.{Increased}
 use Rattle.outside_core.specs.declared.fails.SinkFail.{SinkFail}
 use Rattle.outside_core.specs.declared.fails.SinkFail.TheVariants as sink
-use Rattle.cli_answers.specs.declared.answers.Stop.{Stop}
-use Rattle.cli_answers.specs.declared.answers.Stop.TheVariants.{Refused, FileFault, InputFault, NoMemory}
-use Rattle.cli_answers.specs.Messages.{status_of, reason_text, error_line}
+use Rattle.cli_messages.specs.declared.answers.Stop.{Stop}
+use Rattle.cli_messages.specs.declared.answers.Stop.TheVariants.{Refused, FileFault, InputFault, NoMemory}
+use Rattle.cli_messages.specs.Messages.{status_of, reason_text, error_line}
 use Rattle.outside_core.specs.Streams.{GainsPrefix}
 use Rattle.keepass_call.specs.Outcome.{Counts, Gains, Outcome, Seen}
 

@@ -1,12 +1,12 @@
 //! Which file a call may write. The host asks before the call is made, because of such a file it lets
 //! only one call at a time go on.
 ghost use Rattle.std.specs.Prelude.{◌≡◌, IfOk, map, string_bytes};
-ghost use Rattle.cli_words.specs.Words.{command_of};
+ghost use Rattle.cli_parse.specs.Words.{command_of};
 ghost use Rattle.keepass_call.specs.Outcome.{written_by, written_with};
 
-use cli_answers::Stop;
 use cli_commands::may_write;
-use cli_words::{Command, read_words, target_of};
+use cli_messages::Stop;
+use cli_parse::{Command, read_words, target_of};
 use outside_core::{NoMemory, Text};
 use std::alloc::Global;
 

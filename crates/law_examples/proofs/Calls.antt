@@ -20,11 +20,11 @@ use Rattle.doc_spelling.specs.Ranges.{IsWritable, are_bytes, tree_nodes}
 use Rattle.doc_write.specs.Written.{write_outcome, written_len}
 use Rattle.doc_write.specs.declared.writing.WriteFail.{WriteFail}
 use Rattle.gen_core.specs.Chosen.{bound, choose, next}
-use Rattle.cli_answers.specs.Phases.{StreamAnswer, then_left, with_left}
-use Rattle.cli_answers.specs.Texts.{version}
-use Rattle.cli_answers.specs.declared.answers.Refusal.{Refusal}
+use Rattle.cli_messages.specs.Phases.{StreamAnswer, then_left, with_left}
+use Rattle.cli_messages.specs.Texts.{version}
+use Rattle.cli_messages.specs.declared.answers.Refusal.{Refusal}
 use Rattle.cli_codes.specs.Codes.{EPOCH}
-use Rattle.cli_words.specs.declared.command.Command.TheVariants.{Ls, Show}
+use Rattle.cli_parse.specs.declared.command.Command.TheVariants.{Ls, Show}
 use Rattle.cli_writing.specs.Drawing.{next_bytes}
 use Rattle.cli_writing.specs.Writing.{NewFile, file_or_refusal}
 use Rattle.cli_changes.specs.Entries.{after_add_command}
@@ -34,8 +34,8 @@ use Rattle.cli_printing.specs.Listing.{group_lines}
 use Rattle.cli_lines.specs.Lines.{Lines}
 use Rattle.cli_files.specs.Tasks.{Task}
 use Rattle.file_limits.proofs.Example.{written_so}
-use Rattle.call_carrying.specs.Endings.{Ending, carried_out, change_of_task, ending_with}
-use Rattle.call_reading.specs.Reading.{left_of}
+use Rattle.call_run.specs.Endings.{Ending, carried_out, change_of_task, ending_with}
+use Rattle.call_input.specs.Reading.{left_of}
 use Rattle.keepass_call.specs.Held.{IsCarried, IsTask}
 use Rattle.keepass_call.specs.Outcome.{answer_of, ended, outcome}
 use Rattle.keepass_call.proofs.HeldTasks.{is_given}

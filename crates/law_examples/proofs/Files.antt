@@ -28,8 +28,8 @@ use Rattle.doc_spelling.proofs.ReadsBack.{says_document}
 use Rattle.merge_examples.specs.Cases.{bare}
 use Rattle.merge_examples.proofs.Merged.{doc_first, doc_second, doc_third}
 use Rattle.merge_examples.proofs.Settled.{bare_doc, bare_settled}
-use Rattle.cli_words.specs.declared.command.Access.{Access}
-use Rattle.cli_words.specs.declared.command.Command.TheVariants.{Merge}
+use Rattle.cli_parse.specs.declared.command.Access.{Access}
+use Rattle.cli_parse.specs.declared.command.Command.TheVariants.{Merge}
 use Rattle.cli_lines.specs.Lines.{Lines}
 use Rattle.cli_files.specs.Files.{Opened, plain_document}
 use Rattle.cli_files.specs.Tasks.{Task}

@@ -13,15 +13,15 @@ use Rattle.doc_spelling.proofs.GoodDocs.{doc_good}
 use Rattle.doc_spelling.proofs.RangeTests.{hash_if}
 use Rattle.doc_spelling.proofs.ReadsBack.{says_document}
 use Rattle.gen_core.specs.Chosen.{choose, next}
-use Rattle.cli_answers.specs.Phases.{IsLeft, StreamAnswer}
-use Rattle.cli_answers.specs.declared.answers.Refusal.{Refusal}
+use Rattle.cli_messages.specs.Phases.{IsLeft, StreamAnswer}
+use Rattle.cli_messages.specs.declared.answers.Refusal.{Refusal}
 use Rattle.cli_changes.specs.Entries.{after_add_command}
 use Rattle.cli_writing.specs.Drawing.{next_bytes}
 use Rattle.cli_writing.specs.Held.{HoldsPlain, IsWritten}
 use Rattle.cli_commands.specs.Commands.{may_write}
 use Rattle.cli_files.specs.Tasks.{Task}
 use Rattle.cli_pages.specs.Pages.{page_of}
-use Rattle.call_carrying.specs.Endings.{EndsSo, HoldsNew, IsOfDice, ReadsBack}
+use Rattle.call_run.specs.Endings.{EndsSo, HoldsNew, IsOfDice, ReadsBack}
 use Rattle.keepass_call.specs.Call.{IsCall}
 use Rattle.keepass_call.specs.Held.{IsTask}
 use Rattle.keepass_call.specs.Outcome.{IsOfTask, IsWorldOf, Seen, World, answer_of}

@@ -1,7 +1,7 @@
 -- A merge of the three files is the beginning of a history.
 use Rattle.std.proofs.Common.{◌≡◌, ℕ, zero, suc, true, false, List, None, Result, Ok, codes, refl, sym, ap, subst, ◌∙◌, arith, true≢false}
 use Rattle.vault_model.specs.Join.{is_id}
-use Rattle.cli_answers.specs.declared.answers.Refusal.{Refusal}
+use Rattle.cli_messages.specs.declared.answers.Refusal.{Refusal}
 use Rattle.merge_examples.specs.Cases.{example_docs}
 use Rattle.merge_core.specs.Example.{as_it_was, edited, moved}
 use Rattle.merge_examples.proofs.Merged.{all_docs, doc_first, doc_second, doc_third}

@@ -6,13 +6,13 @@ use Rattle.merge_core.specs.Example.{as_it_was, edited}
 use Rattle.cli_codes.specs.Codes.{EPOCH}
 use Rattle.cli_pages.specs.Pages.{page_of}
 use Rattle.cli_profiles.specs.declared.profiles.PasswordProfile.{PasswordProfile}
-use Rattle.cli_words.specs.Needs.{files_named, generated_by}
-use Rattle.cli_words.specs.Words.{command_of}
-use Rattle.cli_words.specs.declared.command.Command.TheVariants.{Add}
+use Rattle.cli_parse.specs.Needs.{files_named, generated_by}
+use Rattle.cli_parse.specs.Words.{command_of}
+use Rattle.cli_parse.specs.declared.command.Command.TheVariants.{Add}
 use Rattle.cli_writing.specs.Writing.{NewFile}
 use Rattle.cli_commands.specs.Commands.{Change}
 use Rattle.cli_files.specs.Tasks.{Task}
-use Rattle.call_carrying.specs.Endings.{change_of_task}
+use Rattle.call_run.specs.Endings.{change_of_task}
 use Rattle.keepass_call.specs.Outcome.{World, outcome}
 use Rattle.law_examples.specs.Files.{plain_bytes, three_files, world_of}
 use Rattle.call_conditions.specs.Agreeing.{AgreeOn}

@@ -8,12 +8,12 @@ use Rattle.merge_core.specs.Example.{as_it_was, bank, edited, entry, group, home
 use Rattle.frame_laws.specs.Example.{without_bin}
 use Rattle.agreed_laws.specs.Merges.{AreDocs}
 use Rattle.cli_codes.specs.Codes.{EPOCH}
-use Rattle.cli_words.specs.declared.command.Access.{Access}
-use Rattle.cli_words.specs.declared.command.Asked.{Asked}
-use Rattle.cli_words.specs.declared.command.Command.{Command}
-use Rattle.cli_words.specs.declared.command.Command.TheVariants.{Ls, Show, Search, Add, Edit, Move, Remove, MakeGroup, RemoveGroup, Merge, Import, Export, Info}
-use Rattle.cli_words.specs.declared.command.ExportFormat.TheVariants as format
-use Rattle.cli_words.specs.declared.command.ImportFormat.TheVariants as import_format
+use Rattle.cli_parse.specs.declared.command.Access.{Access}
+use Rattle.cli_parse.specs.declared.command.Asked.{Asked}
+use Rattle.cli_parse.specs.declared.command.Command.{Command}
+use Rattle.cli_parse.specs.declared.command.Command.TheVariants.{Ls, Show, Search, Add, Edit, Move, Remove, MakeGroup, RemoveGroup, Merge, Import, Export, Info}
+use Rattle.cli_parse.specs.declared.command.ExportFormat.TheVariants as format
+use Rattle.cli_parse.specs.declared.command.ImportFormat.TheVariants as import_format
 use Rattle.content_condition_laws.specs.Conditions.{CanShowCode}
 use Rattle.call_conditions.specs.Conditions.{CanChange}
 

@@ -4,11 +4,11 @@ ghost use Rattle.std.specs.FinMap.{get};
 ghost use Rattle.vault_model.specs.SeenNodes.{bare_version, entry_row, tree_seen};
 ghost use Rattle.vault_model.specs.Shape.{kids};
 ghost use Rattle.vault_model.specs.Tree.{tree_of, with_record, with_records};
-ghost use Rattle.reference_shapes.specs.Shapes.{shape};
+ghost use Rattle.merge_nodes.specs.Shapes.{shape};
 
+use merge_nodes::shapes::{LentEntry, LentGroup, LentVersion, Shape};
+use merge_tables::states::LentState;
 use outside_core::{List, NoMemory};
-use reference_shapes::shapes::{LentEntry, LentGroup, LentVersion, Shape};
-use reference_tables::states::LentState;
 use std::alloc::Global;
 use uuid_core::Uuid;
 use vault_making::copies::{copy_content, copy_items, copy_text, put_last};

@@ -3,13 +3,13 @@ ghost use Rattle.std.specs.Prelude.{◌≡◌, true, IfOk, map};
 ghost use Rattle.std.specs.FinMap.{contains_key, entries};
 ghost use Rattle.vault_model.specs.SeenDoc.{doc_seen};
 ghost use Rattle.vault_model.specs.Tree.{IsDoc, LEVELS, doc_of};
-ghost use Rattle.reference_shapes.specs.Shapes.{shape};
+ghost use Rattle.merge_nodes.specs.Shapes.{shape};
 ghost use Rattle.merge_building.specs.Tombs.{tomb_of};
 
 use crate::building::group_at;
+use merge_nodes::shapes::Shape;
+use merge_tables::tables::Table;
 use outside_core::{List, NoMemory};
-use reference_shapes::shapes::Shape;
-use reference_tables::tables::Table;
 use std::alloc::Global;
 use vault_making::copies::put_last;
 use vault_model::{Doc, Meta, Stamp, Tombstone};

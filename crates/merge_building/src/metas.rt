@@ -1,10 +1,10 @@
 //! What a document says of itself, copied from what documents lend.
 ghost use Rattle.std.specs.Prelude.{◌≡◌, [], IfOk, OnOk};
-ghost use Rattle.reference_shapes.specs.Shapes.{meta_of};
+ghost use Rattle.merge_nodes.specs.Shapes.{meta_of};
 
+use merge_nodes::shapes::ShapeMeta;
+use merge_tables::icons::{LentIcon, LentItem};
 use outside_core::{Bytes, List, NoMemory, Text};
-use reference_shapes::shapes::ShapeMeta;
-use reference_tables::icons::{LentIcon, LentItem};
 use std::alloc::Global;
 use uuid_core::Uuid;
 use vault_making::copies::{copy_item, copy_text, put_last};

@@ -1,6 +1,6 @@
 -- Two lists gone through side by side.
 use Rattle.std.proofs.Common.{◌≡◌, ◌≢◌, ◌&&◌, ◌<◌, ◌≤◌, ◌+◌, ℕ, suc, Bool, true, false, List, [], ◌∷◌, map, length, get_or, drop, refl, ap, ◌∙◌}
-use Rattle.reference_tables.proofs.ListSteps.{drop_next, drop_end}
+use Rattle.merge_tables.proofs.ListSteps.{drop_next, drop_end}
 use Rattle.merge_changes.specs.Equality.{same_all}
 
 and_false : (b : Bool) → (b && false) ≡ false

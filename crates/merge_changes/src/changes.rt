@@ -3,18 +3,18 @@ ghost use Rattle.std.specs.Prelude.{◌≡◌, ◌&&◌, ◌++◌, [], ◌∷◌
 ghost use Rattle.std.specs.Option.{option_copied};
 ghost use Rattle.vault_model.specs.Unite.{tabulate};
 ghost use Rattle.merge_changes.specs.Equality.{same_all, same_state, same_stats};
-ghost use Rattle.reference_tables.specs.Databases.{database};
+ghost use Rattle.merge_tables.specs.Databases.{database};
 ghost use Rattle.merge_changes.specs.Changes.{all_changes, changes_at, entry_changes, group_changes, is_last, node_changes, nodes_of, or_order, rising_ids, same_place, same_use, same_versions, stays_current};
 
+use merge_nodes::shapes::LentEntry;
+use merge_tables::databases::Database;
+use merge_tables::ids::{push_both, push_ids};
+use merge_tables::placements::Placement;
+use merge_tables::states::LentState;
+use merge_tables::tables::{Table, put_some};
+use merge_tables::version_keys::VersionKey;
+use merge_tables::versions::VersionTable;
 use outside_core::{List, NoMemory};
-use reference_shapes::shapes::LentEntry;
-use reference_tables::databases::Database;
-use reference_tables::ids::{push_both, push_ids};
-use reference_tables::placements::Placement;
-use reference_tables::states::LentState;
-use reference_tables::tables::{Table, put_some};
-use reference_tables::version_keys::VersionKey;
-use reference_tables::versions::VersionTable;
 use std::alloc::Global;
 use uuid_core::Uuid;
 use vault_model::{Stats, compare_group};

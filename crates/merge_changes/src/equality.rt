@@ -9,9 +9,9 @@ ghost use Rattle.vault_model.specs.SeenDoc.{doc_seen};
 ghost use Rattle.vault_model.specs.SeenNodes.{bare_version, entry_row, tree_seen};
 ghost use Rattle.merge_changes.specs.Equality.{same_all, same_choices, same_doc, same_entry, same_meta, same_meta_view, same_parts, same_state, same_stats, same_texts, same_tomb, same_tree, same_version, same_view};
 
+use merge_tables::icons::compare_icons;
+use merge_tables::metas::{compare_bins, compare_settings};
 use outside_core::Text;
-use reference_tables::icons::compare_icons;
-use reference_tables::metas::{compare_bins, compare_settings};
 use uuid_core::Uuid;
 use vault_model::{
     Bin, Doc, Entry, Group, GroupState, GroupView, Icon, Item, Meta, MetaSettings, MetaView, Stats,

@@ -10,8 +10,8 @@ use Rattle.vault_model.proofs.Tests.{from_map, in_map, map_append}
 use Rattle.merge_core.specs.Refusals.{least, root_clashes}
 use Rattle.merge_core.proofs.Refused.{source_is}
 use Rattle.merge_core.proofs.Rooted.{rooted_at_home}
-use Rattle.reference_tables.specs.declared.databases.Database.{Database}
-use Rattle.reference_tables.specs.Databases.{database}
+use Rattle.merge_tables.specs.declared.databases.Database.{Database}
+use Rattle.merge_tables.specs.Databases.{database}
 use Rattle.merge_checks.proofs.SeenBelow.{seen_id}
 
 pub is_doc : (d : Doc) → IsDoc (doc_seen d)

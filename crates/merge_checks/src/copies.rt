@@ -3,11 +3,11 @@ ghost use Rattle.std.specs.Prelude.{◌≡◌, [], ◌∷◌, None, IfOk, OnOk, 
 ghost use Rattle.vault_model.specs.SeenDoc.{doc_seen};
 ghost use Rattle.vault_model.specs.Tree.{db_in};
 ghost use Rattle.merge_core.specs.Refusals.{least, members, root_clashes};
-ghost use Rattle.reference_tables.specs.Databases.{database, databases};
+ghost use Rattle.merge_tables.specs.Databases.{database, databases};
 
 use merge_reading::lending::database_of;
+use merge_tables::databases::Database;
 use outside_core::NoMemory;
-use reference_tables::databases::Database;
 use std::alloc::Global;
 use vault_model::Doc;
 

@@ -3,11 +3,11 @@ ghost use Rattle.std.specs.Prelude.{◌≡◌, true};
 ghost use Rattle.vault_model.specs.Proper.{rises};
 ghost use Rattle.merge_core.specs.Marking.{first_such};
 ghost use Rattle.merge_core.specs.Refusals.{is_entry, is_group, kind_clashes, least};
-ghost use Rattle.reference_tables.specs.Databases.{databases};
+ghost use Rattle.merge_tables.specs.Databases.{databases};
 ghost use Rattle.merge_checks.specs.Clashes.{is_of_two_kinds};
 ghost use Rattle.merge_join.specs.Marks.{AreKnown};
 
-use reference_tables::databases::Database;
+use merge_tables::databases::Database;
 use uuid_core::Uuid;
 
 /// Whether some member has the id for an entry.

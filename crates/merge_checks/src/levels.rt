@@ -6,13 +6,13 @@ ghost use Rattle.vault_model.specs.Proper.{rises};
 ghost use Rattle.vault_model.specs.Tree.{LEVELS};
 ghost use Rattle.merge_core.specs.Marking.{first_such};
 ghost use Rattle.merge_core.specs.Refusals.{allowed_steps, is_too_deep, least, too_deep};
-ghost use Rattle.reference_tables.specs.Databases.{databases};
+ghost use Rattle.merge_tables.specs.Databases.{databases};
 ghost use Rattle.merge_join.specs.Marks.{AllSound, AreKept, AreKnown};
 
 use crate::kinds::is_entry;
-use reference_join::nodes::is_on_trail;
-use reference_tables::databases::Database;
-use reference_tables::tables::Table;
+use merge_parts::nodes::is_on_trail;
+use merge_tables::databases::Database;
+use merge_tables::tables::Table;
 use uuid_core::Uuid;
 
 /// The most levels of groups.

@@ -11,8 +11,8 @@ ghost use Rattle.merge_core.specs.Marking.{is_marked};
 ghost use Rattle.merge_core.specs.Refusals.{least, lesser, root_clashes};
 ghost use Rattle.merge_checks.specs.Clashes.{clash_below, clash_in_docs, least_with};
 
+use merge_tables::tables::Table;
 use outside_core::NoMemory;
-use reference_tables::tables::Table;
 use std::alloc::Global;
 use uuid_core::Uuid;
 use vault_model::{Doc, Group};

@@ -16,7 +16,7 @@ use Rattle.merge_core.specs.Refusals.{least}
 use Rattle.merge_core.proofs.Distinct.{sorted_rises}
 use Rattle.merge_core.proofs.Allowed.{own_held}
 use Rattle.merge_core.proofs.Refused.{first_least, same_least}
-use Rattle.reference_join.specs.KnownIds.{known_in, known_ids}
+use Rattle.merge_parts.specs.KnownIds.{known_in, known_ids}
 use Rattle.merge_join.specs.Marks.{AllSound, AreKnown}
 
 -- what a member holds it knows

@@ -3,8 +3,8 @@ use Rattle.std.proofs.Common.{◌≡◌, ◌<◌, ℕ, Bool, List, [], ◌∷◌
 use Rattle.std.specs.FinMap.{FinMap}
 use Rattle.vault_model.specs.Db.{NodeId, id_cmp, Db}
 use Rattle.vault_model.specs.Join.{IsNotEmpty}
-use Rattle.reference_tables.specs.declared.databases.Database.{Database}
-use Rattle.reference_tables.specs.Databases.{databases}
+use Rattle.merge_tables.specs.declared.databases.Database.{Database}
+use Rattle.merge_tables.specs.Databases.{databases}
 use Rattle.merge_core.specs.Marking.{mark_own, strays}
 use Rattle.merge_core.specs.Refusals.{least}
 use Rattle.merge_join.specs.declared.marking.JoinRefusal.{JoinRefusal}

@@ -3,7 +3,7 @@ use Rattle.std.specs.Prelude.{◌≡◌, ℕ, List, None, Some, Result, Ok, Err}
 use Rattle.std.specs.List.{list_any}
 use Rattle.vault_model.specs.Db.{NodeId, Db, Sound}
 use Rattle.vault_model.specs.Join.{is_id, kept, IsIn}
-use Rattle.reference_join.specs.KnownIds.{known_ids}
+use Rattle.merge_parts.specs.KnownIds.{known_ids}
 use Rattle.merge_core.specs.Marking.{Marks, is_marked, mark_own, strays}
 use Rattle.merge_core.specs.Refusals.{least}
 use Rattle.merge_join.specs.declared.marking.JoinRefusal.{JoinRefusal}

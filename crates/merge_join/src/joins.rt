@@ -3,18 +3,18 @@ ghost use Rattle.std.specs.Prelude.{◌≡◌, ◌<◌, true, length, IfOk, OnOk
 ghost use Rattle.std.specs.FinMap as table;
 ghost use Rattle.vault_model.specs.Proper.{rises};
 ghost use Rattle.vault_model.specs.Join.{kept, join};
-ghost use Rattle.reference_tables.specs.Databases.{database, databases, shared_meta};
+ghost use Rattle.merge_tables.specs.Databases.{database, databases, shared_meta};
 ghost use Rattle.merge_join.specs.Marks.{AreKept, AreKnown};
 
+use merge_parts::joins::{all_versions, joined_meta, joined_state, latest_tomb};
+use merge_parts::nodes::{known_ids, latest};
+use merge_tables::databases::Database;
+use merge_tables::ids::{push_ids, table_of};
+use merge_tables::placements::Placement;
+use merge_tables::states::LentState;
+use merge_tables::tables::{Table, put_some};
+use merge_tables::versions::VersionTable;
 use outside_core::NoMemory;
-use reference_join::joins::{all_versions, joined_meta, joined_state, latest_tomb};
-use reference_join::nodes::{known_ids, latest};
-use reference_tables::databases::Database;
-use reference_tables::ids::{push_ids, table_of};
-use reference_tables::placements::Placement;
-use reference_tables::states::LentState;
-use reference_tables::tables::{Table, put_some};
-use reference_tables::versions::VersionTable;
 use std::alloc::Global;
 use uuid_core::Uuid;
 use vault_model::Stamp;

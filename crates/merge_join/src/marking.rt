@@ -2,14 +2,14 @@
 ghost use Rattle.std.specs.Prelude.{◌≡◌, ◌<◌, length, true, OnOk, Some};
 ghost use Rattle.vault_model.specs.Join.{above, HaveOneRoot};
 ghost use Rattle.vault_model.specs.Proper.{rises};
-ghost use Rattle.reference_tables.specs.Databases.{databases};
+ghost use Rattle.merge_tables.specs.Databases.{databases};
 ghost use Rattle.merge_core.specs.Marking.{climb, is_marked, mark_own, mark_up};
 ghost use Rattle.merge_join.specs.Marks.{AllSound, AreKnown, IsKeptResult, IsMarkRefusal};
 
+use merge_parts::nodes::{above, is_own};
+use merge_tables::databases::Database;
+use merge_tables::tables::Table;
 use outside_core::NoMemory;
-use reference_join::nodes::{above, is_own};
-use reference_tables::databases::Database;
-use reference_tables::tables::Table;
 use std::alloc::Global;
 use uuid_core::Uuid;
 

@@ -8,13 +8,13 @@ ghost use Rattle.vault_model.specs.Tree.{IsDoc, db_in, new_previous, rooted, wit
 ghost use Rattle.vault_model.specs.Unite.{unite};
 ghost use Rattle.merge_reading.specs.Columns.{HasColumns, one_version, with_entry, with_tree};
 
+use merge_tables::ids::is_same;
+use merge_tables::placements::Placement;
+use merge_tables::states::LentState;
+use merge_tables::tables::Table;
+use merge_tables::version_keys::VersionKey;
+use merge_tables::versions::VersionTable;
 use outside_core::NoMemory;
-use reference_tables::ids::is_same;
-use reference_tables::placements::Placement;
-use reference_tables::states::LentState;
-use reference_tables::tables::Table;
-use reference_tables::version_keys::VersionKey;
-use reference_tables::versions::VersionTable;
 use std::alloc::Global;
 use uuid_core::Uuid;
 use vault_model::{Doc, Entry, Group, Version};

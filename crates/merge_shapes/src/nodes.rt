@@ -6,11 +6,11 @@ ghost use Rattle.vault_model.specs.Shape.{EntryRecord};
 ghost use Rattle.vault_model.specs.Tree.{all_trees, ids_of};
 ghost use Rattle.merge_shapes.specs.NodeTables.{children_in, with_nodes, with_row};
 
+use merge_nodes::shapes::{Children, LentEntry, LentGroup, LentVersion, Stay};
+use merge_tables::states::LentState;
+use merge_tables::tables::Table;
+use merge_tables::version_keys::VersionKey;
 use outside_core::NoMemory;
-use reference_shapes::shapes::{Children, LentEntry, LentGroup, LentVersion, Stay};
-use reference_tables::states::LentState;
-use reference_tables::tables::Table;
-use reference_tables::version_keys::VersionKey;
 use std::alloc::Global;
 use uuid_core::Uuid;
 use vault_model::{Entry, Group, Version};

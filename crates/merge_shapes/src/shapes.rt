@@ -4,14 +4,14 @@ ghost use Rattle.std.specs.FinMap.{empty, from_entries};
 ghost use Rattle.vault_model.specs.SeenDoc.{doc_seen};
 ghost use Rattle.vault_model.specs.Tree.{shape_of};
 ghost use Rattle.merge_reading.specs.Rows.{tomb_row};
-ghost use Rattle.reference_shapes.specs.Shapes.{meta_of, shape};
+ghost use Rattle.merge_nodes.specs.Shapes.{meta_of, shape};
 ghost use Rattle.merge_shapes.specs.NodeTables.{HasNodes};
 
 use crate::nodes::{NodeTables, add_group};
+use merge_nodes::shapes::{Shape, ShapeMeta};
+use merge_tables::icons::{LentIcon, LentItem};
+use merge_tables::tables::Table;
 use outside_core::NoMemory;
-use reference_shapes::shapes::{Shape, ShapeMeta};
-use reference_tables::icons::{LentIcon, LentItem};
-use reference_tables::tables::Table;
 use std::alloc::Global;
 use vault_model::{Doc, Icon, Item, Meta, Stamp, Tombstone};
 

@@ -17,9 +17,9 @@ use Rattle.tree_core.specs.Changes.{changed_at, entry_at, group_moved, group_wit
 use Rattle.tree_core.specs.Finding.{entry_found, entry_id, entry_named as entry_at_path, first, group_found, group_named as group_at_path, has_group_path, or_else, without_slashes}
 use Rattle.tree_core.specs.NewNodes.{empty_bin, empty_group}
 use Rattle.tree_core.specs.NewPaths.{after_last, before_last, names_root, new_path}
-use Rattle.cli_answers.specs.declared.answers.Refusal.{Refusal}
-use Rattle.cli_words.specs.declared.command.Command.{Command}
-use Rattle.cli_words.specs.declared.command.Command.TheVariants.{Ls, Show, Search, Add, Edit, Move, Remove, MakeGroup, RemoveGroup, Merge, Import, Create, Export, EditFile, Info}
+use Rattle.cli_messages.specs.declared.answers.Refusal.{Refusal}
+use Rattle.cli_parse.specs.declared.command.Command.{Command}
+use Rattle.cli_parse.specs.declared.command.Command.TheVariants.{Ls, Show, Search, Add, Edit, Move, Remove, MakeGroup, RemoveGroup, Merge, Import, Create, Export, EditFile, Info}
 use Rattle.cli_printing.specs.Listing.{tree_listed}
 use Rattle.cli_changes.specs.Entries.{AfterCommand, entry_title, held_title, time_of}
 use Rattle.cli_changes.specs.Fails.{change_or_refusal}

@@ -18,7 +18,7 @@ use Rattle.find_references.specs.declared.terms.SearchField.{SearchField}
 use Rattle.find_references.specs.declared.terms.SearchField.TheVariants.{Any, Title, UserName, Password, Url, Notes, Tags, Group, Attr}
 use Rattle.find_references.specs.declared.terms.Term.{Term}
 use Rattle.find_core.specs.Search.{all_match, entries_found, found_among, found_in, has_text, is_searched, passing, values_of}
-use Rattle.cli_answers.specs.declared.answers.Refusal.{Refusal}
+use Rattle.cli_messages.specs.declared.answers.Refusal.{Refusal}
 use Rattle.cli_showing.specs.Paths.{is_among, path_line, paths_found}
 use Rattle.cli_showing.specs.Refusals.{found_or_refusal}
 use Rattle.cli_showing.specs.Showing.{entries_shown, paths_or_refusal}

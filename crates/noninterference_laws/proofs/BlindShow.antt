@@ -17,7 +17,7 @@ use Rattle.find_references.specs.Fields.{fields_of, is_other, named_keys}
 use Rattle.find_references.specs.References.{Piece, byte, pieces, reference}
 use Rattle.find_references.specs.Resolved.{Step, after_steps, copied, piece_steps, resolved, steps}
 use Rattle.find_references.specs.declared.fail.FindFail.{FindFail}
-use Rattle.cli_answers.specs.declared.answers.Refusal.{Refusal}
+use Rattle.cli_messages.specs.declared.answers.Refusal.{Refusal}
 use Rattle.cli_showing.specs.Refusals.{found_or_refusal}
 use Rattle.cli_showing.specs.Showing.{attachment_line, entry_or_refusal, entry_shown, entry_text, field_of, id_and_tags, others_shown, value_shown, whole_entry, with_attachments, with_fields, with_fields_shown, with_key, with_keys, with_value, with_value_of}
 use Rattle.noninterference_laws.specs.Masks.{ShowIsBlind, ShowsTitles, has_no_reference, is_marked, is_plain_byte, is_shown, mask, mask_attachment, mask_entry, mask_field, mask_row, shows_no_reference}

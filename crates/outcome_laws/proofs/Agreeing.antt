@@ -10,18 +10,18 @@ use Rattle.vault_model.specs.Join.{IsIn}
 use Rattle.vault_model.specs.Tree.{BareDoc}
 use Rattle.vault_model.proofs.Tests.{in_back, in_front}
 use Rattle.tree_core.proofs.Options.{never}
-use Rattle.cli_answers.specs.declared.answers.Refusal.{Refusal}
+use Rattle.cli_messages.specs.declared.answers.Refusal.{Refusal}
 use Rattle.cli_pages.specs.Pages.{page_of}
-use Rattle.cli_answers.specs.Phases.{StreamAnswer, after_left, then_left, with_left}
-use Rattle.cli_words.specs.declared.command.Access.{Access}
-use Rattle.cli_words.specs.declared.command.Command.{Command}
-use Rattle.cli_words.specs.declared.command.FileChange.{FileChange}
-use Rattle.cli_words.specs.declared.command.KeyFileChange.{KeyFileChange}
-use Rattle.cli_words.specs.declared.command.KeyFileChange.TheVariants as key_file
-use Rattle.cli_words.specs.declared.command.Command.TheVariants.{Ls, Show, Search, Add, Edit, Move, Remove, MakeGroup, RemoveGroup, Merge, Import, Create, Export, EditFile, Info}
-use Rattle.cli_words.specs.Needs as from
-use Rattle.cli_words.specs.Needs.{CreateNeeds, ImportNeeds, Needs, Origin, database_files, files_by, files_named, files_of, key_files, needs_of, new_key_files, origin_of, source_files, target_of}
-use Rattle.cli_words.specs.Words.{command_of, profile_of}
+use Rattle.cli_messages.specs.Phases.{StreamAnswer, after_left, then_left, with_left}
+use Rattle.cli_parse.specs.declared.command.Access.{Access}
+use Rattle.cli_parse.specs.declared.command.Command.{Command}
+use Rattle.cli_parse.specs.declared.command.FileChange.{FileChange}
+use Rattle.cli_parse.specs.declared.command.KeyFileChange.{KeyFileChange}
+use Rattle.cli_parse.specs.declared.command.KeyFileChange.TheVariants as key_file
+use Rattle.cli_parse.specs.declared.command.Command.TheVariants.{Ls, Show, Search, Add, Edit, Move, Remove, MakeGroup, RemoveGroup, Merge, Import, Create, Export, EditFile, Info}
+use Rattle.cli_parse.specs.Needs as from
+use Rattle.cli_parse.specs.Needs.{CreateNeeds, ImportNeeds, Needs, Origin, database_files, files_by, files_named, files_of, key_files, needs_of, new_key_files, origin_of, source_files, target_of}
+use Rattle.cli_parse.specs.Words.{command_of, profile_of}
 use Rattle.cli_profiles.specs.declared.profiles.PasswordProfile.{PasswordProfile}
 use Rattle.cli_generating.specs.Generated.{generated}
 use Rattle.cli_lines.specs.Lines.{Lines, lines_of}
@@ -34,9 +34,9 @@ use Rattle.cli_resealing.specs.Asked.{asked_settings, with_resealed}
 use Rattle.cli_resealing.specs.Created.{created_of, empty_document, undrawn_id}
 use Rattle.cli_resealing.specs.Edited.{changed_of, edited_of, key_after, key_made, settings_in, under_key}
 use Rattle.cli_commands.specs.Commands.{Change}
-use Rattle.call_reading.specs.Opening.{alone, databases_by, databases_for}
-use Rattle.call_reading.specs.Reading.{task_of}
-use Rattle.call_carrying.specs.Endings.{Ending, carried_out, change_of_task, ended_with, ending_with}
+use Rattle.call_input.specs.Opening.{alone, databases_by, databases_for}
+use Rattle.call_input.specs.Reading.{task_of}
+use Rattle.call_run.specs.Endings.{Ending, carried_out, change_of_task, ended_with, ending_with}
 use Rattle.stream_core.specs.InnerStream.{NoKeystream}
 use Rattle.vault_model.specs.declared.forms.DocForm.TheVariants.{Plain}
 use Rattle.doc_write.specs.Written.{write_outcome}
@@ -47,7 +47,7 @@ use Rattle.kdbx_seal.specs.declared.fail.SealFail.{SealFail}
 use Rattle.cli_sealing.specs.Draws.{draws_of}
 use Rattle.cli_sealing.specs.Sealing.{file_by, file_unless, sealed_file, settings_for}
 use Rattle.keepass_call.specs.Outcome.{World, answer_of, command_answer, ended, page_or_answer, password_answer, password_or_command, printed_password}
-use Rattle.call_reading.specs.Reading.{left_of}
+use Rattle.call_input.specs.Reading.{left_of}
 use Rattle.keepass_call.proofs.HeldTasks.{is_task}
 use Rattle.call_conditions.specs.Agreeing.{AgreeOn}
 use Rattle.outcome_laws.specs.Named.{OnlyNamedFilesCount, OnlyNamedIsWritten, PagesNeedNoFile, with_files}

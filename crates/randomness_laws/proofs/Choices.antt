@@ -4,8 +4,8 @@ use Rattle.std.proofs.lemmas.List.{take-append-le}
 use Rattle.std.specs.Prelude.{if◌then◌else◌}
 use Rattle.std.specs.List.{concat}
 use Rattle.gen_core.specs.Chosen.{Choice, Next, accepted, bound, character, choose, chosen, cut_short, ended, next, refused, spent, tries}
-use Rattle.cli_answers.specs.declared.answers.Refusal.{Refusal}
-use Rattle.cli_answers.specs.Phases.{then_left, with_left}
+use Rattle.cli_messages.specs.declared.answers.Refusal.{Refusal}
+use Rattle.cli_messages.specs.Phases.{then_left, with_left}
 use Rattle.cli_generating.specs.Generated.{generated, password_chosen}
 use Rattle.cli_profiles.specs.declared.profiles.PasswordProfile.{PasswordProfile}
 use Rattle.cli_commands.specs.Commands.{password_of, some_password}

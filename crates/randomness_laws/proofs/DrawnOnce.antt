@@ -8,20 +8,20 @@ use Rattle.kdbx_frame.specs.declared.sealings.Sealing.{Sealing}
 use Rattle.kdbx_seal.specs.Answers.{size_refusal}
 use Rattle.kdbx_seal.specs.Made.{made_file}
 use Rattle.kdbx_seal.specs.declared.fail.SealFail.{SealFail}
-use Rattle.cli_answers.specs.declared.answers.Refusal.{Refusal}
-use Rattle.cli_answers.specs.Phases.{StreamAnswer, after_left, then_left, with_left}
+use Rattle.cli_messages.specs.declared.answers.Refusal.{Refusal}
+use Rattle.cli_messages.specs.Phases.{StreamAnswer, after_left, then_left, with_left}
 use Rattle.cli_changes.specs.Ids.{new_id}
 use Rattle.cli_generating.specs.Generated.{generated}
 use Rattle.gen_core.specs.Chosen.{chosen}
 use Rattle.cli_profiles.specs.declared.profiles.PasswordProfile.{PasswordProfile}
-use Rattle.cli_words.specs.Needs.{generated_by, target_of}
+use Rattle.cli_parse.specs.Needs.{generated_by, target_of}
 use Rattle.cli_writing.specs.Drawing.{next_bytes}
 use Rattle.cli_writing.specs.Writing.{NewFile, plain_file}
 use Rattle.cli_sealing.specs.Draws.{after_draws, draws_of}
 use Rattle.cli_sealing.specs.Sealing.{file_by, file_unless, sealed_file, settings_for}
 use Rattle.cli_commands.specs.Commands.{Change, change_by, change_with, drawn_id, makes_node, password_of, some_password}
 use Rattle.cli_files.specs.Tasks.{Task}
-use Rattle.call_carrying.specs.Endings.{Ending, carried_out, change_of_task, ended_with, ending_with, settings_in}
+use Rattle.call_run.specs.Endings.{Ending, carried_out, change_of_task, ended_with, ending_with, settings_in}
 use Rattle.randomness_laws.specs.Pieces.{Call, CallsDrawOnce, DrawsFewBytes, FilesAreOfPieces, IdsAreOfPieces, PasswordsAreOfPieces, PrintedAreOfPieces, TasksDrawOnce, after_id, all_left, all_pieces, call_left, call_pieces, task_call, change_pieces, password_call, id_pieces, password_most, password_pieces, sealing_pieces, task_pieces, written_pieces}
 use Rattle.randomness_laws.proofs.Choices.{made_with, password_cut, password_left, password_len}
 use Rattle.randomness_laws.proofs.Cuts.{concat_append, cut_is, cut_len, lens, lens_most, next_is, next_len, pieces_cut}

@@ -25,14 +25,14 @@ use Rattle.kdbx_seal.specs.PayloadMade.{written_keystream}
 use Rattle.kdbx_seal.specs.declared.fail.SealFail.{SealFail}
 use Rattle.gen_core.specs.Chosen.{choose, next}
 use Rattle.cli_generating.specs.Generated.{generated}
-use Rattle.cli_answers.specs.Phases.{StreamAnswer, then_left, with_left}
-use Rattle.cli_answers.specs.declared.answers.Refusal.{Refusal}
+use Rattle.cli_messages.specs.Phases.{StreamAnswer, then_left, with_left}
+use Rattle.cli_messages.specs.declared.answers.Refusal.{Refusal}
 use Rattle.cli_writing.specs.Drawing.{next_bytes}
 use Rattle.cli_sealing.specs.Draws.{after_draws, draws_of}
 use Rattle.cli_sealing.specs.Sealing.{file_by, file_unless, settings_for}
 use Rattle.cli_changes.specs.Nodes.{after_mkdir}
 use Rattle.cli_commands.specs.Commands.{Change}
-use Rattle.call_carrying.specs.Endings.{Ending, carried_out, change_of_task, ending_with}
+use Rattle.call_run.specs.Endings.{Ending, carried_out, change_of_task, ending_with}
 use Rattle.file_limits.specs.Example.{settings}
 use Rattle.file_limits.proofs.Example.{fits_so}
 use Rattle.randomness_laws.specs.Example.{ExampleDraws, plain_making, rising, sealed_making, sealing, three_calls, two_letters}

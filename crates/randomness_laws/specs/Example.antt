@@ -7,11 +7,11 @@ use Rattle.merge_core.specs.Example.{as_it_was}
 use Rattle.kdbx_frame.specs.declared.sealings.Sealing.{Sealing}
 use Rattle.cli_generating.specs.Generated.{generated}
 use Rattle.cli_profiles.specs.declared.profiles.PasswordProfile.{PasswordProfile}
-use Rattle.cli_words.specs.declared.command.Command.TheVariants.{MakeGroup}
-use Rattle.cli_words.specs.Needs.{target_of}
+use Rattle.cli_parse.specs.declared.command.Command.TheVariants.{MakeGroup}
+use Rattle.cli_parse.specs.Needs.{target_of}
 use Rattle.cli_commands.specs.Commands.{Change, makes_node}
 use Rattle.cli_files.specs.Tasks.{Task}
-use Rattle.call_carrying.specs.Endings.{Ending, carried_out, change_of_task}
+use Rattle.call_run.specs.Endings.{Ending, carried_out, change_of_task}
 use Rattle.file_limits.specs.Example.{composite, settings}
 use Rattle.randomness_laws.specs.Pieces.{Call, all_pieces, task_call, password_call, task_pieces}
 

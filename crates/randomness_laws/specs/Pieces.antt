@@ -10,17 +10,17 @@ use Rattle.kdbx_frame.specs.Settings.{iv_len}
 use Rattle.kdbx_writing.specs.declared.draws.Draws.{Draws}
 use Rattle.kdbx_writing.specs.Draws.{start_len, stream_len}
 use Rattle.kdbx_seal.specs.Made.{made_file}
-use Rattle.cli_answers.specs.declared.answers.Refusal.{Refusal}
+use Rattle.cli_messages.specs.declared.answers.Refusal.{Refusal}
 use Rattle.cli_generating.specs.Generated.{generated}
 use Rattle.cli_profiles.specs.declared.profiles.PasswordProfile.{PasswordProfile}
-use Rattle.cli_words.specs.Needs.{generated_by, target_of}
+use Rattle.cli_parse.specs.Needs.{generated_by, target_of}
 use Rattle.cli_writing.specs.Drawing.{next_bytes}
 use Rattle.cli_sealing.specs.Draws.{draws_of}
 use Rattle.cli_sealing.specs.Sealing.{settings_for}
 use Rattle.cli_changes.specs.Ids.{new_id}
 use Rattle.cli_commands.specs.Commands.{Change, change_by, change_with, drawn_id, makes_node}
 use Rattle.cli_files.specs.Tasks.{Task}
-use Rattle.call_carrying.specs.Endings.{Ending, carried_out, change_of_task, settings_in}
+use Rattle.call_run.specs.Endings.{Ending, carried_out, change_of_task, settings_in}
 
 -- ---- pieces
 

@@ -7,8 +7,8 @@ mod parts;
 mod written;
 
 use crate::written::{written, written_profile};
-use cli_answers::Stop;
-use cli_words::{Command, read_profile, read_words};
+use cli_messages::Stop;
+use cli_parse::{Command, read_profile, read_words};
 use std::alloc::{AllocError, Global};
 use std::io::{self, BufRead, BufReader};
 

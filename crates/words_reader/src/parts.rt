@@ -1,7 +1,7 @@
 //! The parts of a line that is printed.
 
+use cli_parse::Access;
 use cli_profiles::PasswordProfile;
-use cli_words::Access;
 use outside_core::{List, Text};
 use std::alloc::{AllocError, Global};
 

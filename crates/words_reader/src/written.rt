@@ -1,11 +1,11 @@
 //! A command as a line.
 
 use crate::parts::Parts;
-use cli_profiles::PasswordProfile;
-use cli_words::{
+use cli_parse::{
     Asked, Command, ExportFormat, FileChange, ImportFormat, KdfAsked, KdfKind, KeyFileChange,
     PasswordChange, target_access, target_of,
 };
+use cli_profiles::PasswordProfile;
 use kdbx_frame::{Cipher, FileVersion};
 use std::alloc::{AllocError, Global};
 

@@ -1,5 +1,5 @@
 use Rattle.std.proofs.Common.{◌++◌, ◌∙◌, ap, codes, sym}
-use Rattle.cli_saying.proofs.PrefixCases.{by_cases}
+use Rattle.cli_options.proofs.PrefixCases.{by_cases}
 use Rattle.cli_causes.proofs.causes.after_hyphens.Goals as goal
 
 pub returns : goal.returns

@@ -3,7 +3,7 @@ use Rattle.std.specs.Prelude.{map, string_bytes}
 use denote.Shadow.{shadow}
 use denote.Text.{Utf8}
 use Rattle.cli_causes.specs.Causes.{cause_from}
-use Rattle.cli_saying.specs.SaidWords.{reading_seen}
+use Rattle.cli_options.specs.SaidWords.{reading_seen}
 use Rattle.cli_causes.proofs.causes.cause_from.Given as goal
 
 -- What is wrong in the words that are left is what is wrong in all of them.

@@ -1,8 +1,8 @@
 use Rattle.std.proofs.Common.{Some, None, arith, ap, sym, ◌∙◌}
 use Rattle.std.specs.Prelude.{is_some}
 use Rattle.std.proofs.lemmas.Str.Pattern.{split_parts}
-use Rattle.cli_saying.specs.Prefixes.{after_sign, before_sign}
-use Rattle.cli_saying.proofs.Texts.{after_first_sign, after_no_sign, before_first_sign, before_no_sign}
+use Rattle.cli_options.specs.Prefixes.{after_sign, before_sign}
+use Rattle.cli_options.proofs.Texts.{after_first_sign, after_no_sign, before_first_sign, before_no_sign}
 use Rattle.cli_causes.proofs.causes.split_at_sign.Goals as goal
 
 pub returns-in-Some-clause-before : goal.returns-in-Some-clause-before

@@ -1,5 +1,5 @@
 use Rattle.outside_core.proofs.Results.{fails_after}
-use Rattle.cli_answers.specs.Phases.{meaning_of}
+use Rattle.cli_messages.specs.Phases.{meaning_of}
 use Rattle.cli_changes.specs.Entries.{after_edit_command}
 use Rattle.cli_changes.proofs.Stopped.{stopped}
 use Rattle.cli_changes.proofs.entries.edit_entry.Goals as goal

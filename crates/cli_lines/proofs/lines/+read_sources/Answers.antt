@@ -1,8 +1,8 @@
 use Rattle.std.proofs.Common.{◌≡◌, ◌≤◌, ◌-◌, ℕ, List, [], ◌∷◌, ◌++◌, length, take, drop, map, refl, sym, ◌∙◌, ap, subst, arith, Bool, Option, Some, None, Result, Ok, Err, take_all}
 use Rattle.std.specs.Prelude.{IfOk, OnOk, is_some}
 use Rattle.std.proofs.lemmas.List.{map_push}
-use Rattle.cli_answers.specs.Phases.{IsLeft, ReturnsAskedStream, StreamAnswer, TellsStream}
-use Rattle.cli_answers.specs.declared.answers.Stop.{Stop}
+use Rattle.cli_messages.specs.Phases.{IsLeft, ReturnsAskedStream, StreamAnswer, TellsStream}
+use Rattle.cli_messages.specs.declared.answers.Stop.{Stop}
 use Rattle.cli_lines.specs.Lines.{line_if, lines_from, number_after, number_after_all}
 use Rattle.cli_lines.specs.SeenLines.{line_seen}
 use Rattle.cli_lines.proofs.Having.{one_more}

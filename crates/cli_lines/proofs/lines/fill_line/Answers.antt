@@ -1,8 +1,8 @@
 use Rattle.std.proofs.Common.{[], ◌∙◌, false, sym, true}
 use Rattle.std.specs.Prelude.{codes}
-use Rattle.cli_answers.specs.declared.answers.Reason.TheVariants.{InputEnded, LineForm, LineLimit}
+use Rattle.cli_messages.specs.declared.answers.Reason.TheVariants.{InputEnded, LineForm, LineLimit}
 use Rattle.cli_lines.specs.Lines.{line_of}
-use Rattle.cli_answers.specs.Messages.{refusal_of}
+use Rattle.cli_messages.specs.Messages.{refusal_of}
 use Rattle.cli_lines.proofs.Bytes.{line_read, none_read, not_text, refused_takes, text_takes}
 use Rattle.cli_lines.proofs.lines.fill_line.Goals as goal
 

@@ -1,6 +1,6 @@
 use Rattle.std.proofs.Common.{◌||◌, [], map}
-use Rattle.cli_words.specs.Needs.{asks_passwords_from}
-use Rattle.cli_words.specs.SeenNeeds.{needs_seen}
+use Rattle.cli_parse.specs.Needs.{asks_passwords_from}
+use Rattle.cli_parse.specs.SeenNeeds.{needs_seen}
 use Rattle.cli_lines.specs.Lines.{after_passwords, lines_from, number_from}
 use Rattle.cli_lines.specs.SeenLines.{line_seen, lines_seen}
 use Rattle.cli_lines.proofs.Inputs.{first_stops, kept_later, later_returns, stops_later, tells_first, tells_second}

@@ -1,5 +1,5 @@
 use Rattle.std.proofs.Common.{Ok, ap, ◌∙◌}
-use Rattle.cli_words.specs.SeenNeeds.{needs_seen}
+use Rattle.cli_parse.specs.SeenNeeds.{needs_seen}
 use Rattle.cli_lines.specs.Lines.{after_more, line_if, number_after, number_of_more}
 use Rattle.cli_lines.specs.SeenLines.{last_seen, line_seen}
 use Rattle.cli_lines.proofs.Inputs.{first_stops, later_returns, otp_given, second_stops, tells_first, tells_second}

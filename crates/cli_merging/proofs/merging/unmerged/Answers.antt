@@ -1,11 +1,11 @@
 use Rattle.std.proofs.Common.{◌≡◌, ◌≢◌, ℕ, List, refl, sym, ap, subst, ◌∙◌}
-use Rattle.cli_answers.specs.Messages.{Refuses, refusal_of}
-use Rattle.cli_answers.specs.Phases.{IsPlainStop}
-use Rattle.cli_answers.specs.declared.answers.Reason.{Reason}
-use Rattle.cli_answers.specs.declared.answers.Reason.TheVariants as answer
-use Rattle.cli_answers.specs.declared.answers.Refusal.{Refusal}
-use Rattle.cli_answers.specs.declared.answers.Stop.{Stop}
-use Rattle.cli_answers.specs.declared.answers.Stop.TheVariants.{Refused, FileFault, InputFault, NoMemory}
+use Rattle.cli_messages.specs.Messages.{Refuses, refusal_of}
+use Rattle.cli_messages.specs.Phases.{IsPlainStop}
+use Rattle.cli_messages.specs.declared.answers.Reason.{Reason}
+use Rattle.cli_messages.specs.declared.answers.Reason.TheVariants as answer
+use Rattle.cli_messages.specs.declared.answers.Refusal.{Refusal}
+use Rattle.cli_messages.specs.declared.answers.Stop.{Stop}
+use Rattle.cli_messages.specs.declared.answers.Stop.TheVariants.{Refused, FileFault, InputFault, NoMemory}
 use Rattle.document_merge.specs.declared.merging.MergeFail.{MergeFail}
 use Rattle.document_merge.specs.declared.merging.MergeFail.TheVariants as fail
 use Rattle.cli_merging.specs.Merging.{IsUnmerged, merge_answer}

@@ -1,6 +1,6 @@
 use Rattle.std.proofs.Common.{◌≡◌, ◌++◌, ◌+◌, ◌∙◌, sym, ap, subst, ◌<◌, ℕ, List, drop, encode_utf8, filter}
 use Rattle.std.specs.Prelude.{All}
-use Rattle.cli_saying.specs.SaidWords.{said_seen}
+use Rattle.cli_options.specs.SaidWords.{said_seen}
 use Rattle.cli_profiles.specs.Profiles.{alphabet_of, is_wanted}
 use Rattle.cli_profiles.proofs.Alphabets.{characters_low, none_kept, one_kept}
 use Rattle.cli_profiles.proofs.profiles.alphabet_of.Goals as goal

@@ -1,5 +1,5 @@
 use Rattle.std.proofs.Common.{◌≡◌, ◌++◌, drop, filter}
-use Rattle.cli_saying.specs.SaidWords.{said_seen}
+use Rattle.cli_options.specs.SaidWords.{said_seen}
 use Rattle.cli_profiles.specs.Profiles.{alphabet_of, is_wanted}
 use Rattle.cli_profiles.proofs.profiles.alphabet_of.Given as goal
 

@@ -2,8 +2,8 @@ use Rattle.std.proofs.Common.{◌≡◌, ◌∙◌, ap, subst, sym, Ok, Err}
 use Rattle.vault_model.specs.SeenDoc.{doc_seen}
 use Rattle.vault_model.specs.declared.forms.FileVersion.{FileVersion}
 use Rattle.kdbx_settings.specs.Changed.{changed_settings}
-use Rattle.cli_answers.specs.Messages.{refusal_of}
-use Rattle.cli_answers.specs.declared.answers.Reason.{Reason}
+use Rattle.cli_messages.specs.Messages.{refusal_of}
+use Rattle.cli_messages.specs.declared.answers.Reason.{Reason}
 use Rattle.cli_resealing.specs.Asked.{asked_settings}
 use Rattle.cli_resealing.proofs.Costs.{refused_as, refused_so, settled_as}
 use Rattle.cli_resealing.proofs.asked.reseal.Goals as goal

@@ -8,8 +8,8 @@ use Rattle.vault_model.specs.SeenDoc.{doc_seen}
 use Rattle.vault_model.specs.Shape.{lay}
 use Rattle.vault_model.specs.Tree.{BareDoc, IsDoc, LEVELS, doc_of, lay_doc}
 use Rattle.merge_core.specs.Refusals.{members}
-use Rattle.reference_tables.specs.Databases.{database}
-use Rattle.reference_shapes.specs.Shapes.{shape}
+use Rattle.merge_tables.specs.Databases.{database}
+use Rattle.merge_nodes.specs.Shapes.{shape}
 use Rattle.document_merge.proofs.merging.laid.Goals as goal
 
 pub laid_over-requires-clause-joined : goal.laid_over-requires-clause-joined

@@ -2,8 +2,8 @@
 use Rattle.std.proofs.Common.{◌≡◌, true, sym, subst}
 use Rattle.std.specs.FinMap.{contains_key}
 use Rattle.vault_model.specs.Shape.{Shape}
-use Rattle.reference_tables.specs.Databases.{database}
-use Rattle.reference_shapes.specs.Shapes.{shape}
+use Rattle.merge_tables.specs.Databases.{database}
+use Rattle.merge_nodes.specs.Shapes.{shape}
 use Rattle.document_merge.proofs.MergedDocs.{laid_root}
 use Rattle.document_merge.proofs.merging.laid_over.Goals as goal
 

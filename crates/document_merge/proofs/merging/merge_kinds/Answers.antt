@@ -1,7 +1,7 @@
 -- Documents' databases are sound and have one root.
 use Rattle.std.proofs.Common.{map}
 use Rattle.vault_model.specs.SeenDoc.{doc_seen}
-use Rattle.reference_tables.specs.Databases.{databases}
+use Rattle.merge_tables.specs.Databases.{databases}
 use Rattle.document_merge.proofs.MergedDocs.{all_rooted, all_sound, path_refused, some_members}
 use Rattle.document_merge.proofs.merging.merge_kinds.Goals as goal
 

@@ -1,6 +1,6 @@
 -- Nothing is refused, so the documents can be merged.
 use Rattle.std.proofs.Common.{sym, ◌∙◌}
-use Rattle.reference_tables.specs.Databases.{databases}
+use Rattle.merge_tables.specs.Databases.{databases}
 use Rattle.document_merge.proofs.MergedDocs.{all_allowed, all_merge, all_sound, some_members}
 use Rattle.document_merge.proofs.merging.merge_marked.Goals as goal
 

@@ -1,6 +1,6 @@
 use Rattle.std.proofs.Common.{map, sym, ◌∙◌, refl, inr}
 use Rattle.std.specs.Prelude.{string_bytes}
-use Rattle.cli_words.specs.Words.{command_of, profile_of}
+use Rattle.cli_parse.specs.Words.{command_of, profile_of}
 use Rattle.keepass_call.proofs.Answered.{command_draws, command_told, command_undrawn, faultless_dice}
 use Rattle.keepass_call.proofs.Passwords.{asked_draws, asked_left, asked_none, asked_told, kept_same, password_caused, same}
 use Rattle.keepass_call.proofs.run.answer_words.Goals as goal

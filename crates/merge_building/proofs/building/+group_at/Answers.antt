@@ -3,8 +3,8 @@ use Rattle.std.proofs.Common.{◌<◌, ◌≤◌, ◌+◌, ◌-◌, ◌++◌, Li
 use Rattle.vault_model.specs.Db.{NodeId}
 use Rattle.vault_model.specs.SeenNodes.{tree_seen}
 use Rattle.vault_model.specs.Tree.{with_records}
-use Rattle.reference_shapes.specs.Shapes.{shape}
-use Rattle.reference_tables.proofs.ListSteps.{drop_next}
+use Rattle.merge_nodes.specs.Shapes.{shape}
+use Rattle.merge_tables.proofs.ListSteps.{drop_next}
 use Rattle.merge_building.proofs.BuiltTrees.{built, built_last, child_absent, child_built, children_built, trees}
 use Rattle.merge_building.proofs.building.+group_at.Goals as goal
 use Rattle.merge_building.proofs.building.+group_at.Goals.{in-Some+in_ok-made+in_ok-put_last, in_default, then-levels-gt0+else-loop-child-test, else-levels-gt0}

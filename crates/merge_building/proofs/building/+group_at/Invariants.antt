@@ -1,6 +1,6 @@
 use Rattle.std.proofs.Common.{◌≡◌, ◌++◌, ◌-◌, map, drop}
 use Rattle.vault_model.specs.SeenNodes.{tree_seen}
-use Rattle.reference_shapes.specs.Shapes.{shape}
+use Rattle.merge_nodes.specs.Shapes.{shape}
 use Rattle.merge_building.proofs.BuiltTrees.{trees}
 use Rattle.merge_building.proofs.building.+group_at.Given as goal
 

@@ -1,7 +1,7 @@
 -- The parts that a document owes are those of the document that is laid.
 use Rattle.std.proofs.Common.{ap, sym, subst, ◌∙◌, option_copied}
 use Rattle.vault_model.specs.Tree.{IsDoc, LEVELS}
-use Rattle.reference_shapes.specs.Shapes.{shape}
+use Rattle.merge_nodes.specs.Shapes.{shape}
 use Rattle.merge_building.proofs.LaidParts.{assembled}
 use Rattle.merge_building.proofs.laid.with_root.Goals as goal
 

@@ -1,6 +1,6 @@
 use Rattle.std.proofs.Common.{◌≡◌, ◌++◌, drop}
 use Rattle.std.specs.List.{flat_map}
-use Rattle.reference_tables.specs.Databases.{database}
+use Rattle.merge_tables.specs.Databases.{database}
 use Rattle.merge_changes.specs.Changes.{changes_at}
 use Rattle.merge_changes.proofs.changes.changed_nodes.Given as goal
 

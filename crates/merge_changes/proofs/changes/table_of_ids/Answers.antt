@@ -1,8 +1,8 @@
 -- Filled at each id, the table has just these.
 use Rattle.std.proofs.Common.{◌≤◌, Bool, true, Option, Some, length, arith, ap, sym, ◌∙◌}
 use Rattle.vault_model.specs.Db.{NodeId}
-use Rattle.reference_tables.proofs.FillTables.{fill, fill_tabulate}
-use Rattle.reference_tables.proofs.ListSteps.{drop_end}
+use Rattle.merge_tables.proofs.FillTables.{fill, fill_tabulate}
+use Rattle.merge_tables.proofs.ListSteps.{drop_end}
 use Rattle.merge_changes.proofs.changes.table_of_ids.Goals as goal
 
 pub returns : goal.returns

@@ -1,7 +1,7 @@
 use Rattle.std.proofs.Common.{◌≡◌, Bool, true, Option, Some, drop}
 use Rattle.std.specs.FinMap.{empty}
 use Rattle.vault_model.specs.Db.{NodeId}
-use Rattle.reference_tables.proofs.FillTables.{fill}
+use Rattle.merge_tables.proofs.FillTables.{fill}
 use Rattle.merge_changes.proofs.changes.table_of_ids.Given as goal
 
 abbrev pub invariant-loop-id : goal.invariant-loop-id

@@ -5,8 +5,8 @@ use Rattle.vault_model.specs.Db.{Db}
 use Rattle.vault_model.specs.SeenDoc.{doc_seen}
 use Rattle.vault_model.specs.Tree.{BareDoc, db_in, id_of, rooted}
 use Rattle.merge_core.specs.Refusals.{members}
-use Rattle.reference_tables.specs.Databases.{database}
-use Rattle.reference_tables.proofs.ListSteps.{drop_next}
+use Rattle.merge_tables.specs.Databases.{database}
+use Rattle.merge_tables.proofs.ListSteps.{drop_next}
 use Rattle.merge_checks.proofs.SeenBelow.{seen_id}
 use Rattle.merge_checks.proofs.OwnDocs.{at_place, copy_more, is_source}
 use Rattle.merge_checks.proofs.copies.push_members.Goals as goal

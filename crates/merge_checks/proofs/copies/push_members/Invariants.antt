@@ -2,7 +2,7 @@ use Rattle.std.proofs.Common.{◌≡◌, ◌++◌, map, drop}
 use Rattle.vault_model.specs.SeenDoc.{doc_seen}
 use Rattle.vault_model.specs.Tree.{BareDoc, db_in, id_of, rooted}
 use Rattle.merge_core.specs.Refusals.{members}
-use Rattle.reference_tables.specs.Databases.{databases}
+use Rattle.merge_tables.specs.Databases.{databases}
 use Rattle.merge_checks.proofs.copies.push_members.Given as goal
 
 abbrev pub invariant-loop-source : goal.invariant-loop-source

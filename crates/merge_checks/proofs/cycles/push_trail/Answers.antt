@@ -2,8 +2,8 @@
 use Rattle.std.proofs.Common.{◌-◌, ◌∷◌, [], ◌++◌, List, append_assoc, sym, ap, ◌∙◌}
 use Rattle.vault_model.specs.Db.{NodeId}
 use Rattle.vault_model.specs.Join.{above, trail}
-use Rattle.reference_tables.specs.Databases.{databases}
-use Rattle.reference_join.proofs.Trails.{trail_more}
+use Rattle.merge_tables.specs.Databases.{databases}
+use Rattle.merge_parts.proofs.Trails.{trail_more}
 use Rattle.merge_checks.proofs.cycles.push_trail.Goals as goal
 
 pub loop-left-preserved : goal.loop-left-preserved

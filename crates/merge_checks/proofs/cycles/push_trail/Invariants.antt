@@ -1,6 +1,6 @@
 use Rattle.std.proofs.Common.{◌≡◌, ◌++◌}
 use Rattle.vault_model.specs.Join.{trail}
-use Rattle.reference_tables.specs.Databases.{databases}
+use Rattle.merge_tables.specs.Databases.{databases}
 use Rattle.merge_checks.proofs.cycles.push_trail.Given as goal
 
 abbrev pub invariant-loop-left : goal.invariant-loop-left

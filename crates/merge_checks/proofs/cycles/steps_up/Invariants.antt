@@ -1,7 +1,7 @@
 use Rattle.std.proofs.Common.{◌≡◌}
 use Rattle.vault_model.specs.Db.{steps}
 use Rattle.vault_model.specs.Join.{above}
-use Rattle.reference_tables.specs.Databases.{databases}
+use Rattle.merge_tables.specs.Databases.{databases}
 use Rattle.merge_checks.proofs.cycles.steps_up.Given as goal
 
 abbrev pub invariant-loop-left : goal.invariant-loop-left

@@ -1,6 +1,6 @@
 use Rattle.std.proofs.Common.{◌≡◌, drop}
 use Rattle.merge_core.specs.Marking.{first_such}
-use Rattle.reference_tables.specs.Databases.{databases}
+use Rattle.merge_tables.specs.Databases.{databases}
 use Rattle.merge_checks.specs.Clashes.{is_of_two_kinds}
 use Rattle.merge_checks.proofs.kinds.first_of_two_kinds.Given as goal
 

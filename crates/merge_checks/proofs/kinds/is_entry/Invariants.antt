@@ -1,6 +1,6 @@
 use Rattle.std.proofs.Common.{◌≡◌, drop}
 use Rattle.merge_core.specs.Refusals.{is_entry}
-use Rattle.reference_tables.specs.Databases.{databases}
+use Rattle.merge_tables.specs.Databases.{databases}
 use Rattle.merge_checks.proofs.kinds.is_entry.Given as goal
 
 abbrev pub invariant-loop-copy : goal.invariant-loop-copy

@@ -1,6 +1,6 @@
 -- The first of the known ids is the least.
 use Rattle.std.proofs.Common.{◌∙◌}
-use Rattle.reference_tables.specs.Databases.{databases}
+use Rattle.merge_tables.specs.Databases.{databases}
 use Rattle.merge_checks.specs.Clashes.{is_of_two_kinds}
 use Rattle.merge_checks.proofs.FirstHeld.{first_held, two_held}
 use Rattle.merge_checks.proofs.kinds.kind_clash.Goals as goal

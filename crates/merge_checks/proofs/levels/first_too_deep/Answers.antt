@@ -3,8 +3,8 @@ use Rattle.std.proofs.Common.{◌+◌, Some, cond, drop, sym, ap, ◌∙◌}
 use Rattle.vault_model.specs.Tree.{LEVELS}
 use Rattle.merge_core.specs.Marking.{first_such}
 use Rattle.merge_core.specs.Refusals.{is_too_deep}
-use Rattle.reference_tables.specs.Databases.{databases}
-use Rattle.reference_tables.proofs.ListSteps.{drop_next}
+use Rattle.merge_tables.specs.Databases.{databases}
+use Rattle.merge_tables.proofs.ListSteps.{drop_next}
 use Rattle.merge_checks.proofs.levels.first_too_deep.Goals as goal
 
 pub loop-id-preserved : goal.loop-id-preserved

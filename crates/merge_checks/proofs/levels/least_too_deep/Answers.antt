@@ -2,7 +2,7 @@
 use Rattle.std.proofs.Common.{◌∙◌}
 use Rattle.vault_model.specs.Tree.{LEVELS}
 use Rattle.merge_core.specs.Refusals.{is_too_deep, too_deep}
-use Rattle.reference_tables.specs.Databases.{databases}
+use Rattle.merge_tables.specs.Databases.{databases}
 use Rattle.merge_checks.proofs.FirstHeld.{first_held, deep_held}
 use Rattle.merge_checks.proofs.levels.least_too_deep.Goals as goal
 

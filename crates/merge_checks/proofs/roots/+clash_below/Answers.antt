@@ -7,7 +7,7 @@ use Rattle.vault_model.specs.SeenNodes.{entry_row, tree_seen}
 use Rattle.vault_model.specs.Shape.{EntryRecord}
 use Rattle.vault_model.specs.Tree.{all_trees}
 use Rattle.merge_core.specs.Marking.{is_marked}
-use Rattle.reference_tables.proofs.ListSteps.{drop_end}
+use Rattle.merge_tables.proofs.ListSteps.{drop_end}
 use Rattle.merge_checks.specs.Clashes.{clash_in_all, least_with_all}
 use Rattle.merge_checks.proofs.SeenBelow.{seen_below}
 use Rattle.merge_checks.proofs.roots.+clash_below.Goals as goal

@@ -9,8 +9,8 @@ use Rattle.vault_model.specs.Join.{is_id}
 use Rattle.vault_model.specs.SeenDoc.{doc_seen}
 use Rattle.vault_model.specs.Tree.{BareDoc, id_of}
 use Rattle.merge_core.specs.Marking.{is_marked}
-use Rattle.reference_tables.proofs.IdSets.{has_put, one_more}
-use Rattle.reference_tables.proofs.ListSteps.{drop_next, drop_end}
+use Rattle.merge_tables.proofs.IdSets.{has_put, one_more}
+use Rattle.merge_tables.proofs.ListSteps.{drop_next, drop_end}
 use Rattle.merge_checks.proofs.RootIds.{or_off}
 use Rattle.merge_checks.proofs.SeenBelow.{seen_id}
 use Rattle.merge_checks.proofs.roots.put_roots.Goals as goal

@@ -2,8 +2,8 @@
 use Rattle.std.proofs.Common.{sym, ◌∙◌}
 use Rattle.merge_core.proofs.Facts.{join_root}
 use Rattle.vault_model.specs.Join.{join}
-use Rattle.reference_tables.specs.Databases.{databases}
-use Rattle.reference_join.proofs.Members.{root_first}
+use Rattle.merge_tables.specs.Databases.{databases}
+use Rattle.merge_parts.proofs.Members.{root_first}
 use Rattle.merge_join.proofs.joins.join_marked.Goals as goal
 
 pub returns-in-Ok : goal.returns-in-Ok

@@ -6,7 +6,7 @@ use Rattle.vault_model.specs.Db.{Db, Versions}
 use Rattle.vault_model.specs.Join.{stats_join}
 use Rattle.vault_model.specs.Unite.{gather, unite}
 use Rattle.merge_core.proofs.Facts.{join_entries}
-use Rattle.reference_tables.specs.Databases.{databases}
+use Rattle.merge_tables.specs.Databases.{databases}
 use Rattle.merge_join.proofs.joins.joined_entry.Goals as goal
 
 pub returns-then-is_kept : goal.returns-then-is_kept

@@ -5,7 +5,7 @@ use Rattle.vault_model.specs.Db.{Db}
 use Rattle.vault_model.specs.Join.{state_join}
 use Rattle.vault_model.specs.Unite.{gather}
 use Rattle.merge_core.proofs.Facts.{join_groups}
-use Rattle.reference_tables.specs.Databases.{databases}
+use Rattle.merge_tables.specs.Databases.{databases}
 use Rattle.merge_join.proofs.joins.joined_group.Goals as goal
 
 pub returns-then-is_kept : goal.returns-then-is_kept

@@ -2,7 +2,7 @@
 use Rattle.std.proofs.Common.{cond, None, ap, sym, ◌∙◌}
 use Rattle.vault_model.specs.Join.{latest}
 use Rattle.merge_core.proofs.Facts.{join_places}
-use Rattle.reference_tables.specs.Databases.{databases}
+use Rattle.merge_tables.specs.Databases.{databases}
 use Rattle.merge_join.proofs.joins.joined_place.Goals as goal
 
 pub returns-then-is_kept : goal.returns-then-is_kept

@@ -4,7 +4,7 @@ use Rattle.std.specs.FinMap.{get}
 use Rattle.vault_model.specs.Db.{Db}
 use Rattle.vault_model.specs.Unite.{gather}
 use Rattle.merge_core.proofs.Facts.{join_tombs}
-use Rattle.reference_tables.specs.Databases.{databases}
+use Rattle.merge_tables.specs.Databases.{databases}
 use Rattle.merge_join.proofs.joins.joined_tomb.Goals as goal
 
 pub returns-then-is_kept : goal.returns-then-is_kept

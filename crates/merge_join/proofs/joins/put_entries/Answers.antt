@@ -2,10 +2,10 @@
 use Rattle.std.proofs.Common.{◌≤◌, length, arith, ap, sym, ◌∙◌}
 use Rattle.std.specs.FinMap.{get}
 use Rattle.vault_model.specs.Join.{join}
-use Rattle.reference_tables.specs.Databases.{databases}
-use Rattle.reference_tables.proofs.FillTables.{fill, fill_whole}
-use Rattle.reference_tables.proofs.ListSteps.{drop_end}
-use Rattle.reference_join.proofs.JoinKnown.{entries_known}
+use Rattle.merge_tables.specs.Databases.{databases}
+use Rattle.merge_tables.proofs.FillTables.{fill, fill_whole}
+use Rattle.merge_tables.proofs.ListSteps.{drop_end}
+use Rattle.merge_parts.proofs.JoinKnown.{entries_known}
 use Rattle.merge_join.proofs.joins.put_entries.Goals as goal
 
 pub returns : goal.returns

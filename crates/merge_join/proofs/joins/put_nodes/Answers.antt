@@ -1,5 +1,5 @@
 -- Part by part.
-use Rattle.reference_tables.specs.Databases.{shared_meta}
+use Rattle.merge_tables.specs.Databases.{shared_meta}
 use Rattle.merge_join.proofs.joins.put_nodes.Goals as goal
 
 pub returns : goal.returns

@@ -4,9 +4,9 @@ use Rattle.std.proofs.lemmas.Result.{err_from_is_err_and}
 use Rattle.std.specs.FinMap.{empty, insert}
 use Rattle.vault_model.specs.Db.{NodeId}
 use Rattle.vault_model.specs.Join.{root_of}
-use Rattle.reference_tables.specs.Databases.{databases}
-use Rattle.reference_join.proofs.Members.{root_first}
-use Rattle.reference_tables.proofs.ListSteps.{drop_next, drop_end}
+use Rattle.merge_tables.specs.Databases.{databases}
+use Rattle.merge_parts.proofs.Members.{root_first}
+use Rattle.merge_tables.proofs.ListSteps.{drop_next, drop_end}
 use Rattle.merge_core.proofs.Marked.{IsMarking, begin, next, stuck, done}
 use Rattle.merge_join.proofs.KnownIds.{held_known, stray_least}
 use Rattle.merge_join.proofs.NotEmpty.{not_empty, refused}

@@ -1,5 +1,5 @@
 use Rattle.std.proofs.Common.{drop}
-use Rattle.reference_tables.specs.Databases.{databases}
+use Rattle.merge_tables.specs.Databases.{databases}
 use Rattle.merge_core.proofs.Marked.{IsMarking}
 use Rattle.merge_join.proofs.marking.kept_marks.Given as goal
 

@@ -1,5 +1,5 @@
 use Rattle.std.proofs.Common.{◌≡◌}
-use Rattle.reference_tables.specs.Databases.{databases}
+use Rattle.merge_tables.specs.Databases.{databases}
 use Rattle.merge_core.specs.Marking.{mark_up}
 use Rattle.merge_join.proofs.marking.mark.Given as goal
 

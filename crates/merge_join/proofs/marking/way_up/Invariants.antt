@@ -1,6 +1,6 @@
 use Rattle.std.proofs.Common.{◌≡◌, ◌+◌}
 use Rattle.vault_model.specs.Join.{above}
-use Rattle.reference_tables.specs.Databases.{databases}
+use Rattle.merge_tables.specs.Databases.{databases}
 use Rattle.merge_core.specs.Marking.{climb, is_marked}
 use Rattle.merge_join.proofs.marking.way_up.Given as goal
 

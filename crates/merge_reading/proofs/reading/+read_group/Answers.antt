@@ -7,7 +7,7 @@ use Rattle.vault_model.specs.Db.{NodeId}
 use Rattle.vault_model.specs.SeenNodes.{entry_row, tree_seen}
 use Rattle.vault_model.specs.Shape.{place_at}
 use Rattle.vault_model.specs.Tree.{Tree, all_trees, id_of, with_entry_previous, with_previous, with_previous_all}
-use Rattle.reference_tables.proofs.ListSteps.{drop_next}
+use Rattle.merge_tables.proofs.ListSteps.{drop_next}
 use Rattle.merge_reading.specs.declared.reading.Columns.{Columns}
 use Rattle.merge_reading.specs.Columns.{tree_stay, with_entries, with_place, with_tree, with_trees}
 use Rattle.merge_reading.proofs.SeenRoots.{rooted_home, rooted_id, rooted_stay}

@@ -7,7 +7,7 @@ use Rattle.vault_model.specs.declared.nodes.GroupState.{GroupState}
 use Rattle.vault_model.specs.SeenNodes.{entry_row, tree_seen}
 use Rattle.vault_model.specs.Shape.{GroupRecord}
 use Rattle.vault_model.specs.Tree.{all_trees}
-use Rattle.reference_tables.proofs.ListSteps.{drop_end, drop_next}
+use Rattle.merge_tables.proofs.ListSteps.{drop_end, drop_next}
 use Rattle.merge_shapes.specs.declared.nodes.NodeTables.{NodeTables}
 use Rattle.merge_shapes.specs.NodeTables.{children_in, with_all_nodes, with_rows}
 use Rattle.merge_shapes.proofs.SeenNodes.{seen_nodes}

@@ -4,7 +4,7 @@ use Rattle.vault_model.specs.declared.nodes.Entry.{Entry}
 use Rattle.vault_model.specs.Db.{NodeId}
 use Rattle.vault_model.specs.SeenNodes.{entry_row}
 use Rattle.vault_model.specs.Shape.{EntryRecord}
-use Rattle.reference_tables.proofs.ListSteps.{drop_next}
+use Rattle.merge_tables.proofs.ListSteps.{drop_next}
 use Rattle.merge_shapes.proofs.nodes.push_entry_ids.Goals as goal
 
 pub loop-entry-preserved : goal.loop-entry-preserved

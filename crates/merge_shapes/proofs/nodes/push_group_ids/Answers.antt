@@ -4,7 +4,7 @@ use Rattle.vault_model.specs.declared.nodes.Group.{Group, out-Group}
 use Rattle.vault_model.specs.Db.{NodeId}
 use Rattle.vault_model.specs.SeenNodes.{tree_seen}
 use Rattle.vault_model.specs.Tree.{all_trees, ids_of}
-use Rattle.reference_tables.proofs.ListSteps.{drop_next}
+use Rattle.merge_tables.proofs.ListSteps.{drop_next}
 use Rattle.merge_shapes.proofs.SeenNodes.{seen_id}
 use Rattle.merge_shapes.proofs.nodes.push_group_ids.Goals as goal
 

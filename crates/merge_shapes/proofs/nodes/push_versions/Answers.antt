@@ -3,7 +3,7 @@ use Rattle.std.proofs.Common.{◌<◌, ◌+◌, ◌++◌, ◌∷◌, [], List, a
 use Rattle.vault_model.specs.declared.nodes.Version.{Version}
 use Rattle.vault_model.specs.SeenNodes.{bare_version}
 use Rattle.vault_model.specs.Shape.{BareVersion}
-use Rattle.reference_tables.proofs.ListSteps.{drop_next}
+use Rattle.merge_tables.proofs.ListSteps.{drop_next}
 use Rattle.merge_shapes.proofs.nodes.push_versions.Goals as goal
 
 pub loop-version-preserved : goal.loop-version-preserved

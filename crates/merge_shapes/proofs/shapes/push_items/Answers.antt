@@ -1,7 +1,7 @@
 -- What is put comes before the rest.
 use Rattle.std.proofs.Common.{◌<◌, ◌+◌, ◌++◌, ◌∷◌, [], List, append_assoc, length, drop, arith, ap, sym, ◌∙◌}
 use Rattle.vault_model.specs.declared.contents.Item.{Item}
-use Rattle.reference_tables.proofs.ListSteps.{drop_next}
+use Rattle.merge_tables.proofs.ListSteps.{drop_next}
 use Rattle.merge_shapes.proofs.shapes.push_items.Goals as goal
 
 pub loop-item-preserved : goal.loop-item-preserved

@@ -3,7 +3,7 @@ use Rattle.std.proofs.Common.{map, ap, ◌∙◌}
 use Rattle.std.specs.FinMap.{from_entries}
 use Rattle.vault_model.specs.declared.metas.Meta.{Meta}
 use Rattle.merge_reading.specs.Rows.{tomb_row}
-use Rattle.reference_shapes.specs.Shapes.{shape}
+use Rattle.merge_nodes.specs.Shapes.{shape}
 use Rattle.merge_shapes.proofs.shapes.put_rows.Goals as goal
 
 pub push_icons-requires : goal.push_icons-requires

@@ -1,5 +1,0 @@
-use Rattle.cli_saying.proofs.OneName.{one_option}
-use Rattle.cli_saying.proofs.laws.a_word_names_one_option.Goals as goal
-
-pub returns : goal.returns
-returns c = one_option

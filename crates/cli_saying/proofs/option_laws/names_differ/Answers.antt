@@ -1,5 +1,0 @@
-use Rattle.cli_saying.proofs.Taken.{one_name}
-use Rattle.cli_saying.proofs.option_laws.names_differ.Goals as goal
-
-pub returns : goal.returns
-returns c = one_name

@@ -1,5 +1,0 @@
-use Rattle.cli_saying.proofs.Taken.{found}
-use Rattle.cli_saying.proofs.option_laws.options_are_found.Goals as goal
-
-pub returns : goal.returns
-returns c = found

@@ -1,7 +1,0 @@
-use Rattle.std.proofs.Common.{◌≡◌, ◌++◌, drop}
-use Rattle.vault_model.specs.Join.{ids}
-use Rattle.reference_tables.specs.Databases.{databases}
-use Rattle.reference_join.proofs.nodes.push_held.Given as goal
-
-abbrev pub invariant-loop-member : goal.invariant-loop-member
-invariant-loop-member l = ids (databases l.members) ≡ l.held.items ++ ids (databases (drop l.member-index l.members))

@@ -1,7 +1,0 @@
-use Rattle.std.proofs.Common.{ap, sym, ◌∙◌}
-use Rattle.std.specs.FinMap.{entries, entries-from_sorted}
-use Rattle.vault_model.specs.Db.{mark_cmp}
-use Rattle.reference_tables.proofs.versions.VersionTable.rows.Goals as goal
-
-pub returns : goal.returns
-returns c = c.as_slice.ensures.value ∙ sym (entries-from_sorted mark_cmp c.self.inside.rows.items c.self.invariant) ∙ ap entries c.self.view_is
