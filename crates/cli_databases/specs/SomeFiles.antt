@@ -1,4 +1,4 @@
--- What some bytes hold, whether or not the store reports its files: those that it handed out.
+-- What some bytes hold, whatever the store reports and answered: those that it handed out.
 use Rattle.std.specs.Prelude.{◌≡◌, ℕ, Bool, true, false, List, [], ◌∷◌, ◌++◌, Option, Ok}
 use Rattle.key_core.specs.Keys.{composite_key}
 use Rattle.vault_model.specs.Tree.{BareDoc}

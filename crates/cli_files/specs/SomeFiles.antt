@@ -1,4 +1,4 @@
--- That some bytes are a key file, whether or not the store reports its files.
+-- That some bytes are a key file, whatever the store reports and answered.
 use Rattle.std.specs.Prelude.{◌≡◌, ℕ, List, Option, None, Some, Ok}
 use Rattle.key_core.specs.KeyFile.{key_file_key}
 

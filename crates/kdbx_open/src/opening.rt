@@ -115,8 +115,8 @@ fn open_named<F: FileStore>(
 /// start bytes, the hashes of its blocks and the hash of its header, where the document keeps one,
 /// are right. After a refusal the composite key was cleared and released. Whatever the answer, the
 /// keys that were derived were cleared and released, and the store's files and its draft are as
-/// they were. The clauses `some_file` and `held` hold of any store, whether or not it reports its
-/// files: the answer is that of the bytes that it handed out.
+/// they were. The clauses `some_file` and `held` hold of any store, whatever it reports and
+/// answered: the answer is that of the bytes that it handed out.
 ///
 /// # Errors
 ///

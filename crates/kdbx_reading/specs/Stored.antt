@@ -77,8 +77,8 @@ abbrev pub PayloadOfName : {X : Type 0} → (X → payloads.Payload) → Option 
 PayloadOfName seen files name limit composite result = (file : Option (List ℕ))
     × (IfSome files (λ m. map.get m name ≡ file) × PayloadIsRead seen file limit composite result)
 
--- What each answer shows of the store's counts, which never fall, and of the limit, whether or not
--- the store reports its files: where the file was read, the count of faults is as it was.
+-- What each answer shows of the store's counts, which never fall, and of the limit, whatever the
+-- store reports and answered: where the file was read, the count of faults is as it was.
 pub record HasCauseOfReading {X : Type 0}
     (faults_before faults_now absences_before absences_now limit : ℕ) (result : Result X ReadFail) :
     Type 0 where

@@ -1,8 +1,8 @@
-//! The four ways to the outside. An object may report what it holds (its ghost member is `Some`),
-//! and is truthful as long as each of its answers was that of what it reports: an object in memory
-//! always, an object over the host until the disk, the input or the random bytes first answered
-//! otherwise. Clauses on content speak where the object is truthful after the call, clauses on
-//! counts and on what a call leaves as it was always.
+//! The four ways to the outside. An object may report its content, which is what is read or drawn
+//! of it (the ghost member is `Some`), and is truthful as long as each answer was that content's: an
+//! object in memory always, an object over the host until the disk, the input or the random bytes
+//! first answered otherwise. Clauses on content speak where the object is truthful after the call,
+//! clauses on counts and on what a call leaves as it was always.
 ghost use Rattle.std.specs.Prelude.{◌≡◌, ℕ, ◌≤◌, ◌<◌, Bool, List, [], ◌++◌, Option, length, take, option_map, IfOk, OnOk, OnErr, IfSome, IsSome, IsErrOf, true};
 ghost use Rattle.std.specs.FinMap as map;
 ghost use Rattle.outside_core.specs.Counts.{HasCause};
@@ -13,7 +13,7 @@ ghost use Rattle.outside_core.specs.Streams.{LosesPrefix};
 use crate::fails::{DiceFail, FileFail, SinkFail, SourceFail};
 
 /// Files by name, and at most one draft: a file in the making, which replaces the file of its name
-/// once it is published. Only `publish` changes what the store holds.
+/// once it is published. Only `publish` changes the files that the store reports.
 pub trait FileStore {
     /// The files by the bytes of their names, where the store reports them.
     ghost files: { Self → Option FileMap };
@@ -158,7 +158,8 @@ pub trait Dice {
     ghost faults: { Self → ℕ };
 
     /// Fills `out` with the next bytes of the stream. After a refusal `out` is not known, and a
-    /// prefix of the stream may be gone. What is left of the stream is left of it in every case.
+    /// prefix of the stream may be gone. In every case what is left is the end of what was left
+    /// before.
     fn fill(&mut self, out: &mut [u8]) -> Result<(), DiceFail>
         ensures ok { truthful self.new ≡ true → OnOk result (stream self.old
             ≡ option_map (λ rest. out.new ++ rest) (stream self.new)) }

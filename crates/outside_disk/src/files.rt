@@ -43,12 +43,20 @@ fn open_writable<R: Files<File = File>>(rt: &R, path: &str) -> io::Result<File> 
     OpenOptions::new().read(true).write(true).open(rt, path)
 }
 
-/// Reads a file from an offset on.
+/// Reads a file from an offset on into `out`, as far as both reach: a read that gives less is
+/// followed by another one, until one gives nothing.
 pub fn read_from<F: Read + Seek>(file: &mut F, from: u64, out: &mut [u8]) -> io::Result<usize>
     ensures { IfOk result (λ n. n ≤ length out.new) }
 {
     file.seek(SeekFrom::Start(from))?;
-    file.read(out)
+    let mut read = 0;
+    while read < out.len() {
+        match file.read(&mut out[read..])? {
+            0 => break,
+            more => read += more,
+        }
+    }
+    Ok(read)
 }
 
 /// Takes the lock of a file, which ends where the file is closed. A file system that has no locks

@@ -68,7 +68,7 @@ impl Shows<Bytes> for Anything {
 }
 
 impl World {
-    /// Any outside: no contract says what it holds.
+    /// Any outside: no contract says what it holds, so that nothing is promised of it here.
     pub fn any() -> World {
         let anything = Anything {};
         World {
