@@ -6,15 +6,15 @@ use Rattle.vault_model.specs.declared.forms.DocForm.TheVariants.{Plain}
 use Rattle.vault_model.specs.Db.{NodeId, nil_id}
 use Rattle.vault_model.specs.Tree.{BareDoc, Tree}
 use Rattle.tree_core.specs.Finding.{without_slashes}
-use Rattle.condition_laws.specs.Conditions.{CanAdd, CanEdit, CanMakeGroup, CanMoveEntry, CanMoveGroup, CanRemoveEntry, CanRemoveGroup}
+use Rattle.condition_laws.specs.Conditions.{CanAdd, CanEdit, CanMakeGroup, CanMoveEntry, CanMoveGroup, CanRemoveEntry, CanRemoveGroup, CanRestore}
 use Rattle.generation_laws.specs.Conditions.{CanChoose}
-use Rattle.content_condition_laws.specs.Conditions.{CanBeMerged, CanExport, CanSearch, CanShow, CanShowCode}
+use Rattle.content_condition_laws.specs.Conditions.{CanBeMerged, CanExport, CanSearch, CanShow, CanShowCode, CanShowHistory}
 use Rattle.doc_write.specs.Written.{write_outcome}
 use Rattle.kdbx_frame.specs.declared.settings.Settings.{Settings}
 use Rattle.kdbx_frame.specs.declared.sealings.Sealing.{Sealing}
 use Rattle.kdbx_seal.specs.Answers.{size_refusal}
 use Rattle.cli_parse.specs.declared.command.Command.{Command}
-use Rattle.cli_parse.specs.declared.command.Command.TheVariants.{Ls, Show, Search, Add, Edit, Move, Remove, MakeGroup, RemoveGroup, Merge, Import, Create, Export, EditFile, Info}
+use Rattle.cli_parse.specs.declared.command.Command.TheVariants.{Ls, Show, History, Search, Add, Edit, Restore, Move, Remove, MakeGroup, RemoveGroup, Merge, Import, Create, Export, EditFile, Info}
 use Rattle.cli_parse.specs.Needs.{generated_by}
 use Rattle.cli_profiles.specs.declared.profiles.PasswordProfile.{PasswordProfile}
 use Rattle.cli_codes.specs.Codes.{code_refusal}
@@ -39,10 +39,10 @@ CanMove true path goal now d = CanMoveGroup path goal now d
 CanMove false path goal now d = CanMoveEntry path goal now d
 
 -- An entry can be shown, or its one-time code where that is asked for.
-abbrev pub CanShowEntry : (totp : Bool) → List ℕ → (clear all : Bool) → List (List ℕ) → ℕ → BareDoc
-    → Type 0
-CanShowEntry true path clear all names now d = CanShowCode path names now d
-CanShowEntry false path clear all names now d = CanShow path clear all names d
+abbrev pub CanShowEntry : (totp : Bool) → List ℕ → (clear all : Bool) → List (List ℕ)
+    → (at now : ℕ) → BareDoc → Type 0
+CanShowEntry true path clear all names at now d = CanShowCode path names at now d
+CanShowEntry false path clear all names at now d = CanShow path clear all names at d
 
 -- An entry can be edited, and the text that its codes are to be made from, if one is given, is not
 -- refused.
@@ -61,14 +61,17 @@ pub record Answers (time : ℕ) (command : Command) (line otp : Option (List ℕ
 -- The condition of each command on its document; a node that it makes has this id.
 abbrev pub CanChange : ℕ → Command → (otp : Option (List ℕ)) → List BareDoc → Option Settings
     → NodeId → BareDoc → Type 0
-CanChange time (Ls access file group recursive flat) otp sources settings id d =
+CanChange time (Ls access file group recursive flat ids) otp sources settings id d =
     (tree : Tree) × (tree_listed group d ≡ Some tree)
-CanChange time (Show access file entry clear all attachments names totp) otp sources settings
-    id d = CanShowEntry totp entry clear all names time d
+CanChange time (Show access file entry clear all attachments names totp at) otp sources settings
+    id d = CanShowEntry totp entry clear all names at time d
+CanChange time (History access file entry) otp sources settings id d = CanShowHistory entry d
 CanChange time (Search access file term) otp sources settings id d = CanSearch term d
 CanChange time (Add access file entry asked) otp sources settings id d = CanAdd entry id d
 CanChange time (Edit access file entry asked) otp sources settings id d =
     CanEditWith file otp entry time d
+CanChange time (Restore access file entry version) otp sources settings id d =
+    CanRestore entry version time d
 CanChange time (Move access file node group) otp sources settings id d =
     CanMove (names_group node) node group time d
 CanChange time (Remove access file entry) otp sources settings id d =
@@ -77,7 +80,7 @@ CanChange time (MakeGroup access file group) otp sources settings id d =
     CanMakeGroup (without_slashes group) id d
 CanChange time (RemoveGroup access file group) otp sources settings id d =
     CanRemoveGroup group (bin_id id d) time d
-CanChange time (Merge access file names from same dry) otp sources settings id d =
+CanChange time (Merge access file names from same dry details) otp sources settings id d =
     CanBeMerged d sources
 CanChange time (Import access format source from file) otp sources settings id d = Unit {0}
 CanChange time (Create access file name cipher kdf) otp sources settings id d =

@@ -16,7 +16,7 @@ use Rattle.history_laws.proofs.HistoryLaws.{there}
 use Rattle.run_laws.specs.TrimmedRuns.{AreDocEvents, DocEvent, after_doc_event, after_doc_events, growth, joining, overwriting, world_after}
 use Rattle.run_laws.proofs.RunLaws.{are_docs, doc_after, runs_join}
 use Rattle.cli_parse.specs.declared.command.Command.{Command}
-use Rattle.cli_parse.specs.declared.command.Command.TheVariants.{Ls, Show, Search, Add, Edit, Move, Remove, MakeGroup, RemoveGroup, Merge, Import, Create, Export, EditFile, Info}
+use Rattle.cli_parse.specs.declared.command.Command.TheVariants.{Ls, Show, History, Search, Add, Edit, Restore, Move, Remove, MakeGroup, RemoveGroup, Merge, Import, Create, Export, EditFile, Info}
 use Rattle.cli_commands.specs.Commands.{may_write}
 use Rattle.keepass_call.specs.Merges.{IsAgreedMerge, merges}
 use Rattle.call_histories.specs.HistoryLaws.{MergesGoOn}
@@ -74,16 +74,18 @@ module _ (S : List Db) (a : Agreed S) (w : World) (doc : (j : ℕ) → IsDoc (w 
 
 -- a merge may write
 merge_writes : (command : Command) → merges command ≡ true → may_write command ≡ true
-merge_writes (Ls access file group recursive flat) e = absurd (true≢false (sym e))
-merge_writes (Show access file entry clear all attachments names totp) e = absurd (true≢false (sym e))
+merge_writes (Ls access file group recursive flat ids) e = absurd (true≢false (sym e))
+merge_writes (Show access file entry clear all attachments names totp at) e = absurd (true≢false (sym e))
+merge_writes (History access file entry) e = absurd (true≢false (sym e))
 merge_writes (Search access file term) e = absurd (true≢false (sym e))
 merge_writes (Add access file entry asked) e = refl
 merge_writes (Edit access file entry asked) e = refl
+merge_writes (Restore access file entry version) e = refl
 merge_writes (Move access file node group) e = refl
 merge_writes (Remove access file entry) e = refl
 merge_writes (MakeGroup access file group) e = refl
 merge_writes (RemoveGroup access file group) e = refl
-merge_writes (Merge access file names from same dry) e = e
+merge_writes (Merge access file names from same dry details) e = e
 merge_writes (Import access format source from file) e = refl
 merge_writes (Create access file name cipher kdf) e = refl
 merge_writes (Export access format file) e = absurd (true≢false (sym e))

@@ -19,7 +19,7 @@ use Rattle.run_laws.specs.TrimmedRuns.{AreDocEvents, DocEvent, after_doc_events,
 use Rattle.cli_messages.specs.declared.answers.Refusal.{Refusal}
 use Rattle.cli_parse.specs.declared.command.Access.{Access}
 use Rattle.cli_parse.specs.declared.command.Command.{Command}
-use Rattle.cli_parse.specs.declared.command.Command.TheVariants.{Ls, Show, Search, Add, Edit, Move, Remove, MakeGroup, RemoveGroup, Merge, Import, Create, Export, EditFile, Info}
+use Rattle.cli_parse.specs.declared.command.Command.TheVariants.{Ls, Show, History, Search, Add, Edit, Restore, Move, Remove, MakeGroup, RemoveGroup, Merge, Import, Create, Export, EditFile, Info}
 use Rattle.cli_parse.specs.Needs as from
 use Rattle.cli_parse.specs.Needs.{Origin, needs_of, origin_of, target_of}
 use Rattle.cli_parse.specs.Words.{command_of}
@@ -47,23 +47,26 @@ record IsMerge (command : Command) : Type 0 where
   names : List (List ℕ)
   from : Access
   same : Bool
-  is : Merge access file names from same false ≡ command
+  details : Bool
+  is : Merge access file names from same false details ≡ command
 
 abbrev Kind : Command → Type 0
 Kind command = ((edits command ≡ true) × (merges command ≡ false)) ⊎ IsMerge command
 
 kind_of : (command : Command) → may_write command ≡ true → origin_of command ≡ from.Opened → Kind command
-kind_of (Ls access file group recursive flat) w i = absurd (true≢false (sym w))
-kind_of (Show access file entry clear all attachments names totp) w i = absurd (true≢false (sym w))
+kind_of (Ls access file group recursive flat ids) w i = absurd (true≢false (sym w))
+kind_of (Show access file entry clear all attachments names totp at) w i = absurd (true≢false (sym w))
+kind_of (History access file entry) w i = absurd (true≢false (sym w))
 kind_of (Search access file term) w i = absurd (true≢false (sym w))
 kind_of (Add access file entry asked) w i = inl (refl, refl)
 kind_of (Edit access file entry asked) w i = inl (refl, refl)
+kind_of (Restore access file entry version) w i = inl (refl, refl)
 kind_of (Move access file node group) w i = inl (refl, refl)
 kind_of (Remove access file entry) w i = inl (refl, refl)
 kind_of (MakeGroup access file group) w i = inl (refl, refl)
 kind_of (RemoveGroup access file group) w i = inl (refl, refl)
-kind_of (Merge access file names from same true) w i = absurd (true≢false (sym w))
-kind_of (Merge access file names from same false) w i = inr (record { access = access; file = file; names = names; from = from; same = same; is = refl })
+kind_of (Merge access file names from same true details) w i = absurd (true≢false (sym w))
+kind_of (Merge access file names from same false details) w i = inr (record { access = access; file = file; names = names; from = from; same = same; details = details; is = refl })
 kind_of (Import access format source from file) w i = cc i
 kind_of (Create access file name cipher kdf) w i = cc i
 kind_of (Export access format file) w i = absurd (true≢false (sym w))
@@ -72,16 +75,18 @@ kind_of (Info access file) w i = absurd (true≢false (sym w))
 
 -- the file of a database that is opened as it is
 opened_target : (command : Command) → origin_of command ≡ from.Opened → target_of command ≡ (needs_of command).file
-opened_target (Ls access file group recursive flat) is = refl
-opened_target (Show access file entry clear all attachments names totp) is = refl
+opened_target (Ls access file group recursive flat ids) is = refl
+opened_target (Show access file entry clear all attachments names totp at) is = refl
+opened_target (History access file entry) is = refl
 opened_target (Search access file term) is = refl
 opened_target (Add access file entry asked) is = refl
 opened_target (Edit access file entry asked) is = refl
+opened_target (Restore access file entry version) is = refl
 opened_target (Move access file node group) is = refl
 opened_target (Remove access file entry) is = refl
 opened_target (MakeGroup access file group) is = refl
 opened_target (RemoveGroup access file group) is = refl
-opened_target (Merge access file names from same dry) is = refl
+opened_target (Merge access file names from same dry details) is = refl
 opened_target (Import access format source from file) is = cc is
 opened_target (Create access file name cipher kdf) is = cc is
 opened_target (Export access format file) is = refl
@@ -105,7 +110,7 @@ task_makes time task dice change isd (inl e) h =
     let g = commands_grow time task.command task.lines.more task.lines.otp task.sources (settings_in task.opened.sealing) task.opened.passed_over task.opened.doc dice change isd e.0 h in
     record { new = g.doc; is = inl g.is; by = inl (e.1, (g.is, g.grows)) }
 task_makes time task dice change isd (inr m) h =
-    let g = merges_merge time m.access m.file m.names m.from m.same task.lines.more task.lines.otp task.sources (settings_in task.opened.sealing) task.opened.passed_over task.opened.doc dice change
+    let g = merges_merge time m.access m.file m.names m.from m.same m.details task.lines.more task.lines.otp task.sources (settings_in task.opened.sealing) task.opened.passed_over task.opened.doc dice change
     (subst (λ (command : Command). (change_of time command task.lines.more task.lines.otp task.sources (settings_in task.opened.sealing) task.opened.passed_over task.opened.doc dice).answer ≡ Ok change) (sym m.is) h) in
     record { new = g.doc; is = g.is; by = inr (merges_so task.command m, g.merged) }
 

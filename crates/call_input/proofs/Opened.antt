@@ -8,7 +8,7 @@ use Rattle.cli_parse.specs.Needs as from
 use Rattle.cli_parse.specs.Needs.{CreateNeeds, HasKey, HasKeyAfter, HasKeys, HasNewKey, ImportNeeds, Needs, Origin, asks_password, files_by, needs_of, origin_of, sets_password, target_access}
 use Rattle.cli_parse.specs.declared.command.Access.{Access}
 use Rattle.cli_parse.specs.declared.command.Command.{Command}
-use Rattle.cli_parse.specs.declared.command.Command.TheVariants.{Ls, Show, Search, Add, Edit, Move, Remove, MakeGroup, RemoveGroup, Merge, Import, Create, Export, EditFile, Info}
+use Rattle.cli_parse.specs.declared.command.Command.TheVariants.{Ls, Show, History, Search, Add, Edit, Restore, Move, Remove, MakeGroup, RemoveGroup, Merge, Import, Create, Export, EditFile, Info}
 use Rattle.cli_lines.specs.Lines.{HasLines, Lines}
 use Rattle.cli_files.specs.Files.{Databases, Opened}
 use Rattle.cli_databases.proofs.HeldFiles.{databases_given, databases_held}
@@ -32,16 +32,18 @@ IsAccess (from.Created create) needs access = create.access ≡ access
 IsAccess (from.Changed change) needs access = access.plain ≡ false
 
 access_is : (command : Command) → HasKeyAfter command → IsAccess (origin_of command) (needs_of command) (target_access command)
-access_is (Ls access file group recursive flat) after = refl
-access_is (Show access file entry clear all attachments names totp) after = refl
+access_is (Ls access file group recursive flat ids) after = refl
+access_is (Show access file entry clear all attachments names totp at) after = refl
+access_is (History access file entry) after = refl
 access_is (Search access file term) after = refl
 access_is (Add access file entry asked) after = refl
 access_is (Edit access file entry asked) after = refl
+access_is (Restore access file entry version) after = refl
 access_is (Move access file node group) after = refl
 access_is (Remove access file entry) after = refl
 access_is (MakeGroup access file group) after = refl
 access_is (RemoveGroup access file group) after = refl
-access_is (Merge access file names from same dry) after = refl
+access_is (Merge access file names from same dry details) after = refl
 access_is (Import access format source from file) after = refl
 access_is (Create access file name cipher kdf) after = refl
 access_is (Export access format file) after = refl

@@ -14,7 +14,7 @@ use Rattle.cli_lines.proofs.Inputs.{left_alone, left_so}
 use Rattle.cli_lines.specs.Lines.{Lines}
 use Rattle.cli_sealing.specs.Sealing.{Seals}
 use Rattle.cli_parse.specs.declared.command.Command.{Command}
-use Rattle.cli_parse.specs.declared.command.Command.TheVariants.{Ls, Show, Search, Add, Edit, Move, Remove, MakeGroup, RemoveGroup, Merge, Import, Create, Export, EditFile, Info}
+use Rattle.cli_parse.specs.declared.command.Command.TheVariants.{Ls, Show, History, Search, Add, Edit, Restore, Move, Remove, MakeGroup, RemoveGroup, Merge, Import, Create, Export, EditFile, Info}
 use Rattle.cli_parse.specs.Needs.{target_access, target_of}
 use Rattle.cli_writing.specs.Held.{IsWritten}
 use Rattle.cli_writing.specs.Writing.{IsWriteStop, KeepsDraft, KeepsFiles, NewFile, Store, Writes}
@@ -133,16 +133,18 @@ second_none true b e = cc
 
 -- A command that draws an id or a password draws.
 pub no_change : (command : Command) → draws command ≡ false → draws_change command ≡ false
-no_change (Ls access file group recursive flat) e = refl
-no_change (Show access file entry clear all attachments names totp) e = refl
+no_change (Ls access file group recursive flat ids) e = refl
+no_change (Show access file entry clear all attachments names totp at) e = refl
+no_change (History access file entry) e = refl
 no_change (Search access file term) e = refl
 no_change (Add access file entry asked) e = cc
 no_change (Edit access file entry asked) e = second_none (not access.plain) (is_some asked.generated) e
+no_change (Restore access file entry version) e = refl
 no_change (Move access file node group) e = refl
 no_change (Remove access file entry) e = cc
 no_change (MakeGroup access file group) e = cc
 no_change (RemoveGroup access file group) e = cc
-no_change (Merge access file names from same dry) e = refl
+no_change (Merge access file names from same dry details) e = refl
 no_change (Import access format source from file) e = refl
 no_change (Create access file name cipher kdf) e = cc
 no_change (Export access format file) e = refl
@@ -316,18 +318,20 @@ none_and written sealed h = ap (λ (w : Bool). w && sealed) h
 -- A command that draws nothing seals nothing.
 pub undrawn_unsealed : (command : Command) (sealed written : Bool) → (may_write command ≡ false → written ≡ false) → sealed ≡ not (target_access command).plain
     → draws command ≡ false → (written && sealed) ≡ false
-undrawn_unsealed (Ls access file group recursive flat) sealed written w h e = none_and written sealed (w refl)
-undrawn_unsealed (Show access file entry clear all attachments names totp) sealed written w h e = none_and written sealed (w refl)
+undrawn_unsealed (Ls access file group recursive flat ids) sealed written w h e = none_and written sealed (w refl)
+undrawn_unsealed (Show access file entry clear all attachments names totp at) sealed written w h e = none_and written sealed (w refl)
+undrawn_unsealed (History access file entry) sealed written w h e = none_and written sealed (w refl)
 undrawn_unsealed (Search access file term) sealed written w h e = none_and written sealed (w refl)
 undrawn_unsealed (Add access file entry asked) sealed written w h e = cc
 undrawn_unsealed (Edit access file entry asked) sealed written w h e =
     and_none written sealed (h ∙ first_none (not access.plain) (is_some asked.generated) e)
+undrawn_unsealed (Restore access file entry version) sealed written w h e = and_none written sealed (h ∙ e)
 undrawn_unsealed (Move access file node group) sealed written w h e = and_none written sealed (h ∙ e)
 undrawn_unsealed (Remove access file entry) sealed written w h e = cc
 undrawn_unsealed (MakeGroup access file group) sealed written w h e = cc
 undrawn_unsealed (RemoveGroup access file group) sealed written w h e = cc
-undrawn_unsealed (Merge access file names from same true) sealed written w h e = none_and written sealed (w refl)
-undrawn_unsealed (Merge access file names from same false) sealed written w h e = and_none written sealed (h ∙ e)
+undrawn_unsealed (Merge access file names from same true details) sealed written w h e = none_and written sealed (w refl)
+undrawn_unsealed (Merge access file names from same false details) sealed written w h e = and_none written sealed (h ∙ e)
 undrawn_unsealed (Import access format source from file) sealed written w h e = and_none written sealed (h ∙ e)
 undrawn_unsealed (Create access file name cipher kdf) sealed written w h e = cc
 undrawn_unsealed (Export access format file) sealed written w h e = none_and written sealed (w refl)

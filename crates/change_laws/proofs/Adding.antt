@@ -2,19 +2,20 @@
 use Rattle.std.proofs.Common.{◌≡◌, ℕ, Bool, true, false, if◌then◌else◌, List, Option, None, Some, Ok, codes, drop, refl, subst}
 use Rattle.vault_model.specs.Db.{NodeId, nil_id}
 use Rattle.vault_model.specs.Tree.{BareDoc, IsDoc}
-use Rattle.tree_core.specs.After.{AfterRemoval, after_add, after_edit, after_make_group, after_move_entry, after_remove_entry, needs_bin}
-use Rattle.command_laws.proofs.Commands.{add_adds, edit_adds, make_group_adds, move_entry_adds, recycling_adds}
+use Rattle.tree_core.specs.After.{AfterRemoval, after_add, after_edit, after_make_group, after_move_entry, after_remove_entry, after_restore, needs_bin}
+use Rattle.command_laws.proofs.Commands.{add_adds, edit_adds, make_group_adds, move_entry_adds, recycling_adds, restore_adds}
 use Rattle.kdbx_frame.specs.declared.settings.Settings.{Settings}
 use Rattle.cli_messages.specs.Phases.{StreamAnswer, then_left}
 use Rattle.cli_codes.specs.Codes.{code_refusal}
 use Rattle.cli_parse.specs.declared.command.Command.{Command}
-use Rattle.cli_parse.specs.declared.command.Command.TheVariants.{Ls, Show, Search, Add, Edit, Move, Remove, MakeGroup, RemoveGroup, Merge, Import, Create, Export, EditFile, Info}
+use Rattle.cli_parse.specs.declared.command.Command.TheVariants.{Ls, Show, History, Search, Add, Edit, Restore, Move, Remove, MakeGroup, RemoveGroup, Merge, Import, Create, Export, EditFile, Info}
 use Rattle.cli_parse.specs.Needs.{generated_by}
 use Rattle.cli_writing.specs.Drawing.{next_bytes}
 use Rattle.cli_changes.specs.Entries.{after_add_command, after_edit_command, entry_title, values_of}
 use Rattle.cli_changes.specs.Ids.{new_id}
 use Rattle.cli_changes.specs.Nodes.{after_entry_move, after_group_move, after_mkdir, after_rm, names_group}
 use Rattle.cli_changes.specs.Reports.{report}
+use Rattle.cli_changes.specs.Versions.{after_restore_command}
 use Rattle.cli_commands.specs.Commands.{Change, bin_id, change_by, change_with, drawn_id, makes_node, new_document}
 use Rattle.change_laws.specs.Adding.{CommandsAdd, LeavesAdded, OnlyAddsBy, PutsIntoBin, made_id}
 use Rattle.change_laws.proofs.Changed.{bin_given, made_so, unchecked, with_some_password}
@@ -52,7 +53,7 @@ module _ (time : ℕ) (line otp : Option (List ℕ)) (sources : List BareDoc) (s
 
   -- with the password that was drawn or typed
   added : (command : Command) → OnlyAddsBy time command dice d → change_with time command line otp sources settings passed (id_if (makes_node command d) dice) d ≡ Ok change → LeavesAdded (made_id command d dice) d change
-  unfolding after_add_command after_edit_command after_mkdir
+  unfolding after_add_command after_edit_command after_restore_command after_mkdir
   added (Add access file entry asked) can h =
       let id = new_id (next_bytes 16 dice) in
       let m = made_so file time (λ t. after_add entry id (values_of asked line None) t d) (λ x. x) _ change h in
@@ -60,17 +61,21 @@ module _ (time : ℕ) (line otp : Option (List ℕ)) (sources : List BareDoc) (s
   added (Edit access file entry asked) can h =
       let m = made_so file time (λ t. after_edit entry (values_of asked line otp) t d) (λ x. x) _ change (unchecked (code_refusal file otp) _ change h) in
       record { doc = m.after; is = m.doc; adds = λ ise. edit_adds entry (values_of asked line otp) time d m.after isd ise m.is }
+  added (Restore access file entry version) can h =
+      let m = made_so file time (λ t. after_restore entry version t d) (λ x. x) _ change h in
+      record { doc = m.after; is = m.doc; adds = λ ise. restore_adds entry version time d m.after isd ise m.is }
   added (MakeGroup access file group) can h =
       let id = new_id (next_bytes 16 dice) in
       let m = made_so file time (λ t. after_make_group group id t d) (λ x. x) _ change h in
       record { doc = m.after; is = m.doc; adds = λ ise. make_group_adds group id time d m.after isd ise m.is }
   added (Move access file node group) can h = moved file access.quiet node group can h
   added (Remove access file entry) can h = removed file access.quiet entry can h
-  added (Ls access file group recursive flat) can h = absurd can
-  added (Show access file entry clear all attachments names totp) can h = absurd can
+  added (Ls access file group recursive flat ids) can h = absurd can
+  added (Show access file entry clear all attachments names totp at) can h = absurd can
+  added (History access file entry) can h = absurd can
   added (Search access file term) can h = absurd can
   added (RemoveGroup access file group) can h = absurd can
-  added (Merge access file names from same dry) can h = absurd can
+  added (Merge access file names from same dry details) can h = absurd can
   added (Import access format source from file) can h = absurd can
   added (Create access file name cipher kdf) can h = absurd can
   added (Export access format file) can h = absurd can

@@ -8,14 +8,14 @@ use Rattle.vault_model.specs.Tree.{BareDoc, IsDoc}
 use Rattle.merge_changes.specs.Equality.{same_doc}
 use Rattle.merge_changes.proofs.SameValues.{doc_decides}
 use Rattle.document_merge.specs.Merging.{MergeResult, merge_result}
-use Rattle.tree_core.specs.After.{AfterRemoval, after_add, after_edit, after_make_group, after_move_entry, after_move_group, after_remove_entry, after_remove_group, needs_bin}
+use Rattle.tree_core.specs.After.{AfterRemoval, after_add, after_edit, after_make_group, after_move_entry, after_move_group, after_remove_entry, after_remove_group, after_restore, needs_bin}
 use Rattle.tree_core.specs.declared.fails.TreeFail.{TreeFail}
 use Rattle.tree_core.specs.declared.fails.TreeFail.TheVariants.{StampLimit}
 use Rattle.growth_laws.specs.Growth.{GrowsTo}
 use Rattle.growth_laws.proofs.Commands.{add_grows, move_entry_grows, remove_entry_grows}
 use Rattle.growth_laws.proofs.GroupCommands.{make_group_grows, move_group_grows, remove_group_grows}
 use Rattle.history_laws.specs.Current.{current_view}
-use Rattle.command_laws.proofs.Edits.{edit_grows_in_current}
+use Rattle.command_laws.proofs.Edits.{edit_grows_in_current, restore_grows_in_current}
 use Rattle.kdbx_frame.specs.declared.settings.Settings.{Settings}
 use Rattle.cli_messages.specs.declared.answers.Refusal.{Refusal}
 use Rattle.cli_messages.specs.Phases.{StreamAnswer, then_left, with_left}
@@ -23,7 +23,7 @@ use Rattle.cli_codes.specs.Codes.{code_refusal}
 use Rattle.cli_generating.specs.Generated.{generated}
 use Rattle.cli_profiles.specs.declared.profiles.PasswordProfile.{PasswordProfile}
 use Rattle.cli_parse.specs.declared.command.Command.{Command}
-use Rattle.cli_parse.specs.declared.command.Command.TheVariants.{Ls, Show, Search, Add, Edit, Move, Remove, MakeGroup, RemoveGroup, Merge, Import, Create, Export, EditFile, Info}
+use Rattle.cli_parse.specs.declared.command.Command.TheVariants.{Ls, Show, History, Search, Add, Edit, Restore, Move, Remove, MakeGroup, RemoveGroup, Merge, Import, Create, Export, EditFile, Info}
 use Rattle.cli_parse.specs.Needs.{generated_by}
 use Rattle.cli_writing.specs.Drawing.{next_bytes}
 use Rattle.cli_changes.specs.Entries.{AfterCommand, after_add_command, after_edit_command, entry_title, time_of, values_of}
@@ -31,6 +31,7 @@ use Rattle.cli_changes.specs.Fails.{change_or_refusal}
 use Rattle.cli_changes.specs.Ids.{new_id}
 use Rattle.cli_changes.specs.Nodes.{after_entry_move, after_group_move, after_mkdir, after_rm, after_rmdir, group_name, names_group}
 use Rattle.cli_changes.specs.Reports.{report}
+use Rattle.cli_changes.specs.Versions.{after_restore_command}
 use Rattle.cli_merging.specs.Merging.{AfterMerge, after_merge, after_merged, changes_between, merged_or_refusal}
 use Rattle.cli_commands.specs.Commands.{Change, bin_id, change_by, change_with, drawn_id, makes_node, merged_change, new_document, password_of, some_password}
 use Rattle.change_laws.specs.Changes.{CommandsGrow, LeavesGrown, LeavesMerged, MergesMerge, edits}
@@ -102,9 +103,10 @@ module _ (time : ℕ) (file : List ℕ) (quiet : Bool) (id : NodeId) (d : BareDo
 
 leaves_grown : (time : ℕ) (command : Command) (line otp : Option (List ℕ)) (sources : List BareDoc) (settings : Option Settings) (passed : List (List ℕ)) (id : NodeId) (d : BareDoc) (change : Change) → IsDoc d
     → edits command ≡ true → change_with time command line otp sources settings passed id d ≡ Ok change → LeavesGrown d change
-unfolding after_add_command after_edit_command after_mkdir after_rm after_rmdir
-leaves_grown time (Ls access file group recursive flat) line otp sources settings passed id d change isd e h = absurd (true≢false (sym e))
-leaves_grown time (Show access file entry clear all attachments names totp) line otp sources settings passed id d change isd e h = absurd (true≢false (sym e))
+unfolding after_add_command after_edit_command after_restore_command after_mkdir after_rm after_rmdir
+leaves_grown time (Ls access file group recursive flat ids) line otp sources settings passed id d change isd e h = absurd (true≢false (sym e))
+leaves_grown time (Show access file entry clear all attachments names totp at) line otp sources settings passed id d change isd e h = absurd (true≢false (sym e))
+leaves_grown time (History access file entry) line otp sources settings passed id d change isd e h = absurd (true≢false (sym e))
 leaves_grown time (Search access file term) line otp sources settings passed id d change isd e h = absurd (true≢false (sym e))
 leaves_grown time (Add access file entry asked) line otp sources settings passed id d change isd e h =
     let m = made_so file time (λ t. after_add entry id (values_of asked line None) t d) (λ x. x) _ change h in
@@ -112,6 +114,9 @@ leaves_grown time (Add access file entry asked) line otp sources settings passed
 leaves_grown time (Edit access file entry asked) line otp sources settings passed id d change isd e h =
     let m = made_so file time (λ t. after_edit entry (values_of asked line otp) t d) (λ x. x) _ change (unchecked (code_refusal file otp) _ change h) in
     record { doc = m.after; is = m.doc; grows = λ ise. edit_grows_in_current entry (values_of asked line otp) time d m.after isd ise m.is }
+leaves_grown time (Restore access file entry version) line otp sources settings passed id d change isd e h =
+    let m = made_so file time (λ t. after_restore entry version t d) (λ x. x) _ change h in
+    record { doc = m.after; is = m.doc; grows = λ ise. restore_grows_in_current entry version time d m.after isd ise m.is }
 leaves_grown time (Move access file node group) line otp sources settings passed id d change isd e h = moved time file access.quiet id d isd change (names_group node) node group h
 leaves_grown time (Remove access file entry) line otp sources settings passed id d change isd e h =
     let m = made_so file time (λ t. after_remove_entry entry (bin_id id d) t d) (λ (x : AfterRemoval). x.doc) _ change h in
@@ -122,7 +127,7 @@ leaves_grown time (MakeGroup access file group) line otp sources settings passed
 leaves_grown time (RemoveGroup access file group) line otp sources settings passed id d change isd e h =
     let m = made_so file time (λ t. after_remove_group group (bin_id id d) t d) (λ (x : AfterRemoval). x.doc) _ change h in
     grown d change m.after.doc m.doc (λ ise. remove_group_grows group (bin_id id d) time d m.after isd ise (bin_given id (needs_bin d)) m.is)
-leaves_grown time (Merge access file names from same dry) line otp sources settings passed id d change isd e h = absurd (true≢false (sym e))
+leaves_grown time (Merge access file names from same dry details) line otp sources settings passed id d change isd e h = absurd (true≢false (sym e))
 leaves_grown time (Import access format source from file) line otp sources settings passed id d change isd e h = absurd (true≢false (sym e))
 leaves_grown time (Create access file name cipher kdf) line otp sources settings passed id d change isd e h = absurd (true≢false (sym e))
 leaves_grown time (Export access format file) line otp sources settings passed id d change isd e h = absurd (true≢false (sym e))
@@ -156,12 +161,12 @@ commands_grow time command line otp sources settings passed d dice change isd e 
 
 -- ---- merges
 
-module _ (file : List ℕ) (quiet : Bool) (names : List (List ℕ)) (t : BareDoc) (ss : List BareDoc) where
+module _ (file : List ℕ) (quiet details : Bool) (names : List (List ℕ)) (t : BareDoc) (ss : List BareDoc) where
   -- what comes of a merge's result
   abbrev after : MergeResult → Result AfterMerge Refusal
-  after r = merged_or_refusal file r >>= λ new. Ok (after_merged file quiet false names t (not (same_doc t new)) new (changes_between t ss new))
+  after r = merged_or_refusal file r >>= λ new. Ok (after_merged file quiet false details names t ss (not (same_doc t new)) new (changes_between t ss new))
 
-  after_is : after_merge file quiet false names t ss ≡ after (merge_result t ss)
+  after_is : after_merge file quiet false details names t ss ≡ after (merge_result t ss)
   unfolding after_merge
   after_is = refl
 
@@ -176,5 +181,5 @@ module _ (file : List ℕ) (quiet : Bool) (names : List (List ℕ)) (t : BareDoc
   merged_by change (Err why) e h = cc h
 
 pub merges_merge : MergesMerge
-merges_merge time access file names from same line otp sources settings passed d dice change h =
-    merged_by file access.quiet names d sources change (merge_result d sources) refl (ap merged_change (sym (after_is file access.quiet names d sources)) ∙ h)
+merges_merge time access file names from same details line otp sources settings passed d dice change h =
+    merged_by file access.quiet details names d sources change (merge_result d sources) refl (ap merged_change (sym (after_is file access.quiet details names d sources)) ∙ h)

@@ -8,7 +8,7 @@ use Rattle.tree_core.specs.declared.fails.Removed.TheVariants.{Recycled}
 use Rattle.command_laws.specs.Adding.{AddsOnly}
 use Rattle.kdbx_frame.specs.declared.settings.Settings.{Settings}
 use Rattle.cli_parse.specs.declared.command.Command.{Command}
-use Rattle.cli_parse.specs.declared.command.Command.TheVariants.{Add, Edit, Move, Remove, MakeGroup}
+use Rattle.cli_parse.specs.declared.command.Command.TheVariants.{Add, Edit, Restore, Move, Remove, MakeGroup}
 use Rattle.cli_writing.specs.Drawing.{next_bytes}
 use Rattle.cli_changes.specs.Ids.{new_id}
 use Rattle.cli_changes.specs.Nodes.{names_group}
@@ -24,11 +24,12 @@ abbrev pub PutsIntoBin : List ℕ → Option NodeId → ℕ → BareDoc → Type
 PutsIntoBin path bin time d = (a : AfterRemoval) → after_remove_entry path bin time d ≡ Ok a
     → a.removed ≡ Recycled
 
--- A command only adds to a document: it adds or edits an entry, or makes a group, or moves an entry,
--- or puts one into the bin.
+-- A command only adds to a document: it adds, edits or restores an entry, or makes a group, or moves
+-- an entry, or puts one into the bin.
 abbrev pub OnlyAddsBy : ℕ → Command → List ℕ → BareDoc → Type 0
 OnlyAddsBy time (Add access file entry asked) dice d = Unit {0}
 OnlyAddsBy time (Edit access file entry asked) dice d = Unit {0}
+OnlyAddsBy time (Restore access file entry version) dice d = Unit {0}
 OnlyAddsBy time (MakeGroup access file group) dice d = Unit {0}
 OnlyAddsBy time (Move access file node group) dice d = names_group node ≡ false
 OnlyAddsBy time (Remove access file entry) dice d =

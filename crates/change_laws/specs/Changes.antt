@@ -7,22 +7,24 @@ use Rattle.command_laws.specs.Growing.{GrowsInCurrent}
 use Rattle.kdbx_frame.specs.declared.settings.Settings.{Settings}
 use Rattle.cli_parse.specs.declared.command.Access.{Access}
 use Rattle.cli_parse.specs.declared.command.Command.{Command}
-use Rattle.cli_parse.specs.declared.command.Command.TheVariants.{Ls, Show, Search, Add, Edit, Move, Remove, MakeGroup, RemoveGroup, Merge, Import, Create, Export, EditFile, Info}
+use Rattle.cli_parse.specs.declared.command.Command.TheVariants.{Ls, Show, History, Search, Add, Edit, Restore, Move, Remove, MakeGroup, RemoveGroup, Merge, Import, Create, Export, EditFile, Info}
 use Rattle.cli_commands.specs.Commands.{Change, change_of}
 
 -- A command changes the document that it opens by itself: it is no merge, makes no database, changes
 -- no key, and does not only read.
 abbrev pub edits : Command → Bool
-edits (Ls access file group recursive flat) = false
-edits (Show access file entry clear all attachments names totp) = false
+edits (Ls access file group recursive flat ids) = false
+edits (Show access file entry clear all attachments names totp at) = false
+edits (History access file entry) = false
 edits (Search access file term) = false
 edits (Add access file entry asked) = true
 edits (Edit access file entry asked) = true
+edits (Restore access file entry version) = true
 edits (Move access file node group) = true
 edits (Remove access file entry) = true
 edits (MakeGroup access file group) = true
 edits (RemoveGroup access file group) = true
-edits (Merge access file names from same dry) = false
+edits (Merge access file names from same dry details) = false
 edits (Import access format source from file) = false
 edits (Create access file name cipher kdf) = false
 edits (Export access format file) = false
@@ -53,8 +55,9 @@ pub record LeavesMerged (t : BareDoc) (ss : List BareDoc) (change : Change) : Ty
 -- so does that of a merge that is no dry run
 abbrev pub MergesMerge : Type 0
 MergesMerge = (time : ℕ) (access : Access) (file : List ℕ) (names : List (List ℕ)) (from : Access)
-    (same : Bool) (line otp : Option (List ℕ)) (sources : List BareDoc) (settings : Option Settings)
-    (passed : List (List ℕ)) (d : BareDoc) (dice : List ℕ) (change : Change)
-    → (change_of time (Merge access file names from same false) line otp sources settings passed
-    d dice).answer ≡ Ok change
+    (same details : Bool) (line otp : Option (List ℕ)) (sources : List BareDoc)
+    (settings : Option Settings) (passed : List (List ℕ)) (d : BareDoc) (dice : List ℕ)
+    (change : Change)
+    → (change_of time (Merge access file names from same false details) line otp sources settings
+    passed d dice).answer ≡ Ok change
     → LeavesMerged d sources change

@@ -15,17 +15,18 @@ use Rattle.cli_profiles.specs.Profiles.{alphabet_of, length_asked, length_named,
 use Rattle.cli_profiles.specs.declared.profiles.PasswordProfile.{PasswordProfile}
 use Rattle.cli_parse.specs.declared.command.Asked.{Asked}
 use Rattle.cli_parse.specs.declared.command.Command.{Command}
-use Rattle.cli_parse.specs.declared.command.Command.TheVariants.{Add, Edit}
+use Rattle.cli_parse.specs.declared.command.Command.TheVariants.{Add, Edit, Restore}
 use Rattle.cli_parse.specs.declared.command.ExportFormat.{ExportFormat}
 use Rattle.cli_parse.specs.declared.command.ImportFormat.{ImportFormat}
-use Rattle.cli_parse.specs.Words.{access_of, asked_of, asked_with, command_at, command_by, command_in, command_saying, create_at, edit_file_at, export_as, export_at, format_asked, format_named, has_change, import_as, import_at, import_format_asked, import_format_named, is_mergeable, merge_at, merge_of, profile_at, profile_by, profile_of, profile_saying, show_of}
+use Rattle.cli_parse.specs.Words.{access_of, asked_of, asked_with, command_at, command_by, command_in, command_saying, create_at, edit_by, edit_file_at, export_as, export_at, format_asked, format_named, has_change, import_as, import_at, import_format_asked, import_format_named, is_mergeable, merge_at, merge_of, profile_at, profile_by, profile_of, profile_saying, show_of}
 use Rattle.cli_causes.specs.declared.cause.Cause.{Cause}
 use Rattle.cli_causes.specs.declared.cause.Cause.TheVariants.{FewPositions, NeedsGenerate, NoKeyFile, NoKeyFileFrom, NotTogether, NotWithPlain, NotWithSame, NothingToChange, UnknownExportFormat, UnknownImportFormat, UnknownLength}
 use Rattle.cli_causes.specs.Files.{new_key_cause}
 use Rattle.cli_causes.specs.First.{first_of}
 use Rattle.cli_causes.proofs.FileCauses.{create_agrees, edit_file_agrees, fits_new}
+use Rattle.cli_causes.proofs.VersionCauses.{restore_agrees, shown_agrees}
 use Rattle.cli_causes.proofs.Tests.{or_false, or_true, some_if, some_mapped, some_or}
-use Rattle.cli_causes.specs.Causes.{alphabet_cause, cause_from, cause_of, change_cause, credentials_cause, due_cause, export_format_cause, extra_cause, fewest, generated_cause, import_format_cause, length_cause, most, name_cause, own_cause, positions_cause, profile_cause, profile_option_cause, said_cause, word_cause}
+use Rattle.cli_causes.specs.Causes.{alphabet_cause, cause_from, cause_of, change_cause, credentials_cause, due_cause, edit_cause, export_format_cause, extra_cause, fewest, generated_cause, import_format_cause, length_cause, most, name_cause, own_cause, positions_cause, profile_cause, profile_option_cause, said_cause, word_cause}
 
 -- ---- what opens databases
 
@@ -156,15 +157,10 @@ edit_agrees F said = some_or (generated_cause said) (change_cause said) ∙ by (
     by true = or_false (is_some (generated_cause said)) ∙ asked_agrees F said
     by false = or_true (is_some (generated_cause said))
 
--- ---- what is shown
-
-shown_together : {A : Type 0} (totp all attachments : Bool) (x : A)
-    → is_some (first_of ((totp && all, NotTogether option.Totp option.All) ∷ (totp && attachments, NotTogether option.Totp option.Attachments) ∷ []))
-    ≡ not (is_some (if not (totp && (all || attachments)) then Some x else None) || false)
-shown_together true true attachments x = refl
-shown_together true false true x = refl
-shown_together true false false x = refl
-shown_together false all attachments x = refl
+-- An edit of values, or of a version.
+edited_agrees : (said : Said) (file entry : List ℕ) (t : Option (List ℕ)) → is_some (edit_cause said t) ≡ not (is_some (edit_by said file entry t) || false)
+edited_agrees said file entry None = edit_agrees (Edit (access_of said) file entry) said
+edited_agrees said file entry (Some text) = restore_agrees said (Restore (access_of said) file entry) text
 
 -- ---- positions
 
@@ -231,8 +227,12 @@ agrees name.Ls said (a ∷ b ∷ c ∷ rest) = one_more name.Ls said (a ∷ b �
 agrees name.Show said [] = refl
 agrees name.Show said (a ∷ []) = refl
 agrees name.Show said (a ∷ b ∷ []) =
-    shown_together (is_given option.Totp said) (is_given option.All said) (is_given option.Attachments said) (show_of said a b)
+    shown_agrees said (show_of said a b) (text_of option.At said)
 agrees name.Show said (a ∷ b ∷ c ∷ rest) = one_more name.Show said (a ∷ b ∷ c ∷ rest) (omega arith) refl
+agrees name.History said [] = refl
+agrees name.History said (a ∷ []) = refl
+agrees name.History said (a ∷ b ∷ []) = refl
+agrees name.History said (a ∷ b ∷ c ∷ rest) = one_more name.History said (a ∷ b ∷ c ∷ rest) (omega arith) refl
 agrees name.Search said [] = refl
 agrees name.Search said (a ∷ []) = refl
 agrees name.Search said (a ∷ b ∷ []) = refl
@@ -243,7 +243,7 @@ agrees name.Add said (a ∷ b ∷ []) = asked_agrees (Add (access_of said) a b) 
 agrees name.Add said (a ∷ b ∷ c ∷ rest) = one_more name.Add said (a ∷ b ∷ c ∷ rest) (omega arith) refl
 agrees name.Edit said [] = refl
 agrees name.Edit said (a ∷ []) = refl
-agrees name.Edit said (a ∷ b ∷ []) = edit_agrees (Edit (access_of said) a b) said
+agrees name.Edit said (a ∷ b ∷ []) = edited_agrees said a b (text_of option.Restore said)
 agrees name.Edit said (a ∷ b ∷ c ∷ rest) = one_more name.Edit said (a ∷ b ∷ c ∷ rest) (omega arith) refl
 agrees name.Move said [] = refl
 agrees name.Move said (a ∷ []) = refl

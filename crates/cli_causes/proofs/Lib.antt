@@ -2,3 +2,4 @@ pub mod Agreeing
 pub mod FileCauses
 pub mod Steps
 pub mod Tests
+pub mod VersionCauses

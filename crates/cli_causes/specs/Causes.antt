@@ -14,6 +14,7 @@ use Rattle.cli_profiles.specs.Profiles.{alphabet_of, length_named}
 use Rattle.cli_parse.specs.Words.{format_named, has_change, import_format_named}
 use Rattle.cli_causes.specs.Files.{create_cause, edit_file_cause, new_key_cause}
 use Rattle.cli_causes.specs.First.{first_of}
+use Rattle.cli_causes.specs.Versions.{number_cause, restore_cause}
 use Rattle.cli_causes.specs.declared.cause.Cause.{Cause}
 use Rattle.cli_causes.specs.declared.cause.Cause.TheVariants.{NoCommand, OptionFirst, UnknownCommand, UnknownOption, UnknownLetter, UnknownWord, TakesNoValue, LetterTakesNoValue, OptionTwice, FlagsTwice, JoinedValue, NoValue, OptionAsValue, FewPositions, ExtraPosition, ManySources, NotWithPlain, NotWithSame, NotTogether, NoKeyFile, NoKeyFileFrom, UnknownImportFormat, UnknownExportFormat, NothingToChange, NeedsGenerate, UnknownLength, NoCharacters}
 
@@ -169,8 +170,8 @@ export_format_cause (Some name) =
     if is_some (format_named name) then None else Some (UnknownExportFormat name)
 
 -- A one-time code is shown beside all that there is.
-abbrev pub show_cause : Said → Option Cause
-show_cause said = first_of ((
+abbrev pub code_cause : Said → Option Cause
+code_cause said = first_of ((
   is_given option.Totp said && is_given option.All said,
   NotTogether option.Totp option.All,
 )
@@ -178,6 +179,10 @@ show_cause said = first_of ((
       is_given option.Totp said && is_given option.Attachments said,
       NotTogether option.Totp option.Attachments,
     ) ∷ [])
+
+-- The same, or the number of the version that is shown is none.
+abbrev pub show_cause : Said → Option Cause
+show_cause said = option_or (code_cause said) (number_cause option.At (text_of option.At said))
 
 -- An edit is given no value.
 abbrev pub change_cause : Said → Option Cause
@@ -219,11 +224,21 @@ abbrev pub generated_cause : Said → Option Cause
 generated_cause said = if is_given option.Generate said
     then entry_profile_cause said else profile_option_cause said
 
+-- What is said of the values of an entry that is edited does not fit together, or none is given.
+abbrev pub values_cause : Said → Option Cause
+values_cause said = option_or (generated_cause said) (change_cause said)
+
+-- What is said of an edit does not fit: of the version that is restored where a text says which, or
+-- else of the values.
+abbrev pub edit_cause : Said → Option (List ℕ) → Option Cause
+edit_cause said (Some text) = restore_cause said text
+edit_cause said None = values_cause said
+
 -- What a command asks for beside what all of them do.
 abbrev pub own_cause : CommandName → Said → Option Cause
 own_cause name.Show said = show_cause said
 own_cause name.Add said = generated_cause said
-own_cause name.Edit said = option_or (generated_cause said) (change_cause said)
+own_cause name.Edit said = edit_cause said (text_of option.Restore said)
 own_cause name.Import said =
     option_or (new_key_cause name.Import said)
     (import_format_cause (text_of option.ImportFormat said))

@@ -58,6 +58,8 @@ pub enum Cause {
     NothingToChange,
     /// This option says how a password is generated, and none is.
     NeedsGenerate(CommandOption),
+    /// The value of this option is no number of a version, of one to six digits.
+    UnknownNumber(CommandOption, Text),
     /// No password has this length.
     UnknownLength(Text),
     /// No character is left of which a password could be made.

@@ -5,6 +5,7 @@ mod cause;
 mod causes;
 mod files;
 mod generating;
+mod versions;
 mod whole;
 
 pub use cause::Cause;

@@ -7,6 +7,7 @@ ghost use Rattle.cli_options.specs.SaidWords.{said_seen, text_seen};
 use crate::cause::Cause;
 use crate::files::{create_cause, edit_file_cause, new_key_cause};
 use crate::generating::{generated_cause, profile_cause};
+use crate::versions::{number_cause, restore_cause};
 use cli_options::{CommandName, CommandOption, SaidWords, is_given, text_of};
 use cli_parse::{format_named, has_change, import_format_named};
 use outside_core::{NoMemory, Text};
@@ -141,8 +142,8 @@ fn export_format_cause(alloc: Global, name: Option<&str>) -> Result<Option<Cause
 }
 
 // A one-time code is shown beside all that there is.
-fn show_cause(said: &SaidWords<'_, '_>) -> Option<Cause>
-    ensures { result ≡ spec.show_cause (said_seen said.now) }
+fn code_cause(said: &SaidWords<'_, '_>) -> Option<Cause>
+    ensures { result ≡ spec.code_cause (said_seen said.now) }
 {
     let totp = is_given(said, CommandOption::Totp);
     if totp && is_given(said, CommandOption::All) {
@@ -151,6 +152,16 @@ fn show_cause(said: &SaidWords<'_, '_>) -> Option<Cause>
         Some(Cause::NotTogether(CommandOption::Totp, CommandOption::Attachments))
     } else {
         None
+    }
+}
+
+// The same, or the number of the version that is shown is none.
+fn show_cause(alloc: Global, said: &SaidWords<'_, '_>) -> Result<Option<Cause>, NoMemory>
+    ensures { IfOk result (λ cause. cause ≡ spec.show_cause (said_seen said.now)) }
+{
+    match code_cause(said) {
+        Some(cause) => Ok(Some(cause)),
+        None => number_cause(alloc, CommandOption::At, text_of(said, CommandOption::At)),
     }
 }
 
@@ -165,14 +176,28 @@ fn change_cause(said: &SaidWords<'_, '_>) -> Option<Cause>
     }
 }
 
-// What is said of an entry that is edited does not fit.
-fn edit_cause(alloc: Global, said: &SaidWords<'_, '_>) -> Result<Option<Cause>, NoMemory>
-    ensures { IfOk result (λ cause. cause ≡ option_or (spec.generated_cause (said_seen said.now))
-        (spec.change_cause (said_seen said.now))) }
+// What is said of the values of an entry that is edited does not fit, or none is given.
+fn values_cause(alloc: Global, said: &SaidWords<'_, '_>) -> Result<Option<Cause>, NoMemory>
+    ensures { IfOk result (λ cause. cause ≡ spec.values_cause (said_seen said.now)) }
 {
     match generated_cause(alloc, said)? {
         Some(cause) => Ok(Some(cause)),
         None => Ok(change_cause(said)),
+    }
+}
+
+// What is said of an edit does not fit: of the version that is restored, or of the values.
+fn edit_cause(
+    alloc: Global,
+    said: &SaidWords<'_, '_>,
+    restored: Option<&str>,
+) -> Result<Option<Cause>, NoMemory>
+    ensures { IfOk result (λ cause. cause
+        ≡ spec.edit_cause (said_seen said.now) (text_seen restored.entry)) }
+{
+    match restored {
+        Some(text) => restore_cause(alloc, said, text),
+        None => values_cause(alloc, said),
     }
 }
 
@@ -185,9 +210,9 @@ fn own_cause(
     ensures { IfOk result (λ cause. cause ≡ spec.own_cause command (said_seen said.now)) }
 {
     match command {
-        CommandName::Show => Ok(show_cause(said)),
+        CommandName::Show => show_cause(alloc, said),
         CommandName::Add => generated_cause(alloc, said),
-        CommandName::Edit => edit_cause(alloc, said),
+        CommandName::Edit => edit_cause(alloc, said, text_of(said, CommandOption::Restore)),
         CommandName::Import => match new_key_cause(command, said) {
             Some(cause) => Ok(Some(cause)),
             None => import_format_cause(alloc, text_of(said, CommandOption::ImportFormat)),

@@ -10,7 +10,7 @@ use Rattle.vault_model.specs.Db.{NodeId}
 use Rattle.vault_model.specs.Empty.{empty_bare, new_group, new_protection}
 use Rattle.vault_model.specs.Shape.{EntryRecord}
 use Rattle.vault_model.specs.Tree.{BareDoc, beside, node, none}
-use Rattle.tree_core.specs.Finding.{entry_found, group_found, has_group_path}
+use Rattle.tree_core.specs.Finding.{entry_found, group_at_path, group_found, has_group_path}
 use Rattle.tree_core.specs.Changes.{entry_at}
 use Rattle.tree_core.specs.NewNodes.{GivenValues, field, new_entry, new_fields}
 use Rattle.cli_messages.specs.Messages.{error_line, reason_text, refusal_of}
@@ -60,17 +60,17 @@ with_sub = document_after (after_mkdir (codes "P") false (codes "Work/Sub") (id 
 
 group_made : printed_text (after_mkdir (codes "P") false (codes "Work/Sub") (id 16) 5 doc)
     ≡ codes "Successfully added group Sub.\n"
-unfolding after_mkdir group_found has_group_path
+unfolding after_mkdir group_at_path group_found has_group_path
 group_made = refl
 
 name_taken : printed_text (after_mkdir (codes "P") false (codes "Work") (id 17) 5 with_sub)
     ≡ codes "keepass: P: already there\n"
-unfolding after_mkdir group_found has_group_path
+unfolding after_mkdir group_at_path group_found has_group_path
 name_taken = refl
 
 group_into_itself : after_mv (codes "P") false (codes "Work/") (codes "Work/Sub") 5 with_sub
     ≡ Err (refusal_of (IntoItself (id 4)) (codes "P"))
-unfolding after_mkdir after_group_move group_found has_group_path
+unfolding after_mkdir after_group_move group_at_path group_found has_group_path
 group_into_itself = refl
 
 abbrev with_bin : BareDoc
@@ -78,23 +78,23 @@ with_bin = document_after (after_rm (codes "P") false (codes "Mail") (Some (id 1
 
 entry_recycled : printed_text (after_rm (codes "P") false (codes "Mail") (Some (id 18)) 5 with_sub)
     ≡ codes "Successfully recycled entry Mail.\n"
-unfolding after_mkdir after_rm entry_found group_found has_group_path
+unfolding after_mkdir after_rm entry_found group_at_path group_found has_group_path
 entry_recycled = refl
 
 bin_made : with_bin.meta.bin
     ≡ record { changed = 5; value = record { enabled = true; id = id 18 } }
-unfolding after_mkdir after_rm entry_found group_found has_group_path
+unfolding after_mkdir after_rm entry_found group_at_path group_found has_group_path
 bin_made = refl
 
 entry_deleted : printed_text (after_rm (codes "P") false (codes "Recycle Bin/Mail") None 5 with_bin)
     ≡ codes "Successfully deleted entry Mail.\n"
-unfolding after_mkdir after_rm entry_found group_found has_group_path
+unfolding after_mkdir after_rm entry_found group_at_path group_found has_group_path
 entry_deleted = refl
 
 tombstone_made : (document_after
     (after_rm (codes "P") false (codes "Recycle Bin/Mail") None 5 with_bin) with_bin).tombs
     ≡ record { id = id 3; deleted = 5 } ∷ []
-unfolding after_mkdir after_rm entry_found group_found has_group_path
+unfolding after_mkdir after_rm entry_found group_at_path group_found has_group_path
 tombstone_made = refl
 
 -- ---- an entry is moved twice, the second time to the group that it is in
@@ -104,7 +104,7 @@ with_mail_moved = document_after (after_mv (codes "P") false (codes "Mail") (cod
 
 entry_moved : printed_text (after_mv (codes "P") false (codes "Mail") (codes "Work") 5 doc)
     ≡ codes "Successfully moved entry Mail to group Work.\n"
-unfolding after_entry_move entry_found group_found
+unfolding after_entry_move entry_found group_at_path group_found
 entry_moved = refl
 
 -- Since when an entry is in its group, and the group that it was in before.
@@ -112,13 +112,13 @@ abbrev place_of : NodeId × EntryRecord → ℕ × NodeId
 place_of e = (e.1.placed, e.1.previous)
 
 entry_placed : option_map place_of (entry_at (id 4) (id 3) with_mail_moved.tree) ≡ Some (5, id 1)
-unfolding after_entry_move entry_found group_found
+unfolding after_entry_move entry_found group_at_path group_found
 entry_placed = refl
 
 already_in_group :
     printed_text (after_mv (codes "P") false (codes "Work/Mail") (codes "Work") 5 with_mail_moved)
     ≡ codes "keepass: P: already in that group\n"
-unfolding after_entry_move entry_found group_found
+unfolding after_entry_move entry_found group_at_path group_found
 already_in_group = refl
 
 -- ---- groups are moved and removed
@@ -126,38 +126,38 @@ already_in_group = refl
 -- The word that names the other group is reported as it was given, and the group's name without slashes.
 group_moved : printed_text (after_mv (codes "P") false (codes "/Work/Sub/") (codes "/") 5 with_sub)
     ≡ codes "Successfully moved group Sub to group /.\n"
-unfolding after_mkdir after_group_move group_found has_group_path
+unfolding after_mkdir after_group_move group_at_path group_found has_group_path
 group_moved = refl
 
 group_recycled : printed_text (after_rmdir (codes "P") false (codes "Work") (Some (id 18)) 5 doc)
     ≡ codes "Successfully recycled group Work.\n"
-unfolding after_rmdir group_found
+unfolding after_rmdir group_at_path group_found
 group_recycled = refl
 
 quiet_removal : printed_text (after_rmdir (codes "P") true (codes "Work") (Some (id 18)) 5 doc) ≡ []
-unfolding after_rmdir group_found
+unfolding after_rmdir group_at_path group_found
 quiet_removal = refl
 
 bin_deleted : printed_text (after_rmdir (codes "P") false (codes "Recycle Bin") None 5 with_bin)
     ≡ codes "Successfully deleted group Recycle Bin.\n"
-unfolding after_mkdir after_rm after_rmdir entry_found group_found has_group_path
+unfolding after_mkdir after_rm after_rmdir entry_found group_at_path group_found has_group_path
 bin_deleted = refl
 
 -- ---- other refusals
 
 root_fixed : printed_text (after_rmdir (codes "P") false (codes "/") (Some (id 18)) 5 doc)
     ≡ codes "keepass: P: the root stays\n"
-unfolding after_rmdir group_found
+unfolding after_rmdir group_at_path group_found
 root_fixed = refl
 
 no_such_group : printed_text (after_mkdir (codes "P") false (codes "None/New") (id 16) 5 doc)
     ≡ codes "keepass: P: not found\n"
-unfolding after_mkdir group_found
+unfolding after_mkdir group_at_path group_found
 no_such_group = refl
 
 id_taken : after_mkdir (codes "P") false (codes "New") (id 3) 5 doc
     ≡ Err (refusal_of (IdTaken (id 3)) (codes "P"))
-unfolding after_mkdir group_found has_group_path
+unfolding after_mkdir group_at_path group_found has_group_path
 id_taken = refl
 
 -- A moment past the calendar is refused first.

@@ -12,6 +12,7 @@ use Rattle.tree_core.specs.declared.fails.TreeFail.TheVariants as fail
 -- The answer that a refusal to change a document is.
 abbrev pub tree_answer : TreeFail → Reason
 tree_answer fail.NoSuchPath = answer.NoSuchPath
+tree_answer (fail.NoVersion number) = answer.NoVersion number
 tree_answer fail.NameTaken = answer.NameTaken
 tree_answer fail.AlreadyThere = answer.AlreadyThere
 tree_answer fail.RootFixed = answer.RootFixed

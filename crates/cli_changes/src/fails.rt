@@ -15,6 +15,7 @@ fn tree_answer(fail: TreeFail) -> Reason
 {
     match fail {
         TreeFail::NoSuchPath => Reason::NoSuchPath,
+        TreeFail::NoVersion(number) => Reason::NoVersion(number),
         TreeFail::NameTaken => Reason::NameTaken,
         TreeFail::AlreadyThere => Reason::AlreadyThere,
         TreeFail::RootFixed => Reason::RootFixed,

@@ -10,6 +10,7 @@ mod moves;
 mod removals;
 mod reports;
 mod texts;
+mod versions;
 
 pub use entries::{Given, add_entry, edit_entry, entry_title, time_of};
 pub use fails::unchanged;
@@ -17,3 +18,4 @@ pub use groups::make_group_of;
 pub use ids::new_id;
 pub use moves::move_node;
 pub use removals::{remove_entry_of, remove_group_of};
+pub use versions::restore_entry;

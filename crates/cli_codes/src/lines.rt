@@ -10,7 +10,7 @@ use otp_core::{Otp, OtpFail, otp_code, read_otp};
 use outside_core::NoMemory;
 use secret_core::Secret;
 use std::alloc::Global;
-use vault_model::Entry;
+use vault_model::Field;
 
 /// The first second of 1970, in seconds since the year 1.
 const EPOCH: u64 = 62_135_596_800;
@@ -50,11 +50,10 @@ fn line_of(alloc: Global, otp: &Otp, unix: u64) -> Result<Secret, NoMemory>
 ///
 /// Those of [`read_otp`], and after them [`OtpFail::OtpLimit`] of a moment before 1970.
 #[tactic(auto, unfolding(crate::specs::Codes::code_line))]
-pub fn code_line(alloc: Global, entry: &Entry, now: u64) -> Result<Secret, OtpFail>
-    ensures { Answers (λ line. line.bytes)
-        (spec.code_line (map bare_field entry.now.current.content.fields) now) result }
+pub fn code_line(alloc: Global, fields: &[Field], now: u64) -> Result<Secret, OtpFail>
+    ensures { Answers (λ line. line.bytes) (spec.code_line (map bare_field fields.now) now) result }
 {
-    let otp = read_otp(alloc, entry)?;
+    let otp = read_otp(alloc, fields)?;
     if now < EPOCH {
         drop(otp);
         return Err(OtpFail::OtpLimit(now));

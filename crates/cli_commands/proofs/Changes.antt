@@ -20,7 +20,7 @@ use Rattle.cli_changes.specs.Ids.{new_id}
 use Rattle.cli_writing.proofs.Drawn.{next_first}
 use Rattle.cli_lines.specs.Lines.{IsTextLine}
 use Rattle.cli_parse.specs.declared.command.Command.{Command}
-use Rattle.cli_parse.specs.declared.command.Command.TheVariants.{Ls, Show, Search, Add, Edit, Move, Remove, MakeGroup, RemoveGroup, Merge, Import, Create, Export, EditFile, Info}
+use Rattle.cli_parse.specs.declared.command.Command.TheVariants.{Ls, Show, History, Search, Add, Edit, Restore, Move, Remove, MakeGroup, RemoveGroup, Merge, Import, Create, Export, EditFile, Info}
 use Rattle.cli_commands.specs.declared.output.Change as declared
 use Rattle.cli_commands.specs.Commands.{Change, bin_id, change_by, change_of, change_with, drawn_id, draws_change, draws_id, password_of, some_password, listing_of, makes_node, may_write, merged_change, printed_text}
 use Rattle.cli_printing.specs.Exporting.{exported}
@@ -28,6 +28,7 @@ use Rattle.cli_printing.specs.Info.{info_shown}
 use Rattle.cli_printing.specs.Listing.{tree_listed}
 use Rattle.cli_merging.proofs.DryRuns.{dry_none}
 use Rattle.cli_merging.specs.Merging.{AfterMerge, after_merge}
+use Rattle.cli_showing.specs.History.{history_shown}
 use Rattle.cli_showing.specs.Showing.{code_shown, entries_shown, entry_shown}
 use Rattle.kdbx_frame.specs.declared.settings.Settings.{Settings}
 use Rattle.cli_commands.specs.SeenChange.{IsDrawnBySome, change_seen}
@@ -59,16 +60,18 @@ loses_both (Some x) mid new h g = (h.0 + g.0, g.1 ∙ ap (option_map (drop g.0))
 
 -- A command that makes a node draws an id.
 makes_drawn : (command : Command) (doc : BareDoc) → draws_id command ≡ false → makes_node command doc ≡ false
-makes_drawn (Ls access file group recursive flat) doc e = refl
-makes_drawn (Show access file entry clear all attachments names totp) doc e = refl
+makes_drawn (Ls access file group recursive flat ids) doc e = refl
+makes_drawn (Show access file entry clear all attachments names totp at) doc e = refl
+makes_drawn (History access file entry) doc e = refl
 makes_drawn (Search access file term) doc e = refl
 makes_drawn (Add access file entry asked) doc e = e
 makes_drawn (Edit access file entry asked) doc e = refl
+makes_drawn (Restore access file entry version) doc e = refl
 makes_drawn (Move access file node group) doc e = refl
 makes_drawn (Remove access file entry) doc e = cc
 makes_drawn (MakeGroup access file group) doc e = e
 makes_drawn (RemoveGroup access file group) doc e = cc
-makes_drawn (Merge access file names from same dry) doc e = refl
+makes_drawn (Merge access file names from same dry details) doc e = refl
 makes_drawn (Import access format source from file) doc e = refl
 makes_drawn (Create access file name cipher kdf) doc e = e
 makes_drawn (Export access format file) doc e = refl
@@ -217,9 +220,9 @@ none_drawn true e = cc
 
 -- ---- what writes nothing
 
-listed_none : (file : List ℕ) (recursive flat : Bool) (tree : Option Tree) → IfOk (listing_of file recursive flat tree) (λ change. change.doc ≡ None)
-listed_none file recursive flat None = tt
-listed_none file recursive flat (Some tree) = refl
+listed_none : (file : List ℕ) (recursive flat ids : Bool) (tree : Option Tree) → IfOk (listing_of file recursive flat ids tree) (λ change. change.doc ≡ None)
+listed_none file recursive flat ids None = tt
+listed_none file recursive flat ids (Some tree) = refl
 
 printed_none : (text : Result (List ℕ) Refusal) → IfOk (printed_text text) (λ change. change.doc ≡ None)
 printed_none (Ok text) = refl
@@ -232,19 +235,21 @@ merged_none (Err refusal) h = tt
 -- A command that may write nothing makes no document.
 none_with : (time : ℕ) (command : Command) (line otp : Option (List ℕ)) (sources : List BareDoc) (settings : Option Settings) (passed : List (List ℕ)) (id : NodeId) (doc : BareDoc)
     → may_write command ≡ false → IfOk (change_with time command line otp sources settings passed id doc) (λ change. change.doc ≡ None)
-none_with time (Ls access file group recursive flat) line otp sources settings passed id doc e = listed_none file recursive flat (tree_listed group doc)
-none_with time (Show access file entry clear all attachments names totp) line otp sources settings passed id doc e =
-    printed_none (if totp then code_shown file names entry time doc else entry_shown file clear all attachments names entry doc)
+none_with time (Ls access file group recursive flat ids) line otp sources settings passed id doc e = listed_none file recursive flat ids (tree_listed group doc)
+none_with time (Show access file entry clear all attachments names totp at) line otp sources settings passed id doc e =
+    printed_none (if totp then code_shown file names at entry time doc else entry_shown file clear all attachments names at entry doc)
+none_with time (History access file entry) line otp sources settings passed id doc e = printed_none (history_shown file entry doc)
 none_with time (Search access file term) line otp sources settings passed id doc e = printed_none (entries_shown file term doc)
 none_with time (Add access file entry asked) line otp sources settings passed id doc e = cc
 none_with time (Edit access file entry asked) line otp sources settings passed id doc e = cc
+none_with time (Restore access file entry version) line otp sources settings passed id doc e = cc
 none_with time (Move access file node group) line otp sources settings passed id doc e = cc
 none_with time (Remove access file entry) line otp sources settings passed id doc e = cc
 none_with time (MakeGroup access file group) line otp sources settings passed id doc e = cc
 none_with time (RemoveGroup access file group) line otp sources settings passed id doc e = cc
-none_with time (Merge access file names from same false) line otp sources settings passed id doc e = cc
-none_with time (Merge access file names from same true) line otp sources settings passed id doc e =
-    merged_none (after_merge file access.quiet true names doc sources) (dry_none file access.quiet names doc sources)
+none_with time (Merge access file names from same false details) line otp sources settings passed id doc e = cc
+none_with time (Merge access file names from same true details) line otp sources settings passed id doc e =
+    merged_none (after_merge file access.quiet true details names doc sources) (dry_none file access.quiet details names doc sources)
 none_with time (Import access format source from file) line otp sources settings passed id doc e = cc
 none_with time (Create access file name cipher kdf) line otp sources settings passed id doc e = cc
 none_with time (Export access format file) line otp sources settings passed id doc e = printed_none (exported file format doc)

@@ -11,17 +11,19 @@ use Rattle.cli_messages.specs.declared.answers.Refusal.{Refusal}
 use Rattle.cli_messages.specs.Messages.{refusal_of}
 use Rattle.cli_messages.specs.Phases.{StreamAnswer, then_left, with_left}
 use Rattle.cli_parse.specs.declared.command.Command.{Command}
-use Rattle.cli_parse.specs.declared.command.Command.TheVariants.{Ls, Show, Search, Add, Edit, Move, Remove, MakeGroup, RemoveGroup, Merge, Import, Create, Export, EditFile, Info}
+use Rattle.cli_parse.specs.declared.command.Command.TheVariants.{Ls, Show, History, Search, Add, Edit, Restore, Move, Remove, MakeGroup, RemoveGroup, Merge, Import, Create, Export, EditFile, Info}
 use Rattle.outside_core.specs.Results.{◌>>=◌}
 use Rattle.cli_profiles.specs.declared.profiles.PasswordProfile.{PasswordProfile}
 use Rattle.cli_generating.specs.Generated.{generated}
 use Rattle.cli_parse.specs.Needs.{generated_by}
 use Rattle.cli_printing.specs.Listing.{group_lines, tree_listed}
+use Rattle.cli_showing.specs.History.{history_shown}
 use Rattle.cli_showing.specs.Showing.{code_shown, entries_shown, entry_shown}
 use Rattle.cli_printing.specs.Exporting.{exported}
 use Rattle.cli_printing.specs.Info.{info_shown}
 use Rattle.cli_changes.specs.Entries.{AfterCommand, after_add_command, after_edit_command, values_of}
 use Rattle.cli_changes.specs.Ids.{new_id}
+use Rattle.cli_changes.specs.Versions.{after_restore_command}
 use Rattle.cli_changes.specs.Nodes.{after_mkdir, after_mv, after_rm, after_rmdir}
 use Rattle.cli_merging.specs.Merging.{AfterMerge, after_merge}
 use Rattle.cli_writing.specs.Drawing.{draw_of}
@@ -35,16 +37,18 @@ pub record Change : Type 0 where
 -- A command may write a file: its database, or one that it makes. A merge does where its
 -- document is another after it, and the others wherever they are carried out.
 abbrev pub may_write : Command → Bool
-may_write (Ls access file group recursive flat) = false
-may_write (Show access file entry clear all attachments names totp) = false
+may_write (Ls access file group recursive flat ids) = false
+may_write (Show access file entry clear all attachments names totp at) = false
+may_write (History access file entry) = false
 may_write (Search access file term) = false
 may_write (Add access file entry asked) = true
 may_write (Edit access file entry asked) = true
+may_write (Restore access file entry version) = true
 may_write (Move access file node group) = true
 may_write (Remove access file entry) = true
 may_write (MakeGroup access file group) = true
 may_write (RemoveGroup access file group) = true
-may_write (Merge access file names from same dry) = not dry
+may_write (Merge access file names from same dry details) = not dry
 may_write (Import access format source from file) = true
 may_write (Create access file name cipher kdf) = true
 may_write (Export access format file) = false
@@ -54,16 +58,18 @@ may_write (Info access file) = false
 -- A command may make a node, whose id is drawn: an entry, a group, the root of an empty database, or
 -- the bin of a removal.
 abbrev pub draws_id : Command → Bool
-draws_id (Ls access file group recursive flat) = false
-draws_id (Show access file entry clear all attachments names totp) = false
+draws_id (Ls access file group recursive flat ids) = false
+draws_id (Show access file entry clear all attachments names totp at) = false
+draws_id (History access file entry) = false
 draws_id (Search access file term) = false
 draws_id (Add access file entry asked) = true
 draws_id (Edit access file entry asked) = false
+draws_id (Restore access file entry version) = false
 draws_id (Move access file node group) = false
 draws_id (Remove access file entry) = true
 draws_id (MakeGroup access file group) = true
 draws_id (RemoveGroup access file group) = true
-draws_id (Merge access file names from same dry) = false
+draws_id (Merge access file names from same dry details) = false
 draws_id (Import access format source from file) = false
 draws_id (Create access file name cipher kdf) = true
 draws_id (Export access format file) = false
@@ -72,16 +78,18 @@ draws_id (Info access file) = false
 
 -- A command makes a node in this document; a removal does where it needs a bin.
 abbrev pub makes_node : Command → BareDoc → Bool
-makes_node (Ls access file group recursive flat) doc = false
-makes_node (Show access file entry clear all attachments names totp) doc = false
+makes_node (Ls access file group recursive flat ids) doc = false
+makes_node (Show access file entry clear all attachments names totp at) doc = false
+makes_node (History access file entry) doc = false
 makes_node (Search access file term) doc = false
 makes_node (Add access file entry asked) doc = true
 makes_node (Edit access file entry asked) doc = false
+makes_node (Restore access file entry version) doc = false
 makes_node (Move access file node group) doc = false
 makes_node (Remove access file entry) doc = needs_bin doc
 makes_node (MakeGroup access file group) doc = true
 makes_node (RemoveGroup access file group) doc = needs_bin doc
-makes_node (Merge access file names from same dry) doc = false
+makes_node (Merge access file names from same dry details) doc = false
 makes_node (Import access format source from file) doc = false
 makes_node (Create access file name cipher kdf) doc = true
 makes_node (Export access format file) doc = false
@@ -89,10 +97,10 @@ makes_node (EditFile access file change) doc = false
 makes_node (Info access file) doc = false
 
 -- The lines of the group that is listed, or that the path names none of the file's groups.
-abbrev pub listing_of : List ℕ → (recursive flat : Bool) → Option Tree → Result Change Refusal
-listing_of file recursive flat None = Err (refusal_of NoSuchPath file)
-listing_of file recursive flat (Some tree) = Ok
-    (record { text = group_lines recursive flat [] tree; doc = None })
+abbrev pub listing_of : List ℕ → (recursive flat ids : Bool) → Option Tree → Result Change Refusal
+listing_of file recursive flat ids None = Err (refusal_of NoSuchPath file)
+listing_of file recursive flat ids (Some tree) = Ok
+    (record { text = group_lines recursive flat ids [] tree; doc = None })
 
 -- What a command prints that writes nothing, or its refusal.
 abbrev pub printed_text : Result (List ℕ) Refusal → Result Change Refusal
@@ -162,18 +170,22 @@ bin_id id doc = if needs_bin doc then Some id else None
 -- that it makes has this id.
 abbrev pub change_with : ℕ → Command → (line otp : Option (List ℕ)) → List BareDoc
     → Option Settings → List (List ℕ) → NodeId → BareDoc → Result Change Refusal
-change_with time (Ls access file group recursive flat) line otp sources settings passed id doc =
-    listing_of file recursive flat (tree_listed group doc)
-change_with time (Show access file entry clear all attachments names totp) line otp sources settings
-    passed id doc =
-    printed_text (if totp then code_shown file names entry time doc
-    else entry_shown file clear all attachments names entry doc)
+change_with time (Ls access file group recursive flat ids) line otp sources settings passed id doc =
+    listing_of file recursive flat ids (tree_listed group doc)
+change_with time (Show access file entry clear all attachments names totp at) line otp sources
+    settings passed id doc =
+    printed_text (if totp then code_shown file names at entry time doc
+    else entry_shown file clear all attachments names at entry doc)
+change_with time (History access file entry) line otp sources settings passed id doc =
+    printed_text (history_shown file entry doc)
 change_with time (Search access file term) line otp sources settings passed id doc =
     printed_text (entries_shown file term doc)
 change_with time (Add access file entry asked) line otp sources settings passed id doc =
     new_document (after_add_command file access.quiet entry id (values_of asked line None) time doc)
 change_with time (Edit access file entry asked) line otp sources settings passed id doc =
     new_document (after_edit_command file access.quiet entry (values_of asked line otp) time doc)
+change_with time (Restore access file entry version) line otp sources settings passed id doc =
+    new_document (after_restore_command file access.quiet entry version time doc)
 change_with time (Move access file node group) line otp sources settings passed id doc =
     new_document (after_mv file access.quiet node group time doc)
 change_with time (Remove access file entry) line otp sources settings passed id doc =
@@ -182,8 +194,9 @@ change_with time (MakeGroup access file group) line otp sources settings passed 
     new_document (after_mkdir file access.quiet group id time doc)
 change_with time (RemoveGroup access file group) line otp sources settings passed id doc =
     new_document (after_rmdir file access.quiet group (bin_id id doc) time doc)
-change_with time (Merge access file names from same dry) line otp sources settings passed id doc =
-    merged_change (after_merge file access.quiet dry names doc sources)
+change_with time (Merge access file names from same dry details) line otp sources settings passed
+    id doc =
+    merged_change (after_merge file access.quiet dry details names doc sources)
 change_with time (Import access format source from file) line otp sources settings passed id doc =
     Ok (record { text = imported_text access.quiet passed; doc = Some doc })
 change_with time (Create access file name cipher kdf) line otp sources settings passed id doc =

@@ -23,9 +23,11 @@ pub(crate) fn makes_node(command: &Command, doc: &Doc) -> bool
     match command {
         Command::Ls { .. } => false,
         Command::Show { .. } => false,
+        Command::History { .. } => false,
         Command::Search { .. } => false,
         Command::Add { .. } => true,
         Command::Edit { .. } => false,
+        Command::Restore { .. } => false,
         Command::Move { .. } => false,
         Command::Remove { .. } => needs_bin(doc),
         Command::MakeGroup { .. } => true,

@@ -22,13 +22,14 @@ use crate::ids::{bin_id, draw_if, makes_node};
 use crate::output::{Change, Output, merge_change, printed, reported};
 use cli_changes::{
     Given, add_entry, edit_entry, make_group_of, move_node, remove_entry_of, remove_group_of,
+    restore_entry,
 };
 use cli_generating::choose_password;
 use cli_merging::{MergeGiven, merge_into};
 use cli_messages::{Reason, Stop, refused};
 use cli_parse::Command;
 use cli_printing::{Manner, add_group, export, group_listed, info};
-use cli_showing::{CodeGiven, ShowGiven, search_entries, show_code, show_entry};
+use cli_showing::{CodeGiven, ShowGiven, search_entries, show_code, show_entry, show_history};
 use kdbx_frame::Settings;
 use outside_core::{Bytes, Dice, NoMemory, Text};
 use secret_core::Secret;
@@ -44,9 +45,11 @@ pub fn may_write(command: &Command) -> bool
     match command {
         Command::Ls { .. } => false,
         Command::Show { .. } => false,
+        Command::History { .. } => false,
         Command::Search { .. } => false,
         Command::Add { .. } => true,
         Command::Edit { .. } => true,
+        Command::Restore { .. } => true,
         Command::Move { .. } => true,
         Command::Remove { .. } => true,
         Command::MakeGroup { .. } => true,
@@ -69,7 +72,7 @@ fn list(
     file: &str,
 ) -> Result<Change, Stop>
     ensures told { Returns (λ change. change_seen change (doc_seen doc.now)) result
-        (listing_of file.now manner.recursive manner.flat
+        (listing_of file.now manner.recursive manner.flat manner.ids
         (tree_listed path.now (doc_seen doc.now))) }
     ensures written { IfOk result (λ change. change.is_written ≡ false) }
     ensures cause { IfErr result IsPlainStop }
@@ -123,11 +126,16 @@ fn given_of<'a>(command: &'a Command, input: CommandInput<'a>) -> Given<'a>
 }
 
 // How a listing is laid out.
-fn manner_of(recursive: bool, flat: bool) -> Manner
+fn manner_of(recursive: bool, flat: bool, ids: bool) -> Manner
     ensures recursive { result.recursive ≡ recursive }
     ensures flat { result.flat ≡ flat }
+    ensures ids { result.ids ≡ ids }
 {
-    Manner { recursive, flat }
+    Manner {
+        recursive,
+        flat,
+        ids,
+    }
 }
 
 // How an entry is shown.
@@ -137,12 +145,14 @@ fn show_given<'a>(
     all: bool,
     attachments: bool,
     names: &'a [Text],
+    at: u64,
 ) -> ShowGiven<'a>
     ensures file { result.file ≡ file.entry }
     ensures clear { result.clear ≡ clear }
     ensures all { result.all ≡ all }
     ensures attachments { result.attachments ≡ attachments }
     ensures names { result.names ≡ names.entry }
+    ensures at { result.at ≡ at }
 {
     ShowGiven {
         file,
@@ -150,16 +160,23 @@ fn show_given<'a>(
         all,
         attachments,
         names,
+        at,
     }
 }
 
 // What `show -t` is given.
-fn code_given<'a>(file: &'a str, names: &'a [Text], now: u64) -> CodeGiven<'a>
+fn code_given<'a>(file: &'a str, names: &'a [Text], at: u64, now: u64) -> CodeGiven<'a>
     ensures file { result.file ≡ file.entry }
     ensures names { result.names ≡ names.entry }
+    ensures at { result.at ≡ at }
     ensures now { result.now ≡ now }
 {
-    CodeGiven { file, names, now }
+    CodeGiven {
+        file,
+        names,
+        at,
+        now,
+    }
 }
 
 // What a database is, of its document and the settings of its file.
@@ -296,17 +313,24 @@ fn create_empty(
 }
 
 // What a merge is given beside its documents.
-fn merge_given<'a>(given: Given<'a>, sources: &'a [Text], dry: bool) -> MergeGiven<'a>
+fn merge_given<'a>(
+    given: Given<'a>,
+    sources: &'a [Text],
+    dry: bool,
+    details: bool,
+) -> MergeGiven<'a>
     ensures file { result.file ≡ given.entry.file }
     ensures sources { result.sources ≡ sources.entry }
     ensures quiet { result.quiet ≡ given.entry.quiet }
     ensures dry { result.dry ≡ dry }
+    ensures details { result.details ≡ details }
 {
     MergeGiven {
         file: given.file,
         sources,
         quiet: given.quiet,
         dry,
+        details,
     }
 }
 
@@ -334,8 +358,12 @@ fn change_document<'a>(
             group,
             recursive,
             flat,
+            ids,
             ..
-        } => list(alloc, doc, group, manner_of(*recursive, *flat), given.file),
+        } => {
+            let manner = manner_of(*recursive, *flat, *ids);
+            list(alloc, doc, group, manner, given.file)
+        }
         Command::Show {
             entry,
             clear,
@@ -343,16 +371,20 @@ fn change_document<'a>(
             attachments,
             names,
             totp,
+            at,
             ..
         } => {
             let names = names.as_slice();
             if *totp {
-                let given = code_given(given.file, names, given.now);
+                let given = code_given(given.file, names, *at, given.now);
                 printed(show_code(alloc, doc, entry.as_str(), given))
             } else {
-                let given = show_given(given.file, *clear, *all, *attachments, names);
+                let given = show_given(given.file, *clear, *all, *attachments, names, *at);
                 printed(show_entry(alloc, doc, entry.as_str(), given))
             }
+        }
+        Command::History { entry, .. } => {
+            printed(show_history(alloc, doc, entry.as_str(), given.file))
         }
         Command::Search { term, .. } => {
             printed(search_entries(alloc, doc, term.as_str(), given.file))
@@ -362,6 +394,9 @@ fn change_document<'a>(
         }
         Command::Edit { entry, asked, .. } => {
             reported(edit_entry(alloc, doc, entry.as_str(), asked, given))
+        }
+        Command::Restore { entry, version, .. } => {
+            reported(restore_entry(alloc, doc, entry.as_str(), *version, given))
         }
         Command::Move { node, group, .. } => {
             reported(move_node(alloc, doc, node.as_str(), group.as_str(), given))
@@ -377,8 +412,13 @@ fn change_document<'a>(
             let bin = bin_id(id, doc);
             reported(remove_group_of(alloc, doc, group.as_str(), bin, given))
         }
-        Command::Merge { sources, dry, .. } => {
-            let given = merge_given(given, sources.as_slice(), *dry);
+        Command::Merge {
+            sources,
+            dry,
+            details,
+            ..
+        } => {
+            let given = merge_given(given, sources.as_slice(), *dry, *details);
             merge_change(merge_into(alloc, doc, input.sources, given))
         }
         Command::Import { access, .. } => report_import(alloc, access.quiet, input.passed_over),

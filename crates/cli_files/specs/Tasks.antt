@@ -4,7 +4,7 @@ use Rattle.std.specs.Prelude.{◌&&◌, ◌||◌, is_some, Bool, true, false, no
 use Rattle.vault_model.specs.Tree.{BareDoc}
 use Rattle.cli_messages.specs.declared.answers.Refusal.{Refusal}
 use Rattle.cli_parse.specs.declared.command.Command.{Command}
-use Rattle.cli_parse.specs.declared.command.Command.TheVariants.{Ls, Show, Search, Add, Edit, Move, Remove, MakeGroup, RemoveGroup, Merge, Import, Create, Export, EditFile, Info}
+use Rattle.cli_parse.specs.declared.command.Command.TheVariants.{Ls, Show, History, Search, Add, Edit, Restore, Move, Remove, MakeGroup, RemoveGroup, Merge, Import, Create, Export, EditFile, Info}
 use Rattle.cli_lines.specs.Lines.{Lines}
 use Rattle.cli_files.specs.Files.{Databases, Opened}
 
@@ -32,16 +32,18 @@ task_with command lines databases = record {
 -- A command draws: for the id of a node that it may make, for a password that is generated, and for
 -- a sealed file.
 abbrev pub draws : Command → Bool
-draws (Ls access file group recursive flat) = false
-draws (Show access file entry clear all attachments names totp) = false
+draws (Ls access file group recursive flat ids) = false
+draws (Show access file entry clear all attachments names totp at) = false
+draws (History access file entry) = false
 draws (Search access file term) = false
 draws (Add access file entry asked) = true
 draws (Edit access file entry asked) = not access.plain || is_some asked.generated
+draws (Restore access file entry version) = not access.plain
 draws (Move access file node group) = not access.plain
 draws (Remove access file entry) = true
 draws (MakeGroup access file group) = true
 draws (RemoveGroup access file group) = true
-draws (Merge access file names from same dry) = not dry && not access.plain
+draws (Merge access file names from same dry details) = not dry && not access.plain
 draws (Import access format source from file) = not access.plain
 draws (Create access file name cipher kdf) = true
 draws (Export access format file) = false

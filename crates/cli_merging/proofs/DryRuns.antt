@@ -11,12 +11,12 @@ none_if : (changed : Bool) (new : BareDoc) → (if changed && not true then Some
 none_if true new = refl
 none_if false new = refl
 
-dry_by : (file : List ℕ) (quiet : Bool) (names : List (List ℕ)) (t : BareDoc) (ss : List BareDoc) (r : MergeResult)
-    → IfOk (merged_or_refusal file r >>= λ new. Ok (after_merged file quiet true names t (not (same_doc t new)) new (changes_between t ss new))) (λ after. after.doc ≡ None)
-dry_by file quiet names t ss (Ok new) = none_if (not (same_doc t new)) new
-dry_by file quiet names t ss (Err why) = tt
+dry_by : (file : List ℕ) (quiet details : Bool) (names : List (List ℕ)) (t : BareDoc) (ss : List BareDoc) (r : MergeResult)
+    → IfOk (merged_or_refusal file r >>= λ new. Ok (after_merged file quiet true details names t ss (not (same_doc t new)) new (changes_between t ss new))) (λ after. after.doc ≡ None)
+dry_by file quiet details names t ss (Ok new) = none_if (not (same_doc t new)) new
+dry_by file quiet details names t ss (Err why) = tt
 
-pub dry_none : (file : List ℕ) (quiet : Bool) (names : List (List ℕ)) (t : BareDoc) (ss : List BareDoc)
-    → IfOk (after_merge file quiet true names t ss) (λ after. after.doc ≡ None)
+pub dry_none : (file : List ℕ) (quiet details : Bool) (names : List (List ℕ)) (t : BareDoc) (ss : List BareDoc)
+    → IfOk (after_merge file quiet true details names t ss) (λ after. after.doc ≡ None)
 unfolding after_merge
-dry_none file quiet names t ss = dry_by file quiet names t ss (merge_result t ss)
+dry_none file quiet details names t ss = dry_by file quiet details names t ss (merge_result t ss)

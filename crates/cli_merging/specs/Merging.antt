@@ -17,7 +17,7 @@ use Rattle.cli_messages.specs.declared.answers.Reason.TheVariants as answer
 use Rattle.cli_messages.specs.declared.answers.Refusal.{Refusal}
 use Rattle.cli_messages.specs.declared.answers.Stop.{Stop}
 use Rattle.cli_merging.specs.declared.merging.MergeReport.{MergeReport}
-use Rattle.cli_merging.specs.Reports.{merge_report}
+use Rattle.cli_merging.specs.Details.{merge_report}
 
 -- What `merge` makes of a document: what it prints, and the document, if it is to be written.
 pub record AfterMerge : Type 0 where
@@ -42,21 +42,22 @@ abbrev pub changes_between : BareDoc → List BareDoc → BareDoc → List Chang
 changes_between t ss new = all_changes (shape_of t).entries (db_in t) (join (members t ss))
     (same_meta t.meta new.meta) (same_all same_tomb t.tombs new.tombs) (same_doc t new)
 
--- What `merge` makes of the document of a file that was merged into another, with these changes, if
+-- What `merge` makes of the document of a file that others were merged into, with these changes, if
 -- any. Where nothing is changed, and in a dry run, no document is written.
-abbrev pub after_merged : List ℕ → (quiet dry : Bool) → List (List ℕ) → BareDoc → Bool → BareDoc
-    → List Change → AfterMerge
-after_merged file quiet dry names t changed new changes = record {
-  text = merge_report quiet (not changed) file names t new changes;
+abbrev pub after_merged : List ℕ → (quiet dry details : Bool) → List (List ℕ) → BareDoc
+    → List BareDoc → Bool → BareDoc → List Change → AfterMerge
+after_merged file quiet dry details names t ss changed new changes = record {
+  text = merge_report quiet dry details (not changed) file names t ss new changes;
   doc = if changed && not dry then Some new else None;
 }
 
 -- What `merge` makes of the document of a file and those of its sources.
-unfoldable pub after_merge : List ℕ → (quiet dry : Bool) → List (List ℕ) → BareDoc → List BareDoc
-    → Result AfterMerge Refusal
-after_merge file quiet dry names t ss = do
+unfoldable pub after_merge : List ℕ → (quiet dry details : Bool) → List (List ℕ) → BareDoc
+    → List BareDoc → Result AfterMerge Refusal
+after_merge file quiet dry details names t ss = do
   new ← merged_or_refusal file (merge_result t ss)
-  Ok (after_merged file quiet dry names t (not (same_doc t new)) new (changes_between t ss new))
+  Ok (after_merged file quiet dry details names t ss (not (same_doc t new)) new
+      (changes_between t ss new))
 
 -- ---- how the code relates to it
 

@@ -64,30 +64,24 @@ change_lines old new [] = []
 change_lines old new (change ∷ changes) =
     change_line old new change ++ change_lines old new changes
 
--- The line of a source that was merged into a target.
-abbrev pub source_line : List ℕ → List ℕ → List ℕ
-source_line target source =
-    codes "Successfully merged " ++ source ++ codes " into " ++ target ++ codes ".\n"
+-- The line of a source and its target; `done` is how it begins.
+abbrev pub source_line : List ℕ → List ℕ → List ℕ → List ℕ
+source_line done target source = done ++ source ++ codes " into " ++ target ++ codes ".\n"
 
 -- The lines of sources.
-abbrev pub source_lines : List ℕ → List (List ℕ) → List ℕ
-source_lines target [] = []
-source_lines target (source ∷ sources) = source_line target source ++ source_lines target sources
+abbrev pub source_lines : List ℕ → List ℕ → List (List ℕ) → List ℕ
+source_lines done target [] = []
+source_lines done target (source ∷ sources) =
+    source_line done target source ++ source_lines done target sources
 
--- What a merge prints that is not quiet: one line where nothing was changed, or else a line for
--- each change and then one for each source.
+-- What a merge prints where no details are asked for: one line where nothing was changed, or
+-- else a line for each change and then one for each source.
 abbrev pub told_report : Bool → List ℕ → List (List ℕ) → (old new : BareDoc) → List Change → List ℕ
 told_report true target sources old new changes =
     codes "Database was not modified by merge operation.\n"
 told_report false target sources old new changes =
-    change_lines (name_in old) (name_in new) changes ++ source_lines target sources
-
--- What a merge prints: nothing where it is quiet.
-abbrev pub merge_report : (quiet same : Bool) → List ℕ → List (List ℕ) → (old new : BareDoc)
-    → List Change → List ℕ
-merge_report true same target sources old new changes = []
-merge_report false same target sources old new changes =
-    told_report same target sources old new changes
+    change_lines (name_in old) (name_in new) changes
+    ++ source_lines (codes "Successfully merged ") target sources
 
 -- ---- how the code relates to it
 

@@ -3,11 +3,11 @@ ghost use Rattle.std.specs.Prelude.{◌≡◌, ◌≢◌, ◌&&◌, not, if◌th
 ghost use Rattle.vault_model.specs.SeenDoc.{doc_seen};
 ghost use Rattle.cli_messages.specs.Messages.{Refuses, refusal_of};
 ghost use Rattle.cli_messages.specs.Phases.{IsPlainStop};
-ghost use Rattle.cli_merging.specs.Reports.{merge_report};
+ghost use Rattle.cli_merging.specs.Details.{merge_report};
 ghost use Rattle.cli_merging.specs.Merging as spec;
 ghost use Rattle.cli_merging.specs.Merging.{IsUnmerged, MergeChanges, after_merge};
 
-use crate::{MergeFiles, MergeOutcome, report};
+use crate::{MergeFiles, MergeOutcome, MergeStyle, report};
 use cli_messages::{Reason, Stop, refused};
 use document_merge::merging::{MergeFail, Merged, merge_lent};
 use outside_core::{NoMemory, Text};
@@ -27,6 +27,8 @@ pub struct MergeGiven<'a> {
     pub quiet: bool,
     /// Whether no file is to be written.
     pub dry: bool,
+    /// Whether the report says what a person has to look at: paths, conflicts and numbers.
+    pub details: bool,
 }
 
 /// What a merge prints, and whether its target is to be written.
@@ -104,13 +106,20 @@ fn written(doc: &mut Doc, merged: Merged, dry: bool, text: Secret) -> MergeRepor
 fn text_of(
     alloc: Global,
     doc: &Doc,
+    sources: &[Doc],
     merged: &Merged,
     given: MergeGiven<'_>,
 ) -> Result<Secret, NoMemory>
-    ensures { IfOk result (λ text. text.bytes ≡ merge_report given.entry.quiet
-        (not merged.now.changed) given.entry.file.now given.entry.sources.now (doc_seen doc.now)
-        (doc_seen merged.now.doc) merged.now.changes) }
+    ensures { IfOk result (λ text. text.bytes ≡ merge_report given.entry.quiet given.entry.dry
+        given.entry.details (not merged.now.changed) given.entry.file.now given.entry.sources.now
+        (doc_seen doc.now) (map doc_seen sources.now) (doc_seen merged.now.doc)
+        merged.now.changes) }
 {
+    let style = MergeStyle {
+        quiet: given.quiet,
+        dry: given.dry,
+        details: given.details,
+    };
     let files = MergeFiles {
         target: given.file,
         sources: given.sources,
@@ -118,27 +127,29 @@ fn text_of(
     let made = MergeOutcome {
         same: !merged.changed,
         old: doc,
+        sources,
         new: &merged.doc,
         changes: merged.changes.as_slice(),
     };
-    report(alloc, given.quiet, files, made)
+    report(alloc, style, files, made)
 }
 
 // The report of a merge, and its target, if that is to be written.
 fn finished(
     alloc: Global,
     doc: &mut Doc,
+    sources: &[Doc],
     merged: Merged,
     given: MergeGiven<'_>,
 ) -> Result<MergeReport, NoMemory>
     ensures told { IfOk result (λ report. spec.report_seen report (doc_seen doc.new)
         ≡ spec.after_merged given.entry.file.now given.entry.quiet given.entry.dry
-        given.entry.sources.now (doc_seen doc.old) merged.changed (doc_seen merged.doc)
-        merged.changes) }
+        given.entry.details given.entry.sources.now (doc_seen doc.old) (map doc_seen sources.now)
+        merged.changed (doc_seen merged.doc) merged.changes) }
     ensures dry { IfOk result (λ report. given.entry.dry ≡ true → report.is_written ≡ false) }
     ensures kept { OnErr result (doc_seen doc.new ≡ doc_seen doc.old) }
 {
-    match text_of(alloc, doc, &merged, given) {
+    match text_of(alloc, doc, sources, &merged, given) {
         Ok(text) => Ok(written(doc, merged, given.dry, text)),
         Err(fail) => {
             drop(merged);
@@ -156,13 +167,13 @@ pub fn merge_into(
     given: MergeGiven<'_>,
 ) -> Result<MergeReport, Stop>
     ensures told { MergeChanges result (after_merge given.entry.file.now given.entry.quiet
-        given.entry.dry given.entry.sources.now (doc_seen doc.old) (map doc_seen sources.now))
-        (doc_seen doc.old) (doc_seen doc.new) }
+        given.entry.dry given.entry.details given.entry.sources.now (doc_seen doc.old)
+        (map doc_seen sources.now)) (doc_seen doc.old) (doc_seen doc.new) }
     ensures dry { IfOk result (λ report. given.entry.dry ≡ true → report.is_written ≡ false) }
     ensures cause { IfErr result IsPlainStop }
 {
     match merge_lent(alloc, doc, sources) {
-        Ok(merged) => match finished(alloc, doc, merged, given) {
+        Ok(merged) => match finished(alloc, doc, sources, merged, given) {
             Ok(report) => Ok(report),
             Err(NoMemory) => Err(Stop::NoMemory),
         },

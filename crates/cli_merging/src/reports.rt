@@ -1,16 +1,18 @@
 //! What a merge prints. Titles may be secret, so it is composed in memory that is wiped.
-ghost use Rattle.std.specs.Prelude.{◌≡◌, ◌++◌, IfOk, OnOk, List, codes, ℕ};
+ghost use Rattle.std.specs.Prelude.{◌≡◌, ◌++◌, IfOk, OnOk, List, codes, map, ℕ};
 ghost use Rattle.std.specs.List.{list_any};
 ghost use Rattle.uuid.specs.Text.{hyphenated_text, lower};
 ghost use Rattle.vault_model.specs.Db.{NodeId};
 ghost use Rattle.vault_model.specs.SeenDoc.{doc_seen};
 ghost use Rattle.cli_merging.specs.Names as table;
 ghost use Rattle.cli_merging.specs.Reports as spec;
-ghost use Rattle.cli_merging.specs.Reports.{change_line, change_lines, merge_report, name_in, node_line, source_line, source_lines, told_report};
+ghost use Rattle.cli_merging.specs.Reports.{change_line, change_lines, name_in, node_line, source_line, source_lines, told_report};
+ghost use Rattle.cli_merging.specs.Details.{merge_report};
 
-use crate::append;
+use crate::details::append_detailed;
 use crate::names::{Names, name_at, names_of};
 use merge_changes::changes::{Change, Kind};
+use merge_details::append;
 use merge_tables::tables::Table;
 use outside_core::{NoMemory, Text};
 use secret_core::Secret;
@@ -18,8 +20,8 @@ use std::alloc::Global;
 use uuid_core::Uuid;
 use vault_model::Doc;
 
-// What a node is.
-fn kind_text(kind: Kind) -> &'static [u8]
+/// What a node is.
+pub(crate) fn kind_text(kind: Kind) -> &'static [u8]
     ensures { result.now ≡ spec.kind_text kind }
 {
     match kind {
@@ -39,8 +41,8 @@ fn append_id(alloc: Global, text: &mut Secret, id: &Uuid) -> Result<(), NoMemory
     }
 }
 
-// Puts the line of a node after a text.
-fn append_node(
+/// Puts the line of a node after a text.
+pub(crate) fn append_node(
     alloc: Global,
     text: &mut Secret,
     done: &[u8],
@@ -104,8 +106,8 @@ fn append_changes(
     Ok(())
 }
 
-// Whether a change is the deletion of a node.
-fn is_deletion(change: &Change) -> bool
+/// Whether a change is the deletion of a node.
+pub(crate) fn is_deletion(change: &Change) -> bool
     ensures { result ≡ spec.is_deletion change.now }
 {
     matches!(*change, Change::Deleted(_, _))
@@ -153,37 +155,50 @@ fn append_all_changes(
     append_changes(alloc, text, &before, &after, changes)
 }
 
-// Puts the line of a source after a text.
+// Puts the line of a source, which begins so, after a text.
 fn append_source(
     alloc: Global,
     text: &mut Secret,
+    done: &[u8],
     target: &str,
     source: &str,
 ) -> Result<(), NoMemory>
     ensures { OnOk result (text.new.bytes
-        ≡ text.old.bytes ++ source_line target.now source.now) }
+        ≡ text.old.bytes ++ source_line done.now target.now source.now) }
 {
-    append(alloc, text, b"Successfully merged ")?;
+    append(alloc, text, done)?;
     append(alloc, text, source.as_bytes())?;
     append(alloc, text, b" into ")?;
     append(alloc, text, target.as_bytes())?;
     append(alloc, text, b".\n")
 }
 
-// Puts the lines of sources after a text.
-fn append_sources(
+/// Puts the lines of sources, which begin so, after a text.
+pub(crate) fn append_sources(
     alloc: Global,
     text: &mut Secret,
+    done: &[u8],
     target: &str,
     sources: &[Text],
 ) -> Result<(), NoMemory>
     ensures { OnOk result (text.new.bytes
-        ≡ text.old.bytes ++ source_lines target.now sources.now) }
+        ≡ text.old.bytes ++ source_lines done.now target.now sources.now) }
 {
     for source in sources {
-        append_source(alloc, text, target, source.as_str())?;
+        append_source(alloc, text, done, target, source.as_str())?;
     }
     Ok(())
+}
+
+/// How a merge is reported.
+#[derive(Clone, Copy)]
+pub struct MergeStyle {
+    /// Whether nothing is reported.
+    pub quiet: bool,
+    /// Whether no file is to be written.
+    pub dry: bool,
+    /// Whether paths, conflicts and numbers are reported.
+    pub details: bool,
 }
 
 /// The files of a merge, which its report names.
@@ -202,14 +217,16 @@ pub struct MergeOutcome<'a> {
     pub same: bool,
     /// The document before the merge.
     pub old: &'a Doc,
+    /// What was merged into it.
+    pub sources: &'a [Doc],
     /// The document after it.
     pub new: &'a Doc,
     /// What changed, in the order in which it is reported.
     pub changes: &'a [Change],
 }
 
-// Puts what a merge prints that is not quiet after a text.
-fn append_report(
+// Puts what a merge prints where no details are asked for after a text.
+fn append_told(
     alloc: Global,
     text: &mut Secret,
     files: MergeFiles<'_>,
@@ -227,24 +244,51 @@ fn append_report(
         );
     }
     append_all_changes(alloc, text, made.old, made.new, made.changes)?;
-    append_sources(alloc, text, files.target, files.sources)
+    append_sources(
+        alloc,
+        text,
+        b"Successfully merged ",
+        files.target,
+        files.sources,
+    )
+}
+
+// Puts what a merge prints after a text.
+fn append_report(
+    alloc: Global,
+    text: &mut Secret,
+    style: MergeStyle,
+    files: MergeFiles<'_>,
+    made: MergeOutcome<'_>,
+) -> Result<(), NoMemory>
+    ensures { OnOk result (text.new.bytes ≡ text.old.bytes ++ merge_report style.quiet style.dry
+        style.details made.entry.same files.entry.target.now files.entry.sources.now
+        (doc_seen made.entry.old.now) (map doc_seen made.entry.sources.now)
+        (doc_seen made.entry.new.now) made.entry.changes.now) }
+{
+    if style.quiet {
+        Ok(())
+    } else if style.details {
+        append_detailed(alloc, text, style.dry, files, made)
+    } else {
+        append_told(alloc, text, files, made)
+    }
 }
 
 /// What a merge prints: nothing where it is quiet. It is composed in memory that is wiped. The only
 /// refusal is that memory ran out.
 pub fn report(
     alloc: Global,
-    quiet: bool,
+    style: MergeStyle,
     files: MergeFiles<'_>,
     made: MergeOutcome<'_>,
 ) -> Result<Secret, NoMemory>
-    ensures { IfOk result (λ text. text.bytes ≡ merge_report quiet made.entry.same
-        files.entry.target.now files.entry.sources.now (doc_seen made.entry.old.now)
+    ensures { IfOk result (λ text. text.bytes ≡ merge_report style.quiet style.dry style.details
+        made.entry.same files.entry.target.now files.entry.sources.now
+        (doc_seen made.entry.old.now) (map doc_seen made.entry.sources.now)
         (doc_seen made.entry.new.now) made.entry.changes.now) }
 {
     let mut text = Secret::with_room(alloc, 0)?;
-    if !quiet {
-        append_report(alloc, &mut text, files, made)?;
-    }
+    append_report(alloc, &mut text, style, files, made)?;
     Ok(text)
 }

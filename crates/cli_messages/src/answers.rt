@@ -40,6 +40,8 @@ pub enum Reason {
     IdTaken(Uuid),
     /// The entry has no attribute of the name.
     NoAttribute(Text),
+    /// The entry has no version of this number.
+    NoVersion(u64),
     /// No entry matches the terms of a search.
     NoResult,
     /// There is a file of the name already, and the command makes a new one.
@@ -200,6 +202,7 @@ pub fn status(reason: &Reason) -> u8
         Reason::IntoItself(_) => 2,
         Reason::IdTaken(_) => 2,
         Reason::NoAttribute(_) => 2,
+        Reason::NoVersion(_) => 2,
         Reason::NoResult => 2,
         Reason::FileExists => 2,
         Reason::NeedsVersion(_) => 2,
@@ -405,6 +408,7 @@ pub fn text_of_reason(alloc: Global, reason: &Reason) -> Result<String, AllocErr
         Reason::IntoItself(id) => into_itself(alloc, id),
         Reason::IdTaken(id) => with_id(alloc, "id taken ", id),
         Reason::NoAttribute(name) => no_attribute(alloc, name.as_str()),
+        Reason::NoVersion(number) => numbered(alloc, "no version ", *number),
         Reason::NoResult => String::from_str(alloc, "no results"),
         Reason::FileExists => String::from_str(alloc, "file exists"),
         Reason::NeedsVersion(version) => needs_version(alloc, *version),

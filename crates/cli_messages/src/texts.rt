@@ -15,6 +15,8 @@ keepass ls [OPTION..] DATABASE [GROUP]
         The groups inside are listed too, each indented by two spaces more.
     -f, --flatten
         With --recursive: each line begins with its path in place of spaces.
+    --ids
+        Each name comes after the id of its node, by which it can be named.
 
 keepass show [OPTION..] DATABASE ENTRY
     Shows an entry's values. A protected value is shown as PROTECTED. References
@@ -31,6 +33,14 @@ keepass show [OPTION..] DATABASE ENTRY
     -t, --totp
         The entry's one-time code is shown and nothing else, or after the values
         of --attributes. Goes with neither --all nor --show-attachments.
+    --at NUMBER
+        The version of this number is shown, as history lists them: 0 is the
+        current one.
+
+keepass history [OPTION..] DATABASE ENTRY
+    Lists the versions of an entry: the number of each, from 0, which is the
+    current one, when it was modified, and what differs from the next older one.
+    No value is printed.
 
 keepass search [OPTION..] DATABASE TERM
     Lists the paths of the entries that match all terms of TERM.
@@ -95,6 +105,9 @@ keepass edit [OPTION..] DATABASE ENTRY
     --otp
         The entry's one-time code is a line of standard input, after all others:
         an otpauth URI. An empty line takes it away.
+    --restore NUMBER
+        The version of this number, as history lists them, becomes the current
+        one. Goes with none of the options above.
 
 keepass mv [OPTION..] DATABASE NODE GROUP
     Moves an entry into a group, or a group where NODE ends with a slash.
@@ -117,6 +130,11 @@ keepass merge [OPTION..] TARGET SOURCE...
         The sources are opened with the password and the key file of the target.
     -d, --dry-run
         What the merge would change is reported, and nothing is written.
+    --details
+        The report says what a person has to look at: it names nodes by their
+        paths, says where a moved one was, which entries of TARGET show another
+        version now though a source did not have the one that they showed, and
+        how much changed.
     --key-file-from FILE
         The sources need this key file.
     --no-password-from
@@ -239,8 +257,8 @@ keepass --why WORDS..
 Exit status:
    0  Done.
    1  The words are no command, or a term of a search is empty.
-   2  Nothing has this path or this name, or it is there already, or the entry
-      has no one-time code, or what was asked for is not allowed.
+   2  Nothing has this path, this name or this number, or it is there already,
+      or the entry has no one-time code, or what was asked for is not allowed.
    3  The password or the key file is wrong, or the file was changed.
    4  The file or a one-time code is malformed, or a line of the input is not
       UTF-8.

@@ -5,7 +5,7 @@ use Rattle.std.proofs.lemmas.Bool.Decides.{Decides-eqb}
 use Rattle.cli_options.specs.declared.names.CommandName.{CommandName}
 use Rattle.cli_options.specs.declared.names.CommandName.TheVariants as name
 use Rattle.cli_options.specs.declared.forms.CommandOption.{CommandOption}
-use Rattle.cli_options.specs.declared.forms.CommandOption.TheVariants.{Recursive, Flat, Quiet, Plain, NoPassword, KeyFile, Title, User, Url, Notes, EntryPassword, SameCredentials, DryRun, KeyFileFrom, NoPasswordFrom, Clear, All, Attachments, Format, Attribute, SetPassword, SetKeyFile, ImportFormat, Totp, Generate, Length, Lower, Upper, Numeric, Special, Exclude, Otp, Cipher, Kdf, Rounds, Memory, Lanes, UnsetPassword, UnsetKeyFile, FileVersion, DatabaseName}
+use Rattle.cli_options.specs.declared.forms.CommandOption.TheVariants.{Recursive, Flat, Quiet, Plain, NoPassword, KeyFile, Title, User, Url, Notes, EntryPassword, SameCredentials, DryRun, KeyFileFrom, NoPasswordFrom, Clear, All, Attachments, Format, Attribute, SetPassword, SetKeyFile, ImportFormat, Totp, Generate, Length, Lower, Upper, Numeric, Special, Exclude, Otp, Cipher, Kdf, Rounds, Memory, Lanes, UnsetPassword, UnsetKeyFile, FileVersion, DatabaseName, At, Restore, Details, Ids}
 use Rattle.cli_options.specs.Options.{form_of, has_letter, is_letter, letter_option, with_letter}
 
 -- A letter is one of ASCII, where there is one.
@@ -54,6 +54,10 @@ low UnsetPassword = tt
 low UnsetKeyFile = tt
 low FileVersion = tt
 low DatabaseName = tt
+low At = tt
+low Restore = tt
+low Details = tt
+low Ids = tt
 
 low_letter : (own : Option ℕ) (letter : ℕ) → IsLow own → is_letter own letter ≡ true → letter < 128
 low_letter None letter h e = absurd (let no : false ≡ true → ⊥ = λ p. cc p in no e)
@@ -73,6 +77,7 @@ found_low letter (option ∷ options) = by (has_letter option letter) refl (foun
 pub no_dash : (command : CommandName) → letter_option command 45 ≡ None
 no_dash name.Ls = refl
 no_dash name.Show = refl
+no_dash name.History = refl
 no_dash name.Search = refl
 no_dash name.Add = refl
 no_dash name.Edit = refl

@@ -1,7 +1,7 @@
 -- The places of options.
 use Rattle.std.proofs.Common.{◌≡◌, ◌∙◌, ap, sym, refl, ℕ, true, [], ◌∷◌, get_or}
 use Rattle.cli_options.specs.declared.forms.CommandOption.{CommandOption}
-use Rattle.cli_options.specs.declared.forms.CommandOption.TheVariants.{Recursive, Flat, Quiet, Plain, NoPassword, KeyFile, Title, User, Url, Notes, EntryPassword, SameCredentials, DryRun, KeyFileFrom, NoPasswordFrom, Clear, All, Attachments, Format, Attribute, SetPassword, SetKeyFile, ImportFormat, Totp, Generate, Length, Lower, Upper, Numeric, Special, Exclude, Otp, Cipher, Kdf, Rounds, Memory, Lanes, UnsetPassword, UnsetKeyFile, FileVersion, DatabaseName}
+use Rattle.cli_options.specs.declared.forms.CommandOption.TheVariants.{Recursive, Flat, Quiet, Plain, NoPassword, KeyFile, Title, User, Url, Notes, EntryPassword, SameCredentials, DryRun, KeyFileFrom, NoPasswordFrom, Clear, All, Attachments, Format, Attribute, SetPassword, SetKeyFile, ImportFormat, Totp, Generate, Length, Lower, Upper, Numeric, Special, Exclude, Otp, Cipher, Kdf, Rounds, Memory, Lanes, UnsetPassword, UnsetKeyFile, FileVersion, DatabaseName, At, Restore, Details, Ids}
 use Rattle.cli_options.specs.Options.{is_repeatable, place_of}
 
 -- The option at a place.
@@ -11,7 +11,7 @@ option_at place = get_or
     ∷ DryRun ∷ KeyFileFrom ∷ NoPasswordFrom ∷ Clear ∷ All ∷ Attachments ∷ Format ∷ Attribute ∷ SetPassword
     ∷ SetKeyFile ∷ ImportFormat ∷ Totp ∷ Generate ∷ Length ∷ Lower ∷ Upper ∷ Numeric
     ∷ Special ∷ Exclude ∷ Otp ∷ Cipher ∷ Kdf ∷ Rounds ∷ Memory ∷ Lanes
-    ∷ UnsetPassword ∷ UnsetKeyFile ∷ FileVersion ∷ DatabaseName ∷ []) place Recursive
+    ∷ UnsetPassword ∷ UnsetKeyFile ∷ FileVersion ∷ DatabaseName ∷ At ∷ Restore ∷ Details ∷ Ids ∷ []) place Recursive
 
 back : (option : CommandOption) → option_at (place_of option) ≡ option
 back Recursive = refl
@@ -55,6 +55,10 @@ back UnsetPassword = refl
 back UnsetKeyFile = refl
 back FileVersion = refl
 back DatabaseName = refl
+back At = refl
+back Restore = refl
+back Details = refl
+back Ids = refl
 
 -- Options at one place are one option.
 pub same_option : (f g : CommandOption) → place_of f ≡ place_of g → f ≡ g
@@ -102,6 +106,10 @@ last UnsetPassword h = cc
 last UnsetKeyFile h = cc
 last FileVersion h = cc
 last DatabaseName h = cc
+last At h = cc
+last Restore h = cc
+last Details h = cc
+last Ids h = cc
 
 -- Only one option may occur more than once.
 pub one_repeatable : (f g : CommandOption) → is_repeatable f ≡ true → is_repeatable g ≡ true → place_of f ≡ place_of g

@@ -5,7 +5,7 @@ use Rattle.std.specs.Str.{bytes_eq}
 use Rattle.cli_options.specs.declared.names.CommandName.{CommandName}
 use Rattle.cli_options.specs.declared.names.CommandName.TheVariants as name
 use Rattle.cli_options.specs.declared.forms.CommandOption.{CommandOption}
-use Rattle.cli_options.specs.declared.forms.CommandOption.TheVariants.{Recursive, Flat, Quiet, Plain, NoPassword, KeyFile, Title, User, Url, Notes, EntryPassword, SameCredentials, DryRun, KeyFileFrom, NoPasswordFrom, Clear, All, Attachments, Format, Attribute, SetPassword, SetKeyFile, ImportFormat, Totp, Generate, Length, Lower, Upper, Numeric, Special, Exclude, Otp, Cipher, Kdf, Rounds, Memory, Lanes, UnsetPassword, UnsetKeyFile, FileVersion, DatabaseName}
+use Rattle.cli_options.specs.declared.forms.CommandOption.TheVariants.{Recursive, Flat, Quiet, Plain, NoPassword, KeyFile, Title, User, Url, Notes, EntryPassword, SameCredentials, DryRun, KeyFileFrom, NoPasswordFrom, Clear, All, Attachments, Format, Attribute, SetPassword, SetKeyFile, ImportFormat, Totp, Generate, Length, Lower, Upper, Numeric, Special, Exclude, Otp, Cipher, Kdf, Rounds, Memory, Lanes, UnsetPassword, UnsetKeyFile, FileVersion, DatabaseName, At, Restore, Details, Ids}
 
 -- ---- commands
 
@@ -14,6 +14,7 @@ abbrev pub command_named : List ℕ → Option CommandName
 command_named word =
     if bytes_eq word (codes "ls") then Some name.Ls
     else (if bytes_eq word (codes "show") then Some name.Show
+    else (if bytes_eq word (codes "history") then Some name.History
     else (if bytes_eq word (codes "search") then Some name.Search
     else (if bytes_eq word (codes "add") then Some name.Add
     else (if bytes_eq word (codes "edit") then Some name.Edit
@@ -28,7 +29,7 @@ command_named word =
     else (if bytes_eq word (codes "db-edit") then Some name.EditFile
     else (if bytes_eq word (codes "db-info") then Some name.Info
     else (if bytes_eq word (codes "generate") then Some name.Generate
-    else None)))))))))))))))
+    else None))))))))))))))))
 
 -- ---- how options are written
 
@@ -115,6 +116,10 @@ form_of UnsetPassword = flag (codes "unset-password") None
 form_of UnsetKeyFile = flag (codes "unset-key-file") None
 form_of FileVersion = valued (codes "version") None
 form_of DatabaseName = valued (codes "name") None
+form_of At = valued (codes "at") None
+form_of Restore = valued (codes "restore") None
+form_of Details = flag (codes "details") None
+form_of Ids = flag (codes "ids") None
 
 -- Whether an option has a value; the others are flags.
 abbrev pub has_value : CommandOption → Bool
@@ -167,23 +172,28 @@ place_of UnsetPassword = 37
 place_of UnsetKeyFile = 38
 place_of FileVersion = 39
 place_of DatabaseName = 40
+place_of At = 41
+place_of Restore = 42
+place_of Details = 43
+place_of Ids = 44
 
 -- ---- which options each command takes
 
 -- The options that a command takes beside those that others take too.
 abbrev pub own_options : CommandName → List CommandOption
-own_options name.Ls = Recursive ∷ Flat ∷ []
-own_options name.Show = Clear ∷ All ∷ Attachments ∷ Attribute ∷ Totp ∷ []
+own_options name.Ls = Recursive ∷ Flat ∷ Ids ∷ []
+own_options name.Show = Clear ∷ All ∷ Attachments ∷ Attribute ∷ Totp ∷ At ∷ []
+own_options name.History = []
 own_options name.Search = []
 own_options name.Add = User ∷ Url ∷ Notes ∷ EntryPassword
     ∷ Generate ∷ Length ∷ Lower ∷ Upper ∷ Numeric ∷ Special ∷ Exclude ∷ []
 own_options name.Edit = Title ∷ User ∷ Url ∷ Notes ∷ EntryPassword
-    ∷ Generate ∷ Length ∷ Lower ∷ Upper ∷ Numeric ∷ Special ∷ Exclude ∷ Otp ∷ []
+    ∷ Generate ∷ Length ∷ Lower ∷ Upper ∷ Numeric ∷ Special ∷ Exclude ∷ Otp ∷ Restore ∷ []
 own_options name.Move = []
 own_options name.Remove = []
 own_options name.MakeGroup = []
 own_options name.RemoveGroup = []
-own_options name.Merge = SameCredentials ∷ DryRun ∷ KeyFileFrom ∷ NoPasswordFrom ∷ []
+own_options name.Merge = SameCredentials ∷ DryRun ∷ Details ∷ KeyFileFrom ∷ NoPasswordFrom ∷ []
 own_options name.Import = SetPassword ∷ SetKeyFile ∷ ImportFormat ∷ []
 own_options name.Create = SetPassword ∷ SetKeyFile
     ∷ Cipher ∷ Kdf ∷ Rounds ∷ Memory ∷ Lanes ∷ DatabaseName ∷ []

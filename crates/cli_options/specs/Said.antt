@@ -27,7 +27,7 @@ pub record Said : Type 0 where
 -- What no words say.
 abbrev pub nothing_said : Said
 nothing_said = record {
-  given = replicate 41 None;
+  given = replicate 45 None;
   names = [];
   due = None;
   ended = false;

@@ -88,10 +88,18 @@ pub enum CommandOption {
     FileVersion,
     /// `--name NAME`
     DatabaseName,
+    /// `--at NUMBER`
+    At,
+    /// `--restore NUMBER`
+    Restore,
+    /// `--details`
+    Details,
+    /// `--ids`
+    Ids,
 }
 
 /// How many options there are.
-pub const OPTIONS: usize = 41;
+pub const OPTIONS: usize = 45;
 
 /// How an option is written.
 #[derive(Clone, Copy)]
@@ -188,6 +196,10 @@ pub(crate) fn form_of(option: CommandOption) -> OptionForm
         CommandOption::UnsetKeyFile => flag("unset-key-file", None),
         CommandOption::FileVersion => valued("version", None),
         CommandOption::DatabaseName => valued("name", None),
+        CommandOption::At => valued("at", None),
+        CommandOption::Restore => valued("restore", None),
+        CommandOption::Details => flag("details", None),
+        CommandOption::Ids => flag("ids", None),
     }
 }
 
@@ -208,7 +220,7 @@ pub fn is_repeatable(option: CommandOption) -> bool
 /// The place of an option among all of them.
 pub fn place_of(option: CommandOption) -> usize
     ensures is { result ≡ spec.place_of option }
-    ensures most { result < 41 }
+    ensures most { result < 45 }
 {
     match option {
         CommandOption::Recursive => 0,
@@ -252,5 +264,9 @@ pub fn place_of(option: CommandOption) -> usize
         CommandOption::UnsetKeyFile => 38,
         CommandOption::FileVersion => 39,
         CommandOption::DatabaseName => 40,
+        CommandOption::At => 41,
+        CommandOption::Restore => 42,
+        CommandOption::Details => 43,
+        CommandOption::Ids => 44,
     }
 }

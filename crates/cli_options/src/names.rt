@@ -9,6 +9,8 @@ pub enum CommandName {
     Ls,
     /// `show`
     Show,
+    /// `history`
+    History,
     /// `search`
     Search,
     /// `add`
@@ -46,6 +48,7 @@ pub fn command_named(name: &str) -> Option<CommandName>
     match name {
         "ls" => Some(CommandName::Ls),
         "show" => Some(CommandName::Show),
+        "history" => Some(CommandName::History),
         "search" => Some(CommandName::Search),
         "add" => Some(CommandName::Add),
         "edit" => Some(CommandName::Edit),

@@ -10,7 +10,13 @@ fn own_options(command: CommandName) -> &'static [CommandOption]
     ensures { result.now ≡ spec.own_options command }
 {
     match command {
-        CommandName::Ls => &[CommandOption::Recursive, CommandOption::Flat],
+        CommandName::Ls => {
+            &[
+                CommandOption::Recursive,
+                CommandOption::Flat,
+                CommandOption::Ids,
+            ]
+        }
         CommandName::Show => {
             &[
                 CommandOption::Clear,
@@ -18,6 +24,7 @@ fn own_options(command: CommandName) -> &'static [CommandOption]
                 CommandOption::Attachments,
                 CommandOption::Attribute,
                 CommandOption::Totp,
+                CommandOption::At,
             ]
         }
         CommandName::Add => {
@@ -50,12 +57,14 @@ fn own_options(command: CommandName) -> &'static [CommandOption]
                 CommandOption::Special,
                 CommandOption::Exclude,
                 CommandOption::Otp,
+                CommandOption::Restore,
             ]
         }
         CommandName::Merge => {
             &[
                 CommandOption::SameCredentials,
                 CommandOption::DryRun,
+                CommandOption::Details,
                 CommandOption::KeyFileFrom,
                 CommandOption::NoPasswordFrom,
             ]

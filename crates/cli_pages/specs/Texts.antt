@@ -6,10 +6,10 @@ use Rattle.strsim.specs.Edits.{levenshtein_row}
 use Rattle.cli_options.specs.declared.names.CommandName.{CommandName}
 use Rattle.cli_options.specs.declared.names.CommandName.TheVariants as name
 use Rattle.cli_options.specs.declared.forms.CommandOption.{CommandOption}
-use Rattle.cli_options.specs.declared.forms.CommandOption.TheVariants.{Recursive, Flat, Quiet, Plain, NoPassword, KeyFile, Title, User, Url, Notes, EntryPassword, SameCredentials, DryRun, KeyFileFrom, NoPasswordFrom, Clear, All, Attachments, Format, Attribute, SetPassword, SetKeyFile, Totp, Generate, Length, Lower, Upper, Numeric, Special, Exclude, Otp, Cipher, Kdf, Rounds, Memory, Lanes, UnsetPassword, UnsetKeyFile, FileVersion, DatabaseName}
+use Rattle.cli_options.specs.declared.forms.CommandOption.TheVariants.{Recursive, Flat, Quiet, Plain, NoPassword, KeyFile, Title, User, Url, Notes, EntryPassword, SameCredentials, DryRun, KeyFileFrom, NoPasswordFrom, Clear, All, Attachments, Format, Attribute, SetPassword, SetKeyFile, Totp, Generate, Length, Lower, Upper, Numeric, Special, Exclude, Otp, Cipher, Kdf, Rounds, Memory, Lanes, UnsetPassword, UnsetKeyFile, FileVersion, DatabaseName, At, Restore, Details, Ids}
 use Rattle.cli_options.specs.Options.{form_of, name_option}
 use Rattle.cli_causes.specs.declared.cause.Cause.{Cause}
-use Rattle.cli_causes.specs.declared.cause.Cause.TheVariants.{NoCommand, OptionFirst, UnknownCommand, UnknownOption, UnknownLetter, UnknownWord, TakesNoValue, LetterTakesNoValue, OptionTwice, FlagsTwice, JoinedValue, NoValue, OptionAsValue, FewPositions, ExtraPosition, ManySources, NotWithPlain, NotWithSame, NotTogether, NoKeyFile, NoKeyFileFrom, NoNewKey, UnknownImportFormat, UnknownExportFormat, NeedsGenerate, UnknownLength, NoCharacters, UnknownCipher, UnknownKdf, UnknownVersion, UnknownCost, NeedsKdf, NeedsArgon, NoKeyLeft, NoFileChange, KeyFileChangesNothing}
+use Rattle.cli_causes.specs.declared.cause.Cause.TheVariants.{NoCommand, OptionFirst, UnknownCommand, UnknownOption, UnknownLetter, UnknownWord, TakesNoValue, LetterTakesNoValue, OptionTwice, FlagsTwice, JoinedValue, NoValue, OptionAsValue, FewPositions, ExtraPosition, ManySources, NotWithPlain, NotWithSame, NotTogether, NoKeyFile, NoKeyFileFrom, NoNewKey, UnknownImportFormat, UnknownExportFormat, NeedsGenerate, UnknownNumber, UnknownLength, NoCharacters, UnknownCipher, UnknownKdf, UnknownVersion, UnknownCost, NeedsKdf, NeedsArgon, NoKeyLeft, NoFileChange, KeyFileChangesNothing}
 
 -- ---- commands and options
 
@@ -17,6 +17,7 @@ use Rattle.cli_causes.specs.declared.cause.Cause.TheVariants.{NoCommand, OptionF
 abbrev pub command_text : CommandName → List ℕ
 command_text name.Ls = codes "ls"
 command_text name.Show = codes "show"
+command_text name.History = codes "history"
 command_text name.Search = codes "search"
 command_text name.Add = codes "add"
 command_text name.Edit = codes "edit"
@@ -36,6 +37,7 @@ command_text name.Generate = codes "generate"
 abbrev pub positions_text : CommandName → List ℕ
 positions_text name.Ls = codes "DATABASE [GROUP]"
 positions_text name.Show = codes "DATABASE ENTRY"
+positions_text name.History = codes "DATABASE ENTRY"
 positions_text name.Search = codes "DATABASE TERM"
 positions_text name.Add = codes "DATABASE ENTRY"
 positions_text name.Edit = codes "DATABASE ENTRY"
@@ -54,9 +56,9 @@ positions_text name.Generate = codes "only options"
 -- The commands.
 abbrev pub commands : List CommandName
 commands =
-    name.Ls ∷ name.Show ∷ name.Search ∷ name.Add ∷ name.Edit ∷ name.Move ∷ name.Remove
-    ∷ name.MakeGroup ∷ name.RemoveGroup ∷ name.Merge ∷ name.Import ∷ name.Create ∷ name.Export
-    ∷ name.EditFile ∷ name.Info ∷ name.Generate ∷ []
+    name.Ls ∷ name.Show ∷ name.History ∷ name.Search ∷ name.Add ∷ name.Edit ∷ name.Move
+    ∷ name.Remove ∷ name.MakeGroup ∷ name.RemoveGroup ∷ name.Merge ∷ name.Import ∷ name.Create
+    ∷ name.Export ∷ name.EditFile ∷ name.Info ∷ name.Generate ∷ []
 
 -- The options, whichever command takes them.
 abbrev pub options : List CommandOption
@@ -65,7 +67,7 @@ options =
     ∷ EntryPassword ∷ SameCredentials ∷ DryRun ∷ KeyFileFrom ∷ NoPasswordFrom ∷ Clear ∷ All
     ∷ Attachments ∷ Format ∷ Attribute ∷ SetPassword ∷ SetKeyFile ∷ Totp ∷ Generate ∷ Length
     ∷ Lower ∷ Upper ∷ Numeric ∷ Special ∷ Exclude ∷ Otp ∷ Cipher ∷ Kdf ∷ Rounds ∷ Memory ∷ Lanes
-    ∷ UnsetPassword ∷ UnsetKeyFile ∷ FileVersion ∷ DatabaseName ∷ []
+    ∷ UnsetPassword ∷ UnsetKeyFile ∷ FileVersion ∷ DatabaseName ∷ At ∷ Restore ∷ Details ∷ Ids ∷ []
 
 -- The long name of an option.
 abbrev pub option_text : CommandOption → List ℕ
@@ -198,6 +200,12 @@ abbrev pub unknown_cost : CommandOption → List ℕ → List ℕ
 unknown_cost option text = about_option option (codes "' needs a number of ") ++ cost_unit option
     ++ around (codes ", in one to ten digits: '") text (codes "'")
 
+-- The number of a version that is none.
+abbrev pub unknown_number : CommandOption → List ℕ → List ℕ
+unknown_number option text = about_option option
+    (codes "' needs the number of a version, in one to six digits: '")
+    ++ around [] text (codes "'")
+
 -- Nothing is changed, or no key is left.
 abbrev pub nothing_text : Cause → List ℕ
 nothing_text NoKeyLeft = codes "no key is left: a database needs a password or a key file"
@@ -221,10 +229,12 @@ settings_text (NeedsArgon option) =
     about_option option (codes "' needs '--kdf argon2d' or '--kdf argon2id'")
 settings_text cause = nothing_text cause
 
--- What does not go together beside what opens databases, and what is said of generated passwords.
+-- What does not go together beside what opens databases, and what is said of versions and of
+-- generated passwords.
 abbrev pub profile_text : Cause → List ℕ
 profile_text (NotTogether option other) = not_together option other
 profile_text (NeedsGenerate option) = about_option option (codes "' needs '--generate'")
+profile_text (UnknownNumber option text) = unknown_number option text
 profile_text (UnknownLength text) = around (codes "unknown length '") text (codes "': 1 to 4096")
 profile_text NoCharacters = codes "no characters are left: --exclude has all of them"
 profile_text cause = settings_text cause

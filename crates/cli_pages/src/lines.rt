@@ -14,9 +14,11 @@ fn positions_text(command: CommandName) -> &'static str
 {
     match command {
         CommandName::Ls => "DATABASE [GROUP]",
-        CommandName::Show | CommandName::Add | CommandName::Edit | CommandName::Remove => {
-            "DATABASE ENTRY"
-        }
+        CommandName::Show
+        | CommandName::History
+        | CommandName::Add
+        | CommandName::Edit
+        | CommandName::Remove => "DATABASE ENTRY",
         CommandName::Search => "DATABASE TERM",
         CommandName::Move => "DATABASE NODE GROUP",
         CommandName::MakeGroup | CommandName::RemoveGroup => "DATABASE GROUP",
@@ -209,6 +211,15 @@ fn add_unknown_cost(text: &mut Bytes, option: CommandOption, cost: &str) -> Resu
     add_around(text, ", in one to ten digits: '", cost, "'")
 }
 
+// Adds that the number of a version is none.
+fn add_unknown_number(text: &mut Bytes, option: CommandOption, number: &str) -> Result<(), NoMemory>
+    ensures { OnOk result (text.new ≡ text.old ++ spec.unknown_number option number.now) }
+{
+    let wanted = "' needs the number of a version, in one to six digits: '";
+    add_about(text, option, wanted)?;
+    add_around(text, "", number, "'")
+}
+
 // Adds that nothing is changed, or that no key is left.
 fn add_nothing(text: &mut Bytes, cause: &Cause) -> Result<(), NoMemory>
     ensures { OnOk result (text.new ≡ text.old ++ spec.nothing_text cause.now) }
@@ -260,14 +271,17 @@ fn add_no_new_key(text: &mut Bytes, command: CommandName) -> Result<(), NoMemory
     text.add(b" needs a key for the new database: -p, --set-key-file FILE, or --plain for none")
 }
 
-// Adds what does not go together beside what opens databases, and what is said of generated
-// passwords.
+// Adds what does not go together beside what opens databases, and what is said of versions and of
+// generated passwords.
 fn add_profile(text: &mut Bytes, cause: &Cause) -> Result<(), NoMemory>
     ensures { OnOk result (text.new ≡ text.old ++ spec.profile_text cause.now) }
 {
     match cause {
         Cause::NotTogether(option, other) => add_not_together(text, *option, *other),
         Cause::NeedsGenerate(option) => add_about(text, *option, "' needs '--generate'"),
+        Cause::UnknownNumber(option, number) => {
+            add_unknown_number(text, *option, number.as_str())
+        }
         Cause::UnknownLength(length) => {
             add_around(text, "unknown length '", length.as_str(), "': 1 to 4096")
         }

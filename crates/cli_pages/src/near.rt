@@ -9,9 +9,10 @@ use std::alloc::Global;
 use strsim::levenshtein;
 
 /// The commands.
-const COMMANDS: [CommandName; 16] = [
+const COMMANDS: [CommandName; 17] = [
     CommandName::Ls,
     CommandName::Show,
+    CommandName::History,
     CommandName::Search,
     CommandName::Add,
     CommandName::Edit,
@@ -29,7 +30,7 @@ const COMMANDS: [CommandName; 16] = [
 ];
 
 /// The options, whichever command takes them.
-const OPTIONS: [CommandOption; 40] = [
+const OPTIONS: [CommandOption; 44] = [
     CommandOption::Recursive,
     CommandOption::Flat,
     CommandOption::Quiet,
@@ -70,6 +71,10 @@ const OPTIONS: [CommandOption; 40] = [
     CommandOption::UnsetKeyFile,
     CommandOption::FileVersion,
     CommandOption::DatabaseName,
+    CommandOption::At,
+    CommandOption::Restore,
+    CommandOption::Details,
+    CommandOption::Ids,
 ];
 
 /// The name of a command.
@@ -79,6 +84,7 @@ pub(crate) fn command_text(command: CommandName) -> &'static str
     match command {
         CommandName::Ls => "ls",
         CommandName::Show => "show",
+        CommandName::History => "history",
         CommandName::Search => "search",
         CommandName::Add => "add",
         CommandName::Edit => "edit",
@@ -142,6 +148,10 @@ pub(crate) fn option_text(option: CommandOption) -> &'static str
         CommandOption::UnsetKeyFile => "unset-key-file",
         CommandOption::FileVersion => "version",
         CommandOption::DatabaseName => "name",
+        CommandOption::At => "at",
+        CommandOption::Restore => "restore",
+        CommandOption::Details => "details",
+        CommandOption::Ids => "ids",
     }
 }
 

@@ -1,7 +1,7 @@
 -- Words of calls, and which commands they are.
 use Rattle.std.proofs.Common.{◌≡◌, refl, [], ◌∷◌, codes, true, false, Some, None}
 use Rattle.cli_parse.specs.declared.command.Access.{Access}
-use Rattle.cli_parse.specs.declared.command.Command.TheVariants.{Ls, Show, Edit, Merge, Import, Create, Export, EditFile}
+use Rattle.cli_parse.specs.declared.command.Command.TheVariants.{Ls, Show, History, Edit, Restore, Merge, Import, Create, Export, EditFile}
 use Rattle.cli_parse.specs.declared.command.KdfKind.TheVariants as kdf
 use Rattle.cli_parse.specs.declared.command.KeyFileChange.TheVariants as key_file
 use Rattle.cli_parse.specs.declared.command.PasswordChange.TheVariants as password
@@ -17,11 +17,11 @@ by_password = record { plain = false; quiet = false; key_file = None; no_passwor
 
 -- Names of fields are kept in their order, and `-s` of `show` is a flag of its own.
 fields_in_order : command_in (codes "show" ∷ codes "-s" ∷ codes "-a" ∷ codes "UserName" ∷ codes "-a=Pass" ∷ codes "--all" ∷ codes "F" ∷ codes "E" ∷ [])
-    ≡ Some (Show by_password (codes "F") (codes "E") true true false (codes "UserName" ∷ codes "Pass" ∷ []) false)
+    ≡ Some (Show by_password (codes "F") (codes "E") true true false (codes "UserName" ∷ codes "Pass" ∷ []) false 0)
 fields_in_order = refl
 
 joined_name : command_in (codes "show" ∷ codes "-aTitle" ∷ codes "F" ∷ codes "E" ∷ [])
-    ≡ Some (Show by_password (codes "F") (codes "E") false false false (codes "Title" ∷ []) false)
+    ≡ Some (Show by_password (codes "F") (codes "E") false false false (codes "Title" ∷ []) false 0)
 joined_name = refl
 
 -- `-f` of `export` has a value, and `-f` of `ls` has none.
@@ -31,7 +31,7 @@ format_of_table = refl
 unknown_format : command_in (codes "export" ∷ codes "-f" ∷ codes "yaml" ∷ codes "F" ∷ []) ≡ None
 unknown_format = refl
 
-flat_listing : command_in (codes "ls" ∷ codes "-f" ∷ codes "F" ∷ []) ≡ Some (Ls by_password (codes "F") None false true)
+flat_listing : command_in (codes "ls" ∷ codes "-f" ∷ codes "F" ∷ []) ≡ Some (Ls by_password (codes "F") None false true false)
 flat_listing = refl
 
 -- Another option occurs once.
@@ -40,7 +40,7 @@ plain_twice = refl
 
 -- `-s` of `merge` is another flag than that of `show`.
 same_credentials : command_in (codes "merge" ∷ codes "-s" ∷ codes "F" ∷ codes "G" ∷ [])
-    ≡ Some (Merge by_password (codes "F") (codes "G" ∷ []) by_password true false)
+    ≡ Some (Merge by_password (codes "F") (codes "G" ∷ []) by_password true false false)
 same_credentials = refl
 
 -- A source in a format of its own; the new database has a password, or a key file, or none of them where it is a plain document.
@@ -67,11 +67,52 @@ format_without_letter = refl
 
 -- A one-time code beside fields that are named, and not beside all fields.
 code_shown : command_in (codes "show" ∷ codes "-t" ∷ codes "-a" ∷ codes "UserName" ∷ codes "F" ∷ codes "E" ∷ [])
-    ≡ Some (Show by_password (codes "F") (codes "E") false false false (codes "UserName" ∷ []) true)
+    ≡ Some (Show by_password (codes "F") (codes "E") false false false (codes "UserName" ∷ []) true 0)
 code_shown = refl
 
 code_and_all : command_in (codes "show" ∷ codes "-t" ∷ codes "--all" ∷ codes "F" ∷ codes "E" ∷ []) ≡ None
 code_and_all = refl
+
+-- The version of a number is shown, of one to six digits; 0 is the current one.
+version_shown : command_in (codes "show" ∷ codes "--at" ∷ codes "007" ∷ codes "-s" ∷ codes "F" ∷ codes "E" ∷ [])
+    ≡ Some (Show by_password (codes "F") (codes "E") true false false [] false 7)
+version_shown = refl
+
+seven_digits : command_in (codes "show" ∷ codes "--at=0000001" ∷ codes "F" ∷ codes "E" ∷ []) ≡ None
+seven_digits = refl
+
+no_digit : command_in (codes "show" ∷ codes "--at=" ∷ codes "F" ∷ codes "E" ∷ []) ≡ None
+no_digit = refl
+
+version_twice : command_in (codes "show" ∷ codes "--at=1" ∷ codes "--at=1" ∷ codes "F" ∷ codes "E" ∷ []) ≡ None
+version_twice = refl
+
+versions_listed : command_in (codes "history" ∷ codes "F" ∷ codes "E" ∷ []) ≡ Some (History by_password (codes "F") (codes "E"))
+versions_listed = refl
+
+version_of_history : command_in (codes "history" ∷ codes "--at=1" ∷ codes "F" ∷ codes "E" ∷ []) ≡ None
+version_of_history = refl
+
+-- A version is restored alone.
+version_restored : command_in (codes "edit" ∷ codes "--restore=3" ∷ codes "F" ∷ codes "E" ∷ []) ≡ Some (Restore by_password (codes "F") (codes "E") 3)
+version_restored = refl
+
+restored_and_titled : command_in (codes "edit" ∷ codes "--restore=3" ∷ codes "-t" ∷ codes "T" ∷ codes "F" ∷ codes "E" ∷ []) ≡ None
+restored_and_titled = refl
+
+restored_and_generated : command_in (codes "edit" ∷ codes "--restore=3" ∷ codes "-g" ∷ codes "F" ∷ codes "E" ∷ []) ≡ None
+restored_and_generated = refl
+
+restored_with_length : command_in (codes "edit" ∷ codes "--restore=3" ∷ codes "-L" ∷ codes "8" ∷ codes "F" ∷ codes "E" ∷ []) ≡ None
+restored_with_length = refl
+
+-- What is listed has its ids, and a merge its details.
+ids_listed : command_in (codes "ls" ∷ codes "--ids" ∷ codes "F" ∷ []) ≡ Some (Ls by_password (codes "F") None false false true)
+ids_listed = refl
+
+merged_in_detail : command_in (codes "merge" ∷ codes "-d" ∷ codes "--details" ∷ codes "F" ∷ codes "G" ∷ [])
+    ≡ Some (Merge by_password (codes "F") (codes "G" ∷ []) by_password false true true)
+merged_in_detail = refl
 
 -- A password of digits without the first two.
 digits_left : profile_of (codes "generate" ∷ codes "-n" ∷ codes "-L" ∷ codes "0012" ∷ codes "--exclude=10x" ∷ [])

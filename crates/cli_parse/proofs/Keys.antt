@@ -3,14 +3,14 @@
 use Rattle.std.proofs.Common.{◌≡◌, ◌∙◌, refl, sym, ap, subst, ℕ, List, [], ◌∷◌, length, Bool, true, false, Option, Some, None}
 use Rattle.std.specs.Prelude.{IfSome, is_some, not, ◌&&◌, ◌||◌, if◌then◌else◌}
 use Rattle.std.specs.Option.{option_and_then, option_map}
-use Rattle.cli_profiles.specs.Generating.{generated_in}
+use Rattle.cli_profiles.specs.Generating.{generated_in, has_profile_option}
 use Rattle.cli_profiles.specs.Profiles.{IsProfile}
 use Rattle.cli_profiles.specs.declared.profiles.PasswordProfile.{PasswordProfile}
 use Rattle.cli_profiles.proofs.Alphabets.{asked_profile, generated_profile}
 use Rattle.cli_parse.specs.declared.command.Access.{Access}
 use Rattle.cli_parse.specs.declared.command.Asked.{Asked}
 use Rattle.cli_parse.specs.declared.command.Command.{Command}
-use Rattle.cli_parse.specs.declared.command.Command.TheVariants.{Add, Edit, EditFile}
+use Rattle.cli_parse.specs.declared.command.Command.TheVariants.{Add, Edit, EditFile, Restore}
 use Rattle.cli_parse.specs.declared.command.FileChange.{FileChange}
 use Rattle.cli_parse.specs.declared.command.KdfAsked.{KdfAsked}
 use Rattle.cli_options.specs.declared.names.CommandName.{CommandName}
@@ -26,7 +26,7 @@ use Rattle.cli_parse.specs.declared.command.ExportFormat.{ExportFormat}
 use Rattle.cli_parse.specs.declared.command.ImportFormat.{ImportFormat}
 use Rattle.cli_options.specs.Credentials.{has_part, is_fit, is_fit_from, is_fit_new, is_whole}
 use Rattle.cli_options.specs.Said.{Said, is_due, is_given, nothing_said, text_of, with_words}
-use Rattle.cli_parse.specs.Words.{access_from, access_new, access_of, access_sealed, access_source, add_at, asked_of, asked_with, command_at, command_by, command_in, command_saying, create_at, create_with, edit_at, edit_file_at, edit_file_with, edit_of, export_as, export_at, format_asked, has_change, import_as, import_at, import_format_asked, import_from, info_at, is_fit_create, is_fit_edit, is_fit_show, is_mergeable, list_at, make_group_at, merge_at, merge_of, move_at, profile_at, profile_by, profile_of, profile_saying, remove_at, remove_group_at, search_at, show_at}
+use Rattle.cli_parse.specs.Words.{access_from, access_new, access_of, access_sealed, access_source, add_at, asked_of, asked_with, command_at, command_by, command_in, command_saying, create_at, create_with, edit_at, edit_by, edit_file_at, edit_file_with, edit_of, export_as, export_at, format_asked, has_change, history_at, import_as, import_at, import_format_asked, import_from, info_at, is_fit_create, is_fit_edit, is_fit_show, is_mergeable, list_at, make_group_at, merge_at, merge_of, move_at, profile_at, profile_by, profile_of, profile_saying, remove_at, remove_group_at, search_at, show_at, show_by, show_of, version_asked, version_numbered}
 
 -- What a command opens has keys, and so has what it shows or writes; and a password that it
 -- generates can be chosen.
@@ -110,6 +110,11 @@ alone said h file has_line = (opened (access_of said) h.target file has_line, h.
 if_key : (b : Bool) (r : Option Command) → IfKey r → IfKey (if b then r else None)
 if_key true r h = h
 if_key false r h = tt
+
+-- A command, unless a test is met.
+unless_key : (b : Bool) (r : Option Command) → IfKey r → IfKey (if b then None else r)
+unless_key true r h = tt
+unless_key false r h = h
 
 -- A command by the number of its positions.
 by_positions : (at : List (List ℕ) → Option Command) → IfKey (at []) → ((a : List ℕ) → IfKey (at (a ∷ [])))
@@ -276,15 +281,31 @@ edit_key said h file entry =
     asked_key (Edit (access_of said) file entry)
     (λ asked generated. (record { target = h.target; sources = h.target; same = λ e. refl }, h.target, generated, tt)) said
 
+-- A version that is shown, if its number is one.
+show_key : (said : Said) → AreKeys said → (file entry : List ℕ) (at : Option ℕ) → IfKey (option_map (show_of said file entry) at)
+show_key said h file entry None = tt
+show_key said h file entry (Some at) = alone said h file false
+
+-- A version that is restored, if its number is one.
+restore_key : (said : Said) → AreKeys said → (file entry : List ℕ) (version : Option ℕ) → IfKey (option_map (Restore (access_of said) file entry) version)
+restore_key said h file entry None = tt
+restore_key said h file entry (Some version) = alone said h file false
+
+edited_key : (said : Said) → AreKeys said → (file entry : List ℕ) (text : Option (List ℕ)) → IfKey (edit_by said file entry text)
+edited_key said h file entry None = if_key (has_change said) _ (edit_key said h file entry)
+edited_key said h file entry (Some text) =
+    unless_key (has_change said || has_profile_option said) _ (restore_key said h file entry (version_numbered text))
+
 command_key : (command : CommandName) (said : Said) → AreKeys said → (positions : List (List ℕ)) → IfKey (command_at command said positions)
 command_key name.Ls said h =
     by_positions (list_at said) tt (λ a. alone said h a false) (λ a b. alone said h a false) (λ a b c r. tt)
 command_key name.Show said h =
-    by_positions (show_at said) tt (λ a. tt) (λ a b. if_key (is_fit_show said) _ (alone said h a false)) (λ a b c r. tt)
+    by_positions (show_at said) tt (λ a. tt) (λ a b. if_key (is_fit_show said) (show_by said a b) (show_key said h a b (version_asked (text_of option.At said)))) (λ a b c r. tt)
+command_key name.History said h = by_positions (history_at said) tt (λ a. tt) (λ a b. alone said h a false) (λ a b c r. tt)
 command_key name.Search said h = by_positions (search_at said) tt (λ a. tt) (λ a b. alone said h a false) (λ a b c r. tt)
 command_key name.Add said h = by_positions (add_at said) tt (λ a. tt) (add_key said h) (λ a b c r. tt)
 command_key name.Edit said h =
-    by_positions (edit_at said) tt (λ a. tt) (λ a b. if_key (has_change said) _ (edit_key said h a b)) (λ a b c r. tt)
+    by_positions (edit_at said) tt (λ a. tt) (λ a b. edited_key said h a b (text_of option.Restore said)) (λ a b c r. tt)
 command_key name.Move said h = by_positions (move_at said) tt (λ a. tt) (λ a b. tt) (move_key said h)
 command_key name.Remove said h = by_positions (remove_at said) tt (λ a. tt) (λ a b. alone said h a false) (λ a b c r. tt)
 command_key name.MakeGroup said h = by_positions (make_group_at said) tt (λ a. tt) (λ a b. alone said h a false) (λ a b c r. tt)

@@ -4,7 +4,7 @@ use Rattle.cli_messages.specs.declared.answers.Refusal.{Refusal}
 use Rattle.cli_profiles.specs.declared.profiles.PasswordProfile.{PasswordProfile}
 use Rattle.cli_parse.specs.declared.command.Access.{Access}
 use Rattle.cli_parse.specs.declared.command.Command.{Command}
-use Rattle.cli_parse.specs.declared.command.Command.TheVariants.{Ls, Show, Search, Add, Edit, Move, Remove, MakeGroup, RemoveGroup, Merge, Import, Create, Export, EditFile, Info}
+use Rattle.cli_parse.specs.declared.command.Command.TheVariants.{Ls, Show, History, Search, Add, Edit, Restore, Move, Remove, MakeGroup, RemoveGroup, Merge, Import, Create, Export, EditFile, Info}
 use Rattle.cli_parse.specs.declared.command.FileChange.{FileChange}
 use Rattle.cli_parse.specs.declared.command.ImportFormat.{ImportFormat}
 use Rattle.cli_parse.specs.declared.command.KdfAsked.{KdfAsked}
@@ -53,18 +53,20 @@ sets_password password.Unset = false
 -- its line is the password that it is to have. Where a database's file gets another password, that
 -- is the line after the one that opens it.
 abbrev pub needs_of : Command → Needs
-needs_of (Ls access file group recursive flat) = without_sources access file false
-needs_of (Show access file entry clear all attachments names totp) =
+needs_of (Ls access file group recursive flat ids) = without_sources access file false
+needs_of (Show access file entry clear all attachments names totp at) =
     without_sources access file false
+needs_of (History access file entry) = without_sources access file false
 needs_of (Search access file term) = without_sources access file false
 needs_of (Add access file entry asked) = without_sources access file asked.password
 needs_of (Edit access file entry asked) =
     record (without_sources access file asked.password) { has_otp = asked.otp }
+needs_of (Restore access file entry version) = without_sources access file false
 needs_of (Move access file node group) = without_sources access file false
 needs_of (Remove access file entry) = without_sources access file false
 needs_of (MakeGroup access file group) = without_sources access file false
 needs_of (RemoveGroup access file group) = without_sources access file false
-needs_of (Merge access file sources from same dry) = record {
+needs_of (Merge access file sources from same dry details) = record {
   access = access;
   file = file;
   from = from;

@@ -4,13 +4,13 @@ use Rattle.std.specs.Str.{bytes_eq}
 use Rattle.cli_messages.specs.declared.answers.Reason.TheVariants.{WrongWords}
 use Rattle.cli_messages.specs.declared.answers.Refusal.{Refusal}
 use Rattle.cli_messages.specs.Messages.{refusal_of}
-use Rattle.cli_profiles.specs.Generating.{generated_in}
+use Rattle.cli_profiles.specs.Generating.{generated_in, has_profile_option}
 use Rattle.cli_profiles.specs.Profiles.{profile_in}
 use Rattle.cli_profiles.specs.declared.profiles.PasswordProfile.{PasswordProfile}
 use Rattle.cli_parse.specs.declared.command.Access.{Access}
 use Rattle.cli_parse.specs.declared.command.Asked.{Asked}
 use Rattle.cli_parse.specs.declared.command.Command.{Command}
-use Rattle.cli_parse.specs.declared.command.Command.TheVariants.{Ls, Show, Search, Add, Edit, Move, Remove, MakeGroup, RemoveGroup, Merge, Import, Create, Export, EditFile, Info}
+use Rattle.cli_parse.specs.declared.command.Command.TheVariants.{Ls, Show, History, Search, Add, Edit, Restore, Move, Remove, MakeGroup, RemoveGroup, Merge, Import, Create, Export, EditFile, Info}
 use Rattle.cli_parse.specs.declared.command.ExportFormat.{ExportFormat}
 use Rattle.cli_parse.specs.declared.command.ExportFormat.TheVariants as format
 use Rattle.cli_parse.specs.declared.command.ImportFormat.{ImportFormat}
@@ -18,6 +18,7 @@ use Rattle.cli_parse.specs.declared.command.ImportFormat.TheVariants.{Xml, Psafe
 use Rattle.cli_options.specs.declared.names.CommandName.{CommandName}
 use Rattle.cli_options.specs.declared.names.CommandName.TheVariants as name
 use Rattle.cli_options.specs.declared.forms.CommandOption.TheVariants as option
+use Rattle.cli_options.specs.Numbers.{number_of}
 use Rattle.cli_options.specs.Options.{command_named}
 use Rattle.cli_options.specs.Credentials.{is_fit_change, is_fit_new, is_whole}
 use Rattle.cli_options.specs.Said.{Said, is_given, nothing_said, text_of, with_words}
@@ -123,6 +124,7 @@ access_source said format = record {
 abbrev pub list_of : Said → List ℕ → Option (List ℕ) → Command
 list_of said file group =
     Ls (access_of said) file group (is_given option.Recursive said) (is_given option.Flat said)
+    (is_given option.Ids said)
 
 -- `ls DATABASE [GROUP]`
 abbrev pub list_at : Said → List (List ℕ) → Option Command
@@ -135,17 +137,35 @@ abbrev pub is_fit_show : Said → Bool
 is_fit_show said = not (is_given option.Totp said
     && (is_given option.All said || is_given option.Attachments said))
 
--- What is shown of a file's entry.
-abbrev pub show_of : Said → List ℕ → List ℕ → Command
-show_of said file entry =
+-- The number of a version that a text is: one to six decimal digits.
+abbrev pub version_numbered : List ℕ → Option ℕ
+version_numbered text = number_of 6 text
+
+-- The number of the version that is asked for: 0, that of the current one, where there is no text.
+abbrev pub version_asked : Option (List ℕ) → Option ℕ
+version_asked None = Some 0
+version_asked (Some text) = version_numbered text
+
+-- What is shown of a file's entry, of its version of this number.
+abbrev pub show_of : Said → List ℕ → List ℕ → (at : ℕ) → Command
+show_of said file entry at =
     Show (access_of said) file entry (is_given option.Clear said) (is_given option.All said)
-    (is_given option.Attachments said) said.names (is_given option.Totp said)
+    (is_given option.Attachments said) said.names (is_given option.Totp said) at
+
+-- The same, if what is asked for is the number of a version.
+abbrev pub show_by : Said → List ℕ → List ℕ → Option Command
+show_by said file entry =
+    option_map (show_of said file entry) (version_asked (text_of option.At said))
 
 -- `show DATABASE ENTRY`
 abbrev pub show_at : Said → List (List ℕ) → Option Command
-show_at said (file ∷ entry ∷ []) =
-    if is_fit_show said then Some (show_of said file entry) else None
+show_at said (file ∷ entry ∷ []) = if is_fit_show said then show_by said file entry else None
 show_at said positions = None
+
+-- `history DATABASE ENTRY`
+abbrev pub history_at : Said → List (List ℕ) → Option Command
+history_at said (file ∷ entry ∷ []) = Some (History (access_of said) file entry)
+history_at said positions = None
 
 -- `search DATABASE TERM`
 abbrev pub search_at : Said → List (List ℕ) → Option Command
@@ -161,9 +181,21 @@ add_at said positions = None
 abbrev pub edit_of : Said → List ℕ → List ℕ → Option Command
 edit_of said file entry = option_map (Edit (access_of said) file entry) (asked_of said)
 
--- `edit DATABASE ENTRY`, if a value is given
+-- A version of a file's entry becomes the current one: that of the number that a text is,
+-- if no value is given too, and nothing is said of a generated password.
+abbrev pub restore_of : Said → List ℕ → List ℕ → List ℕ → Option Command
+restore_of said file entry text = if has_change said || has_profile_option said then None
+    else option_map (Restore (access_of said) file entry) (version_numbered text)
+
+-- A version of a file's entry becomes the current one where a text says which, or else the entry is
+-- changed, if a value is given.
+abbrev pub edit_by : Said → List ℕ → List ℕ → Option (List ℕ) → Option Command
+edit_by said file entry (Some text) = restore_of said file entry text
+edit_by said file entry None = if has_change said then edit_of said file entry else None
+
+-- `edit DATABASE ENTRY`
 abbrev pub edit_at : Said → List (List ℕ) → Option Command
-edit_at said (file ∷ entry ∷ []) = if has_change said then edit_of said file entry else None
+edit_at said (file ∷ entry ∷ []) = edit_by said file entry (text_of option.Restore said)
 edit_at said positions = None
 
 -- `mv DATABASE NODE GROUP`
@@ -194,7 +226,7 @@ is_mergeable count = not (count == 0) && not (nat_lt 16 count)
 abbrev pub merge_of : Said → List ℕ → List (List ℕ) → Command
 merge_of said file sources =
     Merge (access_of said) file sources (access_from said) (is_given option.SameCredentials said)
-    (is_given option.DryRun said)
+    (is_given option.DryRun said) (is_given option.Details said)
 
 -- `merge TARGET SOURCE...`
 abbrev pub merge_at : Said → List (List ℕ) → Option Command
@@ -277,6 +309,7 @@ no_command_at said positions = None
 abbrev pub command_at : CommandName → Said → List (List ℕ) → Option Command
 command_at name.Ls = list_at
 command_at name.Show = show_at
+command_at name.History = history_at
 command_at name.Search = search_at
 command_at name.Add = add_at
 command_at name.Edit = edit_at

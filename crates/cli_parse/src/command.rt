@@ -134,6 +134,8 @@ pub enum Command {
         recursive: bool,
         /// Whether each name comes after the path that leads to it.
         flat: bool,
+        /// Whether each name comes after the id of its node.
+        ids: bool,
     },
     /// Shows an entry of a database.
     Show {
@@ -153,6 +155,17 @@ pub enum Command {
         names: List<Text>,
         /// Whether its one-time code is shown.
         totp: bool,
+        /// The number of the version that is shown: 0 is the current one.
+        at: u64,
+    },
+    /// Lists the versions of an entry of a database.
+    History {
+        /// How the database is opened.
+        access: Access,
+        /// The file of the database.
+        file: Text,
+        /// The path of the entry.
+        entry: Text,
     },
     /// Lists the entries of a database that match the terms of a search.
     Search {
@@ -184,6 +197,17 @@ pub enum Command {
         entry: Text,
         /// The values that are other than before.
         asked: Asked,
+    },
+    /// Makes a version of an entry the current one again.
+    Restore {
+        /// How the database is opened.
+        access: Access,
+        /// The file of the database.
+        file: Text,
+        /// The path of the entry.
+        entry: Text,
+        /// The number of the version.
+        version: u64,
     },
     /// Moves an entry or a group into another group.
     Move {
@@ -237,6 +261,8 @@ pub enum Command {
         same: bool,
         /// Whether no file is written.
         dry: bool,
+        /// Whether the report says what a person has to look at.
+        details: bool,
     },
     /// Makes a database of what another program has written.
     Import {

@@ -3,109 +3,24 @@ ghost use Rattle.std.specs.Prelude.{◌≡◌, IfErr, IfOk, IfSome, map, string_
 ghost use Rattle.cli_messages.specs.Phases.{IsWordsStop, Returns};
 ghost use Rattle.cli_profiles.specs.Profiles.{IsProfile};
 ghost use Rattle.cli_parse.specs.Needs.{HasKeyAfter, HasKey, HasKeys, generated_by, needs_of, target_access};
-ghost use Rattle.cli_options.specs.declared.forms.CommandOption.TheVariants as option;
-ghost use Rattle.cli_options.specs.Said.{text_of};
 ghost use Rattle.cli_options.specs.SaidWords.{Gives, said_seen, text_seen};
 ghost use Rattle.cli_parse.specs.Words as spec;
 ghost use Rattle.cli_parse.specs.Words.{command_of};
 
 use crate::bases::{access_from, access_new, access_source, base_and_path, base_of, base_with};
-use crate::command::{Asked, Command, ExportFormat, ImportFormat};
+use crate::command::{Command, ExportFormat, ImportFormat};
+use crate::entries::{add_at, edit_at, history_at, show_at};
 use crate::files::{create_at, edit_file_at};
 use cli_messages::{Reason, Stop, refused};
 use cli_options::{
     CommandName, CommandOption, SaidWords, WordsFail, add_words, command_named, copies_of, copy_of,
     empty_state, is_fit_new, is_given, is_whole, no_texts, text_of,
 };
-use cli_profiles::generated_in;
 use outside_core::{NoMemory, Text};
 use std::alloc::Global;
 
 /// The most sources of a merge.
 const SOURCES: usize = 16;
-
-/// Reports whether at least one value of an entry is given.
-pub fn has_change(said: &SaidWords<'_, '_>) -> bool
-    ensures { result ≡ spec.has_change (said_seen said.now) }
-{
-    is_given(said, CommandOption::Title)
-        || is_given(said, CommandOption::User)
-        || is_given(said, CommandOption::Url)
-        || is_given(said, CommandOption::Notes)
-        || is_given(said, CommandOption::EntryPassword)
-        || is_given(said, CommandOption::Generate)
-        || is_given(said, CommandOption::Otp)
-}
-
-// The texts that an entry is to have.
-#[derive(Drop)]
-struct AskedTexts {
-    title: Option<Text>,
-    user: Option<Text>,
-    url: Option<Text>,
-    notes: Option<Text>,
-}
-
-// The texts that an entry is to have.
-fn asked_texts(alloc: Global, said: &SaidWords<'_, '_>) -> Result<AskedTexts, NoMemory>
-    ensures title { IfOk result (λ t. t.title ≡ text_of option.Title (said_seen said.now)) }
-    ensures user { IfOk result (λ t. t.user ≡ text_of option.User (said_seen said.now)) }
-    ensures url { IfOk result (λ t. t.url ≡ text_of option.Url (said_seen said.now)) }
-    ensures notes { IfOk result (λ t. t.notes ≡ text_of option.Notes (said_seen said.now)) }
-{
-    let title = copy_of(alloc, text_of(said, CommandOption::Title))?;
-    let user = match copy_of(alloc, text_of(said, CommandOption::User)) {
-        Ok(user) => user,
-        Err(fail) => {
-            drop(title);
-            return Err(fail);
-        }
-    };
-    let url = match copy_of(alloc, text_of(said, CommandOption::Url)) {
-        Ok(url) => url,
-        Err(fail) => {
-            drop(title);
-            drop(user);
-            return Err(fail);
-        }
-    };
-    match copy_of(alloc, text_of(said, CommandOption::Notes)) {
-        Ok(notes) => Ok(AskedTexts {
-            title,
-            user,
-            url,
-            notes,
-        }),
-        Err(fail) => {
-            drop(title);
-            drop(user);
-            drop(url);
-            Err(fail)
-        }
-    }
-}
-
-// The values that an entry is to have.
-fn asked_of(alloc: Global, said: &SaidWords<'_, '_>) -> Result<Asked, WordsFail>
-    ensures { Gives (λ asked. asked) result (spec.asked_of (said_seen said.now)) }
-{
-    let texts = asked_texts(alloc, said)?;
-    match generated_in(alloc, said) {
-        Ok(generated) => Ok(Asked {
-            title: texts.title,
-            user: texts.user,
-            url: texts.url,
-            notes: texts.notes,
-            password: is_given(said, CommandOption::EntryPassword),
-            generated,
-            otp: is_given(said, CommandOption::Otp),
-        }),
-        Err(fail) => {
-            drop(texts);
-            Err(fail)
-        }
-    }
-}
 
 /// The format of a name.
 pub fn format_named(name: &str) -> Option<ExportFormat>
@@ -169,6 +84,7 @@ fn list_of(
             group,
             recursive: is_given(said, CommandOption::Recursive),
             flat: is_given(said, CommandOption::Flat),
+            ids: is_given(said, CommandOption::Ids),
         }),
         Err(fail) => {
             drop(base);
@@ -189,54 +105,6 @@ fn list_at(alloc: Global, said: &SaidWords<'_, '_>) -> Result<Command, WordsFail
     }
 }
 
-// Reports whether what is to be shown goes together.
-fn is_fit_show(said: &SaidWords<'_, '_>) -> bool
-    ensures { result ≡ spec.is_fit_show (said_seen said.now) }
-{
-    !(is_given(said, CommandOption::Totp)
-        && (is_given(said, CommandOption::All) || is_given(said, CommandOption::Attachments)))
-}
-
-// The command `show` of a file's entry.
-fn show_of(
-    alloc: Global,
-    said: &SaidWords<'_, '_>,
-    file: &Text,
-    entry: &Text,
-) -> Result<Command, NoMemory>
-    ensures { IfOk result (λ command. command
-        ≡ spec.show_of (said_seen said.now) file.now entry.now) }
-{
-    let both = base_and_path(alloc, said, file, entry)?;
-    match copies_of(alloc, said.names) {
-        Ok(names) => Ok(Command::Show {
-            access: both.access,
-            file: both.file,
-            entry: both.path,
-            clear: is_given(said, CommandOption::Clear),
-            all: is_given(said, CommandOption::All),
-            attachments: is_given(said, CommandOption::Attachments),
-            names,
-            totp: is_given(said, CommandOption::Totp),
-        }),
-        Err(fail) => {
-            drop(both);
-            Err(fail)
-        }
-    }
-}
-
-// The command `show` at these positions.
-fn show_at(alloc: Global, said: &SaidWords<'_, '_>) -> Result<Command, WordsFail>
-    ensures { Gives (λ command. command) result
-        (spec.show_at (said_seen said.now) said.now.positions.now) }
-{
-    match said.positions {
-        [file, entry] if is_fit_show(said) => Ok(show_of(alloc, said, file, entry)?),
-        _ => Err(WordsFail::Wrong),
-    }
-}
-
 // The command `search` at these positions.
 fn search_at(alloc: Global, said: &SaidWords<'_, '_>) -> Result<Command, WordsFail>
     ensures { Gives (λ command. command) result
@@ -251,65 +119,6 @@ fn search_at(alloc: Global, said: &SaidWords<'_, '_>) -> Result<Command, WordsFa
         file: both.file,
         term: both.path,
     })
-}
-
-// The command `add` at these positions.
-fn add_at(alloc: Global, said: &SaidWords<'_, '_>) -> Result<Command, WordsFail>
-    ensures { Gives (λ command. command) result
-        (spec.add_at (said_seen said.now) said.now.positions.now) }
-{
-    let [file, entry] = said.positions else {
-        return Err(WordsFail::Wrong);
-    };
-    let both = base_and_path(alloc, said, file, entry)?;
-    match asked_of(alloc, said) {
-        Ok(asked) => Ok(Command::Add {
-            access: both.access,
-            file: both.file,
-            entry: both.path,
-            asked,
-        }),
-        Err(fail) => {
-            drop(both);
-            Err(fail)
-        }
-    }
-}
-
-// The command `edit` of a file's entry.
-fn edit_of(
-    alloc: Global,
-    said: &SaidWords<'_, '_>,
-    file: &Text,
-    entry: &Text,
-) -> Result<Command, WordsFail>
-    ensures { Gives (λ command. command) result
-        (spec.edit_of (said_seen said.now) file.now entry.now) }
-{
-    let both = base_and_path(alloc, said, file, entry)?;
-    match asked_of(alloc, said) {
-        Ok(asked) => Ok(Command::Edit {
-            access: both.access,
-            file: both.file,
-            entry: both.path,
-            asked,
-        }),
-        Err(fail) => {
-            drop(both);
-            Err(fail)
-        }
-    }
-}
-
-// The command `edit` at these positions.
-fn edit_at(alloc: Global, said: &SaidWords<'_, '_>) -> Result<Command, WordsFail>
-    ensures { Gives (λ command. command) result
-        (spec.edit_at (said_seen said.now) said.now.positions.now) }
-{
-    match said.positions {
-        [file, entry] if has_change(said) => edit_of(alloc, said, file, entry),
-        _ => Err(WordsFail::Wrong),
-    }
 }
 
 // The command `mv` at these positions.
@@ -409,6 +218,7 @@ fn merge_of(
             from,
             same: is_given(said, CommandOption::SameCredentials),
             dry: is_given(said, CommandOption::DryRun),
+            details: is_given(said, CommandOption::Details),
         }),
         Err(fail) => {
             drop(base);
@@ -521,6 +331,7 @@ fn command_at(
     match command {
         CommandName::Ls => list_at(alloc, said),
         CommandName::Show => show_at(alloc, said),
+        CommandName::History => history_at(alloc, said),
         CommandName::Search => search_at(alloc, said),
         CommandName::Add => add_at(alloc, said),
         CommandName::Edit => edit_at(alloc, said),

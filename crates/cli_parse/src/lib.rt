@@ -4,6 +4,7 @@
 mod bases;
 mod command;
 mod commands;
+mod entries;
 mod files;
 pub mod laws;
 mod needs;
@@ -14,7 +15,8 @@ pub use command::{
     Access, Asked, Command, ExportFormat, FileChange, ImportFormat, KdfAsked, KdfKind,
     KeyFileChange, PasswordChange,
 };
-pub use commands::{format_named, has_change, import_format_named, read_words};
+pub use commands::{format_named, import_format_named, read_words};
+pub use entries::{has_change, version_numbered};
 pub use needs::{
     CreateNeeds, ImportNeeds, Needs, Origin, asks_password, asks_passwords_from, generated_by,
     import_of, needs_of, origin_of, target_access, target_of,

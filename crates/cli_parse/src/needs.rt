@@ -58,6 +58,7 @@ pub fn needs_of(command: &Command) -> Needs<'_>
     match command {
         Command::Ls { access, file, .. } => without_sources(access, file, false),
         Command::Show { access, file, .. } => without_sources(access, file, false),
+        Command::History { access, file, .. } => without_sources(access, file, false),
         Command::Search { access, file, .. } => without_sources(access, file, false),
         Command::Add {
             access,
@@ -79,6 +80,7 @@ pub fn needs_of(command: &Command) -> Needs<'_>
             has_line: asked.password,
             has_otp: asked.otp,
         },
+        Command::Restore { access, file, .. } => without_sources(access, file, false),
         Command::Move { access, file, .. } => without_sources(access, file, false),
         Command::Remove { access, file, .. } => without_sources(access, file, false),
         Command::MakeGroup { access, file, .. } => without_sources(access, file, false),

@@ -6,22 +6,23 @@ ghost use Rattle.vault_model.specs.Tree.{Tree};
 
 /// A listing that does not go down has a line for each child of the group, and no other.
 pub fn each_child_has_a_line()
-    ensures lines { (flat : Bool) (front : List ℕ) (tree : Tree) → group_lines false flat front tree
-        ≡ lines_of front (children_named tree) }
-    ensures count { (tree : Tree) → length (children_named tree) ≡ child_count tree }
+    ensures lines { (flat ids : Bool) (front : List ℕ) (tree : Tree)
+        → group_lines false flat ids front tree ≡ lines_of front (children_named ids tree) }
+    ensures count { (ids : Bool) (tree : Tree)
+        → length (children_named ids tree) ≡ child_count tree }
 {}
 
 /// The listing of a group that goes down has the listing of each group below it as a part.
 pub fn subgroups_are_listed()
-    ensures { (flat : Bool) (front : List ℕ) (names : List (List ℕ)) (tree group : Tree)
+    ensures { (flat ids : Bool) (front : List ℕ) (names : List (List ℕ)) (tree group : Tree)
         → LeadTo names tree group
-        → IsPart (group_lines true flat (front_along flat front names) group)
-        (group_lines true flat front tree) }
+        → IsPart (group_lines true flat ids (front_along flat front names) group)
+        (group_lines true flat ids front tree) }
 {}
 
 /// A listing that goes down and has paths is the path of all that is below the group, each on a
-/// line.
+/// line, with the id before the last name where ids are listed.
 pub fn lines_are_paths()
-    ensures { (front : List ℕ) (tree : Tree) → group_lines true true front tree
-        ≡ lines_of front (paths_below tree) }
+    ensures { (ids : Bool) (front : List ℕ) (tree : Tree) → group_lines true true ids front tree
+        ≡ lines_of front (paths_below ids tree) }
 {}

@@ -3,7 +3,8 @@ ghost use Rattle.std.specs.Prelude.{◌≡◌, ◌++◌, [], IfErr, IfOk, OnOk, 
 ghost use Rattle.vault_model.specs.SeenDoc.{doc_seen};
 ghost use Rattle.vault_model.specs.SeenNodes.{entry_row, tree_seen};
 ghost use Rattle.cli_printing.specs.Listing as spec;
-ghost use Rattle.cli_printing.specs.Listing.{group_lines, title_lines, tree_listed, tree_with};
+ghost use Rattle.cli_printing.specs.Listing.{group_lines, name_listed, title_lines, tree_listed, tree_with};
+ghost use Rattle.tree_core.specs.Finding.{id_name};
 
 use outside_core::{Bytes, NoMemory, Text};
 use std::alloc::Global;
@@ -18,6 +19,8 @@ pub struct Manner {
     pub recursive: bool,
     /// With paths before names, in the place of spaces.
     pub flat: bool,
+    /// With each name after the id of its node.
+    pub ids: bool,
 }
 
 // Adds what is before the names in a group of this name.
@@ -47,15 +50,52 @@ fn front_below(alloc: Global, front: &[u8], name: &[u8], flat: bool) -> Result<B
     }
 }
 
+// Adds the id of a node in braces.
+fn add_id(text: &mut Bytes, id: Uuid) -> Result<(), NoMemory>
+    ensures { OnOk result (text.new ≡ text.old ++ id_name id) }
+{
+    let mut digits = [0; 36];
+    let digits = id.encode_hyphenated(&mut digits);
+    text.add(b"{")?;
+    text.add(digits.as_bytes())?;
+    text.add(b"}")
+}
+
+// Adds a name as it is listed: after the id of its node, where ids are listed.
+fn add_name(text: &mut Bytes, ids: bool, id: Uuid, name: &[u8]) -> Result<(), NoMemory>
+    ensures { OnOk result (text.new ≡ text.old ++ name_listed ids id name.now) }
+{
+    if ids {
+        add_id(text, id)?;
+        text.add(b" ")?;
+    }
+    text.add(name)
+}
+
+// Adds a line with a name as it is listed, after this prefix and before this end.
+fn add_listed(
+    text: &mut Bytes,
+    ids: bool,
+    front: &[u8],
+    id: Uuid,
+    name: &[u8],
+    end: &[u8],
+) -> Result<(), NoMemory>
+    ensures { OnOk result (text.new
+        ≡ text.old ++ ((front.now ++ name_listed ids id name.now) ++ end.now)) }
+{
+    text.add(front)?;
+    add_name(text, ids, id, name)?;
+    text.add(end)
+}
+
 // Adds a line for the title of each entry.
-fn add_titles(text: &mut Bytes, front: &[u8], entries: &[Entry]) -> Result<(), NoMemory>
+fn add_titles(text: &mut Bytes, ids: bool, front: &[u8], entries: &[Entry]) -> Result<(), NoMemory>
     ensures { OnOk result (text.new ≡ text.old
-        ++ title_lines front.now (map entry_row entries.now)) }
+        ++ title_lines ids front.now (map entry_row entries.now)) }
 {
     for entry in entries {
-        text.add(front)?;
-        text.add(title(entry))?;
-        text.add(b"\n")?;
+        add_listed(text, ids, front, entry.id, title(entry), b"\n")?;
     }
     Ok(())
 }
@@ -69,14 +109,12 @@ pub fn add_group(
     group: &Group,
 ) -> Result<(), NoMemory>
     ensures { OnOk result (text.new ≡ text.old
-        ++ group_lines manner.recursive manner.flat front.now (tree_seen group.now)) }
+        ++ group_lines manner.recursive manner.flat manner.ids front.now (tree_seen group.now)) }
 {
-    add_titles(text, front, group.entries.as_slice())?;
+    add_titles(text, manner.ids, front, group.entries.as_slice())?;
     for child in group.groups.as_slice() {
         let name = child.state.content.name.as_str().as_bytes();
-        text.add(front)?;
-        text.add(name)?;
-        text.add(b"/\n")?;
+        add_listed(text, manner.ids, front, child.id, name, b"/\n")?;
         if manner.recursive {
             let below = front_below(alloc, front, name, manner.flat)?;
             let added = add_group(alloc, text, manner, below.as_slice(), child);

@@ -1,3 +1,5 @@
+pub mod History
+pub mod Laws
 pub mod Paths
 pub mod Refusals
 pub mod Showing

@@ -2,13 +2,15 @@
 use Rattle.std.specs.Prelude.{ℕ, Bool, true, not, ◌&&◌, if◌then◌else◌, List, [], ◌∷◌, ◌++◌, bytes_eq, codes, flat_map, length, Option, None, Some, Result, Ok, Err}
 use Rattle.std.specs.Fmt.{decimal}
 use Rattle.std.specs.List.{filter, find, list_any}
+use Rattle.std.specs.Option.{ok_or, option_map}
 use Rattle.outside_core.specs.Results.{◌>>=◌}
 use Rattle.uuid.specs.Text.{hyphenated_text, lower}
 use Rattle.vault_model.specs.Bare.{BareAttachment, BareField}
 use Rattle.vault_model.specs.Db.{NodeId}
-use Rattle.vault_model.specs.Shape.{EntryRecord}
+use Rattle.vault_model.specs.Shape.{BareVersion, EntryRecord}
 use Rattle.vault_model.specs.Tree.{BareDoc}
 use Rattle.tree_core.specs.After.{Holding, entry_named}
+use Rattle.tree_core.specs.Histories.{version_numbered}
 use Rattle.tree_core.specs.declared.fails.TreeFail.{TreeFail}
 use Rattle.find_references.specs.Terms.{terms_of}
 use Rattle.find_references.specs.declared.fail.FindFail.{FindFail}
@@ -16,7 +18,7 @@ use Rattle.find_references.specs.Fields.{fields_of, is_other, named_keys}
 use Rattle.find_references.specs.Resolved.{resolved}
 use Rattle.find_core.specs.Search.{entries_found}
 use Rattle.cli_messages.specs.Messages.{refusal_of}
-use Rattle.cli_messages.specs.declared.answers.Reason.TheVariants.{NoAttribute, NoResult, NoSuchPath}
+use Rattle.cli_messages.specs.declared.answers.Reason.TheVariants.{NoAttribute, NoResult, NoSuchPath, NoVersion}
 use Rattle.cli_messages.specs.declared.answers.Refusal.{Refusal}
 use Rattle.cli_codes.specs.Codes.{code_line, code_or_refusal}
 use Rattle.cli_showing.specs.Paths.{paths_found}
@@ -134,6 +136,19 @@ abbrev pub entry_or_refusal : List ℕ → Result Holding TreeFail
 entry_or_refusal file (Ok held) = Ok held.entry
 entry_or_refusal file (Err why) = Err (refusal_of NoSuchPath file)
 
+-- An entry with another version in the place of its current one.
+abbrev pub with_current : NodeId × EntryRecord → BareVersion → NodeId × EntryRecord
+with_current e version = (e.0, record e.1 { current = version })
+
+-- An entry with its version of a number in the place of its current one, which itself is 0.
+abbrev pub version_shown : (at : ℕ) → NodeId × EntryRecord → Option (NodeId × EntryRecord)
+version_shown at e = option_map (with_current e) (version_numbered at e.1)
+
+-- The same, or the refusal of a number that no version of the entry has.
+abbrev pub version_or_refusal : List ℕ → (at : ℕ) → NodeId × EntryRecord
+    → Result (NodeId × EntryRecord) Refusal
+version_or_refusal file at e = ok_or (version_shown at e) (refusal_of (NoVersion at) file)
+
 -- A name of a field that is not among these. Title, user name, password, URL and notes are never
 -- missing.
 abbrev pub is_missing : List BareField → List ℕ → Bool
@@ -145,14 +160,17 @@ abbrev pub refuse_missing : List ℕ → Option (List ℕ) → Result (Unit {0})
 refuse_missing file None = Ok tt
 refuse_missing file (Some name) = Err (refusal_of (NoAttribute name) file)
 
--- What `show` prints of the document of a file, or why it refuses: no entry has the path; a field
--- that is named is missing; a value has too many references, or is too long once they are resolved.
-unfoldable pub entry_shown : List ℕ → (clear all attachments : Bool) → List (List ℕ) → List ℕ
-    → BareDoc → Result (List ℕ) Refusal
-entry_shown file clear all attachments names path doc = do
+-- What `show` prints of the document of a file, or why it refuses: the path names no entry; the
+-- entry has no version of this number; a field that is named is missing; a value has too many
+-- references, or is too long once they are resolved. What is shown is that version of the entry,
+-- with its references resolved in the document as it is.
+unfoldable pub entry_shown : List ℕ → (clear all attachments : Bool) → List (List ℕ) → (at : ℕ)
+    → List ℕ → BareDoc → Result (List ℕ) Refusal
+entry_shown file clear all attachments names at path doc = do
   entry ← entry_or_refusal file (entry_named path doc)
-  _ ← refuse_missing file (find (is_missing (fields_of entry.1)) names)
-  found_or_refusal file (entry_text doc clear all attachments names entry)
+  version ← version_or_refusal file at entry
+  _ ← refuse_missing file (find (is_missing (fields_of version.1)) names)
+  found_or_refusal file (entry_text doc clear all attachments names version)
 
 -- ---- `show -t`
 
@@ -162,14 +180,16 @@ with_code file fields now text =
     code_or_refusal file (code_line fields now) >>= λ line. Ok (text ++ line)
 
 -- What `show -t` prints of the document of a file at a moment, or why it refuses: the values of the
--- fields that are named, each on a line, and then the line of the entry's one-time code.
-unfoldable pub code_shown : List ℕ → List (List ℕ) → List ℕ → ℕ → BareDoc
+-- fields that are named, each on a line, and then the line of the one-time code, of the entry's
+-- version of this number.
+unfoldable pub code_shown : List ℕ → List (List ℕ) → (at : ℕ) → List ℕ → ℕ → BareDoc
     → Result (List ℕ) Refusal
-code_shown file names path now doc = do
+code_shown file names at path now doc = do
   entry ← entry_or_refusal file (entry_named path doc)
-  _ ← refuse_missing file (find (is_missing (fields_of entry.1)) names)
-  text ← found_or_refusal file (with_names doc (fields_of entry.1) names [])
-  with_code file (fields_of entry.1) now text
+  version ← version_or_refusal file at entry
+  _ ← refuse_missing file (find (is_missing (fields_of version.1)) names)
+  text ← found_or_refusal file (with_names doc (fields_of version.1) names [])
+  with_code file (fields_of version.1) now text
 
 -- ---- `search`
 

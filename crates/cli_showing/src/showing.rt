@@ -4,10 +4,10 @@ ghost use Rattle.find_references.specs.Results.{meaning_of};
 ghost use Rattle.outside_core.specs.Results as results;
 ghost use Rattle.vault_model.specs.Seen.{bare_field};
 ghost use Rattle.vault_model.specs.SeenDoc.{doc_seen};
-ghost use Rattle.vault_model.specs.SeenNodes.{entry_row};
+ghost use Rattle.vault_model.specs.SeenNodes.{bare_version, entry_row};
 ghost use Rattle.cli_messages.specs.Phases.{IsPlainStop, Returns};
 ghost use Rattle.cli_showing.specs.Showing as spec;
-ghost use Rattle.cli_showing.specs.Showing.{entry_shown, id_and_tags, with_fields_shown};
+ghost use Rattle.cli_showing.specs.Showing.{entry_shown, id_and_tags, with_current, with_fields_shown};
 ghost use Rattle.cli_showing.specs.inside.Entries.{entry_sought};
 
 use crate::attachments::append_attachments;
@@ -19,9 +19,9 @@ use find_references::FindFail;
 use outside_core::{NoMemory, Text};
 use secret_core::Secret;
 use std::alloc::Global;
-use tree_core::find_entry;
+use tree_core::{find_entry, version_numbered};
 use tree_steps::{entry_of, holder};
-use vault_model::{Doc, Entry, Field};
+use vault_model::{Doc, Entry, Field, Version};
 
 /// What `show` is given beside its document and the path of its entry.
 #[derive(Clone, Copy)]
@@ -37,6 +37,8 @@ pub struct ShowGiven<'a> {
     /// The names of the fields whose values are shown alone; where there is none, the entry is
     /// shown.
     pub names: &'a [Text],
+    /// The number of the version that is shown: 0 is the current one.
+    pub at: u64,
 }
 
 /// The entry that a path names.
@@ -49,9 +51,15 @@ pub(crate) fn entry_named<'a>(doc: &'a Doc, path: &str) -> Option<&'a Entry>
     entry_of(&doc.root, group, id)
 }
 
-// Puts the lines of an entry's id and its tags after a text.
-fn append_id_and_tags(alloc: Global, text: &mut Secret, entry: &Entry) -> Result<(), NoMemory>
-    ensures { OnOk result (text.new.bytes ≡ text.old.bytes ++ id_and_tags (entry_row entry.now)) }
+// Puts the lines of an entry's id and of the tags of a version after a text.
+fn append_id_and_tags(
+    alloc: Global,
+    text: &mut Secret,
+    entry: &Entry,
+    version: &Version,
+) -> Result<(), NoMemory>
+    ensures { OnOk result (text.new.bytes ≡ text.old.bytes
+        ++ id_and_tags (with_current (entry_row entry.now) (bare_version version.now))) }
 {
     let mut digits = [0; 36];
     let id = entry.id.encode_hyphenated(&mut digits);
@@ -63,7 +71,7 @@ fn append_id_and_tags(alloc: Global, text: &mut Secret, entry: &Entry) -> Result
         b"}
 Tags: ",
     )?;
-    append(alloc, text, entry.current.content.tags.as_str().as_bytes())?;
+    append(alloc, text, version.content.tags.as_str().as_bytes())?;
     append(alloc, text, b"\n")
 }
 
@@ -88,24 +96,26 @@ fn append_fields(
     Ok(())
 }
 
-// What is shown of an entry where no fields are named.
+// What is shown of a version of an entry where no fields are named.
 fn whole_entry(
     alloc: Global,
     doc: &Doc,
     clear: bool,
     all: bool,
     entry: &Entry,
+    version: &Version,
 ) -> Result<Secret, FindFail>
     ensures { results.Returns meaning_of (λ text. text.bytes) result
-        (spec.whole_entry (doc_seen doc.now) clear all (entry_row entry.now)) }
+        (spec.whole_entry (doc_seen doc.now) clear all
+        (with_current (entry_row entry.now) (bare_version version.now))) }
 {
-    let fields = entry.current.content.fields.as_slice();
+    let fields = version.content.fields.as_slice();
     let mut text = Secret::with_room(alloc, 0)?;
     if let Err(fail) = append_fields(alloc, doc, clear, all, &mut text, fields) {
         drop(text);
         return Err(fail);
     }
-    match append_id_and_tags(alloc, &mut text, entry) {
+    match append_id_and_tags(alloc, &mut text, entry, version) {
         Ok(()) => Ok(text),
         Err(fail) => {
             drop(text);
@@ -114,22 +124,23 @@ fn whole_entry(
     }
 }
 
-// The values that are shown of an entry.
+// The values that are shown of a version of an entry.
 fn values_shown(
     alloc: Global,
     doc: &Doc,
     given: ShowGiven<'_>,
     entry: &Entry,
+    version: &Version,
 ) -> Result<Secret, FindFail>
     ensures { results.Returns meaning_of (λ text. text.bytes) result
         (spec.values_shown (doc_seen doc.now) given.entry.clear given.entry.all
-        given.entry.names.now (entry_row entry.now)) }
+        given.entry.names.now (with_current (entry_row entry.now) (bare_version version.now))) }
 {
     if given.names.is_empty() {
-        return whole_entry(alloc, doc, given.clear, given.all, entry);
+        return whole_entry(alloc, doc, given.clear, given.all, entry, version);
     }
     let mut text = Secret::with_room(alloc, 0)?;
-    let fields = entry.current.content.fields.as_slice();
+    let fields = version.content.fields.as_slice();
     match append_names(alloc, doc, &mut text, fields, given.names) {
         Ok(()) => Ok(text),
         Err(fail) => {
@@ -139,22 +150,24 @@ fn values_shown(
     }
 }
 
-// What is shown of an entry.
+// What is shown of a version of an entry.
 fn entry_text(
     alloc: Global,
     doc: &Doc,
     given: ShowGiven<'_>,
     entry: &Entry,
+    version: &Version,
 ) -> Result<Secret, FindFail>
     ensures { results.Returns meaning_of (λ text. text.bytes) result
         (spec.entry_text (doc_seen doc.now) given.entry.clear given.entry.all
-        given.entry.attachments given.entry.names.now (entry_row entry.now)) }
+        given.entry.attachments given.entry.names.now
+        (with_current (entry_row entry.now) (bare_version version.now))) }
 {
-    let mut text = values_shown(alloc, doc, given, entry)?;
+    let mut text = values_shown(alloc, doc, given, entry, version)?;
     if !given.attachments {
         return Ok(text);
     }
-    let attachments = entry.current.content.attachments.as_slice();
+    let attachments = version.content.attachments.as_slice();
     match append_attachments(alloc, &mut text, attachments) {
         Ok(()) => Ok(text),
         Err(fail) => {
@@ -164,7 +177,8 @@ fn entry_text(
     }
 }
 
-/// What `show` prints of the entry that a path names, in memory that is wiped.
+/// What `show` prints of the version that has a number, of the entry that a path names, in memory
+/// that is wiped.
 #[tactic(auto, unfolding(crate::specs::Showing::entry_shown))]
 pub fn show_entry(
     alloc: Global,
@@ -173,18 +187,21 @@ pub fn show_entry(
     given: ShowGiven<'_>,
 ) -> Result<Secret, Stop>
     ensures told { Returns (λ text. text.bytes) result (entry_shown given.entry.file.now
-        given.entry.clear given.entry.all given.entry.attachments given.entry.names.now path.now
-        (doc_seen doc.now)) }
+        given.entry.clear given.entry.all given.entry.attachments given.entry.names.now
+        given.entry.at path.now (doc_seen doc.now)) }
     ensures cause { IfErr result IsPlainStop }
 {
     let Some(entry) = entry_named(doc, path) else {
         return Err(refused(alloc, Reason::NoSuchPath, given.file));
     };
-    let fields = entry.current.content.fields.as_slice();
+    let Some(version) = version_numbered(entry, given.at) else {
+        return Err(refused(alloc, Reason::NoVersion(given.at), given.file));
+    };
+    let fields = version.content.fields.as_slice();
     if let Some(name) = missing_name(fields, given.names) {
         return Err(lacking(alloc, name, given.file));
     }
-    match entry_text(alloc, doc, given, entry) {
+    match entry_text(alloc, doc, given, entry, version) {
         Ok(text) => Ok(text),
         Err(fail) => Err(unfound(alloc, fail, given.file)),
     }

@@ -1,35 +1,32 @@
 -- Commands only add.
-use Rattle.std.proofs.Common.{◌≡◌, ◌||◌, ℕ, true, false, not, inl, inr, List, [], Option, Some, None, Ok, is_some, nat_lt, ◌+◌, refl, sym, ap, subst, ◌∙◌}
+use Rattle.std.proofs.Common.{◌≡◌, ℕ, true, not, inl, inr, List, [], Option, Some, None, Ok, is_some, nat_lt, ◌+◌, refl, sym, ap, subst, ◌∙◌}
 use Rattle.std.proofs.lemmas.Option.{same_Some}
-use Rattle.std.specs.Option.{option_and_then}
 use Rattle.std.specs.Prelude.{if◌then◌else◌}
+use Rattle.vault_model.specs.Bare.{BareContent}
 use Rattle.vault_model.specs.Db.{NodeId}
 use Rattle.vault_model.specs.Join.{IsIn, is_id}
 use Rattle.vault_model.specs.SeenNodes.{entry_time}
 use Rattle.vault_model.specs.Shape.{EntryRecord, GroupRecord}
 use Rattle.vault_model.specs.Tree.{BareDoc, IsDoc, LEVELS, Tree, entry_rows, id_of, node, node_ids, none}
-use Rattle.vault_model.proofs.Ids.{same_id}
-use Rattle.vault_model.proofs.Tests.{apart, decide, is_false}
+use Rattle.vault_model.proofs.Tests.{decide}
 use Rattle.merge_core.proofs.SoundDoc.{below_node, distinct_from, document_sound, entry_node, kinds_apart}
-use Rattle.tree_core.specs.Finding.{entry_found, group_found, has_entry_path, without_slashes}
+use Rattle.tree_core.specs.Finding.{group_at_path, group_found, has_entry_path, without_slashes}
 use Rattle.tree_core.specs.declared.fails.Removed.TheVariants.{Deleted, Recycled}
 use Rattle.tree_core.specs.declared.fails.TreeFail.TheVariants.{AlreadyThere, IdTaken, NameTaken, TooDeep}
-use Rattle.tree_core.specs.After.{AfterRemoval, Holding, edited_entry, entry_deleted, entry_moved_to, entry_named, entry_recycled, is_group_taken, is_recycled, named_or_refusal, needs_bin, refuse_if, time_after, with_bin_made}
-use Rattle.tree_core.specs.Changes.{changed_at, changed_entry, entry_at, entry_moved, group_with, has_group, holder, is_free, level_of, moved_entry, own_entry, with_entry, with_group, without, without_entry}
-use Rattle.tree_core.specs.NewNodes.{empty_bin, new_entry, new_fields}
+use Rattle.tree_core.specs.After.{AfterRemoval, Holding, changed_content, entry_deleted, entry_moved_to, entry_named, entry_recycled, is_group_taken, is_recycled, named_or_refusal, needs_bin, refuse_if, time_after, version_or_refusal, with_bin_made}
+use Rattle.tree_core.specs.Changes.{changed_at, changed_entry, entry_moved, group_with, has_group, is_free, level_of, moved_entry, with_entry, with_group, without, without_entry}
+use Rattle.tree_core.specs.NewNodes.{edited_content, empty_bin, new_entry, new_fields}
 use Rattle.vault_model.specs.Empty.{new_group}
 use Rattle.tree_core.specs.NewPaths.{after_last, before_last, new_path}
 use Rattle.tree_core.proofs.Around.{found_group, found_id}
 use Rattle.tree_core.proofs.EntriesMoved.{same_there}
-use Rattle.tree_core.proofs.EntriesRemoved.{found_at, own_id}
-use Rattle.tree_core.proofs.Named.{named_group}
-use Rattle.tree_removals.proofs.LastGroups.{entry_with_last, has_root, holds_there, last_there}
-use Rattle.tree_removals.proofs.NewBins.{free_absent}
+use Rattle.tree_core.proofs.Named.{group_there, named_group}
+use Rattle.tree_removals.proofs.LastGroups.{has_root, last_there}
 use Rattle.growth_laws.proofs.Carries.{Carries, Entry, carries_at, change_entry_carries, change_entry_row, entry_in, put_entry_carries, put_entry_row, put_group_carries, take_entry_carries, was_entry_in}
-use Rattle.growth_laws.proofs.Commands.{Found, Ready, bin_made, bin_there, found, held_with_bin}
+use Rattle.growth_laws.proofs.Commands.{Found, bin_made, bin_there, found, held_with_bin}
 use Rattle.growth_laws.proofs.Outcomes.{bind_ok, named_ok, same_ok}
 use Rattle.growth_laws.proofs.Steps.{carries_then, change_root, own_row, put_group_keeps, root_same, take_root}
-use Rattle.command_laws.specs.Adding.{AddAdds, AddingIsFree, AddsOnly, EditAdds, MakeGroupAdds, MoveEntryAdds, RecyclingAdds}
+use Rattle.command_laws.specs.Adding.{AddAdds, AddingIsFree, AddsOnly, EditAdds, MakeGroupAdds, MoveEntryAdds, RecyclingAdds, RestoreAdds}
 use Rattle.command_laws.proofs.Additions.{adds_then, change_new, group_new, nodes_new, put_new, rows_add, take_new, tree_new}
 
 -- ---- one step
@@ -120,21 +117,33 @@ moved_adds d e isd ise held f to now has h =
 
 pub add_adds : AddAdds
 add_adds path id values now d e isd ise h =
-    let group = bind_ok (named_or_refusal (group_found d (before_last path))) _ e h in
+    let group = bind_ok (named_or_refusal (group_at_path d (before_last path))) _ e h in
     let path_free = bind_ok (refuse_if (has_entry_path d (new_path path)) NameTaken) _ e group.1.1 in
     let id_free = bind_ok (refuse_if (not (is_free id d)) (IdTaken id)) _ e path_free.1.1 in
     let is = same_ok _ e id_free.1.1 in
-    let f = found_group group.0 d.tree (named_group d (before_last path) group.0 (named_ok (group_found d (before_last path)) group.0 group.1.0)) in
+    let f = found_group group.0 d.tree (group_there d (before_last path) group.0 (named_ok (group_at_path d (before_last path)) group.0 group.1.0)) in
     subst (λ (w : BareDoc). AddsOnly (Some id) d w) is
     (put_entry_adds d group.0 f.0 (id, new_entry (new_fields d.meta.settings.value.protect (after_last path) values) now) isd (subst (λ (w : BareDoc). IsDoc w) (sym is) ise) f.1)
+
+-- an entry that says something else
+said_adds : (path : List ℕ) (d e : BareDoc) → IsDoc d → IsDoc e → (held : Holding) → entry_named path d ≡ Ok held → (says : BareContent → BareContent) (time : ℕ)
+    → record d { tree = changed_at held.group (changed_entry held.entry.0 (changed_content d.meta says time)) d.tree } ≡ e → AddsOnly None d e
+said_adds path d e isd ise held named says time is =
+    subst (λ (w : BareDoc). AddsOnly None d w) is
+    (change_entry_adds d held (changed_content d.meta says time) isd (subst (λ (w : BareDoc). IsDoc w) (sym is) ise) (found path d held named))
 
 pub edit_adds : EditAdds
 edit_adds path values now d e isd ise h =
     let held = bind_ok (entry_named path d) _ e h in
     let time = bind_ok (time_after now (entry_time held.0.entry.1)) _ e held.1.1 in
-    let is = same_ok _ e time.1.1 in
-    subst (λ (w : BareDoc). AddsOnly None d w) is
-    (change_entry_adds d held.0 (edited_entry d.meta values time.0) isd (subst (λ (w : BareDoc). IsDoc w) (sym is) ise) (found path d held.0 held.1.0))
+    said_adds path d e isd ise held.0 held.1.0 (edited_content d.meta.settings.value.protect values) time.0 (same_ok _ e time.1.1)
+
+pub restore_adds : RestoreAdds
+restore_adds path number now d e isd ise h =
+    let held = bind_ok (entry_named path d) _ e h in
+    let version = bind_ok (version_or_refusal number held.0.entry.1) _ e held.1.1 in
+    let time = bind_ok (time_after now (entry_time held.0.entry.1)) _ e version.1.1 in
+    said_adds path d e isd ise held.0 held.1.0 (λ _. version.0.mark.content) time.0 (same_ok _ e time.1.1)
 
 pub move_entry_adds : MoveEntryAdds
 move_entry_adds path goal now d e isd ise h =
@@ -146,12 +155,12 @@ move_entry_adds path goal now d e isd ise h =
 pub make_group_adds : MakeGroupAdds
 make_group_adds text id now d e isd ise h =
     let path = without_slashes text in
-    let group = bind_ok (named_or_refusal (group_found d (before_last path))) _ e h in
+    let group = bind_ok (named_or_refusal (group_at_path d (before_last path))) _ e h in
     let path_free = bind_ok (refuse_if (is_group_taken (new_path path) d) NameTaken) _ e group.1.1 in
     let fits = bind_ok (refuse_if (nat_lt LEVELS (level_of group.0 d.tree + 1)) TooDeep) _ e path_free.1.1 in
     let id_free = bind_ok (refuse_if (not (is_free id d)) (IdTaken id)) _ e fits.1.1 in
     let is = same_ok _ e id_free.1.1 in
-    let f = found_group group.0 d.tree (named_group d (before_last path) group.0 (named_ok (group_found d (before_last path)) group.0 group.1.0)) in
+    let f = found_group group.0 d.tree (group_there d (before_last path) group.0 (named_ok (group_at_path d (before_last path)) group.0 group.1.0)) in
     put_group_adds d e group.0 f.0 id (new_group (after_last path) now) isd ise f.1 (sym (ap (λ (w : BareDoc). w.tree) is)) (ap (λ (w : BareDoc). w.tombs) is)
 
 -- ---- entries that go into the bin

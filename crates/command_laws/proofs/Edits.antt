@@ -1,42 +1,41 @@
--- An edit grows in what is current, whatever versions are dropped.
+-- An edit and a restored version grow in what is current, whatever versions are dropped.
 use Rattle.std.proofs.Common.{◌≡◌, ◌<◌, ◌&&◌, ◌⊎◌, ℕ, Bool, true, false, not, cond, inl, inr, List, [], ◌∷◌, Option, Some, None, Ok, is_some, map, length, refl, sym, ap, subst, ◌∙◌, arith}
 use Rattle.std.specs.Prelude.{ℤ}
 use Rattle.outside_core.specs.Results.{◌>>=◌}
-use Rattle.std.specs.FinMap.{entries, entries_sorted, get, get-entries, same_map}
+use Rattle.std.specs.FinMap.{entries, get, same_map}
 use Rattle.std.specs.List.{list_all}
-use Rattle.std.specs.Option.{option_map}
+use Rattle.std.specs.Option.{ok_or, option_map}
 use Rattle.std.specs.Ordering.{eq_by_cmp}
 use Rattle.std.specs.declared.cmp.Ordering.TheVariants.{Less}
 use Rattle.vault_model.specs.declared.contents.Stats.{Stats}
+use Rattle.vault_model.specs.Bare.{BareContent}
 use Rattle.vault_model.specs.Db.{Mark, NodeId, Versions, mark_cmp}
 use Rattle.vault_model.specs.Join.{IsIn, stats_join}
 use Rattle.vault_model.specs.Proper.{is_proper_content}
 use Rattle.vault_model.specs.SeenNodes.{entry_time}
 use Rattle.vault_model.specs.Shape.{BareVersion, EntryRecord, version_of, versions_of}
 use Rattle.vault_model.specs.Tree.{BareDoc, IsDoc, Tree, db_in, entry_rows, is_proper_entry, shape_of}
-use Rattle.vault_model.specs.Unite.{gather, join_options, unite, unite_all}
+use Rattle.vault_model.specs.Unite.{join_options}
 use Rattle.vault_model.proofs.Orders.{mark_order}
-use Rattle.vault_model.proofs.Tests.{and_both, and_true, apart, decide, from_map, is_false, map_map}
+use Rattle.vault_model.proofs.Tests.{and_both, and_true, apart, decide, from_map, is_false}
 use Rattle.merge_core.proofs.Distinct.{in_all}
-use Rattle.merge_core.proofs.Joins.{versions_joins}
 use Rattle.merge_core.proofs.Laid.{db_entries}
 use Rattle.merge_core.proofs.Semilattice.{none-gather}
 use Rattle.merge_core.proofs.SoundDoc.{all_in, as_map, version_marks}
-use Rattle.merge_core.proofs.Tables.{entry_get, gathered_singles, get_single}
+use Rattle.merge_core.proofs.Tables.{entry_get, get_single}
 use Rattle.merge_core.proofs.Unite.{get-unite_all, tie, ties}
 use Rattle.merge_core.proofs.Versions.{mark_newest}
-use Rattle.tree_core.specs.After.{Holding, after_edit, edited_entry, entry_named, named_or_refusal, time_after}
-use Rattle.tree_core.specs.Changes.{changed_at, changed_entry, entry_at, group_with, holder, own_entry}
-use Rattle.tree_core.specs.Finding.{entry_found}
+use Rattle.tree_core.specs.After.{Holding, after_edit, after_restore, changed_content, edited_entry, entry_named, time_after, version_or_refusal}
+use Rattle.tree_core.specs.declared.fails.TreeFail.TheVariants.{NoVersion}
+use Rattle.tree_core.specs.Changes.{changed_at, changed_entry}
 use Rattle.tree_core.specs.Histories.{is_within, rising_versions, settled_history, versions_size, with_version, within_limits}
-use Rattle.tree_core.specs.NewNodes.{edited_version}
+use Rattle.tree_core.specs.NewNodes.{edited_content, new_version}
 use Rattle.tree_core.proofs.Edited.{changed_same, entry_is_proper, set_is_doc}
-use Rattle.tree_core.proofs.EntriesRemoved.{found_at, own_id}
 use Rattle.growth_laws.specs.Growth.{GrowsTo}
 use Rattle.growth_laws.proofs.Carries.{change_entry_row, entry_in}
 use Rattle.growth_laws.proofs.Commands.{Found, found, found_in, versions_grow}
 use Rattle.growth_laws.proofs.LostSteps.{edit_stays}
-use Rattle.growth_laws.proofs.Outcomes.{bind_ok, named_ok, same_ok, time_ok}
+use Rattle.growth_laws.proofs.Outcomes.{bind_ok, same_ok, time_ok}
 use Rattle.growth_laws.proofs.Stays.{entry_is, versions_time}
 use Rattle.growth_laws.proofs.StaysGrow.{stays_grow}
 use Rattle.growth_laws.proofs.Steps.{change_root}
@@ -44,7 +43,7 @@ use Rattle.history_laws.specs.Current.{current_view, current, is_past}
 use Rattle.history_laws.specs.TwoEdits.{IsNow}
 use Rattle.history_laws.proofs.CurrentJoin.{view_alike}
 use Rattle.history_laws.proofs.Newest.{current_stays, get_current, is_not_itself, later_mark, past_by, past_found}
-use Rattle.command_laws.specs.Growing.{EditGrowsInCurrent, EditIsNow, GrowsInCurrent, IsAlike, edited_mark}
+use Rattle.command_laws.specs.Growing.{EditGrowsInCurrent, EditIsNow, GrowsInCurrent, IsAlike, RestoreGrowsInCurrent, RestoreIsNow}
 use Rattle.command_laws.proofs.ShownTrees.{relabel_shows}
 
 -- ---- an entry whose current version is the latest
@@ -218,33 +217,55 @@ module _ (d : BareDoc) (isd : IsDoc d) (held : Holding) (f : Found d held) (v : 
         view_alike (db_in d ∷ db_in (with_record d held cut) ∷ []) (db_in d ∷ db_in (with_record d held whole) ∷ []) (λ i. current_view (db_in d) ∷ same_now i ∷ [])
         ∙ ap current_view whole_grows ∙ sym same_now
 
+-- ---- an entry that says something else
+
+module _ (d e : BareDoc) (isd : IsDoc d) (ise : IsDoc e) (held : Holding) (f : Found d held) (says : BareContent → BareContent) (now time : ℕ)
+    (timed : time_after now (entry_time held.entry.1) ≡ Ok time)
+    (is : record d { tree = changed_at held.group (changed_entry held.entry.0 (changed_content d.meta says time)) d.tree } ≡ e) where
+  abbrev said : BareVersion
+  said = new_version (says held.entry.1.current.mark.content) time held.entry.1.current
+
+  same : with_record d held (changed_content d.meta says time held.entry.1) ≡ e
+  same = ap (λ (t : Tree). record d { tree = t })
+      (changed_same held.group held.entry.0 (λ _. changed_content d.meta says time held.entry.1) (changed_content d.meta says time) held.entry d.tree (found_in d held f) refl) ∙ is
+
+  pub said_grows_in_current : GrowsInCurrent d e
+  said_grows_in_current =
+      subst (λ (w : BareDoc). GrowsInCurrent d w) same
+      (cut_grows d isd held f said d.meta.settings.value.history_items d.meta.settings.value.history_size (time_ok now (entry_time held.entry.1) time timed) (subst IsDoc (sym same) ise))
+
+  pub said_is_now : IsNow (db_in e) held.entry.0 said.mark
+  said_is_now =
+      subst (λ (w : BareDoc). IsNow (db_in w) held.entry.0 said.mark) same
+      (cut_now d isd held f said d.meta.settings.value.history_items d.meta.settings.value.history_size (time_ok now (entry_time held.entry.1) time timed) (subst IsDoc (sym same) ise))
+
 pub edit_grows_in_current : EditGrowsInCurrent
 edit_grows_in_current path values now d e isd ise h =
     let held = bind_ok (entry_named path d) _ e h in
     let time = bind_ok (time_after now (entry_time held.0.entry.1)) _ e held.1.1 in
-    let is = same_ok _ e time.1.1 in
-    let f = found path d held.0 held.1.0 in
-    let y = held.0.entry.1 in
-    let v = edited_version d.meta.settings.value.protect values time.0 y.current in
-    let late = time_ok now (entry_time y) time.0 time.1.0 in
-    let same : with_record d held.0 (edited_entry d.meta values time.0 y) ≡ e =
-    ap (λ (t : Tree). record d { tree = t })
-    (changed_same held.0.group held.0.entry.0 (λ _. edited_entry d.meta values time.0 y) (edited_entry d.meta values time.0) held.0.entry d.tree (found_in d held.0 f) refl) ∙ is in
-    subst (λ (w : BareDoc). GrowsInCurrent d w) same
-    (cut_grows d isd held.0 f v d.meta.settings.value.history_items d.meta.settings.value.history_size late (subst IsDoc (sym same) ise))
+    said_grows_in_current d e isd ise held.0 (found path d held.0 held.1.0) (edited_content d.meta.settings.value.protect values) now time.0 time.1.0 (same_ok _ e time.1.1)
+
+pub restore_grows_in_current : RestoreGrowsInCurrent
+restore_grows_in_current path number now d e isd ise h =
+    let held = bind_ok (entry_named path d) _ e h in
+    let version = bind_ok (version_or_refusal number held.0.entry.1) _ e held.1.1 in
+    let time = bind_ok (time_after now (entry_time held.0.entry.1)) _ e version.1.1 in
+    said_grows_in_current d e isd ise held.0 (found path d held.0 held.1.0) (λ _. version.0.mark.content) now time.0 time.1.0 (same_ok _ e time.1.1)
 
 pub edit_is_now : EditIsNow
 edit_is_now path values now time held d e isd ise named timed h =
-    let y = held.entry.1 in
     let f = found path d held named in
-    let v = edited_version d.meta.settings.value.protect values time y.current in
-    let late = time_ok now (entry_time y) time timed in
     let made : after_edit path values now d ≡ Ok (record d { tree = changed_at held.group (changed_entry held.entry.0 (edited_entry d.meta values time)) d.tree }) =
     ap (λ r. r >>= (λ x. time_after now (entry_time x.entry.1) >>= (λ t. Ok (record d { tree = changed_at x.group (changed_entry x.entry.0 (edited_entry d.meta values t)) d.tree })))) named
     ∙ ap (λ r. r >>= (λ t. Ok (record d { tree = changed_at held.group (changed_entry held.entry.0 (edited_entry d.meta values t)) d.tree }))) timed in
-    let is = same_ok _ e (sym made ∙ h) in
-    let same : with_record d held (edited_entry d.meta values time y) ≡ e =
-    ap (λ (t : Tree). record d { tree = t })
-    (changed_same held.group held.entry.0 (λ _. edited_entry d.meta values time y) (edited_entry d.meta values time) held.entry d.tree (found_in d held f) refl) ∙ is in
-    subst (λ (w : BareDoc). IsNow (db_in w) held.entry.0 (edited_mark d values time y)) same
-    (cut_now d isd held f v d.meta.settings.value.history_items d.meta.settings.value.history_size late (subst IsDoc (sym same) ise))
+    said_is_now d e isd ise held f (edited_content d.meta.settings.value.protect values) now time timed (same_ok _ e (sym made ∙ h))
+
+pub restore_is_now : RestoreIsNow
+restore_is_now path number now time held version d e isd ise named old timed h =
+    let f = found path d held named in
+    let k = λ (v : BareVersion) (t : ℕ). changed_content d.meta (λ _. v.mark.content) t in
+    let made : after_restore path number now d ≡ Ok (record d { tree = changed_at held.group (changed_entry held.entry.0 (k version time)) d.tree }) =
+    ap (λ r. r >>= (λ x. version_or_refusal number x.entry.1 >>= (λ v. time_after now (entry_time x.entry.1) >>= (λ t. Ok (record d { tree = changed_at x.group (changed_entry x.entry.0 (k v t)) d.tree }))))) named
+    ∙ ap (λ (o : Option BareVersion). ok_or o (NoVersion number) >>= (λ v. time_after now (entry_time held.entry.1) >>= (λ t. Ok (record d { tree = changed_at held.group (changed_entry held.entry.0 (k v t)) d.tree })))) old
+    ∙ ap (λ r. r >>= (λ t. Ok (record d { tree = changed_at held.group (changed_entry held.entry.0 (k version t)) d.tree }))) timed in
+    said_is_now d e isd ise held f (λ _. version.mark.content) now time timed (same_ok _ e (sym made ∙ h))

@@ -5,7 +5,7 @@ use Rattle.vault_model.specs.Db.{Db, NodeId, holds}
 use Rattle.vault_model.specs.Join.{IsIn}
 use Rattle.vault_model.specs.Plans.{World, change}
 use Rattle.vault_model.specs.Tree.{BareDoc, IsDoc, db_in}
-use Rattle.tree_core.specs.After.{AfterRemoval, after_add, after_edit, after_make_group, after_move_entry, after_remove_entry, needs_bin}
+use Rattle.tree_core.specs.After.{AfterRemoval, after_add, after_edit, after_make_group, after_move_entry, after_remove_entry, after_restore, needs_bin}
 use Rattle.tree_core.specs.declared.fails.Removed.TheVariants.{Recycled}
 use Rattle.tree_core.specs.NewNodes.{GivenValues}
 use Rattle.history_laws.specs.FreeHistories.{IsFree, OnlyAdds}
@@ -25,6 +25,11 @@ AddAdds = (path : List ℕ) (id : NodeId) (values : GivenValues) (now : ℕ) (d 
 abbrev pub EditAdds : Type 0
 EditAdds = (path : List ℕ) (values : GivenValues) (now : ℕ) (d e : BareDoc) → IsDoc d → IsDoc e
     → after_edit path values now d ≡ Ok e → AddsOnly None d e
+
+-- a version of an entry is restored, whatever versions are dropped
+abbrev pub RestoreAdds : Type 0
+RestoreAdds = (path : List ℕ) (number now : ℕ) (d e : BareDoc) → IsDoc d → IsDoc e
+    → after_restore path number now d ≡ Ok e → AddsOnly None d e
 
 -- an entry is moved
 abbrev pub MoveEntryAdds : Type 0

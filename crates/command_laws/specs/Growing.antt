@@ -1,13 +1,14 @@
--- Edits grow in what is current, whatever old versions are dropped.
-use Rattle.std.specs.Prelude.{◌≡◌, ℕ, List, [], ◌∷◌, Ok}
+-- Edits and restored versions grow in what is current, whatever old versions are dropped.
+use Rattle.std.specs.Prelude.{◌≡◌, ℕ, List, [], ◌∷◌, Ok, Some}
 use Rattle.vault_model.specs.Db.{Mark, NodeId}
 use Rattle.vault_model.specs.Join.{join}
 use Rattle.vault_model.specs.Plans.{World, change}
 use Rattle.vault_model.specs.SeenNodes.{entry_time}
-use Rattle.vault_model.specs.Shape.{EntryRecord, versions_of}
+use Rattle.vault_model.specs.Shape.{BareVersion, EntryRecord, versions_of}
 use Rattle.vault_model.specs.Tree.{BareDoc, IsDoc, db_in}
-use Rattle.tree_core.specs.After.{Holding, after_edit, entry_named, time_after}
+use Rattle.tree_core.specs.After.{Holding, after_edit, after_restore, entry_named, time_after}
 use Rattle.tree_core.specs.Changes.{changed_at, changed_entry}
+use Rattle.tree_core.specs.Histories.{version_numbered}
 use Rattle.tree_core.specs.NewNodes.{GivenValues, edited_version}
 use Rattle.growth_laws.specs.Growth.{GrowsTo}
 use Rattle.history_laws.specs.Current.{current_view, current}
@@ -37,6 +38,11 @@ abbrev pub EditGrowsInCurrent : Type 0
 EditGrowsInCurrent = (path : List ℕ) (values : GivenValues) (now : ℕ) (d e : BareDoc) → IsDoc d
     → IsDoc e → after_edit path values now d ≡ Ok e → GrowsInCurrent d e
 
+-- a version of an entry is restored, whatever versions the limits of histories drop
+abbrev pub RestoreGrowsInCurrent : Type 0
+RestoreGrowsInCurrent = (path : List ℕ) (number now : ℕ) (d e : BareDoc) → IsDoc d → IsDoc e
+    → after_restore path number now d ≡ Ok e → GrowsInCurrent d e
+
 -- what grows grows in what is current
 abbrev pub GrowthIsInCurrent : Type 0
 GrowthIsInCurrent = (d e : BareDoc) → GrowsTo d e → GrowsInCurrent d e
@@ -57,3 +63,15 @@ EditIsNow = (path : List ℕ) (values : GivenValues) (now time : ℕ) (held : Ho
     → IsDoc d → IsDoc e → entry_named path d ≡ Ok held
     → time_after now (entry_time held.entry.1) ≡ Ok time → after_edit path values now d ≡ Ok e
     → IsNow (db_in e) held.entry.0 (edited_mark d values time held.entry.1)
+
+-- the mark of the version that says at a time what another says
+abbrev pub restored_mark : BareVersion → ℕ → Mark
+restored_mark version time = record { modified = time; content = version.mark.content }
+
+-- after a version is restored the version that this made is the current one
+abbrev pub RestoreIsNow : Type 0
+RestoreIsNow = (path : List ℕ) (number now time : ℕ) (held : Holding) (version : BareVersion)
+    (d e : BareDoc) → IsDoc d → IsDoc e → entry_named path d ≡ Ok held
+    → version_numbered number held.entry.1 ≡ Some version
+    → time_after now (entry_time held.entry.1) ≡ Ok time → after_restore path number now d ≡ Ok e
+    → IsNow (db_in e) held.entry.0 (restored_mark version time)

@@ -1,8 +1,8 @@
 //! The laws of the commands that change a document. Each function has laws as its contract, for
 //! every document that a command changes; it does nothing, and takes no memory.
 
-ghost use Rattle.command_laws.specs.Adding.{AddAdds, AddingIsFree, EditAdds, MakeGroupAdds, MoveEntryAdds, RecyclingAdds};
-ghost use Rattle.command_laws.specs.Growing.{EditGrowsInCurrent, EditIsNow, GrowthIsAnEvent, GrowthIsInCurrent, RelabelShows};
+ghost use Rattle.command_laws.specs.Adding.{AddAdds, AddingIsFree, EditAdds, MakeGroupAdds, MoveEntryAdds, RecyclingAdds, RestoreAdds};
+ghost use Rattle.command_laws.specs.Growing.{EditGrowsInCurrent, EditIsNow, GrowthIsAnEvent, GrowthIsInCurrent, RelabelShows, RestoreGrowsInCurrent, RestoreIsNow};
 
 /// Documents that differ in the history of one entry alone are alike in what is current.
 pub fn relabelled()
@@ -10,21 +10,24 @@ pub fn relabelled()
 {}
 
 /// An edit grows in what is current, whatever versions the limits of histories drop, and the version
-/// that it makes is the current one; what grows grows in what is current; and what does so is an
-/// event of a history.
+/// that it makes is the current one; so does a version that is restored; what grows grows in what is
+/// current; and what does so is an event of a history.
 pub fn growing()
     ensures edit { EditGrowsInCurrent }
     ensures now { EditIsNow }
+    ensures restore { RestoreGrowsInCurrent }
+    ensures restored { RestoreIsNow }
     ensures growth { GrowthIsInCurrent }
     ensures event { GrowthIsAnEvent }
 {}
 
-/// Adding and editing an entry, moving it, also into the bin, and making a group only add: what is
-/// there stays, groups stay where they are, no tombstone is made, and the one new node, if any, is
-/// the one whose id was given.
+/// Adding and editing an entry, restoring a version of it, moving it, also into the bin, and making
+/// a group only add: what is there stays, groups stay where they are, no tombstone is made, and the
+/// one new node, if any, is the one whose id was given.
 pub fn adds()
     ensures add { AddAdds }
     ensures edit { EditAdds }
+    ensures restore { RestoreAdds }
     ensures move_entry { MoveEntryAdds }
     ensures make_group { MakeGroupAdds }
     ensures recycling { RecyclingAdds }

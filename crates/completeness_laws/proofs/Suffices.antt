@@ -9,12 +9,12 @@ use Rattle.vault_model.specs.Tree.{BareDoc, IsDoc, Tree}
 use Rattle.vault_model.proofs.Tests.{is_false}
 use Rattle.tree_core.specs.declared.fails.TreeFail.{TreeFail}
 use Rattle.tree_core.specs.declared.fails.TreeFail.TheVariants.{StampLimit}
-use Rattle.tree_core.specs.After.{after_add, after_edit, after_make_group, after_move_entry, after_move_group, after_remove_entry, after_remove_group, needs_bin}
-use Rattle.condition_laws.proofs.Succeeds.{add_succeeds, edit_succeeds, make_group_succeeds, move_entry_succeeds, move_group_succeeds, remove_entry_succeeds, remove_group_succeeds}
+use Rattle.tree_core.specs.After.{after_add, after_edit, after_make_group, after_move_entry, after_move_group, after_remove_entry, after_remove_group, after_restore, needs_bin}
+use Rattle.condition_laws.proofs.Succeeds.{add_succeeds, edit_succeeds, make_group_succeeds, move_entry_succeeds, move_group_succeeds, remove_entry_succeeds, remove_group_succeeds, restore_succeeds}
 use Rattle.generation_laws.proofs.Choosing.{passwords_are_chosen}
 use Rattle.agreed_laws.specs.Merges.{AreDocs}
 use Rattle.content_condition_laws.proofs.Merging.{merge_succeeds}
-use Rattle.content_condition_laws.proofs.Printing.{export_succeeds, search_succeeds, show_code_succeeds, show_succeeds}
+use Rattle.content_condition_laws.proofs.Printing.{export_succeeds, history_succeeds, search_succeeds, show_code_succeeds, show_succeeds}
 use Rattle.document_merge.specs.Merging.{merge_result}
 use Rattle.merge_changes.specs.Equality.{same_doc}
 use Rattle.kdbx_frame.specs.declared.settings.Settings.{Settings}
@@ -28,7 +28,7 @@ use Rattle.cli_codes.specs.Codes.{code_refusal}
 use Rattle.cli_showing.specs.Showing.{code_shown, entry_shown}
 use Rattle.cli_profiles.specs.declared.profiles.PasswordProfile.{PasswordProfile}
 use Rattle.cli_parse.specs.declared.command.Command.{Command}
-use Rattle.cli_parse.specs.declared.command.Command.TheVariants.{Ls, Show, Search, Add, Edit, Move, Remove, MakeGroup, RemoveGroup, Merge, Import, Create, Export, EditFile, Info}
+use Rattle.cli_parse.specs.declared.command.Command.TheVariants.{Ls, Show, History, Search, Add, Edit, Restore, Move, Remove, MakeGroup, RemoveGroup, Merge, Import, Create, Export, EditFile, Info}
 use Rattle.cli_parse.specs.Needs as from
 use Rattle.cli_parse.specs.Needs.{generated_by, origin_of, target_of}
 use Rattle.cli_printing.specs.Listing.{tree_listed}
@@ -37,6 +37,7 @@ use Rattle.cli_sealing.specs.Draws.{after_draws, draws_of}
 use Rattle.cli_sealing.specs.Sealing.{file_by, file_unless, settings_for}
 use Rattle.cli_changes.specs.Entries.{AfterCommand, after_add_command, after_edit_command, time_of, values_of, with_edited_at, with_entry_at}
 use Rattle.cli_changes.specs.Fails.{change_or_refusal}
+use Rattle.cli_changes.specs.Versions.{after_restore_command, with_restored_at}
 use Rattle.cli_changes.specs.Nodes.{after_entry_move, after_group_move, after_mkdir, after_rm, after_rmdir, names_group, with_entry_moved_at, with_group_at, with_group_moved_at, without_entry_at, without_group_at}
 use Rattle.tree_core.specs.Changes.{is_free}
 use Rattle.cli_commands.specs.Commands.{Change, bin_id, change_by, change_with, created_change, created_or_refusal, drawn_id, listing_of, makes_node, merged_change, new_document, password_of, printed_text}
@@ -85,9 +86,9 @@ module _ (time : ℕ) (within : time ≤ last_stamp) (file : List ℕ) (quiet : 
   bin_given true = refl
   bin_given false = refl
 
-  listing_gives : (recursive flat : Bool) (o : Option Tree) (tree : Tree) → o ≡ Some tree → Gives (listing_of file recursive flat o)
-  listing_gives recursive flat None tree is = cc is
-  listing_gives recursive flat (Some t) tree is = sure _
+  listing_gives : (recursive flat ids : Bool) (o : Option Tree) (tree : Tree) → o ≡ Some tree → Gives (listing_of file recursive flat ids o)
+  listing_gives recursive flat ids None tree is = cc is
+  listing_gives recursive flat ids (Some t) tree is = sure _
 
 gives_answers : (time : ℕ) (command : Command) (line otp : Option (List ℕ)) (sources : List BareDoc) (settings : Option Settings) (passed : List (List ℕ)) (id : NodeId) (d : BareDoc) → Gives (change_with time command line otp sources settings passed id d)
     → Answers time command line otp sources settings passed id d
@@ -98,16 +99,16 @@ prints : (r : Result (List ℕ) Refusal) → Gives r → Gives (printed_text r)
 prints r gives = gives_so _ _ (ap printed_text gives.1) (sure _)
 
 -- what a merge makes
-merges : (file : List ℕ) (quiet dry : Bool) (names : List (List ℕ)) (d : BareDoc) (sources : List BareDoc) → Gives (merge_result d sources) → Gives (merged_change (after_merge file quiet dry names d sources))
+merges : (file : List ℕ) (quiet dry details : Bool) (names : List (List ℕ)) (d : BareDoc) (sources : List BareDoc) → Gives (merge_result d sources) → Gives (merged_change (after_merge file quiet dry details names d sources))
 unfolding after_merge
-merges file quiet dry names d sources gives =
-    gives_so _ _ (ap (λ r. merged_change (merged_or_refusal file r >>= λ new. Ok (after_merged file quiet dry names d (not (same_doc d new)) new (changes_between d sources new)))) gives.1) (sure _)
+merges file quiet dry details names d sources gives =
+    gives_so _ _ (ap (λ r. merged_change (merged_or_refusal file r >>= λ new. Ok (after_merged file quiet dry details names d sources (not (same_doc d new)) new (changes_between d sources new)))) gives.1) (sure _)
 
 -- what `show` prints
-entry_gives : (file : List ℕ) (attachments totp : Bool) (path : List ℕ) (clear all : Bool) (names : List (List ℕ)) (now : ℕ) (d : BareDoc) → CanShowEntry totp path clear all names now d
-    → Gives (if totp then code_shown file names path now d else entry_shown file clear all attachments names path d)
-entry_gives file attachments true path clear all names now d can = show_code_succeeds file path names now d can
-entry_gives file attachments false path clear all names now d can = show_succeeds file path clear all attachments names d can
+entry_gives : (file : List ℕ) (attachments totp : Bool) (path : List ℕ) (clear all : Bool) (names : List (List ℕ)) (at now : ℕ) (d : BareDoc) → CanShowEntry totp path clear all names at now d
+    → Gives (if totp then code_shown file names at path now d else entry_shown file clear all attachments names at path d)
+entry_gives file attachments true path clear all names at now d can = show_code_succeeds file path names at now d can
+entry_gives file attachments false path clear all names at now d can = show_succeeds file path clear all attachments names at d can
 
 -- what is not refused before it is looked for
 checked : (r : Result (Unit {0}) Refusal) (next : Result AfterCommand Refusal) → r ≡ Ok tt → Gives (new_document next) → Gives (new_document (r >>= λ _. next))
@@ -119,11 +120,13 @@ created_gives file quiet id d free =
     gives_so _ _ (ap (λ b. if b then Ok (created_change quiet id d) else Err (refusal_of (IdTaken id) file)) free) (sure _)
 
 pub commands_succeed : CommandsSucceed
-unfolding after_add_command after_edit_command after_mkdir after_rm after_rmdir
-commands_succeed time (Ls access file group recursive flat) line otp sources settings passed id d within docs can =
-    gives_answers time (Ls access file group recursive flat) line otp sources settings passed id d (listing_gives time within file access.quiet id d (docs d (inl refl)) recursive flat (tree_listed group d) can.0 can.1)
-commands_succeed time (Show access file entry clear all attachments names totp) line otp sources settings passed id d within docs can =
-    gives_answers time (Show access file entry clear all attachments names totp) line otp sources settings passed id d (prints _ (entry_gives file attachments totp entry clear all names time d can))
+unfolding after_add_command after_edit_command after_restore_command after_mkdir after_rm after_rmdir
+commands_succeed time (Ls access file group recursive flat ids) line otp sources settings passed id d within docs can =
+    gives_answers time (Ls access file group recursive flat ids) line otp sources settings passed id d (listing_gives time within file access.quiet id d (docs d (inl refl)) recursive flat ids (tree_listed group d) can.0 can.1)
+commands_succeed time (Show access file entry clear all attachments names totp at) line otp sources settings passed id d within docs can =
+    gives_answers time (Show access file entry clear all attachments names totp at) line otp sources settings passed id d (prints _ (entry_gives file attachments totp entry clear all names at time d can))
+commands_succeed time (History access file entry) line otp sources settings passed id d within docs can =
+    gives_answers time (History access file entry) line otp sources settings passed id d (prints _ (history_succeeds file entry d can))
 commands_succeed time (Search access file term) line otp sources settings passed id d within docs can =
     gives_answers time (Search access file term) line otp sources settings passed id d (prints _ (search_succeeds file term d can))
 commands_succeed time (Add access file entry asked) line otp sources settings passed id d within docs can =
@@ -133,6 +136,9 @@ commands_succeed time (Edit access file entry asked) line otp sources settings p
     gives_answers time (Edit access file entry asked) line otp sources settings passed id d (checked (code_refusal file otp) _ can.code
     (reported (change_or_refusal file (with_edited_at entry (values_of asked line otp) time d)) _
     (at_moment file time (λ t. after_edit entry (values_of asked line otp) t d) within (edit_succeeds entry (values_of asked line otp) time d (docs d (inl refl)) can.entry)) (λ new. sure _)))
+commands_succeed time (Restore access file entry version) line otp sources settings passed id d within docs can =
+    gives_answers time (Restore access file entry version) line otp sources settings passed id d (reported (change_or_refusal file (with_restored_at entry version time d)) _
+    (at_moment file time (λ t. after_restore entry version t d) within (restore_succeeds entry version time d (docs d (inl refl)) can)) (λ new. sure _))
 commands_succeed time (Move access file node group) line otp sources settings passed id d within docs can =
     gives_answers time (Move access file node group) line otp sources settings passed id d (move_gives time within file access.quiet id d (docs d (inl refl)) (names_group node) node group can)
 commands_succeed time (Remove access file entry) line otp sources settings passed id d within docs can =
@@ -145,8 +151,8 @@ commands_succeed time (RemoveGroup access file group) line otp sources settings 
     gives_answers time (RemoveGroup access file group) line otp sources settings passed id d (reported (change_or_refusal file (without_group_at group (bin_id id d) time d)) _
     (at_moment file time (λ t. after_remove_group group (bin_id id d) t d) within
     (remove_group_succeeds group (bin_id id d) time d (bin_given time within file access.quiet id d (docs d (inl refl)) (needs_bin d)) can)) (λ after. sure _))
-commands_succeed time (Merge access file names from same dry) line otp sources settings passed id d within docs can =
-    gives_answers time (Merge access file names from same dry) line otp sources settings passed id d (merges file access.quiet dry names d sources (merge_succeeds d sources docs can))
+commands_succeed time (Merge access file names from same dry details) line otp sources settings passed id d within docs can =
+    gives_answers time (Merge access file names from same dry details) line otp sources settings passed id d (merges file access.quiet dry details names d sources (merge_succeeds d sources docs can))
 commands_succeed time (Import access format source from file) line otp sources settings passed id d within docs can =
     gives_answers time (Import access format source from file) line otp sources settings passed id d (sure _)
 commands_succeed time (Create access file name cipher kdf) line otp sources settings passed id d within docs can =
@@ -186,16 +192,18 @@ answers time (Import access format source from file) line otp sources settings p
     gives_answers time (Import access format source from file) line otp sources settings passed id d (sure _)
 answers time (Create access file name cipher kdf) line otp sources settings passed id d within isd can = gives_answers time (Create access file name cipher kdf) line otp sources settings passed id d (created_gives file access.quiet id d can)
 answers time (EditFile access file change) line otp sources settings passed id d within isd can = gives_answers time (EditFile access file change) line otp sources settings passed id d (sure _)
-answers time (Ls access file group recursive flat) line otp sources settings passed id d within isd can = commands_succeed time (Ls access file group recursive flat) line otp sources settings passed id d within (isd refl) can
-answers time (Show access file entry clear all attachments names totp) line otp sources settings passed id d within isd can = commands_succeed time (Show access file entry clear all attachments names totp) line otp sources settings passed id d within (isd refl) can
+answers time (Ls access file group recursive flat ids) line otp sources settings passed id d within isd can = commands_succeed time (Ls access file group recursive flat ids) line otp sources settings passed id d within (isd refl) can
+answers time (Show access file entry clear all attachments names totp at) line otp sources settings passed id d within isd can = commands_succeed time (Show access file entry clear all attachments names totp at) line otp sources settings passed id d within (isd refl) can
+answers time (History access file entry) line otp sources settings passed id d within isd can = commands_succeed time (History access file entry) line otp sources settings passed id d within (isd refl) can
 answers time (Search access file term) line otp sources settings passed id d within isd can = commands_succeed time (Search access file term) line otp sources settings passed id d within (isd refl) can
 answers time (Add access file entry asked) line otp sources settings passed id d within isd can = commands_succeed time (Add access file entry asked) line otp sources settings passed id d within (isd refl) can
 answers time (Edit access file entry asked) line otp sources settings passed id d within isd can = commands_succeed time (Edit access file entry asked) line otp sources settings passed id d within (isd refl) can
+answers time (Restore access file entry version) line otp sources settings passed id d within isd can = commands_succeed time (Restore access file entry version) line otp sources settings passed id d within (isd refl) can
 answers time (Move access file node group) line otp sources settings passed id d within isd can = commands_succeed time (Move access file node group) line otp sources settings passed id d within (isd refl) can
 answers time (Remove access file entry) line otp sources settings passed id d within isd can = commands_succeed time (Remove access file entry) line otp sources settings passed id d within (isd refl) can
 answers time (MakeGroup access file group) line otp sources settings passed id d within isd can = commands_succeed time (MakeGroup access file group) line otp sources settings passed id d within (isd refl) can
 answers time (RemoveGroup access file group) line otp sources settings passed id d within isd can = commands_succeed time (RemoveGroup access file group) line otp sources settings passed id d within (isd refl) can
-answers time (Merge access file names from same dry) line otp sources settings passed id d within isd can = commands_succeed time (Merge access file names from same dry) line otp sources settings passed id d within (isd refl) can
+answers time (Merge access file names from same dry details) line otp sources settings passed id d within isd can = commands_succeed time (Merge access file names from same dry details) line otp sources settings passed id d within (isd refl) can
 answers time (Export access format file) line otp sources settings passed id d within isd can = commands_succeed time (Export access format file) line otp sources settings passed id d within (isd refl) can
 answers time (Info access file) line otp sources settings passed id d within isd can = commands_succeed time (Info access file) line otp sources settings passed id d within (isd refl) can
 

@@ -1,11 +1,12 @@
 -- Conditions of a small database, computed.
-use Rattle.std.proofs.Common.{◌≡◌, List, [], ◌∷◌, ℕ, Option, None, Some, codes, refl, sym, ap, arith, inl, inr}
+use Rattle.std.proofs.Common.{◌≡◌, [], ◌∷◌, Some, codes, refl, sym, ap, arith, inl, inr}
 use Rattle.std.proofs.lemmas.Option.{same_Some}
-use Rattle.vault_model.specs.Db.{NodeId, nil_id}
-use Rattle.vault_model.specs.Tree.{Tree, node, none}
+use Rattle.vault_model.specs.Db.{nil_id}
+use Rattle.vault_model.specs.Shape.{EntryRecord}
+use Rattle.vault_model.specs.Tree.{node, none}
 use Rattle.merge_core.specs.Example.{as_it_was, bank, edited, entry, group, home, mail, root, version, work}
 use Rattle.frame_laws.specs.Example.{without_bin}
-use Rattle.tree_core.specs.Finding.{entry_found, group_found, has_entry_path, has_group_path}
+use Rattle.tree_core.specs.Finding.{entry_found, group_at_path, group_found, has_entry_path, has_group_path}
 use Rattle.tree_core.specs.Changes.{is_free}
 use Rattle.frame_laws.specs.Frame.{entry_of}
 use Rattle.frame_laws.proofs.Examples.{example_changes}
@@ -15,6 +16,12 @@ use Rattle.condition_laws.specs.Example.{ExampleConditions}
 bank_is : entry_of as_it_was bank ≡ Some (entry 10 nil_id (version 10 (codes "Bank") (codes "a")) [])
 bank_is = entry_is as_it_was example_changes.doc bank (entry 10 nil_id (version 10 (codes "Bank") (codes "a")) []) (inl refl)
 
+abbrev twice : EntryRecord
+twice = entry 10 nil_id (version 20 (codes "Bank") (codes "b")) (version 10 (codes "Bank") (codes "a") ∷ [])
+
+edited_is : entry_of edited bank ≡ Some twice
+edited_is = entry_is edited example_changes.wide bank twice (inl refl)
+
 mail_is : entry_of as_it_was mail ≡ Some (entry 10 nil_id (version 10 (codes "Mail") []) [])
 mail_is = entry_is as_it_was example_changes.doc mail (entry 10 nil_id (version 10 (codes "Mail") []) []) (inr (inl refl))
 
@@ -22,10 +29,16 @@ bare_mail_is : entry_of without_bin mail ≡ Some (entry 10 nil_id (version 10 (
 bare_mail_is = entry_is without_bin example_changes.bare mail (entry 10 nil_id (version 10 (codes "Mail") []) []) (inr (inl refl))
 
 pub example_conditions : ExampleConditions
-unfolding entry_found group_found has_entry_path has_group_path
+unfolding entry_found group_found group_at_path has_entry_path has_group_path
 example_conditions = record {
   edit = record {
     entry = record { entry = bank; group = root; before = entry 10 nil_id (version 10 (codes "Bank") (codes "a")) []; named = refl; held = refl; is = bank_is };
+    time = omega arith;
+  };
+  restore = record {
+    entry = record { entry = bank; group = root; before = twice; named = refl; held = refl; is = edited_is };
+    version = version 10 (codes "Bank") (codes "a");
+    numbered = refl;
     time = omega arith;
   };
   move_entry = record {

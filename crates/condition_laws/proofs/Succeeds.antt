@@ -2,20 +2,21 @@
 use Rattle.std.proofs.Common.{◌≡◌, ◌≤◌, ◌||◌, ◌+◌, ℕ, true, false, not, max, inl, inr, nat_lt, Option, Some, None, Result, Ok, Err, is_some, refl, sym, ap, subst, ◌∙◌, arith}
 use Rattle.std.proofs.lemmas.Bool.{ltb-true}
 use Rattle.std.proofs.lemmas.Option.{same_Some}
-use Rattle.std.specs.Option.{option_and_then}
+use Rattle.std.specs.Option.{ok_or, option_and_then}
 use Rattle.std.specs.Prelude.{List, if◌then◌else◌}
 use Rattle.outside_core.specs.Results.{◌>>=◌}
 use Rattle.time_core.specs.Times.{last_stamp}
 use Rattle.vault_model.specs.Db.{NodeId}
 use Rattle.vault_model.specs.Join.{is_id}
 use Rattle.vault_model.specs.SeenNodes.{entry_time}
+use Rattle.vault_model.specs.Shape.{EntryRecord}
 use Rattle.vault_model.specs.Tree.{BareDoc, IsDoc, LEVELS, Tree, entry_rows, entry_rows_all, height, id_of, node_ids}
 use Rattle.vault_model.proofs.Tests.{and_true, decide, is_false, not_true, some_of}
 use Rattle.tree_core.specs.declared.fails.TreeFail.{TreeFail}
-use Rattle.tree_core.specs.declared.fails.TreeFail.TheVariants.{AlreadyThere, IdTaken, IntoItself, NameTaken, RootFixed, StampLimit, TooDeep}
-use Rattle.tree_core.specs.After.{Holding, after_recycling, bin_level, entry_deleted, entry_moved_to, entry_named, entry_recycled, group_deleted, group_moved_to, group_named, group_recycled, held_in, is_group_taken, is_parent, is_recycled, named_or_refusal, needs_bin, refuse_if, time_after, with_bin, with_bin_made}
+use Rattle.tree_core.specs.declared.fails.TreeFail.TheVariants.{AlreadyThere, IdTaken, IntoItself, NameTaken, NoVersion, RootFixed, StampLimit, TooDeep}
+use Rattle.tree_core.specs.After.{Holding, after_recycling, bin_level, entry_deleted, entry_moved_to, entry_named, entry_recycled, group_deleted, group_moved_to, group_named, group_recycled, held_in, is_group_taken, is_parent, is_recycled, named_or_refusal, needs_bin, refuse_if, time_after, version_or_refusal, with_bin, with_bin_made}
 use Rattle.tree_core.specs.Changes.{changed_at, entry_at, group_with, has_group, holder, is_free, level_of, own_entry, parent_of, placed_of, with_group, without_entry}
-use Rattle.tree_core.specs.Finding.{entry_found, group_found, has_entry_path, without_slashes}
+use Rattle.tree_core.specs.Finding.{entry_found, group_at_path, group_found, has_entry_path, without_slashes}
 use Rattle.tree_core.specs.NewNodes.{empty_bin}
 use Rattle.tree_core.specs.NewPaths.{before_last, new_path}
 use Rattle.tree_core.proofs.Around.{entries_rows, found_id}
@@ -30,7 +31,7 @@ use Rattle.growth_laws.proofs.Stays.{entry_is}
 use Rattle.growth_laws.proofs.Steps.{own_row, take_root}
 use Rattle.frame_laws.specs.Frame.{entry_of}
 use Rattle.frame_laws.proofs.Finds.{row_was}
-use Rattle.condition_laws.specs.Conditions.{AddSucceeds, CanMakeBin, CanPut, EditSucceeds, HasTimeAfter, MakeGroupSucceeds, MoveEntrySucceeds, MoveGroupSucceeds, NamesEntry, NamesGroup, RemoveEntrySucceeds, RemoveGroupSucceeds}
+use Rattle.condition_laws.specs.Conditions.{AddSucceeds, CanMakeBin, CanPut, EditSucceeds, HasTimeAfter, MakeGroupSucceeds, MoveEntrySucceeds, MoveGroupSucceeds, NamesEntry, NamesGroup, RemoveEntrySucceeds, RemoveGroupSucceeds, RestoreSucceeds}
 
 -- ---- steps that are not refused
 
@@ -94,6 +95,16 @@ edit_succeeds path values now d isd can =
     (step (time_after now (entry_time h.held.entry.1)) _ (max now (entry_time h.held.entry.1 + 1))
     (in_time now (entry_time h.held.entry.1) (subst (λ x. HasTimeAfter (entry_time x) now) (sym h.record_is) can.time)) (done _))
 
+-- ---- restore
+
+pub restore_succeeds : RestoreSucceeds
+restore_succeeds path number now d isd can =
+    let h = held_entry path d isd can.entry in
+    step (entry_named path d) _ h.held h.is
+    (step (version_or_refusal number h.held.entry.1) _ can.version (ap (λ (x : EntryRecord). version_or_refusal number x) h.record_is ∙ ap (λ o. ok_or o (NoVersion number)) can.numbered)
+    (step (time_after now (entry_time h.held.entry.1)) _ (max now (entry_time h.held.entry.1 + 1))
+    (in_time now (entry_time h.held.entry.1) (subst (λ x. HasTimeAfter (entry_time x) now) (sym h.record_is) can.time)) (done _)))
+
 -- ---- moves
 
 pub move_entry_succeeds : MoveEntrySucceeds
@@ -130,14 +141,14 @@ move_group_succeeds path goal now d can =
 
 pub add_succeeds : AddSucceeds
 add_succeeds path id values now d can =
-    step (named_or_refusal (group_found d (before_last path))) _ can.group (ap named_or_refusal can.named)
+    step (named_or_refusal (group_at_path d (before_last path))) _ can.group (ap named_or_refusal can.named)
     (step (refuse_if (has_entry_path d (new_path path)) NameTaken) _ tt (ap (λ b. refuse_if b NameTaken) can.free_path)
     (step (refuse_if (not (is_free id d)) (IdTaken id)) _ tt (ap (λ b. refuse_if (not b) (IdTaken id)) can.free_id) (done _)))
 
 pub make_group_succeeds : MakeGroupSucceeds
 make_group_succeeds text id now d can =
     let path = without_slashes text in
-    step (named_or_refusal (group_found d (before_last path))) _ can.group (ap named_or_refusal can.named)
+    step (named_or_refusal (group_at_path d (before_last path))) _ can.group (ap named_or_refusal can.named)
     (step (refuse_if (is_group_taken (new_path path) d) NameTaken) _ tt (λ i. refuse_if (can.free_path i || can.no_root i) NameTaken)
     (step (refuse_if (nat_lt LEVELS (level_of can.group d.tree + 1)) TooDeep) _ tt (ap (λ b. refuse_if b TooDeep) (fits_levels (level_of can.group d.tree + 1) can.fits))
     (step (refuse_if (not (is_free id d)) (IdTaken id)) _ tt (ap (λ b. refuse_if (not b) (IdTaken id)) can.free_id) (done _))))

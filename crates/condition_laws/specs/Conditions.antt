@@ -4,11 +4,12 @@ use Rattle.time_core.specs.Times.{last_stamp}
 use Rattle.vault_model.specs.Db.{NodeId}
 use Rattle.vault_model.specs.Join.{is_id}
 use Rattle.vault_model.specs.SeenNodes.{entry_time}
-use Rattle.vault_model.specs.Shape.{EntryRecord}
+use Rattle.vault_model.specs.Shape.{BareVersion, EntryRecord}
 use Rattle.vault_model.specs.Tree.{BareDoc, IsDoc, LEVELS, Tree, height, id_of}
-use Rattle.tree_core.specs.After.{AfterRemoval, after_add, after_edit, after_make_group, after_move_entry, after_move_group, after_remove_entry, after_remove_group, bin_level, is_parent, is_recycled, needs_bin}
+use Rattle.tree_core.specs.After.{AfterRemoval, after_add, after_edit, after_make_group, after_move_entry, after_move_group, after_remove_entry, after_remove_group, after_restore, bin_level, is_parent, is_recycled, needs_bin}
 use Rattle.tree_core.specs.Changes.{group_with, has_group, holder, is_free, level_of, parent_of, placed_of}
-use Rattle.tree_core.specs.Finding.{entry_found, group_found, has_entry_path, has_group_path, without_slashes}
+use Rattle.tree_core.specs.Finding.{entry_found, group_at_path, group_found, has_entry_path, has_group_path, without_slashes}
+use Rattle.tree_core.specs.Histories.{version_numbered}
 use Rattle.tree_core.specs.NewNodes.{GivenValues}
 use Rattle.tree_core.specs.NewPaths.{before_last, names_root, new_path}
 use Rattle.frame_laws.specs.Frame.{entry_of}
@@ -46,6 +47,20 @@ pub record CanEdit (path : List ℕ) (now : ℕ) (d : BareDoc) : Type 0 where
 abbrev pub EditSucceeds : Type 0
 EditSucceeds = (path : List ℕ) (values : GivenValues) (now : ℕ) (d : BareDoc) → IsDoc d
     → CanEdit path now d → (e : BareDoc) × (after_edit path values now d ≡ Ok e)
+
+-- ---- restore
+
+-- The path names an entry that has a version of this number, and whose last time has one after it.
+pub record CanRestore (path : List ℕ) (number now : ℕ) (d : BareDoc) : Type 0 where
+  pub entry : NamesEntry path d
+  pub version : BareVersion
+  pub numbered : version_numbered number entry.before ≡ Some version
+  pub time : HasTimeAfter (entry_time entry.before) now
+
+-- Where an entry's version can be restored, `restore` gives a document.
+abbrev pub RestoreSucceeds : Type 0
+RestoreSucceeds = (path : List ℕ) (number now : ℕ) (d : BareDoc) → IsDoc d
+    → CanRestore path number now d → (e : BareDoc) × (after_restore path number now d ≡ Ok e)
 
 -- ---- moves
 
@@ -88,7 +103,7 @@ MoveGroupSucceeds = (path goal : List ℕ) (now : ℕ) (d : BareDoc) → CanMove
 -- The group is there, no entry has the path, and the id is free.
 pub record CanAdd (path : List ℕ) (id : NodeId) (d : BareDoc) : Type 0 where
   pub group : NodeId
-  pub named : group_found d (before_last path) ≡ Some group
+  pub named : group_at_path d (before_last path) ≡ Some group
   pub free_path : has_entry_path d (new_path path) ≡ false
   pub free_id : is_free id d ≡ true
 
@@ -101,7 +116,7 @@ AddSucceeds = (path : List ℕ) (id : NodeId) (values : GivenValues) (now : ℕ)
 -- the id is free.
 pub record CanMakeGroup (path : List ℕ) (id : NodeId) (d : BareDoc) : Type 0 where
   pub group : NodeId
-  pub named : group_found d (before_last path) ≡ Some group
+  pub named : group_at_path d (before_last path) ≡ Some group
   pub free_path : has_group_path d (new_path path) ≡ false
   pub no_root : names_root (new_path path) ≡ false
   pub fits : level_of group d.tree + 1 ≤ LEVELS

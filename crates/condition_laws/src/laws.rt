@@ -1,13 +1,19 @@
 //! The laws that commands are carried out under the conditions that the pages name. Each function
 //! has laws as its contract; it does nothing, and takes no memory.
 
-ghost use Rattle.condition_laws.specs.Conditions.{AddSucceeds, EditSucceeds, MakeGroupSucceeds, MoveEntrySucceeds, MoveGroupSucceeds, RemoveEntrySucceeds, RemoveGroupSucceeds};
+ghost use Rattle.condition_laws.specs.Conditions.{AddSucceeds, EditSucceeds, MakeGroupSucceeds, MoveEntrySucceeds, MoveGroupSucceeds, RemoveEntrySucceeds, RemoveGroupSucceeds, RestoreSucceeds};
 ghost use Rattle.condition_laws.specs.Example.{ExampleConditions};
 
 /// An edit is carried out where its path names an entry, and the entry's last time is before the
 /// last second of the year 9999.
 pub fn edits_succeed()
     ensures { EditSucceeds }
+{}
+
+/// A version is restored where the path names an entry that has it, under the same condition on its
+/// last time.
+pub fn restores_succeed()
+    ensures { RestoreSucceeds }
 {}
 
 /// A move is carried out where both paths name what they must, and the node is not there yet; a

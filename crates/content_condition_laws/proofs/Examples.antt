@@ -26,13 +26,13 @@ use Rattle.find_core.specs.Folding.{case_folded}
 use Rattle.find_core.specs.Search.{entries_found}
 use Rattle.find_references.specs.References.{reference_at}
 use Rattle.find_references.specs.Terms.{PlacedTerm, term_before}
-use Rattle.content_condition_laws.specs.Conditions.{CanBeMerged, CanExport, CanResolve, CanSearch, CanShow, HaveOwnRoots, terms_in}
+use Rattle.content_condition_laws.specs.Conditions.{CanBeMerged, CanExport, CanResolve, CanSearch, CanShow, CanShowHistory, HaveOwnRoots, terms_in}
 use Rattle.content_condition_laws.specs.Example.{ExampleConditions}
 use Rattle.cli_parse.specs.declared.command.ExportFormat.TheVariants.{Xml}
 
 -- ---- show
 
-shows : CanShow (codes "Bank") false true [] as_it_was
+shows : CanShow (codes "Bank") false true [] 0 as_it_was
 unfolding entry_found reference_at
 shows =
     let none_sought : 0 ≤ 65536 = omega arith in
@@ -41,6 +41,8 @@ shows =
     record {
       held = record { group = root; entry = (bank, entry 10 nil_id (version 10 (codes "Bank") (codes "a")) []) };
       named = refl;
+      entry = (bank, entry 10 nil_id (version 10 (codes "Bank") (codes "a")) []);
+      numbered = refl;
       there = λ name h. absurd h;
       values = λ f h printed. elim h [
         | inl same ↦ subst (λ (g : BareField). CanResolve as_it_was g.value) same (none_sought, one_byte)
@@ -50,6 +52,12 @@ shows =
         ]
       ];
     }
+
+-- ---- history
+
+has_history : CanShowHistory (codes "Bank") as_it_was
+unfolding entry_found
+has_history = (record { group = root; entry = (bank, entry 10 nil_id (version 10 (codes "Bank") (codes "a")) []) }, refl)
 
 -- ---- search
 
@@ -101,6 +109,7 @@ merges =
 pub example_conditions : ExampleConditions
 example_conditions = record {
   show = shows;
+  history = has_history;
   search = searches;
   table = tt;
   document = exports;

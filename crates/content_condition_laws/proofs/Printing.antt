@@ -2,6 +2,7 @@
 use Rattle.std.proofs.Common.{◌≡◌, ◌≢◌, ◌≤◌, ◌-◌, ◌&&◌, ◌||◌, not, ℕ, Bool, true, false, cond, inl, inr, List, [], ◌∷◌, ◌++◌, None, Some, Result, Ok, Err, IsOk, bytes_eq, codes, length, map, nat_lt, refl, sym, ap, ◌∙◌, arith}
 use Rattle.std.specs.Prelude.{if◌then◌else◌, ◌==◌}
 use Rattle.std.specs.List.{filter, find, list_any}
+use Rattle.std.specs.Option.{ok_or}
 use Rattle.std.proofs.lemmas.Bool.{ltb-true, ne_eqb}
 use Rattle.std.proofs.lemmas.List.{append-nil, append_assoc}
 use Rattle.std.proofs.lemmas.Slice.Eq.{bytes_eq-Decides}
@@ -31,9 +32,12 @@ use Rattle.cli_printing.specs.Exporting.{text_or_refusal}
 use Rattle.otp_core.specs.declared.fails.OtpFail.TheVariants.{OtpLimit}
 use Rattle.otp_core.specs.Reading.{BareOtp, otp_of_entry}
 use Rattle.cli_codes.specs.Codes.{EPOCH, code_line, code_or_refusal, line_of, unix_of}
+use Rattle.cli_messages.specs.Messages.{refusal_of}
+use Rattle.cli_messages.specs.declared.answers.Reason.TheVariants.{NoVersion}
+use Rattle.cli_showing.specs.History.{history_shown, history_text}
 use Rattle.cli_showing.specs.Refusals.{found_or_refusal}
-use Rattle.cli_showing.specs.Showing.{code_shown, entries_shown, entry_or_refusal, entry_shown, entry_text, field_of, is_missing, others_shown, paths_or_refusal, refuse_missing, value_shown, values_shown, with_code, with_fields, with_fields_shown, with_key, with_keys, with_names, with_value, with_value_of}
-use Rattle.content_condition_laws.specs.Conditions.{CanResolve, ExportSucceeds, SearchSucceeds, ShowCodeSucceeds, ShowSucceeds, is_printed, terms_in}
+use Rattle.cli_showing.specs.Showing.{code_shown, entries_shown, entry_or_refusal, entry_shown, entry_text, field_of, is_missing, others_shown, paths_or_refusal, refuse_missing, value_shown, values_shown, version_or_refusal, with_code, with_fields, with_fields_shown, with_key, with_keys, with_names, with_value, with_value_of}
+use Rattle.content_condition_laws.specs.Conditions.{CanResolve, ExportSucceeds, HistorySucceeds, SearchSucceeds, ShowCodeSucceeds, ShowSucceeds, is_printed, terms_in}
 
 -- ---- steps that are not refused
 
@@ -149,11 +153,12 @@ none_missing fs (name ∷ names) there =
 
 pub show_succeeds : ShowSucceeds
 unfolding entry_shown
-show_succeeds file path clear all attachments names d can =
-    let e = can.held.entry in
+show_succeeds file path clear all attachments names at d can =
+    let e = can.entry in
     let shown = text_gives d clear all attachments names e can.values in (
       shown.0,
-      ap (λ r. entry_or_refusal file r >>= λ entry. refuse_missing file (find (is_missing (fields_of entry.1)) names) >>= λ checked. found_or_refusal file (entry_text d clear all attachments names entry)) can.named
+      ap (λ r. entry_or_refusal file r >>= λ held. version_or_refusal file at held >>= λ entry. refuse_missing file (find (is_missing (fields_of entry.1)) names) >>= λ checked. found_or_refusal file (entry_text d clear all attachments names entry)) can.named
+          ∙ ap (λ o. ok_or o (refusal_of (NoVersion at) file) >>= λ entry. refuse_missing file (find (is_missing (fields_of entry.1)) names) >>= λ checked. found_or_refusal file (entry_text d clear all attachments names entry)) can.numbered
           ∙ ap (λ o. refuse_missing file o >>= λ checked. found_or_refusal file (entry_text d clear all attachments names e)) (none_missing (fields_of e.1) names can.there)
           ∙ ap (found_or_refusal file) shown.1,
     )
@@ -174,17 +179,25 @@ code_gives fields now otp says since = (
 
 pub show_code_succeeds : ShowCodeSucceeds
 unfolding code_shown
-show_code_succeeds file path names now d can =
-    let fields = fields_of can.held.entry.1 in
+show_code_succeeds file path names at now d can =
+    let fields = fields_of can.entry.1 in
     let named = named_give d false false fields names can.values in
     let line = code_gives fields now can.otp can.says can.since in (
       named.0 ++ line.0,
-      ap (λ r. entry_or_refusal file r >>= λ entry. refuse_missing file (find (is_missing (fields_of entry.1)) names) >>= λ checked.
+      ap (λ r. entry_or_refusal file r >>= λ held. version_or_refusal file at held >>= λ entry. refuse_missing file (find (is_missing (fields_of entry.1)) names) >>= λ checked.
           (found_or_refusal file (with_names d (fields_of entry.1) names []) >>= λ text. with_code file (fields_of entry.1) now text)) can.named
+          ∙ ap (λ o. ok_or o (refusal_of (NoVersion at) file) >>= λ entry. refuse_missing file (find (is_missing (fields_of entry.1)) names) >>= λ checked.
+          (found_or_refusal file (with_names d (fields_of entry.1) names []) >>= λ text. with_code file (fields_of entry.1) now text)) can.numbered
           ∙ ap (λ o. refuse_missing file o >>= λ checked. (found_or_refusal file (with_names d fields names []) >>= λ text. with_code file fields now text)) (none_missing fields names can.there)
           ∙ ap (λ r. found_or_refusal file r >>= λ text. with_code file fields now text) named.1
           ∙ ap (λ r. code_or_refusal file r >>= λ line. Ok (named.0 ++ line)) line.1,
     )
+
+-- ---- history
+
+pub history_succeeds : HistorySucceeds
+unfolding history_shown
+history_succeeds file path d can = (_, ap (λ r. entry_or_refusal file r >>= λ entry. Ok (history_text entry.1)) can.1)
 
 -- ---- search
 

@@ -1,9 +1,11 @@
--- Under which conditions `show`, `search`, `export` and `merge` are carried out on a document.
-use Rattle.std.specs.Prelude.{◌≡◌, ◌≢◌, ◌≤◌, ◌&&◌, ◌||◌, not, ℕ, Bool, true, false, List, [], ◌∷◌, bytes_eq, length, map, None, Ok}
+-- Under which conditions `show`, `history`, `search`, `export` and `merge` are carried out on a
+-- document.
+use Rattle.std.specs.Prelude.{◌≡◌, ◌≢◌, ◌≤◌, ◌&&◌, ◌||◌, not, ℕ, Bool, true, false, List, [], ◌∷◌, bytes_eq, length, map, None, Ok, Some}
 use Rattle.std.specs.List.{list_any}
 use Rattle.stream_core.specs.InnerStream.{NoKeystream}
 use Rattle.vault_model.specs.Bare.{BareField}
 use Rattle.vault_model.specs.Db.{NodeId}
+use Rattle.vault_model.specs.Shape.{EntryRecord}
 use Rattle.vault_model.specs.Join.{HaveOneKind, IsAcyclic, IsIn, IsNotEmpty, join}
 use Rattle.vault_model.specs.Tree.{BareDoc, FitsLevels, LEVELS, id_of}
 use Rattle.vault_model.specs.declared.forms.DocForm.TheVariants.{Plain}
@@ -24,7 +26,8 @@ use Rattle.cli_parse.specs.declared.command.ExportFormat.TheVariants.{Csv, Xml}
 use Rattle.cli_printing.specs.Exporting.{exported}
 use Rattle.otp_core.specs.Reading.{BareOtp, otp_of_entry}
 use Rattle.cli_codes.specs.Codes.{EPOCH}
-use Rattle.cli_showing.specs.Showing.{code_shown, entries_shown, entry_shown, is_missing}
+use Rattle.cli_showing.specs.History.{history_shown}
+use Rattle.cli_showing.specs.Showing.{code_shown, entries_shown, entry_shown, is_missing, version_shown}
 
 -- ---- show
 
@@ -40,44 +43,58 @@ abbrev pub is_printed : (clear all : Bool) → List (List ℕ) → BareField →
 is_printed clear all [] f = (not f.hidden || clear) && (all || not (is_other f))
 is_printed clear all (name ∷ names) f = list_any (λ n. bytes_eq n f.key) (name ∷ names)
 
--- The path names an entry. It has the fields that are named, and each value that is printed can be
--- resolved.
-pub record CanShow (path : List ℕ) (clear all : Bool) (names : List (List ℕ)) (d : BareDoc) : Type 0
-  where
-    pub held : Holding
-    pub named : entry_named path d ≡ Ok held
-    pub there : (name : List ℕ) → IsIn name names
-        → is_missing (fields_of held.entry.1) name ≡ false
-    pub values : (f : BareField) → IsIn f (fields_of held.entry.1)
-        → is_printed clear all names f ≡ true → CanResolve d f.value
+-- The path names an entry, which has a version of the number. This has the fields that are named,
+-- and each value that is printed can be resolved.
+pub record CanShow (path : List ℕ) (clear all : Bool) (names : List (List ℕ)) (at : ℕ)
+    (d : BareDoc) : Type 0 where
+  pub held : Holding
+  pub named : entry_named path d ≡ Ok held
+  pub entry : NodeId × EntryRecord
+  pub numbered : version_shown at held.entry ≡ Some entry
+  pub there : (name : List ℕ) → IsIn name names → is_missing (fields_of entry.1) name ≡ false
+  pub values : (f : BareField) → IsIn f (fields_of entry.1)
+      → is_printed clear all names f ≡ true → CanResolve d f.value
 
 -- Where an entry can be shown, `show` gives a text.
 abbrev pub ShowSucceeds : Type 0
-ShowSucceeds = (file path : List ℕ) (clear all attachments : Bool) (names : List (List ℕ))
-    (d : BareDoc) → CanShow path clear all names d
-    → (text : List ℕ) × (entry_shown file clear all attachments names path d ≡ Ok text)
+ShowSucceeds = (file path : List ℕ) (clear all attachments : Bool) (names : List (List ℕ)) (at : ℕ)
+    (d : BareDoc) → CanShow path clear all names at d
+    → (text : List ℕ) × (entry_shown file clear all attachments names at path d ≡ Ok text)
+
+-- ---- history
+
+-- The path names an entry.
+abbrev pub CanShowHistory : List ℕ → BareDoc → Type 0
+CanShowHistory path d = (held : Holding) × (entry_named path d ≡ Ok held)
+
+-- Where a path names an entry, `history` gives a text.
+abbrev pub HistorySucceeds : Type 0
+HistorySucceeds = (file path : List ℕ) (d : BareDoc) → CanShowHistory path d
+    → (text : List ℕ) × (history_shown file path d ≡ Ok text)
 
 -- ---- show -t
 
--- The path names an entry. It has the fields that are named, the value of each can be resolved, and
--- its fields say what its codes are made from. The moment is in 1970 or later.
-pub record CanShowCode (path : List ℕ) (names : List (List ℕ)) (now : ℕ) (d : BareDoc) : Type 0
+-- The path names an entry, which has a version of the number. This has the fields that are named,
+-- the value of each can be resolved, and its fields say what its codes are made from. The moment is
+-- in 1970 or later.
+pub record CanShowCode (path : List ℕ) (names : List (List ℕ)) (at now : ℕ) (d : BareDoc) : Type 0
   where
     pub held : Holding
     pub named : entry_named path d ≡ Ok held
-    pub there : (name : List ℕ) → IsIn name names
-        → is_missing (fields_of held.entry.1) name ≡ false
-    pub values : (f : BareField) → IsIn f (fields_of held.entry.1)
+    pub entry : NodeId × EntryRecord
+    pub numbered : version_shown at held.entry ≡ Some entry
+    pub there : (name : List ℕ) → IsIn name names → is_missing (fields_of entry.1) name ≡ false
+    pub values : (f : BareField) → IsIn f (fields_of entry.1)
         → list_any (λ name. bytes_eq name f.key) names ≡ true → CanResolve d f.value
     pub otp : BareOtp
-    pub says : otp_of_entry (fields_of held.entry.1) ≡ Ok otp
+    pub says : otp_of_entry (fields_of entry.1) ≡ Ok otp
     pub since : EPOCH ≤ now
 
 -- Where the code of an entry can be shown, `show -t` gives a text.
 abbrev pub ShowCodeSucceeds : Type 0
-ShowCodeSucceeds = (file path : List ℕ) (names : List (List ℕ)) (now : ℕ) (d : BareDoc)
-    → CanShowCode path names now d
-    → (text : List ℕ) × (code_shown file names path now d ≡ Ok text)
+ShowCodeSucceeds = (file path : List ℕ) (names : List (List ℕ)) (at now : ℕ) (d : BareDoc)
+    → CanShowCode path names at now d
+    → (text : List ℕ) × (code_shown file names at path now d ≡ Ok text)
 
 -- ---- search
 

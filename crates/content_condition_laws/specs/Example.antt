@@ -3,13 +3,14 @@ use Rattle.std.specs.Prelude.{[], ◌∷◌, codes, false, true}
 use Rattle.merge_core.specs.Example.{as_it_was, edited, moved}
 use Rattle.agreed_laws.specs.Merges.{AreDocs}
 use Rattle.cli_parse.specs.declared.command.ExportFormat.TheVariants.{Csv, Xml}
-use Rattle.content_condition_laws.specs.Conditions.{CanBeMerged, CanExport, CanSearch, CanShow}
+use Rattle.content_condition_laws.specs.Conditions.{CanBeMerged, CanExport, CanSearch, CanShow, CanShowHistory}
 
 -- An entry can be shown with all its fields, and found by its title in letters of another case; the
 -- database can be printed as a table and as a document; and two other copies of it, of which each
 -- has what the others lack, can be merged into it.
 pub record ExampleConditions : Type 0 where
-  pub show : CanShow (codes "Bank") false true [] as_it_was
+  pub show : CanShow (codes "Bank") false true [] 0 as_it_was
+  pub history : CanShowHistory (codes "Bank") as_it_was
   pub search : CanSearch (codes "bank") as_it_was
   pub table : CanExport Csv as_it_was
   pub document : CanExport Xml as_it_was

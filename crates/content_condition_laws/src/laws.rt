@@ -1,21 +1,26 @@
-//! The laws that `show`, `search`, `export` and `merge` are carried out under their conditions. Each
-//! function has a law as its contract; it does nothing, and takes no memory.
+//! The laws that `show`, `history`, `search`, `export` and `merge` are carried out under their
+//! conditions. Each function has a law as its contract; it does nothing, and takes no memory.
 
-ghost use Rattle.content_condition_laws.specs.Conditions.{ExportSucceeds, MergeSucceeds, SearchSucceeds, ShowCodeSucceeds, ShowSucceeds};
+ghost use Rattle.content_condition_laws.specs.Conditions.{ExportSucceeds, HistorySucceeds, MergeSucceeds, SearchSucceeds, ShowCodeSucceeds, ShowSucceeds};
 ghost use Rattle.content_condition_laws.specs.Example.{ExampleConditions};
 
-/// `show` prints where its path names an entry, which has the fields that are named, and where each
-/// value that is printed has no more references than may be looked for, and is not too long once
-/// they are resolved.
+/// `show` prints where its path names an entry that has a version of the number, which has the
+/// fields that are named, and where each value that is printed has no more references than may be
+/// looked for, and is not too long once they are resolved.
 pub fn values_show()
     ensures { ShowSucceeds }
 {}
 
-/// `show -t` prints where its path names an entry, which has the fields that are named, where the
-/// value of each can be resolved so, where its fields say what its one-time codes are made from, and
-/// where the moment is in 1970 or later.
+/// `show -t` prints where its path names an entry that has a version of the number, which has the
+/// fields that are named, where the value of each can be resolved so, where its fields say what its
+/// one-time codes are made from, and where the moment is in 1970 or later.
 pub fn codes_show()
     ensures { ShowCodeSucceeds }
+{}
+
+/// `history` prints where its path names an entry.
+pub fn histories_show()
+    ensures { HistorySucceeds }
 {}
 
 /// `search` prints where there is a term, each term has a text, and an entry matches all of them.

@@ -1,4 +1,5 @@
-//! The laws that `show`, `search`, `export` and `merge` are carried out under their conditions.
+//! The laws that `show`, `history`, `search`, `export` and `merge` are carried out under their
+//! conditions.
 #![tactic(auto)]
 
 pub mod laws;

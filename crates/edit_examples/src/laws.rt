@@ -1,12 +1,17 @@
 //! What is so of the worked cases. Each function has it as its contract; it does nothing, and takes
 //! no memory.
 
-ghost use Rattle.edit_examples.specs.Cases.{ExampleEdit};
+ghost use Rattle.edit_examples.specs.Cases.{ExampleEdit, ExampleRestore};
 ghost use Rattle.edit_examples.specs.Newest.{ReplacingGrows, UndoingGrows};
 
 /// There is an edit, which makes the second copy of the worked example of what it was before.
 pub fn an_entry_is_edited()
     ensures { ExampleEdit }
+{}
+
+/// A version is restored, which makes the entry of the edited copy say what it said before the edit.
+pub fn a_version_is_restored()
+    ensures { ExampleRestore }
 {}
 
 /// Were an edit to drop the newest version of an entry, or to put a version of any time in its place,

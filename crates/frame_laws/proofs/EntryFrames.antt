@@ -1,8 +1,8 @@
 -- What commands on entries leave as it is.
-use Rattle.std.proofs.Common.{◌≡◌, ◌≤◌, ◌<◌, ◌||◌, ◌&&◌, ℕ, Bool, true, false, inl, inr, List, Some, Ok, refl, sym, ap, subst, ◌∙◌, max, nat_lt, ◌+◌, arith}
+use Rattle.std.proofs.Common.{◌≡◌, ◌≤◌, ◌<◌, ◌||◌, ◌&&◌, ℕ, Bool, true, false, inl, inr, List, Option, None, Some, Ok, refl, sym, ap, subst, ◌∙◌, max, nat_lt, ◌+◌, arith}
 use Rattle.std.specs.FinMap.{find}
 use Rattle.std.specs.List.{list_all}
-use Rattle.std.specs.Option.{option_and_then}
+use Rattle.std.specs.Option.{ok_or, option_and_then}
 use Rattle.std.specs.Prelude.{if◌then◌else◌, Err}
 use Rattle.time_core.specs.Times.{last_stamp}
 use Rattle.vault_model.specs.declared.contents.Item.{Item}
@@ -17,10 +17,10 @@ use Rattle.vault_model.proofs.Ids.{id_itself, same_id}
 use Rattle.vault_model.proofs.Tests.{and_true, apart, decide, is_false, or_false}
 use Rattle.merge_core.proofs.SoundDoc.{all_in, shape_kids}
 use Rattle.tree_core.specs.Finding.{entry_found, group_found}
-use Rattle.tree_core.specs.declared.fails.TreeFail.TheVariants.{AlreadyThere, StampLimit}
-use Rattle.tree_core.specs.After.{Holding, edited_entry, entry_moved_to, entry_named, named_or_refusal, refuse_if, time_after}
+use Rattle.tree_core.specs.declared.fails.TreeFail.TheVariants.{AlreadyThere, NoVersion, StampLimit}
+use Rattle.tree_core.specs.After.{Holding, changed_content, edited_entry, entry_moved_to, entry_named, named_or_refusal, refuse_if, time_after, version_or_refusal}
 use Rattle.tree_core.specs.Changes.{changed_at, changed_entry, entry_at, group_with, has_group, holder, moved_entry, own_entry, with_entry, without, without_entry}
-use Rattle.tree_core.specs.Histories.{rising_versions}
+use Rattle.tree_core.specs.Histories.{rising_versions, version_numbered}
 use Rattle.tree_core.proofs.Around.{children_rows, entries_rows, found_group, found_id}
 use Rattle.tree_core.proofs.EntriesMoved.{same_there}
 use Rattle.tree_core.proofs.EntriesRemoved.{deleted_is_doc, found_at, own_id}
@@ -30,8 +30,8 @@ use Rattle.growth_laws.proofs.Commands.{Found, found}
 use Rattle.growth_laws.proofs.Outcomes.{bind_ok, named_ok, refuse_ok, same_ok, time_ok}
 use Rattle.growth_laws.proofs.Stays.{entry_is}
 use Rattle.growth_laws.proofs.Steps.{change_root, own_row, root_same, take_root}
-use Rattle.frame_laws.specs.Frame.{no_node, only, either}
-use Rattle.frame_laws.specs.Entries.{EditFrames, EditsEntry, EntryMoves, MoveEntryFrames}
+use Rattle.frame_laws.specs.Frame.{AreSameBut, either, entry_of, no_node, only}
+use Rattle.frame_laws.specs.Entries.{EditFrames, EditsEntry, EntryMoves, MoveEntryFrames, RestoreFrames, RestoresEntry}
 use Rattle.frame_laws.proofs.Fields.{fields_flags, fields_given, fields_gone, fields_hidden, fields_others, trimmed}
 use Rattle.frame_laws.proofs.Finds.{SameRows, change_same, lists_found, own_lists, own_lists_row, put_lists, put_same, row_now, row_was, same_at, same_but, same_more, same_then, take_lists, take_same}
 
@@ -74,6 +74,36 @@ rising u x e ise row =
     let items = and_true (rises (λ (f : BareField). f.key) c.fields && rises (λ (a : BareAttachment). a.name) c.attachments) (rises (λ (i : Item). i.key) c.items) texts.0 in
     (and_true (rises (λ (f : BareField). f.key) c.fields) (rises (λ (a : BareAttachment). a.name) c.attachments) items.0).0
 
+-- one entry is changed, and all else is as before
+module _ (d : BareDoc) (isd : IsDoc d) (held : Holding) (f : Found d held) (k : EntryRecord → EntryRecord)
+    (ise : IsDoc (record d { tree = changed_at held.group (changed_entry held.entry.0 k) d.tree })) where
+  abbrev u : NodeId
+  u = held.entry.0
+
+  abbrev x : EntryRecord
+  x = held.entry.1
+
+  abbrev e : BareDoc
+  e = record d { tree = changed_at held.group (changed_entry u k) d.tree }
+
+  row : IsIn (u, k x) (entry_rows e.tree)
+  row = row_now held.group (changed_entry u k) d.tree f.group f.there (change_root u k f.group) entry_rows entry_rows_all entries_rows (u, k x) (change_entry_row u k held.entry f.group f.own)
+
+  old : IsIn (u, x) (entry_rows d.tree)
+  old = row_was held.group (changed_entry u k) d.tree f.group f.there (change_root u k f.group) entry_rows entry_rows_all entries_rows (u, x) (own_row u held.entry f.group f.own)
+
+  pub was_entry : entry_of d u ≡ Some x
+  was_entry = entry_is d isd u x old
+
+  pub is_entry : entry_of e u ≡ Some (k x)
+  is_entry = entry_is e ise u (k x) row
+
+  all_else : AreSameBut (only u) no_node no_node d e
+  all_else =
+      same_but (only u) no_node no_node d e isd ise
+      (same_at held.group (changed_entry u k) d.tree f.group f.there (change_root u k f.group) (only u) no_node no_node
+      (sym (root_same held.group (changed_entry u k) d.tree f.group f.there (change_root u k f.group))) (change_same u k f.group))
+
 pub edit_frames : EditFrames
 edit_frames path values now d e isd ise h =
     let held = bind_ok (entry_named path d) _ e h in
@@ -86,39 +116,80 @@ edit_frames path values now d e isd ise h =
         → IsDoc (record d { tree = changed_at held.group (changed_entry held.entry.0 (edited_entry d.meta values time)) d.tree })
         → EditsEntry path values now d (record d { tree = changed_at held.group (changed_entry held.entry.0 (edited_entry d.meta values time)) d.tree })
     edited held named f time timed ise =
-        let u = held.entry.0 in
-        let x = held.entry.1 in
+        let y = held.entry.1 in
         let k = edited_entry d.meta values time in
-        let e : BareDoc = record d { tree = changed_at held.group (changed_entry u k) d.tree } in
-        let keeps = change_root u k f.group in
-        let row = row_now held.group (changed_entry u k) d.tree f.group f.there keeps entry_rows entry_rows_all entries_rows (u, k x) (change_entry_row u k held.entry f.group f.own) in
-        let old = row_was held.group (changed_entry u k) d.tree f.group f.there keeps entry_rows entry_rows_all entries_rows (u, x) (own_row u held.entry f.group f.own) in
-        let rises_before = rising u x d isd old in
-        let rises_after = rising u (k x) e ise row in
+        let rises_before = rising held.entry.0 y d isd (old d isd held f k ise) in
+        let rises_after = rising held.entry.0 (k y) (record d { tree = changed_at held.group (changed_entry held.entry.0 k) d.tree }) ise (row d isd held f k ise) in
         record {
-          entry = u;
+          entry = held.entry.0;
           named = named;
-          before = x;
-          after = k x;
-          was = entry_is d isd u x old;
-          is = entry_is e ise u (k x) row;
+          before = y;
+          after = k y;
+          was = was_entry d isd held f k ise;
+          is = is_entry d isd held f k ise;
           edited = record {
             placed = refl;
             previous = refl;
-            modified = time_now now (entry_time x) time timed;
-            later = time_ok now (entry_time x) time timed;
+            modified = time_now now (entry_time y) time timed;
+            later = time_ok now (entry_time y) time timed;
             accessed = refl;
             usage = refl;
             content = refl;
-            given = fields_given d.meta.settings.value.protect values x.current.mark.content.fields;
-            others = fields_others d.meta.settings.value.protect values x.current.mark.content.fields;
-            gone = fields_gone d.meta.settings.value.protect values x.current.mark.content.fields rises_before rises_after;
-            flags = fields_flags d.meta.settings.value.protect values x.current.mark.content.fields rises_before rises_after;
-            hidden = fields_hidden d.meta.settings.value.protect values x.current.mark.content.fields rises_before rises_after;
-            history = trimmed d.meta.settings.value.history_items d.meta.settings.value.history_size (rising_versions x);
+            given = fields_given d.meta.settings.value.protect values y.current.mark.content.fields;
+            others = fields_others d.meta.settings.value.protect values y.current.mark.content.fields;
+            gone = fields_gone d.meta.settings.value.protect values y.current.mark.content.fields rises_before rises_after;
+            flags = fields_flags d.meta.settings.value.protect values y.current.mark.content.fields rises_before rises_after;
+            hidden = fields_hidden d.meta.settings.value.protect values y.current.mark.content.fields rises_before rises_after;
+            history = trimmed d.meta.settings.value.history_items d.meta.settings.value.history_size (rising_versions y);
           };
-          rest = same_but (only u) no_node no_node d e isd ise
-              (same_at held.group (changed_entry u k) d.tree f.group f.there keeps (only u) no_node no_node (sym (root_same held.group (changed_entry u k) d.tree f.group f.there keeps)) (change_same u k f.group));
+          rest = all_else d isd held f k ise;
+          tombs = refl;
+          meta = refl;
+        }
+
+-- ---- restore
+
+pub restore_frames : RestoreFrames
+restore_frames path number now d e isd ise h =
+    let held = bind_ok (entry_named path d) _ e h in
+    let version = bind_ok (version_or_refusal number held.0.entry.1) _ e held.1.1 in
+    let time = bind_ok (time_after now (entry_time held.0.entry.1)) _ e version.1.1 in
+    let is = same_ok _ e time.1.1 in
+    let f = found path d held.0 held.1.0 in
+    subst (λ (w : BareDoc). RestoresEntry path number now d w) is
+    (restored held.0 (found_named path d held.0 held.1.0) f version.0 (there (version_numbered number held.0.entry.1) version.0 version.1.0) time.0 time.1.0 (subst IsDoc (sym is) ise))
+  where
+    there : (o : Option BareVersion) (v : BareVersion) → ok_or o (NoVersion number) ≡ Ok v → o ≡ Some v
+    there None v e = cc e
+    there (Some w) v e = ap Some (same_ok w v e)
+
+    restored : (held : Holding) → entry_found d path ≡ Some held.entry.0 → Found d held → (version : BareVersion) → version_numbered number held.entry.1 ≡ Some version
+        → (time : ℕ) → time_after now (entry_time held.entry.1) ≡ Ok time
+        → IsDoc (record d { tree = changed_at held.group (changed_entry held.entry.0 (changed_content d.meta (λ _. version.mark.content) time)) d.tree })
+        → RestoresEntry path number now d (record d { tree = changed_at held.group (changed_entry held.entry.0 (changed_content d.meta (λ _. version.mark.content) time)) d.tree })
+    restored held named f version numbered time timed ise =
+        let y = held.entry.1 in
+        let k = changed_content d.meta (λ _. version.mark.content) time in
+        record {
+          entry = held.entry.0;
+          named = named;
+          before = y;
+          after = k y;
+          was = was_entry d isd held f k ise;
+          is = is_entry d isd held f k ise;
+          restored = record {
+            placed = refl;
+            previous = refl;
+            modified = time_now now (entry_time y) time timed;
+            later = time_ok now (entry_time y) time timed;
+            accessed = refl;
+            usage = refl;
+            version = version;
+            numbered = numbered;
+            content = refl;
+            history = trimmed d.meta.settings.value.history_items d.meta.settings.value.history_size (rising_versions y);
+          };
+          rest = all_else d isd held f k ise;
           tombs = refl;
           meta = refl;
         }

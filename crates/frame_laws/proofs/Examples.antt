@@ -2,7 +2,7 @@
 use Rattle.std.proofs.Common.{◌≡◌, List, [], ◌∷◌, codes, None, Some, Ok, Err, Result, refl, sym, ap, arith}
 use Rattle.std.specs.Str.{chars, is_utf8}
 use Rattle.vault_model.specs.Proper.{is_proper_content, is_proper_group_content}
-use Rattle.vault_model.specs.Db.{nil_id}
+use Rattle.vault_model.specs.Db.{mark_cmp, nil_id}
 use Rattle.vault_model.specs.Shape.{BareVersion, EntryRecord}
 use Rattle.vault_model.specs.Tree.{BareDoc}
 use Rattle.merge_core.specs.Example.{as_it_was, bank, edited, entry, home, root, version}
@@ -11,9 +11,9 @@ use Rattle.tree_core.specs.declared.fails.TreeFail.{TreeFail}
 use Rattle.tree_core.specs.After.{AfterRemoval, after_add, after_make_group, after_move_entry, after_move_group, after_remove_entry, after_remove_group}
 use Rattle.tree_core.specs.Changes.{changed_at, changed_entry}
 use Rattle.tree_core.specs.Histories.{rising_versions, within_limits}
-use Rattle.tree_core.specs.NewNodes.{edited_version}
-use Rattle.tree_core.specs.Finding.{entry_found, group_found, has_entry_path, has_group_path}
-use Rattle.tree_edits.proofs.RisingVersions.{all_rising, rises_first}
+use Rattle.tree_core.specs.NewNodes.{edited_version, new_version}
+use Rattle.tree_core.specs.Finding.{entry_found, group_at_path, group_found, has_entry_path, has_group_path}
+use Rattle.tree_edits.proofs.RisingVersions.{all_rising, rises_first, rises_on}
 use Rattle.frame_laws.specs.Example.{ExampleChanges, new_notes, no_values, without_bin}
 
 -- what was made
@@ -40,8 +40,30 @@ with_history vs = record as_it_was { tree = changed_at root (changed_entry bank 
 one_version : rising_versions old ≡ old.current ∷ []
 one_version = sym (all_rising old [] (old.current ∷ []) (rises_first [] [] refl) refl)
 
+-- ---- a version restored
+
+abbrev twice : EntryRecord
+twice = entry 10 nil_id (version 20 (codes "Bank") (codes "b")) (version 10 (codes "Bank") (codes "a") ∷ [])
+
+abbrev both : List BareVersion
+both = old.current ∷ twice.current ∷ []
+
+both_versions : rising_versions twice ≡ both
+unfolding mark_cmp
+both_versions =
+    sym (all_rising twice (old.current ∷ []) both
+    (rises_on (old.current ∷ []) (old.current ∷ []) [] [] (old.current ∷ []) old.current refl refl (rises_first (old.current ∷ []) [] refl)) refl)
+
+-- what the first version said, again
+abbrev again : BareVersion
+again = new_version old.current.mark.content 50 twice.current
+
+-- the database with that version as the current one, and this history
+abbrev with_past : List BareVersion → BareDoc
+with_past vs = record edited { tree = changed_at root (changed_entry bank (λ (x : EntryRecord). record x { current = again; history = vs })) edited.tree }
+
 pub example_changes : ExampleChanges
-unfolding entry_found group_found has_entry_path has_group_path is_proper_content is_proper_group_content is_utf8 chars lib.Utf8.encode
+unfolding entry_found group_found group_at_path has_entry_path has_group_path is_proper_content is_proper_group_content is_utf8 chars lib.Utf8.encode
 example_changes = record {
   doc = record {
     distinct = refl;
@@ -95,6 +117,24 @@ example_changes = record {
         meta_texts = refl;
       },
       ap (λ vs. Ok (with_history (within_limits as_it_was.meta.settings.value.history_items as_it_was.meta.settings.value.history_size vs))) one_version,
+    ),
+  );
+  restore = (
+    with_past both,
+    (
+      record {
+        distinct = refl;
+        no_nil = refl;
+        levels = omega arith;
+        tombs_rise = refl;
+        tombs_apart = refl;
+        entries_proper = refl;
+        groups_proper = refl;
+        icons_rise = refl;
+        items_rise = refl;
+        meta_texts = refl;
+      },
+      ap (λ vs. Ok (with_past (within_limits edited.meta.settings.value.history_items edited.meta.settings.value.history_size vs))) both_versions,
     ),
   );
   add = (

@@ -5,3 +5,4 @@ pub mod Fields
 pub mod Finds
 pub mod NewFrames
 pub mod Tombs
+pub mod Undoing

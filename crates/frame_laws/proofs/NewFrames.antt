@@ -7,7 +7,7 @@ use Rattle.vault_model.specs.Join.{IsIn}
 use Rattle.vault_model.specs.Shape.{EntryRecord, GroupRecord, no_children}
 use Rattle.vault_model.specs.Tree.{BareDoc, IsDoc, LEVELS, Tree, child_rows, child_rows_all, entry_rows, entry_rows_all, group_rows, group_rows_all, id_of, is_elsewhere, node, none}
 use Rattle.merge_core.proofs.SoundDoc.{shape_entry, shape_group, shape_kids}
-use Rattle.tree_core.specs.Finding.{group_found, has_entry_path, without_slashes}
+use Rattle.tree_core.specs.Finding.{group_at_path, has_entry_path, without_slashes}
 use Rattle.tree_core.specs.declared.fails.TreeFail.TheVariants.{IdTaken, NameTaken, TooDeep}
 use Rattle.tree_core.specs.After.{is_group_taken, named_or_refusal, refuse_if}
 use Rattle.tree_core.specs.Changes.{changed_at, group_with, is_free, level_of, with_entry, with_group}
@@ -15,7 +15,7 @@ use Rattle.tree_core.specs.NewNodes.{GivenValues, new_entry, new_fields}
 use Rattle.tree_core.specs.NewPaths.{after_last, before_last, new_path}
 use Rattle.tree_core.proofs.Around.{children_rows, entries_rows, found_group, found_id, groups_rows}
 use Rattle.tree_core.proofs.Counted.{elsewhere_occurs}
-use Rattle.tree_core.proofs.Named.{named_group}
+use Rattle.tree_core.proofs.Named.{group_there}
 use Rattle.tree_core.proofs.Rows.{none_found}
 use Rattle.tree_removals.proofs.GroupBins.{free_elsewhere}
 use Rattle.tree_removals.proofs.ManyTombs.{rows_count}
@@ -50,16 +50,16 @@ new_row path id values now d = (id, new_entry (new_fields d.meta.settings.value.
 
 pub add_frames : AddFrames
 add_frames path id values now d e isd ise h =
-    let group = bind_ok (named_or_refusal (group_found d (before_last path))) _ e h in
+    let group = bind_ok (named_or_refusal (group_at_path d (before_last path))) _ e h in
     let path_free = bind_ok (refuse_if (has_entry_path d (new_path path)) NameTaken) _ e group.1.1 in
     let id_free = bind_ok (refuse_if (not (is_free id d)) (IdTaken id)) _ e path_free.1.1 in
     let is = same_ok _ e id_free.1.1 in
-    let named = named_ok (group_found d (before_last path)) group.0 group.1.0 in
-    let f = found_group group.0 d.tree (named_group d (before_last path) group.0 named) in
+    let named = named_ok (group_at_path d (before_last path)) group.0 group.1.0 in
+    let f = found_group group.0 d.tree (group_there d (before_last path) group.0 named) in
     subst (λ (w : BareDoc). AddsEntry path id values now d w) is
     (added group.0 named f.0 f.1 (free_id id d (refuse_ok (not (is_free id d)) (IdTaken id) id_free.0 id_free.1.0)) (subst IsDoc (sym is) ise))
   where
-    added : (g : NodeId) → group_found d (before_last path) ≡ Some g → (b : Tree) → group_with g d.tree ≡ Some b → is_free id d ≡ true → IsDoc (record d { tree = changed_at g (with_entry (new_row path id values now d)) d.tree })
+    added : (g : NodeId) → group_at_path d (before_last path) ≡ Some g → (b : Tree) → group_with g d.tree ≡ Some b → is_free id d ≡ true → IsDoc (record d { tree = changed_at g (with_entry (new_row path id values now d)) d.tree })
         → AddsEntry path id values now d (record d { tree = changed_at g (with_entry (new_row path id values now d)) d.tree })
     added g named b there free isw =
         let x = new_row path id values now d in
@@ -136,13 +136,13 @@ put_group g id s d w isd isw b there free made =
 pub make_group_frames : MakeGroupFrames
 make_group_frames text id now d e isd ise h =
     let path = without_slashes text in
-    let group = bind_ok (named_or_refusal (group_found d (before_last path))) _ e h in
+    let group = bind_ok (named_or_refusal (group_at_path d (before_last path))) _ e h in
     let path_free = bind_ok (refuse_if (is_group_taken (new_path path) d) NameTaken) _ e group.1.1 in
     let fits = bind_ok (refuse_if (nat_lt LEVELS (level_of group.0 d.tree + 1)) TooDeep) _ e path_free.1.1 in
     let id_free = bind_ok (refuse_if (not (is_free id d)) (IdTaken id)) _ e fits.1.1 in
     let is = same_ok _ e id_free.1.1 in
-    let named = named_ok (group_found d (before_last path)) group.0 group.1.0 in
-    let f = found_group group.0 d.tree (named_group d (before_last path) group.0 named) in
+    let named = named_ok (group_at_path d (before_last path)) group.0 group.1.0 in
+    let f = found_group group.0 d.tree (group_there d (before_last path) group.0 named) in
     let p = put_group group.0 id (new_group (after_last path) now) d e isd ise f.0 f.1 (free_id id d (refuse_ok (not (is_free id d)) (IdTaken id) id_free.0 id_free.1.0)) (ap (λ (w : BareDoc). w.tree) is) in
     record {
       group = group.0;

@@ -9,9 +9,9 @@ use Rattle.vault_model.specs.Orders.{bytes_cmp}
 use Rattle.vault_model.specs.SeenNodes.{entry_time}
 use Rattle.vault_model.specs.Shape.{BareVersion, EntryRecord, no_children}
 use Rattle.vault_model.specs.Tree.{BareDoc, IsDoc}
-use Rattle.tree_core.specs.After.{after_add, after_edit, after_make_group, after_move_entry}
-use Rattle.tree_core.specs.Finding.{entry_found, group_found, without_slashes}
-use Rattle.tree_core.specs.Histories.{is_within, rising_versions, versions_size}
+use Rattle.tree_core.specs.After.{after_add, after_edit, after_make_group, after_move_entry, after_restore}
+use Rattle.tree_core.specs.Finding.{entry_found, group_at_path, group_found, without_slashes}
+use Rattle.tree_core.specs.Histories.{is_within, rising_versions, version_numbered, versions_size}
 use Rattle.tree_core.specs.NewNodes.{GivenValues, new_entry, new_fields}
 use Rattle.tree_core.specs.NewPaths.{after_last, before_last}
 use Rattle.frame_laws.specs.Frame.{HasLostEntry, HasNewEntry, HasNewGroup, AreSameBut, children_of, entry_of, group_of, no_node, only, either}
@@ -127,6 +127,46 @@ abbrev pub EditFrames : Type 0
 EditFrames = (path : List ℕ) (values : GivenValues) (now : ℕ) (d e : BareDoc) → IsDoc d → IsDoc e
     → after_edit path values now d ≡ Ok e → EditsEntry path values now d e
 
+-- ---- restore
+
+-- What restoring its version of a number makes of an entry, where histories have these limits.
+pub record IsRestoredEntry (number : ℕ) (items size : ℤ) (now : ℕ) (before after : EntryRecord)
+    : Type 0 where
+  -- it is where it was, and its previous parent is as before
+  pub placed : after.placed ≡ before.placed
+  pub previous : after.previous ≡ before.previous
+  -- it was changed and looked at now, or a second after its last time where that is later
+  pub modified : now ≤ after.current.mark.modified
+  pub later : entry_time before < after.current.mark.modified
+  pub accessed : after.current.stats.accessed ≡ after.current.mark.modified
+  pub usage : after.current.stats.usage ≡ before.current.stats.usage
+  -- what it says is what its version of this number said
+  pub version : BareVersion
+  pub numbered : version_numbered number before ≡ Some version
+  pub content : after.current.mark.content ≡ version.mark.content
+  -- its history are the versions that it had, but for the oldest ones that its limits drop
+  pub history : IsTrimmed items size (rising_versions before) after.history
+
+-- Restoring a version changes the one entry that the path names.
+pub record RestoresEntry (path : List ℕ) (number now : ℕ) (d e : BareDoc) : Type 0 where
+  pub entry : NodeId
+  pub named : entry_found d path ≡ Some entry
+  pub before : EntryRecord
+  pub after : EntryRecord
+  pub was : entry_of d entry ≡ Some before
+  pub is : entry_of e entry ≡ Some after
+  pub restored : IsRestoredEntry number d.meta.settings.value.history_items
+      d.meta.settings.value.history_size now before after
+  pub rest : AreSameBut (only entry) no_node no_node d e
+  pub tombs : e.tombs ≡ d.tombs
+  pub meta : e.meta ≡ d.meta
+
+-- `restore` of a document that gives one restores the entry that the path names, and changes
+-- nothing else.
+abbrev pub RestoreFrames : Type 0
+RestoreFrames = (path : List ℕ) (number now : ℕ) (d e : BareDoc) → IsDoc d → IsDoc e
+    → after_restore path number now d ≡ Ok e → RestoresEntry path number now d e
+
 -- ---- move
 
 -- An entry is moved from one group to the end of another.
@@ -165,7 +205,7 @@ MoveEntryFrames = (path goal : List ℕ) (now : ℕ) (d e : BareDoc) → IsDoc d
 pub record AddsEntry (path : List ℕ) (id : NodeId) (values : GivenValues) (now : ℕ) (d e : BareDoc)
     : Type 0 where
   pub group : NodeId
-  pub named : group_found d (before_last path) ≡ Some group
+  pub named : group_at_path d (before_last path) ≡ Some group
   pub no_entry : entry_of d id ≡ None
   pub no_group : group_of d id ≡ None
   pub is : entry_of e id ≡ Some
@@ -184,7 +224,7 @@ AddFrames = (path : List ℕ) (id : NodeId) (values : GivenValues) (now : ℕ) (
 -- before its last slash.
 pub record MakesGroup (path : List ℕ) (id : NodeId) (now : ℕ) (d e : BareDoc) : Type 0 where
   pub group : NodeId
-  pub named : group_found d (before_last path) ≡ Some group
+  pub named : group_at_path d (before_last path) ≡ Some group
   pub no_entry : entry_of d id ≡ None
   pub no_group : group_of d id ≡ None
   pub is : group_of e id ≡ Some (new_group (after_last path) now)

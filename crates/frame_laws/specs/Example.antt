@@ -4,7 +4,7 @@ use Rattle.vault_model.specs.Tree.{BareDoc, IsDoc}
 use Rattle.tree_core.specs.declared.fails.Removed.{Removed}
 use Rattle.tree_core.specs.declared.fails.Removed.TheVariants.{Deleted, Recycled}
 use Rattle.tree_core.specs.declared.fails.TreeFail.{TreeFail}
-use Rattle.tree_core.specs.After.{AfterRemoval, after_add, after_edit, after_make_group, after_move_entry, after_move_group, after_remove_entry, after_remove_group, needs_bin}
+use Rattle.tree_core.specs.After.{AfterRemoval, after_add, after_edit, after_make_group, after_move_entry, after_move_group, after_remove_entry, after_remove_group, after_restore, needs_bin}
 use Rattle.tree_core.specs.NewNodes.{GivenValues}
 use Rattle.merge_core.specs.Example.{as_it_was, edited, home}
 
@@ -42,12 +42,14 @@ abbrev pub HappensSo : Removed → Result AfterRemoval TreeFail → Type 0
 HappensSo removed made = (a : AfterRemoval) × (IsDoc a.doc × (made ≡ Ok a)
     × (a.removed ≡ removed))
 
--- Entries and groups are added, edited, moved, deleted and put into a bin that is made.
+-- Entries and groups are added, edited, moved, deleted and put into a bin that is made, and a version
+-- of an entry is restored.
 pub record ExampleChanges : Type 0 where
   pub doc : IsDoc as_it_was
   pub wide : IsDoc edited
   pub bare : IsDoc without_bin
   pub edit : Happens (after_edit (codes "Bank") new_notes 50 as_it_was)
+  pub restore : Happens (after_restore (codes "Bank") 1 50 edited)
   pub add : Happens (after_add (codes "Work/Chat") home no_values 50 as_it_was)
   pub make_group : Happens (after_make_group (codes "Home") home 50 as_it_was)
   pub move_entry : Happens (after_move_entry (codes "Bank") (codes "Work") 50 as_it_was)

@@ -1,15 +1,28 @@
 //! The laws that commands leave all else as it is. Each function has laws as its contract, for
 //! every document that a command changes; it does nothing, and takes no memory.
 
-ghost use Rattle.frame_laws.specs.Entries.{AddFrames, EditFrames, MakeGroupFrames, MoveEntryFrames};
+ghost use Rattle.frame_laws.specs.Entries.{AddFrames, EditFrames, MakeGroupFrames, MoveEntryFrames, RestoreFrames};
 ghost use Rattle.frame_laws.specs.Example.{ExampleChanges};
 ghost use Rattle.frame_laws.specs.Removals.{RemoveEntryFrames};
+ghost use Rattle.frame_laws.specs.Undoing.{RestoreUndoes};
 
 /// An edit changes one entry: of it the fields that are given, when it was changed and looked at,
 /// and its history; every other node, every list of children, the tombstones and what the database
 /// says of itself are as before.
 pub fn edit_frames()
     ensures { EditFrames }
+{}
+
+/// A version that is restored changes one entry: of it what it says, when it was changed and looked
+/// at, and its history; all else is as before.
+pub fn restore_frames()
+    ensures { RestoreFrames }
+{}
+
+/// An edit of an entry whose current version is its newest is undone by restoring the version before
+/// it, where the limits of histories drop nothing.
+pub fn restore_undoes()
+    ensures { RestoreUndoes }
 {}
 
 /// A moved entry is taken from one list and put at the end of another, and of its record since when

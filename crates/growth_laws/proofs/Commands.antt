@@ -10,6 +10,7 @@ use Rattle.vault_model.specs.declared.contents.Stats.{Stats}
 use Rattle.vault_model.specs.declared.metas.Bin.{Bin}
 use Rattle.vault_model.specs.declared.metas.Meta.{Meta}
 use Rattle.vault_model.specs.declared.metas.Timed.{Timed}
+use Rattle.vault_model.specs.Bare.{BareContent}
 use Rattle.vault_model.specs.Db.{Mark, NodeId, Versions}
 use Rattle.vault_model.specs.Join.{is_id, meta_join, stats_join, timed_join}
 use Rattle.vault_model.specs.Orders.{bin_cmp}
@@ -24,21 +25,21 @@ use Rattle.merge_core.proofs.Joins.{meta_joins, versions_joins}
 use Rattle.merge_core.proofs.SoundDoc.{as_map}
 use Rattle.merge_core.proofs.Tables.{gathered_singles}
 use Rattle.merge_core.proofs.Unite.{get-unite_all}
-use Rattle.tree_core.specs.Finding.{entry_found, group_found, has_entry_path}
+use Rattle.tree_core.specs.Finding.{entry_found, group_at_path, group_found, has_entry_path}
 use Rattle.tree_core.specs.declared.fails.TreeFail.TheVariants.{AlreadyThere, IdTaken, NameTaken}
-use Rattle.tree_core.specs.After.{AfterRemoval, Holding, edited_entry, entry_deleted, entry_moved_to, entry_named, entry_recycled, is_recycled, named_or_refusal, needs_bin, refuse_if, time_after, with_bin, with_bin_made}
-use Rattle.tree_core.specs.Changes.{changed_at, entry_at, group_with, has_group, holder, is_free, own_entry, without, without_entry}
-use Rattle.tree_core.specs.Histories.{with_version}
-use Rattle.tree_core.specs.NewNodes.{edited_version, empty_bin, new_entry, new_fields}
+use Rattle.tree_core.specs.After.{AfterRemoval, Holding, changed_content, entry_deleted, entry_moved_to, entry_named, entry_recycled, is_recycled, named_or_refusal, needs_bin, refuse_if, time_after, version_or_refusal, with_bin, with_bin_made}
+use Rattle.tree_core.specs.Changes.{changed_at, changed_entry, entry_at, group_with, has_group, holder, is_free, own_entry, without, without_entry}
+use Rattle.tree_core.specs.Histories.{rising_versions, with_version, within_limits}
+use Rattle.tree_core.specs.NewNodes.{edited_content, empty_bin, new_entry, new_fields, new_version}
 use Rattle.tree_core.specs.NewPaths.{after_last, before_last, new_path}
 use Rattle.tree_core.proofs.Around.{found_group}
 use Rattle.tree_core.proofs.EntriesMoved.{same_there}
 use Rattle.tree_core.proofs.EntriesRemoved.{found_at, own_id}
-use Rattle.tree_core.proofs.Named.{named_group}
+use Rattle.tree_core.proofs.Named.{group_there, named_group}
 use Rattle.tree_removals.specs.Removes.{with_bin_in}
 use Rattle.tree_removals.proofs.LastGroups.{entry_with_last, has_root, holds_there, last_there}
 use Rattle.tree_removals.proofs.NewBins.{bin_is_doc, free_absent}
-use Rattle.growth_laws.specs.Growth.{AddGrows, EditGrows, GrowsTo, MoveEntryGrows, RemoveEntryGrows}
+use Rattle.growth_laws.specs.Growth.{AddGrows, EditGrows, GrowsTo, MoveEntryGrows, RemoveEntryGrows, RestoreGrows}
 use Rattle.growth_laws.proofs.LostSteps.{delete_entry_stays, edit_stays}
 use Rattle.growth_laws.proofs.Outcomes.{bind_ok, named_ok, refuse_ok, same_ok, time_ok}
 use Rattle.growth_laws.proofs.Stays.{Stays, stays_then}
@@ -75,11 +76,11 @@ found_in d held f = ap (option_and_then (own_entry held.entry.0)) f.there ∙ f.
 
 pub add_grows : AddGrows
 add_grows path id values now d e isd ise h =
-    let group = bind_ok (named_or_refusal (group_found d (before_last path))) _ e h in
+    let group = bind_ok (named_or_refusal (group_at_path d (before_last path))) _ e h in
     let path_free = bind_ok (refuse_if (has_entry_path d (new_path path)) NameTaken) _ e group.1.1 in
     let id_free = bind_ok (refuse_if (not (is_free id d)) (IdTaken id)) _ e path_free.1.1 in
     let is = same_ok _ e id_free.1.1 in
-    let f = found_group group.0 d.tree (named_group d (before_last path) group.0 (named_ok (group_found d (before_last path)) group.0 group.1.0)) in
+    let f = found_group group.0 d.tree (group_there d (before_last path) group.0 (named_ok (group_at_path d (before_last path)) group.0 group.1.0)) in
     stays_grow d e isd ise (put_entry_stays d e isd ise group.0 f.0
     (id, new_entry (new_fields d.meta.settings.value.protect (after_last path) values) now) f.1 (sym is))
 
@@ -111,20 +112,33 @@ versions_grow v e =
     ∙ ap (unite stats_join S) (j.idem A)
     ∙ sym (versions_now v e)
 
+-- an entry that says something else grows
+pub said_grows : (d e : BareDoc) → IsDoc d → IsDoc e → (held : Holding) → Found d held
+    → within_limits d.meta.settings.value.history_items d.meta.settings.value.history_size (rising_versions held.entry.1) ≡ rising_versions held.entry.1
+    → (says : BareContent → BareContent) (now time : ℕ) → time_after now (entry_time held.entry.1) ≡ Ok time
+    → record d { tree = changed_at held.group (changed_entry held.entry.0 (changed_content d.meta says time)) d.tree } ≡ e → GrowsTo d e
+said_grows d e isd ise held f keeps says now time when is =
+    let x = held.entry.1 in
+    let v = new_version (says x.current.mark.content) time x.current in
+    let whole : changed_content d.meta says time x ≡ with_version v x =
+    ap (λ (hs : List BareVersion). record (with_version v x) { history = hs }) keeps in
+    let late = time_ok now (entry_time x) time when in
+    let step = edit_stays d held.group (changed_content d.meta says time) held.entry f.group isd (subst (λ (w : BareDoc). IsDoc w) (sym is) ise) f.there f.own refl refl
+    (ap (λ (y : EntryRecord). unite stats_join (versions_of x) (versions_of y)) whole ∙ versions_grow v x ∙ sym (ap versions_of whole)) (omega (arith, late)) in
+    subst (λ (w : BareDoc). GrowsTo d w) is (stays_grow d _ isd (subst (λ (w : BareDoc). IsDoc w) (sym is) ise) step)
+
 pub edit_grows : EditGrows
 edit_grows path values now d e isd ise keeps h =
     let held = bind_ok (entry_named path d) _ e h in
     let time = bind_ok (time_after now (entry_time held.0.entry.1)) _ e held.1.1 in
-    let is = same_ok _ e time.1.1 in
-    let f = found path d held.0 held.1.0 in
-    let x = held.0.entry.1 in
-    let v = edited_version d.meta.settings.value.protect values time.0 x.current in
-    let whole : edited_entry d.meta values time.0 x ≡ with_version v x =
-    ap (λ (hs : List BareVersion). record (with_version v x) { history = hs }) (keeps held.0 held.1.0) in
-    let late = time_ok now (entry_time x) time.0 time.1.0 in
-    let step = edit_stays d held.0.group (edited_entry d.meta values time.0) held.0.entry f.group isd (subst (λ (w : BareDoc). IsDoc w) (sym is) ise) f.there f.own refl refl
-    (ap (λ (y : EntryRecord). unite stats_join (versions_of x) (versions_of y)) whole ∙ versions_grow v x ∙ sym (ap versions_of whole)) (omega (arith, late)) in
-    subst (λ (w : BareDoc). GrowsTo d w) is (stays_grow d _ isd (subst (λ (w : BareDoc). IsDoc w) (sym is) ise) step)
+    said_grows d e isd ise held.0 (found path d held.0 held.1.0) (keeps held.0 held.1.0) (edited_content d.meta.settings.value.protect values) now time.0 time.1.0 (same_ok _ e time.1.1)
+
+pub restore_grows : RestoreGrows
+restore_grows path number now d e isd ise keeps h =
+    let held = bind_ok (entry_named path d) _ e h in
+    let version = bind_ok (version_or_refusal number held.0.entry.1) _ e held.1.1 in
+    let time = bind_ok (time_after now (entry_time held.0.entry.1)) _ e version.1.1 in
+    said_grows d e isd ise held.0 (found path d held.0 held.1.0) (keeps held.0 held.1.0) (λ _. version.0.mark.content) now time.0 time.1.0 (same_ok _ e time.1.1)
 
 -- ---- entries moved
 

@@ -9,7 +9,7 @@ use Rattle.vault_model.specs.Shape.{shared_of}
 use Rattle.vault_model.specs.Tree.{BareDoc, IsDoc, LEVELS, Tree, height, id_of, node_ids}
 use Rattle.vault_model.proofs.Tests.{apart, decide, is_false}
 use Rattle.merge_core.proofs.Joins.{meta_joins}
-use Rattle.tree_core.specs.Finding.{group_found, without_slashes}
+use Rattle.tree_core.specs.Finding.{group_at_path, group_found, without_slashes}
 use Rattle.tree_core.specs.declared.fails.TreeFail.TheVariants.{AlreadyThere, IdTaken, IntoItself, NameTaken, RootFixed, TooDeep}
 use Rattle.tree_core.specs.After.{AfterRemoval, after_new_group, after_recycling, bin_level, group_deleted, group_moved_to, group_named, group_recycled, is_group_taken, is_parent, is_recycled, named_or_refusal, needs_bin, refuse_if, time_after, with_bin_made}
 use Rattle.tree_core.specs.Changes.{changed_at, child_with, group_moved, group_with, has_group, is_free, level_of, parent_of, placed_of, tree_buried, without_group}
@@ -18,7 +18,7 @@ use Rattle.tree_core.specs.NewPaths.{after_last, before_last, new_path}
 use Rattle.tree_core.proofs.Around.{found_group, found_id}
 use Rattle.tree_core.proofs.Counted.{once}
 use Rattle.tree_core.proofs.GroupMoves.{to_there}
-use Rattle.tree_core.proofs.Named.{named_group}
+use Rattle.tree_core.proofs.Named.{group_there, named_group}
 use Rattle.tree_core.proofs.Options.{never}
 use Rattle.tree_moves.specs.GroupPlaces.{group_at}
 use Rattle.tree_moves.proofs.GroupChildren.{found_child, off_goal}
@@ -38,12 +38,12 @@ use Rattle.growth_laws.proofs.Steps.{put_group_stays}
 
 new_group_grows : (path : List ℕ) (id : NodeId) (now : ℕ) (d e : BareDoc) → IsDoc d → IsDoc e → after_new_group path id now d ≡ Ok e → Stays d e
 new_group_grows path id now d e isd ise h =
-    let group = bind_ok (named_or_refusal (group_found d (before_last path))) _ e h in
+    let group = bind_ok (named_or_refusal (group_at_path d (before_last path))) _ e h in
     let path_free = bind_ok (refuse_if (is_group_taken (new_path path) d) NameTaken) _ e group.1.1 in
     let fits = bind_ok (refuse_if (nat_lt LEVELS (level_of group.0 d.tree + 1)) TooDeep) _ e path_free.1.1 in
     let id_free = bind_ok (refuse_if (not (is_free id d)) (IdTaken id)) _ e fits.1.1 in
     let is = same_ok _ e id_free.1.1 in
-    let f = found_group group.0 d.tree (named_group d (before_last path) group.0 (named_ok (group_found d (before_last path)) group.0 group.1.0)) in
+    let f = found_group group.0 d.tree (group_there d (before_last path) group.0 (named_ok (group_at_path d (before_last path)) group.0 group.1.0)) in
     subst (λ (w : BareDoc). Stays d w) is
     (put_group_stays d _ isd (subst (λ (w : BareDoc). IsDoc w) (sym is) ise) group.0 f.0 (empty_group id (after_last path) now) f.1 refl refl (meta_joins.idem (shared_of d.meta)))
 

@@ -18,7 +18,6 @@ use Rattle.merge_core.proofs.Unite.{from_keys}
 use Rattle.tree_core.proofs.Counted.{occurs, once, one_if}
 use Rattle.tree_core.proofs.Rows.{keys, none_found}
 use Rattle.tree_removals.proofs.ManyTombs.{rows_count}
-use Rattle.growth_laws.proofs.Grown.{grown}
 
 -- ---- rows after a change
 

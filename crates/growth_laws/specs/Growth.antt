@@ -5,7 +5,7 @@ use Rattle.vault_model.specs.Db.{NodeId}
 use Rattle.vault_model.specs.Join.{join}
 use Rattle.vault_model.specs.Plans.{IsStep, World, change}
 use Rattle.vault_model.specs.Tree.{BareDoc, IsDoc, db_in}
-use Rattle.tree_core.specs.After.{AfterRemoval, Holding, after_add, after_edit, after_make_group, after_move_entry, after_move_group, after_remove_entry, after_remove_group, entry_named, needs_bin}
+use Rattle.tree_core.specs.After.{AfterRemoval, Holding, after_add, after_edit, after_make_group, after_move_entry, after_move_group, after_remove_entry, after_remove_group, after_restore, entry_named, needs_bin}
 use Rattle.tree_core.specs.Histories.{rising_versions, within_limits}
 use Rattle.tree_core.specs.NewNodes.{GivenValues}
 
@@ -33,6 +33,11 @@ DropsNothing path d = (held : Holding) → entry_named path d ≡ Ok held
 abbrev pub EditGrows : Type 0
 EditGrows = (path : List ℕ) (values : GivenValues) (now : ℕ) (d e : BareDoc) → IsDoc d → IsDoc e
     → DropsNothing path d → after_edit path values now d ≡ Ok e → GrowsTo d e
+
+-- a version of an entry is restored, and the limits drop nothing
+abbrev pub RestoreGrows : Type 0
+RestoreGrows = (path : List ℕ) (number now : ℕ) (d e : BareDoc) → IsDoc d → IsDoc e
+    → DropsNothing path d → after_restore path number now d ≡ Ok e → GrowsTo d e
 
 -- an entry is moved
 abbrev pub MoveEntryGrows : Type 0

@@ -12,7 +12,7 @@ use Rattle.cli_lines.proofs.Inputs.{left_alone}
 use Rattle.cli_parse.specs.Needs.{Needs, database_files, files_named, files_of, key_files, needs_of, new_key_files, source_files, target_of}
 use Rattle.cli_parse.specs.declared.command.Access.{Access}
 use Rattle.cli_parse.specs.declared.command.FileChange.{FileChange}
-use Rattle.cli_parse.specs.declared.command.Command.TheVariants.{Ls, Show, Search, Add, Edit, Move, Remove, MakeGroup, RemoveGroup, Merge, Import, Create, Export, EditFile, Info}
+use Rattle.cli_parse.specs.declared.command.Command.TheVariants.{Ls, Show, History, Search, Add, Edit, Restore, Move, Remove, MakeGroup, RemoveGroup, Merge, Import, Create, Export, EditFile, Info}
 use Rattle.cli_profiles.specs.declared.profiles.PasswordProfile.{PasswordProfile}
 use Rattle.cli_parse.specs.Words.{command_of, profile_of}
 use Rattle.cli_parse.specs.declared.command.Command.{Command}
@@ -189,16 +189,18 @@ changed_named access file change name is =
 
 -- So is the file that a command shows or writes.
 target_named : (command : Command) (name : List ℕ) → target_of command ≡ name → Contains (files_named (Ok command)) name
-target_named (Ls access file group recursive flat) name is = opened_named (needs_of (Ls access file group recursive flat)) name is
-target_named (Show access file entry clear all attachments names totp) name is = opened_named (needs_of (Show access file entry clear all attachments names totp)) name is
+target_named (Ls access file group recursive flat ids) name is = opened_named (needs_of (Ls access file group recursive flat ids)) name is
+target_named (Show access file entry clear all attachments names totp at) name is = opened_named (needs_of (Show access file entry clear all attachments names totp at)) name is
+target_named (History access file entry) name is = opened_named (needs_of (History access file entry)) name is
 target_named (Search access file term) name is = opened_named (needs_of (Search access file term)) name is
 target_named (Add access file entry asked) name is = opened_named (needs_of (Add access file entry asked)) name is
 target_named (Edit access file entry asked) name is = opened_named (needs_of (Edit access file entry asked)) name is
+target_named (Restore access file entry version) name is = opened_named (needs_of (Restore access file entry version)) name is
 target_named (Move access file node group) name is = opened_named (needs_of (Move access file node group)) name is
 target_named (Remove access file entry) name is = opened_named (needs_of (Remove access file entry)) name is
 target_named (MakeGroup access file group) name is = opened_named (needs_of (MakeGroup access file group)) name is
 target_named (RemoveGroup access file group) name is = opened_named (needs_of (RemoveGroup access file group)) name is
-target_named (Merge access file names from same dry) name is = opened_named (needs_of (Merge access file names from same dry)) name is
+target_named (Merge access file names from same dry details) name is = opened_named (needs_of (Merge access file names from same dry details)) name is
 target_named (Import access format source from file) name is = (1, omega arith, is)
 target_named (Create access file called cipher kdf) name is = (0, omega arith, is)
 target_named (Export access format file) name is = opened_named (needs_of (Export access format file)) name is

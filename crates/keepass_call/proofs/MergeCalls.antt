@@ -36,7 +36,7 @@ use Rattle.cli_messages.specs.Phases.{IsLeft, StreamAnswer, TellsStream, after_l
 use Rattle.cli_messages.specs.declared.answers.Refusal.{Refusal}
 use Rattle.cli_parse.specs.declared.command.Access.{Access}
 use Rattle.cli_parse.specs.declared.command.Command.{Command}
-use Rattle.cli_parse.specs.declared.command.Command.TheVariants.{Ls, Show, Search, Add, Edit, Move, Remove, MakeGroup, RemoveGroup, Merge, Import, Create, Export, EditFile, Info}
+use Rattle.cli_parse.specs.declared.command.Command.TheVariants.{Ls, Show, History, Search, Add, Edit, Restore, Move, Remove, MakeGroup, RemoveGroup, Merge, Import, Create, Export, EditFile, Info}
 use Rattle.cli_parse.specs.Needs.{files_named, target_of}
 use Rattle.cli_parse.specs.Words.{command_of}
 use Rattle.cli_lines.specs.Lines.{Lines}
@@ -47,7 +47,7 @@ use Rattle.cli_sealing.specs.Draws.{draws_of}
 use Rattle.cli_sealing.specs.Held.{contents_with}
 use Rattle.cli_sealing.specs.Sealing.{file_by, file_unless, seal_answer, settings_for}
 use Rattle.cli_merging.specs.Merging.{AfterMerge, after_merge, after_merged, changes_between, merged_or_refusal}
-use Rattle.cli_merging.specs.Reports.{merge_report}
+use Rattle.cli_merging.specs.Details.{merge_report}
 use Rattle.cli_commands.specs.Commands.{Change, merged_change}
 use Rattle.call_run.specs.Endings.{Ending, HoldsNew, ReadsBack, carried_out, change_of_task, ended_with, ending_with, new_file}
 use Rattle.keepass_call.specs.Held.{IsAuthentic, IsTask}
@@ -110,12 +110,12 @@ status_not_six left (Err refusal) dice h = h
 
 -- ---- a merge
 
-module _ (file : List ℕ) (quiet : Bool) (names : List (List ℕ)) (t : BareDoc) (ss : List BareDoc) where
+module _ (file : List ℕ) (quiet details : Bool) (names : List (List ℕ)) (t : BareDoc) (ss : List BareDoc) where
   -- what comes of a merge's result
   abbrev after : MergeResult → Result AfterMerge Refusal
-  after r = merged_or_refusal file r >>= λ new. Ok (after_merged file quiet false names t (not (same_doc t new)) new (changes_between t ss new))
+  after r = merged_or_refusal file r >>= λ new. Ok (after_merged file quiet false details names t ss (not (same_doc t new)) new (changes_between t ss new))
 
-  after_is : after_merge file quiet false names t ss ≡ after (merge_result t ss)
+  after_is : after_merge file quiet false details names t ss ≡ after (merge_result t ss)
   unfolding after_merge
   after_is = refl
 
@@ -127,14 +127,14 @@ module _ (file : List ℕ) (quiet : Bool) (names : List (List ℕ)) (t : BareDoc
   result_not_six m (Err (MoveCycle us)) h = absurd h
   result_not_six m (Err NoMemory) h = absurd h
 
-  change_not_six : (m : Db) → MergesInto m (merge_result t ss) → NotSix (merged_change (after_merge file quiet false names t ss))
+  change_not_six : (m : Db) → MergesInto m (merge_result t ss) → NotSix (merged_change (after_merge file quiet false details names t ss))
   change_not_six m h = subst (λ (r : Result AfterMerge Refusal). NotSix (merged_change r)) (sym after_is) (result_not_six m (merge_result t ss) h)
 
   -- What a merge made that was not refused.
   record IsMade (change : Change) : Type 0 where
     new : BareDoc
     merged : merge_result t ss ≡ Ok new
-    text : merge_report quiet (not (not (same_doc t new))) file names t new (changes_between t ss new) ≡ change.text
+    text : merge_report quiet false details (not (not (same_doc t new))) file names t ss new (changes_between t ss new) ≡ change.text
     doc : (if not (same_doc t new) && true then Some new else None) ≡ change.doc
 
   abbrev changed : Change → Result Change Refusal → Change
@@ -147,7 +147,7 @@ module _ (file : List ℕ) (quiet : Bool) (names : List (List ℕ)) (t : BareDoc
       record { new = new; merged = e; text = ap (λ (c : Change). c.text) is; doc = ap (λ (c : Change). c.doc) is }
   made_by change (Err why) e h = cc h
 
-  made : (change : Change) → merged_change (after_merge file quiet false names t ss) ≡ Ok change → IsMade change
+  made : (change : Change) → merged_change (after_merge file quiet false details names t ss) ≡ Ok change → IsMade change
   made change h = made_by change (merge_result t ss) refl (ap merged_change (sym after_is) ∙ h)
 
 -- ---- what the target holds
@@ -214,25 +214,28 @@ record MergeWords (command : Command) : Type 0 where
   names : List (List ℕ)
   from : Access
   same : Bool
-  is : Merge access file names from same false ≡ command
+  details : Bool
+  is : Merge access file names from same false details ≡ command
 
 merge_words : (command : Command) → merges command ≡ true → MergeWords command
-merge_words (Ls access file group recursive flat) e = absurd (true≢false (sym e))
-merge_words (Show access file entry clear all attachments names totp) e = absurd (true≢false (sym e))
+merge_words (Ls access file group recursive flat ids) e = absurd (true≢false (sym e))
+merge_words (Show access file entry clear all attachments names totp at) e = absurd (true≢false (sym e))
+merge_words (History access file entry) e = absurd (true≢false (sym e))
 merge_words (Search access file term) e = absurd (true≢false (sym e))
 merge_words (Add access file entry asked) e = absurd (true≢false (sym e))
 merge_words (Edit access file entry asked) e = absurd (true≢false (sym e))
+merge_words (Restore access file entry version) e = absurd (true≢false (sym e))
 merge_words (Move access file node group) e = absurd (true≢false (sym e))
 merge_words (Remove access file entry) e = absurd (true≢false (sym e))
 merge_words (MakeGroup access file group) e = absurd (true≢false (sym e))
 merge_words (RemoveGroup access file group) e = absurd (true≢false (sym e))
-merge_words (Merge access file names from same true) e = absurd (true≢false (sym e))
+merge_words (Merge access file names from same true details) e = absurd (true≢false (sym e))
 merge_words (Import access format source from file) e = absurd (true≢false (sym e))
 merge_words (Create access file name cipher kdf) e = absurd (true≢false (sym e))
 merge_words (Export access format file) e = absurd (true≢false (sym e))
 merge_words (EditFile access file change) e = absurd (true≢false (sym e))
 merge_words (Info access file) e = absurd (true≢false (sym e))
-merge_words (Merge access file names from same false) e = record { access = access; file = file; names = names; from = from; same = same; is = refl }
+merge_words (Merge access file names from same false details) e = record { access = access; file = file; names = names; from = from; same = same; details = details; is = refl }
 
 ok_is : {A : Type 0} (a b : A) → ◌≡◌ {A = Result A Refusal} (Ok a) (Ok b) → a ≡ b
 ok_is a b h = cc
@@ -249,9 +252,11 @@ ended_dice : (left : List ℕ) (r : Result Ending Refusal) (dice : List ℕ) →
 ended_dice left (Ok ending) dice = refl
 ended_dice left (Err refusal) dice = refl
 
-report_same : (quiet same : Bool) (file : List ℕ) (names : List (List ℕ)) (old new : BareDoc) (changes : _) → same ≡ true → merge_report quiet (not (not same)) file names old new changes ≡ unmodified_text quiet
-report_same true same file names old new changes e = refl
-report_same false same file names old new changes e = ap (λ b. merge_report false (not (not b)) file names old new changes) e
+report_same : (quiet details same : Bool) (file : List ℕ) (names : List (List ℕ)) (old : BareDoc) (ss : List BareDoc) (new : BareDoc) (changes : _) → same ≡ true
+    → merge_report quiet false details (not (not same)) file names old ss new changes ≡ unmodified_text quiet
+report_same true details same file names old ss new changes e = refl
+report_same false true same file names old ss new changes e = ap (λ b. merge_report false false true (not (not b)) file names old ss new changes) e
+report_same false false same file names old ss new changes e = ap (λ b. merge_report false false false (not (not b)) file names old ss new changes) e
 
 module _ (words : List (List ℕ)) (time result : ℕ) (before now : Seen) (counts counts' : Counts) (world : World) (told : IsWorldOf words before now world)
     (refused : IsRefused (files_named (command_of words)) (outcome words time world) result before now counts counts')
@@ -263,15 +268,15 @@ module _ (words : List (List ℕ)) (time result : ℕ) (before now : Seen) (coun
       let same = ok_is a.task task (sym (task_given words time world a.task a.is_task) ∙ task_given words time world task is) in
       subst (Carried time world before now) same (record { change = a.change; makes = a.makes; text = a.text; reads_back = a.reads_back })
 
-  module _ (access : Access) (file : List ℕ) (names : List (List ℕ)) (from : Access) (same : Bool) (lines : Lines) (opened : Opened) (sources : List BareDoc) where
+  module _ (access : Access) (file : List ℕ) (names : List (List ℕ)) (from : Access) (same details : Bool) (lines : Lines) (opened : Opened) (sources : List BareDoc) where
     abbrev task : Task
-    task = record { command = Merge access file names from same false; lines = lines; opened = opened; sources = sources }
+    task = record { command = Merge access file names from same false details; lines = lines; opened = opened; sources = sources }
 
     abbrev t : BareDoc
     t = opened.doc
 
     abbrev change_is : Result Change Refusal
-    change_is = merged_change (after_merge file access.quiet false names t sources)
+    change_is = merged_change (after_merge file access.quiet false details names t sources)
 
     abbrev next : Change → List ℕ → StreamAnswer Ending
     next change left = ended_with file opened.sealing change.text change.doc left
@@ -293,7 +298,7 @@ module _ (words : List (List ℕ)) (time result : ℕ) (before now : Seen) (coun
       answer_not_six : NotSix (answer_of words time world).answer
       answer_not_six =
           subst (λ (s : StreamAnswer Ending). NotSix s.answer) (sym (answer_so a.is_task))
-          (after_not_six change_is world.dice next (change_not_six file access.quiet names t sources (join (end_to_end parts)) into)
+          (after_not_six change_is world.dice next (change_not_six file access.quiet details names t sources (join (end_to_end parts)) into)
           (λ change left. ended_not_six file opened.sealing change.text change.doc left))
 
       not_refused : result ≢ 6
@@ -306,7 +311,7 @@ module _ (words : List (List ℕ)) (time result : ℕ) (before now : Seen) (coun
       merged : result ≡ 0 → HoldsDatabase task (join (end_to_end parts)) world now
       merged zero =
           let c = carried task a.is_task zero in
-          let m = made file access.quiet names t sources c.change c.makes in
+          let m = made file access.quiet details names t sources c.change c.makes in
           record {
             doc = m.new;
             is = subst (MergesInto (join (end_to_end parts))) m.merged into;
@@ -323,7 +328,7 @@ module _ (words : List (List ℕ)) (time result : ℕ) (before now : Seen) (coun
       untouched : IsUntouched task before now
       untouched =
           let c = carried task is_task zero in
-          let m = made file access.quiet names t sources c.change c.makes in
+          let m = made file access.quiet details names t sources c.change c.makes in
           let is : t ≡ m.new = sym ((unchanged_means t sources m.new (task_docs words time world task refl is_task) m.merged).1 (settled, joined)) in
           let equal : same_doc t m.new ≡ true = ap (same_doc t) (sym is) ∙ doc_decides.holds t in
           let no_doc : c.change.doc ≡ None = sym m.doc ∙ ap (λ b. if not b && true then Some m.new else None) equal in
@@ -332,7 +337,7 @@ module _ (words : List (List ℕ)) (time result : ℕ) (before now : Seen) (coun
           ∙ ap (λ (r : Result Change Refusal). (after_left r world.dice next).left) c.makes
           ∙ ap (λ (d : Option BareDoc). (ended_with file opened.sealing c.change.text d world.dice).left) no_doc in
           record {
-            text = subst (Gains before.written now.written) (sym m.text ∙ report_same access.quiet (same_doc t m.new) file names t m.new (changes_between t sources m.new) equal) c.text;
+            text = subst (Gains before.written now.written) (sym m.text ∙ report_same access.quiet details (same_doc t m.new) file names t sources m.new (changes_between t sources m.new) equal) c.text;
             store = subst (λ (d : Option BareDoc). ReadsBack file opened.sealing d before.store now.store) no_doc c.reads_back;
             dice = none_gone (draws_words words) world.dice before.stream now.stream told.dice
                 (subst (IsLeft before.stream now.stream) (ended_dice _ (answer_of words time world).answer _ ∙ left) (said zero).stream);
@@ -344,12 +349,12 @@ module _ (words : List (List ℕ)) (time result : ℕ) (before now : Seen) (coun
   merges_agreed parts m =
       let w = merge_words m.task.command m.is_merge in
       subst (λ (c : Command). AgreedTask words time world parts (record m.task { command = c }) → MergesParts (record m.task { command = c }) parts world result now) w.is
-      (merges_parts w.access w.file w.names w.from w.same m.task.lines m.task.opened m.task.sources parts)
+      (merges_parts w.access w.file w.names w.from w.same w.details m.task.lines m.task.opened m.task.sources parts)
       (record { is_task = m.is_task; set = m.set; agreed = m.agreed; are_parts = m.are_parts; joins = m.joins })
 
   pub merges_nothing : MergesNothing words time world result before now
   merges_nothing g zero =
       let w = merge_words g.task.command g.is_merge in
       subst (λ (c : Command). IsTask words time world (record g.task { command = c }) → IsUntouched (record g.task { command = c }) before now) w.is
-      (λ k. untouched w.access w.file w.names w.from w.same g.task.lines g.task.opened g.task.sources k g.settled g.joined zero)
+      (λ k. untouched w.access w.file w.names w.from w.same w.details g.task.lines g.task.opened g.task.sources k g.settled g.joined zero)
       g.is_task

@@ -77,6 +77,7 @@ no_profile name words profile command h c = by (with_words name words nothing_sa
     at said true n.Generate positions h c = cc c
     at said true n.Ls positions h c = cc h
     at said true n.Show positions h c = cc h
+    at said true n.History positions h c = cc h
     at said true n.Search positions h c = cc h
     at said true n.Add positions h c = cc h
     at said true n.Edit positions h c = cc h

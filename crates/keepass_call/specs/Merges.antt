@@ -13,7 +13,7 @@ use Rattle.kdbx_open.specs.Opening.{FileContents}
 use Rattle.kdbx_open.specs.Sealed.{Sealed}
 use Rattle.kdbx_frame.specs.declared.sealings.Sealing.{Sealing}
 use Rattle.cli_parse.specs.declared.command.Command.{Command}
-use Rattle.cli_parse.specs.declared.command.Command.TheVariants.{Ls, Show, Search, Add, Edit, Move, Remove, MakeGroup, RemoveGroup, Merge, Import, Create, Export, EditFile, Info}
+use Rattle.cli_parse.specs.declared.command.Command.TheVariants.{Ls, Show, History, Search, Add, Edit, Restore, Move, Remove, MakeGroup, RemoveGroup, Merge, Import, Create, Export, EditFile, Info}
 use Rattle.cli_parse.specs.Needs.{needs_of}
 use Rattle.cli_files.specs.Files.{plain_document}
 use Rattle.cli_writing.specs.Writing.{IsSame, Store}
@@ -23,16 +23,18 @@ use Rattle.cli_files.specs.Tasks.{Task}
 
 -- A command is a merge, and no dry run.
 abbrev pub merges : Command → Bool
-merges (Ls access file group recursive flat) = false
-merges (Show access file entry clear all attachments names totp) = false
+merges (Ls access file group recursive flat ids) = false
+merges (Show access file entry clear all attachments names totp at) = false
+merges (History access file entry) = false
 merges (Search access file term) = false
 merges (Add access file entry asked) = false
 merges (Edit access file entry asked) = false
+merges (Restore access file entry version) = false
 merges (Move access file node group) = false
 merges (Remove access file entry) = false
 merges (MakeGroup access file group) = false
 merges (RemoveGroup access file group) = false
-merges (Merge access file names from same dry) = not dry
+merges (Merge access file names from same dry details) = not dry
 merges (Import access format source from file) = false
 merges (Create access file name cipher kdf) = false
 merges (Export access format file) = false

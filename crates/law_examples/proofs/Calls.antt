@@ -14,7 +14,7 @@ use Rattle.vault_model.specs.Join.{IsIn}
 use Rattle.vault_model.specs.Tree.{BareDoc}
 use Rattle.vault_model.specs.declared.forms.DocForm.TheVariants.{Plain}
 use Rattle.merge_core.specs.Example.{as_it_was, root}
-use Rattle.tree_core.specs.Finding.{group_found, has_entry_path}
+use Rattle.tree_core.specs.Finding.{group_at_path, group_found, has_entry_path}
 use Rattle.doc_spelling.specs.Moments.{moment_at, month_from, year_from}
 use Rattle.doc_spelling.specs.Ranges.{IsWritable, are_bytes, tree_nodes}
 use Rattle.doc_write.specs.Written.{write_outcome, written_len}
@@ -66,7 +66,7 @@ never o d none some = cc (sym none ∙ some)
 
 abbrev list_task : Task
 list_task = record {
-  command = Ls plainly (codes "a.xml") None false false;
+  command = Ls plainly (codes "a.xml") None false false false;
   lines = no_lines;
   opened = opened_as as_it_was;
   sources = [];
@@ -79,7 +79,7 @@ list_carried = record {
   in_calendar = omega arith;
   can_generate = tt;
   can = (as_it_was.tree, refl);
-  fits = λ change d is writes. never change.doc d (nothing_written (Ok (group_lines false false [] as_it_was.tree)) change is) writes;
+  fits = λ change d is writes. never change.doc d (nothing_written (Ok (group_lines false false false [] as_it_was.tree)) change is) writes;
 }
 
 -- ---- a code
@@ -94,7 +94,7 @@ short_coded = refl
 
 abbrev code_task : Task
 code_task = record {
-  command = Show plainly (codes "a.xml") (codes "Bank") false false false (codes "Title" ∷ []) true;
+  command = Show plainly (codes "a.xml") (codes "Bank") false false false (codes "Title" ∷ []) true 0;
   lines = no_lines;
   opened = opened_as coded;
   sources = [];
@@ -114,7 +114,7 @@ code_carried = record {
   in_calendar = omega arith;
   can_generate = tt;
   can = example_code;
-  fits = λ change d is writes. never change.doc d (nothing_written (code_shown (codes "a.xml") (codes "Title" ∷ []) (codes "Bank") EPOCH coded) change is) writes;
+  fits = λ change d is writes. never change.doc d (nothing_written (code_shown (codes "a.xml") (codes "Title" ∷ []) 0 (codes "Bank") EPOCH coded) change is) writes;
 }
 
 -- ---- an entry with a generated password
@@ -166,19 +166,19 @@ abbrev pub doc : BareDoc
 doc = unwrap_or change.doc as_it_was
 
 pub makes : (change_of_task 50 task dice).answer ≡ Ok change
-unfolding after_add_command group_found has_entry_path next_bytes choose next
+unfolding after_add_command group_at_path group_found has_entry_path next_bytes choose next
 makes = refl
 
 pub writes : change.doc ≡ Some doc
-unfolding after_add_command group_found has_entry_path next_bytes choose next
+unfolding after_add_command group_at_path group_found has_entry_path next_bytes choose next
 writes = refl
 
 few_nodes : nat_lt 262144 (tree_nodes doc.tree) ≡ false
-unfolding after_add_command group_found has_entry_path next_bytes choose next
+unfolding after_add_command group_at_path group_found has_entry_path next_bytes choose next
 few_nodes = refl
 
 short_text : nat_le (written_len Plain NoKeystream None doc) 10000 ≡ true
-unfolding after_add_command group_found has_entry_path next_bytes choose next escaped_byte moment_at year_from month_from digits encode_symbols
+unfolding after_add_command group_at_path group_found has_entry_path next_bytes choose next escaped_byte moment_at year_from month_from digits encode_symbols
 short_text = refl
 
 written : write_outcome Plain NoKeystream None doc ≡ Ok (plain_bytes doc)
@@ -194,7 +194,7 @@ pub is_adding : IsTask add_generated 50 with_dice task
 is_adding = record { is_command = refl; are_lines = refl; holds = record { target = plain_first; sources = tt } }
 
 add_carried : CanBeCarried add_generated 50 with_dice
-unfolding group_found has_entry_path next_bytes choose next
+unfolding group_at_path group_found has_entry_path next_bytes choose next
 add_carried = record {
   task = task;
   is_task = is_adding;
@@ -220,7 +220,7 @@ abbrev ends_by : Result (List ℕ) WriteFail → StreamAnswer Ending
 ends_by outcome = then_left (with_left (file_or_refusal (codes "a.xml") outcome) dice_left) (λ file left. with_left (Ok (ending_with change.text file)) left)
 
 pub carried : carried_out 50 task dice ≡ ends_by (Ok (plain_bytes doc))
-unfolding carried_out after_add_command group_found has_entry_path next_bytes choose next
+unfolding carried_out after_add_command group_at_path group_found has_entry_path next_bytes choose next
 carried = ap ends_by written
 
 is_carried : IsCarried add_generated 50 with_dice (ending_with change.text new_file)

@@ -8,7 +8,7 @@ use Rattle.vault_model.specs.Proper.{is_proper_content, is_proper_group_content}
 use Rattle.vault_model.specs.Tree.{BareDoc, IsDoc, node, none}
 use Rattle.merge_core.specs.Example.{as_it_was, bank, edited, entry, group, home, root, work}
 use Rattle.merge_examples.proofs.Merged.{doc_first, doc_second}
-use Rattle.tree_core.specs.Finding.{entry_found, group_found}
+use Rattle.tree_core.specs.Finding.{entry_found, group_at_path, group_found}
 use Rattle.frame_laws.specs.Example.{without_bin}
 use Rattle.frame_laws.proofs.Examples.{example_changes}
 use Rattle.condition_laws.proofs.Examples as tree
@@ -59,6 +59,8 @@ unfolding entry_found otp_of_fields otp_of_uri otp_of_label with_parameters with
 example_code = record {
   held = record { group = root; entry = (bank, entry 10 nil_id coded_version []) };
   named = refl;
+  entry = (bank, entry 10 nil_id coded_version []);
+  numbered = refl;
   there = λ name h. elim h [ inl same ↦ subst (λ n. is_missing (fields_of (entry 10 nil_id coded_version [])) n ≡ false) same refl | inr no_more ↦ absurd no_more ];
   values = λ f h printed. resolves f h;
   otp = record { secret = codes "1"; hash = Sha1; period = 30; digits = 6 };
@@ -79,7 +81,7 @@ bare_doc : AreDocs (without_bin ∷ [])
 bare_doc = one_doc without_bin example_changes.bare
 
 pub example_commands : ExampleCommands
-unfolding group_found code_refusal
+unfolding group_at_path group_found code_refusal
 example_commands =
     let on_tree = tree.example_conditions in
     let on_content = content.example_conditions in
@@ -87,9 +89,11 @@ example_commands =
       list = record { in_calendar = omega arith; docs = first_doc; can = (as_it_was.tree, refl) };
       show = record { in_calendar = omega arith; docs = first_doc; can = on_content.show };
       code = record { in_calendar = omega arith; docs = one_doc coded coded_doc; can = example_code };
+      history = record { in_calendar = omega arith; docs = first_doc; can = on_content.history };
       search = record { in_calendar = omega arith; docs = first_doc; can = on_content.search };
       add = record { in_calendar = omega arith; docs = first_doc; can = on_tree.add };
       edit = record { in_calendar = omega arith; docs = first_doc; can = record { code = refl; entry = on_tree.edit } };
+      restore = record { in_calendar = omega arith; docs = one_doc edited doc_second; can = on_tree.restore };
       move_entry = record { in_calendar = omega arith; docs = first_doc; can = on_tree.move_entry };
       move_group = record {
         in_calendar = omega arith;

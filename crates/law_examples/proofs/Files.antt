@@ -126,7 +126,7 @@ no_lines sources = record { password = None; sources = sources; more = None; otp
 
 abbrev pub three_task : Task
 three_task = record {
-  command = Merge plainly (codes "a.xml") (codes "b.xml" ∷ codes "c.xml" ∷ []) plainly false false;
+  command = Merge plainly (codes "a.xml") (codes "b.xml" ∷ codes "c.xml" ∷ []) plainly false false false;
   lines = no_lines (None ∷ None ∷ []);
   opened = opened_as as_it_was;
   sources = edited ∷ moved ∷ [];
@@ -178,7 +178,7 @@ three_files_agree time = record {
 
 abbrev two_task : Task
 two_task = record {
-  command = Merge plainly (codes "a.xml") (codes "b.xml" ∷ []) plainly false false;
+  command = Merge plainly (codes "a.xml") (codes "b.xml" ∷ []) plainly false false false;
   lines = no_lines (None ∷ []);
   opened = opened_as bare;
   sources = bare ∷ [];

@@ -7,7 +7,7 @@ use Rattle.vault_model.specs.Proper.{is_proper_content, is_proper_group_content}
 use Rattle.vault_model.specs.Tree.{BareDoc, IsDoc}
 use Rattle.vault_model.specs.declared.forms.DocForm.TheVariants.{Plain}
 use Rattle.merge_core.specs.Example.{as_it_was}
-use Rattle.tree_core.specs.Finding.{group_found, has_entry_path}
+use Rattle.tree_core.specs.Finding.{group_at_path, group_found, has_entry_path}
 use Rattle.doc_spelling.specs.Ranges.{IsWritable, are_bytes}
 use Rattle.doc_spelling.proofs.GoodDocs.{doc_good}
 use Rattle.doc_spelling.proofs.RangeTests.{hash_if}
@@ -43,7 +43,7 @@ use Rattle.law_examples.proofs.Calls.{carried, change, dice, doc, is_adding, mak
 -- ---- the document that is written
 
 doc_is : IsDoc doc
-unfolding after_add_command group_found has_entry_path next_bytes choose next is_proper_content is_proper_group_content is_utf8 chars lib.Utf8.encode
+unfolding after_add_command group_at_path group_found has_entry_path next_bytes choose next is_proper_content is_proper_group_content is_utf8 chars lib.Utf8.encode
 doc_is = record {
   distinct = refl;
   no_nil = refl;
@@ -58,7 +58,7 @@ doc_is = record {
 }
 
 write_doc : IsWritable doc
-unfolding after_add_command group_found has_entry_path next_bytes choose next are_bytes
+unfolding after_add_command group_at_path group_found has_entry_path next_bytes choose next are_bytes
 write_doc = record { fits = refl; nodes = omega arith; pool = omega arith }
 
 text_says : HoldsPlain doc (plain_bytes doc)

@@ -11,7 +11,7 @@ use Rattle.cli_codes.specs.Codes.{EPOCH}
 use Rattle.cli_parse.specs.declared.command.Access.{Access}
 use Rattle.cli_parse.specs.declared.command.Asked.{Asked}
 use Rattle.cli_parse.specs.declared.command.Command.{Command}
-use Rattle.cli_parse.specs.declared.command.Command.TheVariants.{Ls, Show, Search, Add, Edit, Move, Remove, MakeGroup, RemoveGroup, Merge, Import, Export, Info}
+use Rattle.cli_parse.specs.declared.command.Command.TheVariants.{Ls, Show, History, Search, Add, Edit, Restore, Move, Remove, MakeGroup, RemoveGroup, Merge, Import, Export, Info}
 use Rattle.cli_parse.specs.declared.command.ExportFormat.TheVariants as format
 use Rattle.cli_parse.specs.declared.command.ImportFormat.TheVariants as import_format
 use Rattle.content_condition_laws.specs.Conditions.{CanShowCode}
@@ -43,7 +43,7 @@ coded = record {
 
 -- Its code can be shown in the first second of 1970, after its title.
 abbrev pub ExampleCode : Type 0
-ExampleCode = CanShowCode (codes "Bank") (codes "Title" ∷ []) EPOCH coded
+ExampleCode = CanShowCode (codes "Bank") (codes "Title" ∷ []) 0 EPOCH coded
 
 -- ---- commands
 
@@ -72,18 +72,23 @@ pub record MeetsConditions (time : ℕ) (command : Command) (sources : List Bare
 
 -- Each command meets them on some database.
 pub record ExampleCommands : Type 0 where
-  pub list : MeetsConditions 50 (Ls plainly (codes "a.xml") None false false) [] nil_id as_it_was
+  pub list : MeetsConditions 50 (Ls plainly (codes "a.xml") None false false false) [] nil_id
+      as_it_was
   pub show : MeetsConditions 50
-      (Show plainly (codes "a.xml") (codes "Bank") false true false [] false) [] nil_id as_it_was
+      (Show plainly (codes "a.xml") (codes "Bank") false true false [] false 0) [] nil_id as_it_was
   pub code : MeetsConditions EPOCH
-      (Show plainly (codes "a.xml") (codes "Bank") false false false (codes "Title" ∷ []) true) []
+      (Show plainly (codes "a.xml") (codes "Bank") false false false (codes "Title" ∷ []) true 0) []
       nil_id coded
+  pub history : MeetsConditions 50 (History plainly (codes "a.xml") (codes "Bank")) [] nil_id
+      as_it_was
   pub search : MeetsConditions 50 (Search plainly (codes "a.xml") (codes "bank")) [] nil_id
       as_it_was
   pub add : MeetsConditions 50 (Add plainly (codes "a.xml") (codes "Work/Chat") nothing_asked) []
       home as_it_was
   pub edit : MeetsConditions 50 (Edit plainly (codes "a.xml") (codes "Bank") nothing_asked) []
       nil_id as_it_was
+  pub restore : MeetsConditions 50 (Restore plainly (codes "a.xml") (codes "Bank") 1) [] nil_id
+      edited
   pub move_entry : MeetsConditions 50 (Move plainly (codes "a.xml") (codes "Bank") (codes "Work"))
       [] nil_id as_it_was
   pub move_group : MeetsConditions 50 (Move plainly (codes "a.xml") (codes "Work/") (codes "Home"))
@@ -99,7 +104,7 @@ pub record ExampleCommands : Type 0 where
   pub recycle_group : MeetsConditions 50 (RemoveGroup plainly (codes "a.xml") (codes "Work")) []
       home without_bin
   pub merge : MeetsConditions 50
-      (Merge plainly (codes "a.xml") (codes "b.xml" ∷ codes "c.xml" ∷ []) plainly false false)
+      (Merge plainly (codes "a.xml") (codes "b.xml" ∷ codes "c.xml" ∷ []) plainly false false false)
       (edited ∷ moved ∷ []) nil_id as_it_was
   pub make_by_import : MeetsConditions 50
       (Import plainly import_format.Xml (codes "b.xml") plainly (codes "a.xml")) [] nil_id as_it_was

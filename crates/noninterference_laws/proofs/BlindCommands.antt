@@ -14,12 +14,12 @@ use Rattle.tree_core.specs.declared.fails.TreeFail.{TreeFail}
 use Rattle.tree_core.specs.declared.fails.TreeFail.TheVariants.{AlreadyThere, IdTaken, IntoItself, NameTaken, RootFixed, TooDeep}
 use Rattle.tree_core.specs.After.{AfterRemoval, Holding, after_make_group, after_move_entry, after_move_group, after_new_group, after_remove_entry, after_remove_group, bin_level, entry_deleted, entry_moved_to, entry_named, entry_recycled, group_deleted, group_moved_to, group_named, group_recycled, has_group_in, held_in, is_group_taken, is_parent, is_recycled, named_or_refusal, needs_bin, refuse_if, time_after, with_bin, with_bin_made}
 use Rattle.tree_core.specs.Changes.{changed_at, entry_at, group_moved, group_with, has_group, holder, is_free, level_of, parent_of, placed_of, tree_buried, with_group, without_group}
-use Rattle.tree_core.specs.Finding.{entry_found, entry_id, entry_named as entry_at_path, first, group_found, group_named as group_at_path, has_group_path, or_else, without_slashes}
+use Rattle.tree_core.specs.Finding.{entry_by_id, entry_found, entry_id, group_at_path, id_named, entry_named as entry_at_path, first, group_found, group_named as group_with_path, has_group_path, or_else, without_slashes}
 use Rattle.tree_core.specs.NewNodes.{empty_bin, empty_group}
 use Rattle.tree_core.specs.NewPaths.{after_last, before_last, names_root, new_path}
 use Rattle.cli_messages.specs.declared.answers.Refusal.{Refusal}
 use Rattle.cli_parse.specs.declared.command.Command.{Command}
-use Rattle.cli_parse.specs.declared.command.Command.TheVariants.{Ls, Show, Search, Add, Edit, Move, Remove, MakeGroup, RemoveGroup, Merge, Import, Create, Export, EditFile, Info}
+use Rattle.cli_parse.specs.declared.command.Command.TheVariants.{Ls, Show, History, Search, Add, Edit, Restore, Move, Remove, MakeGroup, RemoveGroup, Merge, Import, Create, Export, EditFile, Info}
 use Rattle.cli_printing.specs.Listing.{tree_listed}
 use Rattle.cli_changes.specs.Entries.{AfterCommand, entry_title, held_title, time_of}
 use Rattle.cli_changes.specs.Fails.{change_or_refusal}
@@ -28,7 +28,7 @@ use Rattle.cli_changes.specs.Reports.{removal_report, report}
 use Rattle.cli_commands.specs.Commands.{bin_id, change_with, listing_of, makes_node, new_document, printed_text}
 use Rattle.noninterference_laws.specs.Masks.{CommandsAreBlind, DrawsAreBlind, ShowsTitles, is_secret, mask, mask_change, mask_row, mask_tree, reads_no_value}
 use Rattle.noninterference_laws.proofs.MaskedTrees.{entry_buried_mask, entry_mask, entry_moved_mask, entry_taken_mask, free_mask, group_mask, group_moved_mask, group_put_mask, group_taken_mask, has_mask, height_mask, holder_mask, id_mask, level_mask, parent_mask, placed_mask, tree_buried_mask}
-use Rattle.noninterference_laws.proofs.Screens.{group_same, info_same, lines_same, listed_same, mask_node, mask_walked, name_same, named_same, secret_titles, title_same, walk_same}
+use Rattle.noninterference_laws.proofs.Screens.{group_path_same, group_same, info_same, lines_same, listed_same, mask_node, mask_walked, name_same, named_same, secret_titles, title_same, walk_same}
 
 -- ---- steps that may be refused
 
@@ -80,13 +80,19 @@ module _ (p : BareField → Bool) (titles : ShowsTitles p) where
   unfolding mask_walked
   entry_path_same text w = ap (λ o. cond (bytes_eq text w.path || bytes_eq text (codes "/" ++ w.path)) o None) (entry_id_same w.found)
 
+  entry_by_id_same : (text : List ℕ) (w : Walked) → entry_by_id text (mask_walked p titles w) ≡ entry_by_id text w
+  unfolding mask_walked
+  entry_by_id_same text w = ap (option_and_then (id_named text)) (entry_id_same w.found)
+
   entry_same : (d : BareDoc) (text : List ℕ) → entry_found (mask p d) text ≡ entry_found d text
   unfolding entry_found
-  entry_same d text = ap (first (entry_at_path text)) ((walk_same p titles) [] d.tree) ∙ first_map (entry_at_path text) (entry_path_same text) (walk d)
+  entry_same d text = λ i. or_else
+      ((ap (first (entry_by_id text)) ((walk_same p titles) [] d.tree) ∙ first_map (entry_by_id text) (entry_by_id_same text) (walk d)) i)
+      ((ap (first (entry_at_path text)) ((walk_same p titles) [] d.tree) ∙ first_map (entry_at_path text) (entry_path_same text) (walk d)) i)
 
   path_same : (d : BareDoc) (path : List ℕ) → has_group_path (mask p d) path ≡ has_group_path d path
   unfolding has_group_path
-  path_same d path = ap is_some (ap (first (group_at_path path)) ((walk_same p titles) [] d.tree) ∙ first_map (group_at_path path) (named_same p titles path) (walk d))
+  path_same d path = ap is_some (ap (first (group_with_path path)) ((walk_same p titles) [] d.tree) ∙ first_map (group_with_path path) (named_same p titles path) (walk d))
 
   abbrev pub mask_held : Holding → Holding
   mask_held held = record held { entry = mask_row p held.entry }
@@ -148,7 +154,7 @@ module _ (p : BareField → Bool) (titles : ShowsTitles p) where
 
   new_group_mask : (path : List ℕ) (id : NodeId) (now : ℕ) (d : BareDoc) → after_new_group path id now (mask p d) ≡ on_ok (mask p) (after_new_group path id now d)
   new_group_mask path id now d =
-      bind_next (mask p) (named_or_refusal (group_found d (before_last path))) (named_or_refusal (group_found (mask p d) (before_last path))) _ _ (ap named_or_refusal (group_same p titles d (before_last path)))
+      bind_next (mask p) (named_or_refusal (group_at_path d (before_last path))) (named_or_refusal (group_at_path (mask p d) (before_last path))) _ _ (ap named_or_refusal (group_path_same p titles d (before_last path)))
       (λ group. bind_next (mask p) (refuse_if (is_group_taken (new_path path) d) NameTaken) (refuse_if (is_group_taken (new_path path) (mask p d)) NameTaken) _ _
       (ap (λ b. refuse_if (b || names_root (new_path path)) NameTaken) (path_same d (new_path path)))
       (λ x. bind_next (mask p) (refuse_if (nat_lt LEVELS (level_of group d.tree + 1)) TooDeep) (refuse_if (nat_lt LEVELS (level_of group (mask_tree p d.tree) + 1)) TooDeep) _ _
@@ -299,13 +305,13 @@ module _ (p : BareField → Bool) (titles : ShowsTitles p) where
   new_mask (Ok after) = refl
   new_mask (Err refusal) = refl
 
-  listing_mask_of : (file : List ℕ) (recursive flat : Bool) (o : Option Tree) → listing_of file recursive flat (option_map (mask_tree p) o) ≡ mask_change p (listing_of file recursive flat o)
-  listing_mask_of file recursive flat None = refl
-  listing_mask_of file recursive flat (Some t) = ap (λ text. Ok (record { text = text; doc = None })) (lines_same p titles recursive flat [] t)
+  listing_mask_of : (file : List ℕ) (recursive flat ids : Bool) (o : Option Tree) → listing_of file recursive flat ids (option_map (mask_tree p) o) ≡ mask_change p (listing_of file recursive flat ids o)
+  listing_mask_of file recursive flat ids None = refl
+  listing_mask_of file recursive flat ids (Some t) = ap (λ text. Ok (record { text = text; doc = None })) (lines_same p titles recursive flat ids [] t)
 
   pub change_mask : (command : Command) → reads_no_value command ≡ true → (time : ℕ) (line otp : Option (List ℕ)) (sources : List BareDoc) (settings : Option Settings) (passed : List (List ℕ)) (id : NodeId) (d : BareDoc)
       → change_with time command line otp sources settings passed id (mask p d) ≡ mask_change p (change_with time command line otp sources settings passed id d)
-  change_mask (Ls access file group recursive flat) is time line otp sources settings passed id d = ap (listing_of file recursive flat) (listed_same p titles group d) ∙ listing_mask_of file recursive flat (tree_listed group d)
+  change_mask (Ls access file group recursive flat ids) is time line otp sources settings passed id d = ap (listing_of file recursive flat ids) (listed_same p titles group d) ∙ listing_mask_of file recursive flat ids (tree_listed group d)
   change_mask (Move access file node group) is time line otp sources settings passed id d = ap new_document (mv_mask file access.quiet node group time d) ∙ new_mask (after_mv file access.quiet node group time d)
   change_mask (Remove access file entry) is time line otp sources settings passed id d =
       ap (λ b. new_document (after_rm file access.quiet entry (if b then Some id else None) time (mask p d))) (needs_mask d)
@@ -315,28 +321,32 @@ module _ (p : BareField → Bool) (titles : ShowsTitles p) where
       ap (λ b. new_document (after_rmdir file access.quiet group (if b then Some id else None) time (mask p d))) (needs_mask d)
       ∙ ap new_document (rmdir_mask file access.quiet group (bin_id id d) time d) ∙ new_mask (after_rmdir file access.quiet group (bin_id id d) time d)
   change_mask (Info access file) is time line otp sources settings passed id d = ap (λ text. printed_text (Ok text)) (info_same p titles settings d)
-  change_mask (Show access file entry clear all attachments names totp) is time line otp sources settings passed id d = cc is
+  change_mask (Show access file entry clear all attachments names totp at) is time line otp sources settings passed id d = cc is
+  change_mask (History access file entry) is time line otp sources settings passed id d = cc is
   change_mask (Search access file term) is time line otp sources settings passed id d = cc is
   change_mask (Add access file entry asked) is time line otp sources settings passed id d = cc is
   change_mask (Edit access file entry asked) is time line otp sources settings passed id d = cc is
-  change_mask (Merge access file names from same dry) is time line otp sources settings passed id d = cc is
+  change_mask (Restore access file entry version) is time line otp sources settings passed id d = cc is
+  change_mask (Merge access file names from same dry details) is time line otp sources settings passed id d = cc is
   change_mask (Import access format source from file) is time line otp sources settings passed id d = cc is
   change_mask (Create access file name cipher kdf) is time line otp sources settings passed id d = cc is
   change_mask (Export access format file) is time line otp sources settings passed id d = cc is
   change_mask (EditFile access file change) is time line otp sources settings passed id d = cc is
 
   pub makes_mask : (command : Command) (d : BareDoc) → makes_node command (mask p d) ≡ makes_node command d
-  makes_mask (Ls access file group recursive flat) d = refl
+  makes_mask (Ls access file group recursive flat ids) d = refl
   makes_mask (Move access file node group) d = refl
   makes_mask (Remove access file entry) d = needs_mask d
   makes_mask (MakeGroup access file group) d = refl
   makes_mask (RemoveGroup access file group) d = needs_mask d
   makes_mask (Info access file) d = refl
-  makes_mask (Show access file entry clear all attachments names totp) d = refl
+  makes_mask (Show access file entry clear all attachments names totp at) d = refl
+  makes_mask (History access file entry) d = refl
   makes_mask (Search access file term) d = refl
   makes_mask (Add access file entry asked) d = refl
   makes_mask (Edit access file entry asked) d = refl
-  makes_mask (Merge access file names from same dry) d = refl
+  makes_mask (Restore access file entry version) d = refl
+  makes_mask (Merge access file names from same dry details) d = refl
   makes_mask (Import access format source from file) d = refl
   makes_mask (Create access file name cipher kdf) d = refl
   makes_mask (Export access format file) d = refl

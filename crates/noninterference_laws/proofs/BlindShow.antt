@@ -1,26 +1,32 @@
 -- What is shown of an entry does not look at what is marked hidden.
-use Rattle.std.proofs.Common.{◌≡◌, ◌||◌, ◌&&◌, ℕ, suc, Bool, true, false, not, cond, inl, inr, List, [], ◌∷◌, ◌++◌, Option, Some, Result, Ok, Err, codes, map, length, refl, sym, ap, subst, ◌∙◌}
+use Rattle.std.proofs.Common.{◌≡◌, ◌||◌, ◌&&◌, ℕ, suc, Bool, true, false, not, cond, inl, inr, List, [], ◌∷◌, ◌++◌, Option, None, Some, Result, Ok, Err, codes, map, length, refl, sym, ap, subst, ◌∙◌}
+use mathlib.Core.List.{reverse_aux}
 use Rattle.std.specs.Fmt.{decimal}
 use Rattle.std.specs.List.{filter, flat_map, list_all, list_any}
-use Rattle.std.specs.Prelude.{if◌then◌else◌}
+use Rattle.std.specs.Prelude.{if◌then◌else◌, slice_get}
+use Rattle.std.specs.Option.{ok_or, option_map}
+use Rattle.std.proofs.lemmas.Option.{same_Some, slice_get-map}
 use Rattle.std.specs.Str.{bytes_eq}
 use Rattle.std.proofs.lemmas.Slice.Eq.{bytes_eq-Decides}
 use Rattle.outside_core.specs.Results.{◌>>=◌}
 use Rattle.vault_model.specs.Bare.{BareAttachment, BareField}
 use Rattle.vault_model.specs.Db.{NodeId}
-use Rattle.vault_model.specs.Shape.{EntryRecord}
+use Rattle.vault_model.specs.Shape.{BareVersion, EntryRecord}
 use Rattle.vault_model.specs.Tree.{BareDoc, entry_rows}
 use Rattle.vault_model.proofs.Tests.{and_both, and_true, decide}
 use Rattle.tree_core.specs.After.{Holding, entry_named}
+use Rattle.tree_core.specs.Histories.{numbered_versions, version_numbered}
 use Rattle.tree_core.specs.declared.fails.TreeFail.{TreeFail}
 use Rattle.find_references.specs.Fields.{fields_of, is_other, named_keys}
 use Rattle.find_references.specs.References.{Piece, byte, pieces, reference}
 use Rattle.find_references.specs.Resolved.{Step, after_steps, copied, piece_steps, resolved, steps}
 use Rattle.find_references.specs.declared.fail.FindFail.{FindFail}
+use Rattle.cli_messages.specs.Messages.{refusal_of}
+use Rattle.cli_messages.specs.declared.answers.Reason.TheVariants.{NoVersion}
 use Rattle.cli_messages.specs.declared.answers.Refusal.{Refusal}
 use Rattle.cli_showing.specs.Refusals.{found_or_refusal}
-use Rattle.cli_showing.specs.Showing.{attachment_line, entry_or_refusal, entry_shown, entry_text, field_of, id_and_tags, others_shown, value_shown, whole_entry, with_attachments, with_fields, with_fields_shown, with_key, with_keys, with_value, with_value_of}
-use Rattle.noninterference_laws.specs.Masks.{ShowIsBlind, ShowsTitles, has_no_reference, is_marked, is_plain_byte, is_shown, mask, mask_attachment, mask_entry, mask_field, mask_row, shows_no_reference}
+use Rattle.cli_showing.specs.Showing.{attachment_line, entry_or_refusal, entry_shown, entry_text, field_of, id_and_tags, others_shown, value_shown, version_shown, whole_entry, with_attachments, with_current, with_fields, with_fields_shown, with_key, with_keys, with_value, with_value_of}
+use Rattle.noninterference_laws.specs.Masks.{ShowIsBlind, ShowsTitles, has_no_reference, is_marked, is_plain_byte, is_shown, mask, mask_attachment, mask_entry, mask_field, mask_row, mask_version, shows_no_reference}
 use Rattle.noninterference_laws.proofs.BlindCommands.{entry_named_mask, mask_held, on_ok}
 
 pub marked_titles : ShowsTitles is_marked
@@ -224,23 +230,49 @@ text_same d all attachments e plain =
     (λ text. refl))
     (λ text. ap Ok (attachments_same attachments e.1 text))
 
-abbrev shown_of : List ℕ → (all attachments : Bool) → BareDoc → Result Holding TreeFail → Result (List ℕ) Refusal
-shown_of file all attachments doc r = entry_or_refusal file r >>= λ entry. found_or_refusal file (entry_text doc false all attachments [] entry)
+-- ---- the version that is shown
 
--- No value that is shown of the entry that was found has a reference.
-abbrev ShowsPlain : (all : Bool) → Result Holding TreeFail → Type 0
-ShowsPlain all r = (held : Holding) → r ≡ Ok held → shows_no_reference all held.entry.1 ≡ true
+turned : {A B : Type 0} (f : A → B) (xs ys : List A) → map f (reverse_aux xs ys) ≡ reverse_aux (map f xs) (map f ys)
+turned f [] ys = refl
+turned f (x ∷ xs) ys = turned f xs (x ∷ ys)
 
-entry_same : (file : List ℕ) (all attachments : Bool) (d : BareDoc) (r : Result Holding TreeFail) → ShowsPlain all r
-    → shown_of file all attachments (mask is_marked d) (on_ok (mask_held is_marked marked_titles) r) ≡ shown_of file all attachments d r
-entry_same file all attachments d (Ok held) plain = ap (found_or_refusal file) (text_same d all attachments held.entry (plain held refl))
-entry_same file all attachments d (Err why) plain = refl
+numbered_mask : (at : ℕ) (e : EntryRecord) → version_numbered at (mask_entry is_marked e) ≡ option_map (mask_version is_marked) (version_numbered at e)
+numbered_mask at e =
+    ap (λ (vs : List BareVersion). slice_get (mask_version is_marked e.current ∷ vs) at) (sym (turned (mask_version is_marked) e.history []))
+    ∙ slice_get-map (mask_version is_marked) (numbered_versions e) at
 
-show_mask : (file : List ℕ) (all attachments : Bool) (path : List ℕ) (d : BareDoc) → ShowsPlain all (entry_named path d)
-    → entry_shown file false all attachments [] path (mask is_marked d) ≡ entry_shown file false all attachments [] path d
+version_mask : (at : ℕ) (e : NodeId × EntryRecord) → version_shown at (mask_row is_marked e) ≡ option_map (mask_row is_marked) (version_shown at e)
+version_mask at e = ap (option_map (with_current (mask_row is_marked e))) (numbered_mask at e.1) ∙ of (version_numbered at e.1)
+  where
+    of : (o : Option BareVersion) → option_map (with_current (mask_row is_marked e)) (option_map (mask_version is_marked) o) ≡ option_map (mask_row is_marked) (option_map (with_current e) o)
+    of None = refl
+    of (Some v) = refl
+
+abbrev version_of : List ℕ → (all attachments : Bool) → (at : ℕ) → BareDoc → Option (NodeId × EntryRecord) → Result (List ℕ) Refusal
+version_of file all attachments at doc o = ok_or o (refusal_of (NoVersion at) file) >>= λ entry. found_or_refusal file (entry_text doc false all attachments [] entry)
+
+abbrev shown_of : List ℕ → (all attachments : Bool) → (at : ℕ) → BareDoc → Result Holding TreeFail → Result (List ℕ) Refusal
+shown_of file all attachments at doc r = entry_or_refusal file r >>= λ entry. version_of file all attachments at doc (version_shown at entry)
+
+-- No value that is shown of the version of the entry that was found has a reference.
+abbrev ShowsPlain : (all : Bool) → (at : ℕ) → Result Holding TreeFail → Type 0
+ShowsPlain all at r = (held : Holding) (shown : NodeId × EntryRecord) → r ≡ Ok held → version_shown at held.entry ≡ Some shown → shows_no_reference all shown.1 ≡ true
+
+entry_same : (file : List ℕ) (all attachments : Bool) (at : ℕ) (d : BareDoc) (r : Result Holding TreeFail) → ShowsPlain all at r
+    → shown_of file all attachments at (mask is_marked d) (on_ok (mask_held is_marked marked_titles) r) ≡ shown_of file all attachments at d r
+entry_same file all attachments at d (Ok held) plain =
+    ap (version_of file all attachments at (mask is_marked d)) (version_mask at held.entry) ∙ by (version_shown at held.entry) refl
+  where
+    by : (o : Option (NodeId × EntryRecord)) → version_shown at held.entry ≡ o → version_of file all attachments at (mask is_marked d) (option_map (mask_row is_marked) o) ≡ version_of file all attachments at d o
+    by None is = refl
+    by (Some shown) is = ap (found_or_refusal file) (text_same d all attachments shown (plain held shown refl is))
+entry_same file all attachments at d (Err why) plain = refl
+
+show_mask : (file : List ℕ) (all attachments : Bool) (at : ℕ) (path : List ℕ) (d : BareDoc) → ShowsPlain all at (entry_named path d)
+    → entry_shown file false all attachments [] at path (mask is_marked d) ≡ entry_shown file false all attachments [] at path d
 unfolding entry_shown
-show_mask file all attachments path d plain =
-    ap (shown_of file all attachments (mask is_marked d)) (entry_named_mask is_marked marked_titles path d) ∙ entry_same file all attachments d (entry_named path d) plain
+show_mask file all attachments at path d plain =
+    ap (shown_of file all attachments at (mask is_marked d)) (entry_named_mask is_marked marked_titles path d) ∙ entry_same file all attachments at d (entry_named path d) plain
 
 -- ---- the same of the other document
 
@@ -258,19 +290,32 @@ abbrev held_in : Holding → Result Holding TreeFail → Holding
 held_in held (Ok other) = other
 held_in held (Err why) = held
 
-to_mask : (all : Bool) (r : Result Holding TreeFail) → ShowsPlain all r → ShowsPlain all (on_ok (mask_held is_marked marked_titles) r)
-to_mask all (Ok held) plain other is =
-    subst (λ (h : Holding). shows_no_reference all h.entry.1 ≡ true) (ap (held_in held) is) (plain_hide all (fields_of held.entry.1) ∙ plain held refl)
-to_mask all (Err why) plain other is = cc is
+masked_plain : (all : Bool) (at : ℕ) (e : NodeId × EntryRecord) → ((v : NodeId × EntryRecord) → version_shown at e ≡ Some v → shows_no_reference all v.1 ≡ true)
+    → (shown : NodeId × EntryRecord) → option_map (mask_row is_marked) (version_shown at e) ≡ Some shown → shows_no_reference all shown.1 ≡ true
+masked_plain all at e plain shown is = by (version_shown at e) refl is
+  where
+    by : (o : Option (NodeId × EntryRecord)) → version_shown at e ≡ o → option_map (mask_row is_marked) o ≡ Some shown → shows_no_reference all shown.1 ≡ true
+    by None k h = cc h
+    by (Some v) k h = subst (λ (x : NodeId × EntryRecord). shows_no_reference all x.1 ≡ true) (same_Some (mask_row is_marked v) shown h) (plain_hide all (fields_of v.1) ∙ plain v k)
 
-from_mask : (all : Bool) (r : Result Holding TreeFail) → ShowsPlain all (on_ok (mask_held is_marked marked_titles) r) → ShowsPlain all r
-from_mask all (Ok held) plain other is =
-    subst (λ (h : Holding). shows_no_reference all h.entry.1 ≡ true) (ap (held_in held) is) (sym (plain_hide all (fields_of held.entry.1)) ∙ plain (mask_held is_marked marked_titles held) refl)
-from_mask all (Err why) plain other is = cc is
+to_mask : (all : Bool) (at : ℕ) (r : Result Holding TreeFail) → ShowsPlain all at r → ShowsPlain all at (on_ok (mask_held is_marked marked_titles) r)
+to_mask all at (Ok held) plain other shown is num =
+    let same : mask_held is_marked marked_titles held ≡ other = ap (held_in held) is in
+    masked_plain all at held.entry (λ v k. plain held v refl k) shown
+    (sym (version_mask at held.entry) ∙ ap (λ (h : Holding). version_shown at h.entry) same ∙ num)
+to_mask all at (Err why) plain other shown is num = cc is
+
+from_mask : (all : Bool) (at : ℕ) (r : Result Holding TreeFail) → ShowsPlain all at (on_ok (mask_held is_marked marked_titles) r) → ShowsPlain all at r
+from_mask all at (Ok held) plain other shown is num =
+    let same : held ≡ other = ap (held_in held) is in
+    let there : version_shown at held.entry ≡ Some shown = ap (λ (h : Holding). version_shown at h.entry) same ∙ num in
+    sym (plain_hide all (fields_of shown.1))
+    ∙ plain (mask_held is_marked marked_titles held) (mask_row is_marked shown) refl (version_mask at held.entry ∙ ap (option_map (mask_row is_marked)) there)
+from_mask all at (Err why) plain other shown is num = cc is
 
 pub show_is_blind : ShowIsBlind
-show_is_blind d e alike path file all attachments plain =
-    let masked = subst (ShowsPlain all) (sym (entry_named_mask is_marked marked_titles path d)) (to_mask all (entry_named path d) plain) in
-    let other = subst (λ (x : BareDoc). ShowsPlain all (entry_named path x)) alike masked in
-    let plain_e = from_mask all (entry_named path e) (subst (ShowsPlain all) (entry_named_mask is_marked marked_titles path e) other) in
-    sym (show_mask file all attachments path d plain) ∙ ap (entry_shown file false all attachments [] path) alike ∙ show_mask file all attachments path e plain_e
+show_is_blind d e alike path file all attachments at plain =
+    let masked = subst (ShowsPlain all at) (sym (entry_named_mask is_marked marked_titles path d)) (to_mask all at (entry_named path d) plain) in
+    let other = subst (λ (x : BareDoc). ShowsPlain all at (entry_named path x)) alike masked in
+    let plain_e = from_mask all at (entry_named path e) (subst (ShowsPlain all at) (entry_named_mask is_marked marked_titles path e) other) in
+    sym (show_mask file all attachments at path d plain) ∙ ap (entry_shown file false all attachments [] at path) alike ∙ show_mask file all attachments at path e plain_e

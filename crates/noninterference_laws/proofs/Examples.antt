@@ -1,5 +1,5 @@
 -- Two databases that differ in a password alone, computed.
-use Rattle.std.proofs.Common.{◌≡◌, ◌≢◌, ℕ, true, List, [], ◌∷◌, Result, Ok, Err, codes, bytes_eq, refl, ap, subst, true≢false}
+use Rattle.std.proofs.Common.{◌≡◌, ◌≢◌, ℕ, true, List, [], ◌∷◌, Option, None, Some, Result, Ok, Err, codes, bytes_eq, refl, ap, subst, true≢false}
 use Rattle.vault_model.specs.Db.{NodeId}
 use Rattle.vault_model.specs.Shape.{EntryRecord}
 use Rattle.vault_model.specs.Tree.{BareDoc, entry_rows}
@@ -13,6 +13,7 @@ use Rattle.find_references.specs.Terms.{term_before, terms_of}
 use Rattle.find_references.specs.declared.fail.FindFail.{FindFail}
 use Rattle.find_references.specs.declared.terms.Term.{Term}
 use Rattle.find_core.specs.Search.{found_in}
+use Rattle.cli_showing.specs.Showing.{version_shown}
 use Rattle.noninterference_laws.specs.Example.{ExampleDatabases, one, other}
 use Rattle.noninterference_laws.specs.Masks.{LooksAtNoSecret, looks_at_secret, shows_no_reference}
 
@@ -28,9 +29,15 @@ abbrev held_or : Holding → Result Holding TreeFail → Holding
 held_or held (Ok h) = h
 held_or held (Err why) = held
 
-shows_plain : (held : Holding) → entry_named (codes "Bank") one ≡ Ok held → shows_no_reference true held.entry.1 ≡ true
+abbrev shown_or : NodeId × EntryRecord → Option (NodeId × EntryRecord) → NodeId × EntryRecord
+shown_or e (Some shown) = shown
+shown_or e None = e
+
+shows_plain : (held : Holding) (shown : NodeId × EntryRecord) → entry_named (codes "Bank") one ≡ Ok held → version_shown 0 held.entry ≡ Some shown → shows_no_reference true shown.1 ≡ true
 unfolding entry_found reference_at
-shows_plain held is = subst (λ (h : Holding). shows_no_reference true h.entry.1 ≡ true) (ap (held_or held) is) refl
+shows_plain held shown is num =
+    subst (λ (e : NodeId × EntryRecord). shows_no_reference true e.1 ≡ true) (ap (shown_or held.entry) num)
+    (subst (λ (h : Holding). shows_no_reference true h.entry.1 ≡ true) (ap (held_or held) is) refl)
 
 abbrev terms_or : List Term → Result (List Term) FindFail → List Term
 terms_or terms (Ok ts) = ts

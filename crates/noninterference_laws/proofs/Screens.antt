@@ -8,12 +8,12 @@ use Rattle.kdbx_frame.specs.declared.settings.Settings.{Settings}
 use Rattle.vault_model.specs.Bare.{BareContent, BareField}
 use Rattle.vault_model.specs.Db.{NodeId}
 use Rattle.vault_model.specs.Shape.{BareVersion, EntryRecord}
-use Rattle.vault_model.specs.Tree.{BareDoc, Tree, Trees, beside, entry_rows, entry_rows_all, group_rows, group_rows_all, node, none}
+use Rattle.vault_model.specs.Tree.{BareDoc, Tree, Trees, beside, entry_rows, entry_rows_all, group_rows, group_rows_all, id_of, node, none}
 use Rattle.vault_model.specs.Walk.{Node, Walked, a_group, an_entry, name_of, title_of, value_of, walk, walk_tree, walk_trees, walked_entry, slash_joined}
 use Rattle.vault_model.proofs.Tests.{decide, map_append}
-use Rattle.tree_core.specs.Finding.{first, group_found, group_id, group_named, or_else, without_slashes}
+use Rattle.tree_core.specs.Finding.{first, group_at_path, group_by_id, group_found, group_id, group_named, id_named, or_else, without_slashes}
 use Rattle.cli_printing.specs.Info.{bin_state, file_lines, info_shown, line, name_lines as name_lines_of}
-use Rattle.cli_printing.specs.Listing.{front_below, group_lines, name_lines, title_lines, tree_among, tree_listed, tree_with}
+use Rattle.cli_printing.specs.Listing.{front_below, group_lines, name_lines, name_listed, title_lines, tree_among, tree_listed, tree_with}
 use Rattle.noninterference_laws.specs.Masks.{InfoIsBlind, ListingIsBlind, MasksLookAlike, ShowsTitles, is_secret, listing, mask, mask_attachment, mask_content, mask_entry, mask_field, mask_row, mask_tree, mask_trees, mask_version}
 
 module _ (p : BareField → Bool) (titles : ShowsTitles p) where
@@ -52,19 +52,22 @@ module _ (p : BareField → Bool) (titles : ShowsTitles p) where
 
   -- ---- listings
 
-  titles_same : (front : List ℕ) (es : List (NodeId × EntryRecord)) → title_lines front (map (mask_row p) es) ≡ title_lines front es
-  titles_same front [] = refl
-  titles_same front (e ∷ es) = λ i. ((front ++ title_same e.1 i) ++ codes "\n") ++ titles_same front es i
+  titles_same : (ids : Bool) (front : List ℕ) (es : List (NodeId × EntryRecord)) → title_lines ids front (map (mask_row p) es) ≡ title_lines ids front es
+  titles_same ids front [] = refl
+  titles_same ids front (e ∷ es) = λ i. ((front ++ name_listed ids e.0 (title_same e.1 i)) ++ codes "\n") ++ titles_same ids front es i
+
+  tree_id_same : (t : Tree) → id_of (mask_tree p t) ≡ id_of t
+  tree_id_same (node u r es ts) = refl
 
   mutual
-    pub lines_same : (recursive flat : Bool) (front : List ℕ) (t : Tree) → group_lines recursive flat front (mask_tree p t) ≡ group_lines recursive flat front t
-    lines_same recursive flat front (node u r es ts) = λ i. titles_same front es i ++ names_same recursive flat front ts i
+    pub lines_same : (recursive flat ids : Bool) (front : List ℕ) (t : Tree) → group_lines recursive flat ids front (mask_tree p t) ≡ group_lines recursive flat ids front t
+    lines_same recursive flat ids front (node u r es ts) = λ i. titles_same ids front es i ++ names_same recursive flat ids front ts i
 
-    names_same : (recursive flat : Bool) (front : List ℕ) (ts : Trees) → name_lines recursive flat front (mask_trees p ts) ≡ name_lines recursive flat front ts
-    names_same recursive flat front none = refl
-    names_same recursive flat front (beside t ts) =
-        ap (λ n. (((front ++ n) ++ codes "/\n") ++ cond recursive (group_lines recursive flat (front_below flat front n) (mask_tree p t)) []) ++ name_lines recursive flat front (mask_trees p ts)) (name_same t)
-        ∙ (λ i. (((front ++ name_of t) ++ codes "/\n") ++ cond recursive (lines_same recursive flat (front_below flat front (name_of t)) t i) []) ++ names_same recursive flat front ts i)
+    names_same : (recursive flat ids : Bool) (front : List ℕ) (ts : Trees) → name_lines recursive flat ids front (mask_trees p ts) ≡ name_lines recursive flat ids front ts
+    names_same recursive flat ids front none = refl
+    names_same recursive flat ids front (beside t ts) =
+        (λ i. (((front ++ name_listed ids (tree_id_same t i) (name_same t i)) ++ codes "/\n") ++ cond recursive (group_lines recursive flat ids (front_below flat front (name_same t i)) (mask_tree p t)) []) ++ name_lines recursive flat ids front (mask_trees p ts))
+        ∙ (λ i. (((front ++ name_listed ids (id_of t) (name_of t)) ++ codes "/\n") ++ cond recursive (lines_same recursive flat ids (front_below flat front (name_of t)) t i) []) ++ names_same recursive flat ids front ts i)
 
   -- ---- what a path names
 
@@ -104,13 +107,24 @@ module _ (p : BareField → Bool) (titles : ShowsTitles p) where
   unfolding mask_walked
   named_same text w = ap (λ o. cond (bytes_eq text w.path) o None) (id_same w.found)
 
-  first_same : (text : List ℕ) (ws : List Walked) → first (group_named text) (map mask_walked ws) ≡ first (group_named text) ws
-  first_same text [] = refl
-  first_same text (w ∷ ws) = λ i. or_else (named_same text w i) (first_same text ws i)
+  by_id_same : (text : List ℕ) (w : Walked) → group_by_id text (mask_walked w) ≡ group_by_id text w
+  unfolding mask_walked
+  by_id_same text w = ap (option_and_then (id_named text)) (id_same w.found)
+
+  pub first_same : (f : Walked → Option NodeId) → ((w : Walked) → f (mask_walked w) ≡ f w) → (ws : List Walked) → first f (map mask_walked ws) ≡ first f ws
+  first_same f same [] = refl
+  first_same f same (w ∷ ws) = λ i. or_else (same w i) (first_same f same ws i)
+
+  walked_same : (f : Walked → Option NodeId) → ((w : Walked) → f (mask_walked w) ≡ f w) → (d : BareDoc) → first f (walk (mask p d)) ≡ first f (walk d)
+  walked_same f same d = ap (first f) (walk_same [] d.tree) ∙ first_same f same (walk d)
+
+  pub group_path_same : (d : BareDoc) (text : List ℕ) → group_at_path (mask p d) text ≡ group_at_path d text
+  unfolding group_at_path
+  group_path_same d text = walked_same (group_named (without_slashes text)) (named_same (without_slashes text)) d
 
   pub group_same : (d : BareDoc) (text : List ℕ) → group_found (mask p d) text ≡ group_found d text
   unfolding group_found
-  group_same d text = ap (first (group_named (without_slashes text))) (walk_same [] d.tree) ∙ first_same (without_slashes text) (walk d)
+  group_same d text = λ i. or_else (walked_same (group_by_id (without_slashes text)) (by_id_same (without_slashes text)) d i) (group_path_same d text i)
 
   or_mask : (a b : Option Tree) → or_else (option_map (mask_tree p) a) (option_map (mask_tree p) b) ≡ option_map (mask_tree p) (or_else a b)
   or_mask None b = refl
@@ -138,12 +152,12 @@ module _ (p : BareField → Bool) (titles : ShowsTitles p) where
       at None = refl
       at (Some id) = tree_same id d.tree
 
-  listing_same : (recursive flat : Bool) (o : Option Tree) → option_map (group_lines recursive flat []) (option_map (mask_tree p) o) ≡ option_map (group_lines recursive flat []) o
-  listing_same recursive flat None = refl
-  listing_same recursive flat (Some t) = ap Some (lines_same recursive flat [] t)
+  listing_same : (recursive flat ids : Bool) (o : Option Tree) → option_map (group_lines recursive flat ids []) (option_map (mask_tree p) o) ≡ option_map (group_lines recursive flat ids []) o
+  listing_same recursive flat ids None = refl
+  listing_same recursive flat ids (Some t) = ap Some (lines_same recursive flat ids [] t)
 
-  pub listing_mask : (group : Option (List ℕ)) (recursive flat : Bool) (d : BareDoc) → listing group recursive flat (mask p d) ≡ listing group recursive flat d
-  listing_mask group recursive flat d = ap (option_map (group_lines recursive flat [])) (listed_same group d) ∙ listing_same recursive flat (tree_listed group d)
+  pub listing_mask : (group : Option (List ℕ)) (recursive flat ids : Bool) (d : BareDoc) → listing group recursive flat ids (mask p d) ≡ listing group recursive flat ids d
+  listing_mask group recursive flat ids d = ap (option_map (group_lines recursive flat ids [])) (listed_same group d) ∙ listing_same recursive flat ids (tree_listed group d)
 
   -- ---- db-info
 
@@ -181,7 +195,7 @@ pub secret_titles : ShowsTitles is_secret
 secret_titles f q = ap (λ b. not b && (f.hidden || bytes_eq (codes "Password") f.key)) q
 
 pub listing_is_blind : ListingIsBlind
-listing_is_blind d e alike group recursive flat = sym (listing_mask is_secret secret_titles group recursive flat d) ∙ ap (listing group recursive flat) alike ∙ listing_mask is_secret secret_titles group recursive flat e
+listing_is_blind d e alike group recursive flat ids = sym (listing_mask is_secret secret_titles group recursive flat ids d) ∙ ap (listing group recursive flat ids) alike ∙ listing_mask is_secret secret_titles group recursive flat ids e
 
 pub info_is_blind : InfoIsBlind
 info_is_blind d e alike settings = sym (info_same is_secret secret_titles settings d) ∙ ap (info_shown settings) alike ∙ info_same is_secret secret_titles settings e

@@ -1,10 +1,11 @@
 -- Two databases that differ in a password alone, so that each law speaks of something.
-use Rattle.std.specs.Prelude.{◌≡◌, ◌≢◌, ℕ, true, List, [], ◌∷◌, codes, Ok}
-use Rattle.vault_model.specs.Db.{nil_id}
-use Rattle.vault_model.specs.Shape.{BareVersion}
+use Rattle.std.specs.Prelude.{◌≡◌, ◌≢◌, ℕ, true, List, [], ◌∷◌, codes, Ok, Some}
+use Rattle.vault_model.specs.Db.{NodeId, nil_id}
+use Rattle.vault_model.specs.Shape.{BareVersion, EntryRecord}
 use Rattle.vault_model.specs.Tree.{BareDoc, node, none}
 use Rattle.merge_core.specs.Example.{as_it_was, bank, entry, group, root, version}
 use Rattle.tree_core.specs.After.{Holding, entry_named}
+use Rattle.cli_showing.specs.Showing.{version_shown}
 use Rattle.noninterference_laws.specs.Masks.{LookAlike, LooksAtNoSecret, is_marked, is_secret, shows_no_reference}
 
 -- A version that has a password, which is marked hidden.
@@ -41,6 +42,7 @@ pub record ExampleDatabases : Type 0 where
   pub apart : one ≢ other
   pub alike : LookAlike is_secret one other
   pub marked : LookAlike is_marked one other
-  pub plain : (held : Holding) → entry_named (codes "Bank") one ≡ Ok held
-      → shows_no_reference true held.entry.1 ≡ true
+  pub plain : (held : Holding) (shown : NodeId × EntryRecord)
+      → entry_named (codes "Bank") one ≡ Ok held → version_shown 0 held.entry ≡ Some shown
+      → shows_no_reference true shown.1 ≡ true
   pub searched : LooksAtNoSecret (codes "bank") one

@@ -1,5 +1,5 @@
 -- Documents without what is hidden, and commands that print the same for all that are alike so.
-use Rattle.std.specs.Prelude.{◌≡◌, ℕ, Bool, true, false, not, ◌&&◌, ◌||◌, cond, List, [], ◌∷◌, bytes_eq, codes, map, Option, Result, Ok, Err}
+use Rattle.std.specs.Prelude.{◌≡◌, ℕ, Bool, true, false, not, ◌&&◌, ◌||◌, cond, List, [], ◌∷◌, bytes_eq, codes, map, Option, Some, Result, Ok, Err}
 use Rattle.std.specs.Option.{option_map}
 use Rattle.kdbx_frame.specs.declared.settings.Settings.{Settings}
 use Rattle.std.specs.List.{list_all, list_any}
@@ -17,10 +17,10 @@ use Rattle.find_references.specs.declared.terms.Term.{Term}
 use Rattle.find_core.specs.Search.{found_in}
 use Rattle.cli_messages.specs.declared.answers.Refusal.{Refusal}
 use Rattle.cli_parse.specs.declared.command.Command.{Command}
-use Rattle.cli_parse.specs.declared.command.Command.TheVariants.{Ls, Show, Search, Add, Edit, Move, Remove, MakeGroup, RemoveGroup, Merge, Import, Create, Export, EditFile, Info}
+use Rattle.cli_parse.specs.declared.command.Command.TheVariants.{Ls, Show, History, Search, Add, Edit, Restore, Move, Remove, MakeGroup, RemoveGroup, Merge, Import, Create, Export, EditFile, Info}
 use Rattle.cli_printing.specs.Info.{info_shown}
 use Rattle.cli_printing.specs.Listing.{group_lines, tree_listed}
-use Rattle.cli_showing.specs.Showing.{entries_shown, entry_shown}
+use Rattle.cli_showing.specs.Showing.{entries_shown, entry_shown, version_shown}
 use Rattle.cli_commands.specs.Commands.{Change, change_with, makes_node}
 
 -- ---- documents without what is hidden
@@ -91,13 +91,15 @@ LookAlike p d e = mask p d ≡ mask p e
 
 -- what `ls` prints of the group that a path names, or of the root; nothing where the path names
 -- none
-abbrev pub listing : Option (List ℕ) → (recursive flat : Bool) → BareDoc → Option (List ℕ)
-listing group recursive flat d = option_map (group_lines recursive flat []) (tree_listed group d)
+abbrev pub listing : Option (List ℕ) → (recursive flat ids : Bool) → BareDoc → Option (List ℕ)
+listing group recursive flat ids d =
+    option_map (group_lines recursive flat ids []) (tree_listed group d)
 
 -- `ls` prints, or finds no group, the same
 abbrev pub ListingIsBlind : Type 0
 ListingIsBlind = (d e : BareDoc) → LookAlike is_secret d e → (group : Option (List ℕ))
-    (recursive flat : Bool) → listing group recursive flat d ≡ listing group recursive flat e
+    (recursive flat ids : Bool)
+    → listing group recursive flat ids d ≡ listing group recursive flat ids e
 
 -- `db-info` prints the same
 abbrev pub InfoIsBlind : Type 0
@@ -118,16 +120,18 @@ mask_change p (Err refusal) = Err refusal
 
 -- The commands that look at no value but titles: `ls`, `db-info`, `mv`, `rm`, `mkdir` and `rmdir`.
 abbrev pub reads_no_value : Command → Bool
-reads_no_value (Ls access file group recursive flat) = true
-reads_no_value (Show access file entry clear all attachments names totp) = false
+reads_no_value (Ls access file group recursive flat ids) = true
+reads_no_value (Show access file entry clear all attachments names totp at) = false
+reads_no_value (History access file entry) = false
 reads_no_value (Search access file term) = false
 reads_no_value (Add access file entry asked) = false
 reads_no_value (Edit access file entry asked) = false
+reads_no_value (Restore access file entry version) = false
 reads_no_value (Move access file word group) = true
 reads_no_value (Remove access file entry) = true
 reads_no_value (MakeGroup access file group) = true
 reads_no_value (RemoveGroup access file group) = true
-reads_no_value (Merge access file names from same dry) = false
+reads_no_value (Merge access file names from same dry details) = false
 reads_no_value (Import access format source from file) = false
 reads_no_value (Create access file name cipher kdf) = false
 reads_no_value (Export access format file) = false
@@ -170,15 +174,16 @@ shows_no_reference all e =
     list_all (λ (f : BareField). not (is_shown all f) || has_no_reference f.value) (fields_of e)
 
 -- Where two documents are the same but for values that are marked hidden and the bytes of
--- attachments, and no value that is shown of the entry that a path names has a reference, `show`
--- prints the same of it, or refuses the same, unless hidden values or single fields are asked for.
+-- attachments, and no value that is shown of a version of the entry that a path names has a
+-- reference, `show` prints the same of it, or refuses the same, unless hidden values or single fields
+-- are asked for.
 abbrev pub ShowIsBlind : Type 0
 ShowIsBlind = (d e : BareDoc) → LookAlike is_marked d e → (path file : List ℕ)
-    (all attachments : Bool)
-    → ((held : Holding) → entry_named path d ≡ Ok held
-    → shows_no_reference all held.entry.1 ≡ true)
-    → entry_shown file false all attachments [] path d
-    ≡ entry_shown file false all attachments [] path e
+    (all attachments : Bool) (at : ℕ)
+    → ((held : Holding) (shown : NodeId × EntryRecord) → entry_named path d ≡ Ok held
+    → version_shown at held.entry ≡ Some shown → shows_no_reference all shown.1 ≡ true)
+    → entry_shown file false all attachments [] at path d
+    ≡ entry_shown file false all attachments [] at path e
 
 -- ---- search
 

@@ -14,7 +14,7 @@ use crate::marks::{decimal, prefix_before, suffix_after};
 use crate::parameters::{Parameters, read_parameters};
 use secret_core::Secret;
 use std::alloc::Global;
-use vault_model::{Entry, Field};
+use vault_model::Field;
 
 // A secret and how codes are made of it, where that is within the limits.
 #[tactic(auto, unfolding(crate::specs::Reading::within_limits))]
@@ -215,7 +215,7 @@ fn value_of<'a>(fields: &'a [Field], key: &str) -> Option<&'a [u8]>
     None
 }
 
-/// What the current version of an entry says of one-time codes: its field `otp`, a URI
+/// What the fields of a version of an entry say of one-time codes: the field `otp`, a URI
 /// `otpauth://totp/LABEL?PARAMETERS`; without that `TOTP Seed`, a secret in base 32, and
 /// `TOTP Settings`, which is `PERIOD;DIGITS`.
 ///
@@ -224,12 +224,10 @@ fn value_of<'a>(fields: &'a [Field], key: &str) -> Option<&'a [u8]>
 /// [`OtpFail::NoOtp`] where neither `otp` nor `TOTP Seed` is there; else of the first fault of the
 /// text from its beginning on [`OtpFail::OtpForm`] or [`OtpFail::OtpUnknown`], and of a text without
 /// a fault [`OtpFail::OtpLimit`]. [`OtpFail::NoMemory`] where memory runs out.
-pub fn read_otp(alloc: Global, entry: &Entry) -> Result<Otp, OtpFail>
-    ensures otp { Answers otp_seen
-        (spec.otp_of_entry (map bare_field entry.now.current.content.fields)) result }
+pub fn read_otp(alloc: Global, fields: &[Field]) -> Result<Otp, OtpFail>
+    ensures otp { Answers otp_seen (spec.otp_of_entry (map bare_field fields.now)) result }
     ensures within { IfOk result (λ otp. IsWithin otp) }
 {
-    let fields = entry.current.content.fields.as_slice();
     read_otp_fields(
         alloc,
         value_of(fields, "otp"),

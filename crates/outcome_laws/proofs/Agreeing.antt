@@ -18,7 +18,7 @@ use Rattle.cli_parse.specs.declared.command.Command.{Command}
 use Rattle.cli_parse.specs.declared.command.FileChange.{FileChange}
 use Rattle.cli_parse.specs.declared.command.KeyFileChange.{KeyFileChange}
 use Rattle.cli_parse.specs.declared.command.KeyFileChange.TheVariants as key_file
-use Rattle.cli_parse.specs.declared.command.Command.TheVariants.{Ls, Show, Search, Add, Edit, Move, Remove, MakeGroup, RemoveGroup, Merge, Import, Create, Export, EditFile, Info}
+use Rattle.cli_parse.specs.declared.command.Command.TheVariants.{Ls, Show, History, Search, Add, Edit, Restore, Move, Remove, MakeGroup, RemoveGroup, Merge, Import, Create, Export, EditFile, Info}
 use Rattle.cli_parse.specs.Needs as from
 use Rattle.cli_parse.specs.Needs.{CreateNeeds, ImportNeeds, Needs, Origin, database_files, files_by, files_named, files_of, key_files, needs_of, new_key_files, origin_of, source_files, target_of}
 use Rattle.cli_parse.specs.Words.{command_of, profile_of}
@@ -244,16 +244,18 @@ opened_target needs =
     in_front (database_files needs.access needs.file) (source_files needs.from needs.sources) needs.file (in_back (key_files needs.access.key_file) (needs.file ∷ []) needs.file (inl refl))
 
 target_named : (command : Command) → IsIn (target_of command) (files_named (Ok command))
-target_named (Ls access file group recursive flat) = opened_target (needs_of (Ls access file group recursive flat))
-target_named (Show access file entry clear all attachments names totp) = opened_target (needs_of (Show access file entry clear all attachments names totp))
+target_named (Ls access file group recursive flat ids) = opened_target (needs_of (Ls access file group recursive flat ids))
+target_named (Show access file entry clear all attachments names totp at) = opened_target (needs_of (Show access file entry clear all attachments names totp at))
+target_named (History access file entry) = opened_target (needs_of (History access file entry))
 target_named (Search access file term) = opened_target (needs_of (Search access file term))
 target_named (Add access file entry asked) = opened_target (needs_of (Add access file entry asked))
 target_named (Edit access file entry asked) = opened_target (needs_of (Edit access file entry asked))
+target_named (Restore access file entry version) = opened_target (needs_of (Restore access file entry version))
 target_named (Move access file node group) = opened_target (needs_of (Move access file node group))
 target_named (Remove access file entry) = opened_target (needs_of (Remove access file entry))
 target_named (MakeGroup access file group) = opened_target (needs_of (MakeGroup access file group))
 target_named (RemoveGroup access file group) = opened_target (needs_of (RemoveGroup access file group))
-target_named (Merge access file names from same dry) = opened_target (needs_of (Merge access file names from same dry))
+target_named (Merge access file names from same dry details) = opened_target (needs_of (Merge access file names from same dry details))
 target_named (Import access format source from file) = inr (inl refl)
 target_named (Create access file name cipher kdf) = inl refl
 target_named (Export access format file) = opened_target (needs_of (Export access format file))

@@ -8,7 +8,7 @@ use Rattle.markup_grammar.specs.Escapes.{escaped_byte}
 use Rattle.vault_model.specs.Tree.{BareDoc}
 use Rattle.vault_making.specs.NeededVersion.{needed_version}
 use Rattle.merge_core.specs.Example.{as_it_was}
-use Rattle.tree_core.specs.Finding.{group_found, has_group_path}
+use Rattle.tree_core.specs.Finding.{group_at_path, group_found, has_group_path}
 use Rattle.doc_spelling.specs.Moments.{moment_at, month_from, year_from}
 use Rattle.doc_spelling.specs.Ranges.{tree_nodes}
 use Rattle.doc_write.specs.Written.{written_len}
@@ -62,15 +62,15 @@ draws = draws_of new_settings (rising 164 16)
 -- ---- the file is within its limits
 
 few_nodes : nat_lt 262144 (tree_nodes doc.tree) ≡ false
-unfolding after_mkdir group_found has_group_path next_bytes
+unfolding after_mkdir group_at_path group_found has_group_path next_bytes
 few_nodes = refl
 
 short_text : nat_le (written_len (form_of new_settings.version) (written_keystream new_settings.version draws) (hash_kept new_settings.version new_settings draws) doc) 10000 ≡ true
-unfolding after_mkdir group_found has_group_path next_bytes needed_version escaped_byte moment_at year_from month_from digits encode_symbols
+unfolding after_mkdir group_at_path group_found has_group_path next_bytes needed_version escaped_byte moment_at year_from month_from digits encode_symbols
 short_text = refl
 
 short_header : nat_lt header_limit (length (spelled_header new_settings draws) + sums_len new_settings.version) ≡ false
-unfolding after_mkdir group_found has_group_path next_bytes needed_version spelled_header spelled_kdf
+unfolding after_mkdir group_at_path group_found has_group_path next_bytes needed_version spelled_header spelled_kdf
 short_header = refl
 
 sealed_fits : size_refusal new_settings draws doc ≡ None
@@ -92,18 +92,18 @@ abbrev ends_by : Option SealFail → StreamAnswer Ending
 ends_by why = then_left (with_left (file_unless (codes "family.kdbx") why bytes) (after_draws new_settings (rising 164 16))) (λ file left. with_left (Ok (ending_with text file)) left)
 
 carried : carried_out 50 sealed_making dice ≡ ends_by None
-unfolding carried_out file_by after_mkdir group_found has_group_path next_bytes
+unfolding carried_out file_by after_mkdir group_at_path group_found has_group_path next_bytes
 carried = ap ends_by sealed_fits
 
 left_is : (carried_out 50 sealed_making dice).left ≡ rising 24 156
-unfolding needed_version after_mkdir group_found has_group_path next_bytes
+unfolding needed_version after_mkdir group_at_path group_found has_group_path next_bytes
 left_is = ap (λ (a : StreamAnswer Ending). a.left) carried
 
 abbrev first_pieces : List (List ℕ)
 first_pieces = rising 16 0 ∷ rising 32 16 ∷ rising 32 48 ∷ rising 12 80 ∷ rising 64 92 ∷ [] ∷ []
 
 pieces : task_pieces 50 sealed_making dice ≡ first_pieces
-unfolding needed_version after_mkdir group_found has_group_path next_bytes
+unfolding needed_version after_mkdir group_at_path group_found has_group_path next_bytes
 pieces = refl
 
 -- a password, of what the first call leaves
@@ -112,7 +112,7 @@ unfolding choose next
 prints = refl
 
 later_pieces : all_pieces (password_call two_letters ∷ task_call 60 plain_making ∷ []) (rising 24 156) ≡ rising 2 156 ∷ rising 16 158 ∷ []
-unfolding after_mkdir group_found has_group_path next_bytes choose next
+unfolding after_mkdir group_at_path group_found has_group_path next_bytes choose next
 later_pieces = refl
 
 abbrev later : List ℕ → List (List ℕ)
@@ -125,11 +125,11 @@ three =
     ∙ ap (λ p. first_pieces ++ p) later_pieces
 
 makes : (change_of_task 50 sealed_making dice).answer ≡ Ok change
-unfolding after_mkdir group_found has_group_path next_bytes
+unfolding after_mkdir group_at_path group_found has_group_path next_bytes
 makes = refl
 
 writes : change.doc ≡ Some doc
-unfolding after_mkdir group_found has_group_path next_bytes
+unfolding after_mkdir group_at_path group_found has_group_path next_bytes
 writes = refl
 
 pub example_draws : ExampleDraws

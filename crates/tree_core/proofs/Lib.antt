@@ -1,5 +1,7 @@
 pub mod Examples
+pub mod ByIds
 pub mod Leading
+pub mod Numbered
 pub mod Steps
 pub mod Walks
 pub mod Added

@@ -7,8 +7,8 @@ use Rattle.vault_model.proofs.Tests.{is_false}
 use Rattle.vault_model.specs.Db.{NodeId}
 use Rattle.vault_model.specs.Shape.{EntryRecord}
 use Rattle.vault_model.specs.Tree.{BareDoc, Tree, Trees, beside, id_of, node, none}
-use Rattle.vault_model.specs.Walk.{Walked, slash_joined, name_of, title_of, walk_tree, walk_trees, walked_entry}
-use Rattle.tree_core.specs.Finding.{entry_at, entry_found, entry_named, first, group_found, group_named, has_entry_path, has_group_path, or_else, without_slashes}
+use Rattle.vault_model.specs.Walk.{Walked, slash_joined, name_of, title_of, walk, walk_tree, walk_trees, walked_entry}
+use Rattle.tree_core.specs.Finding.{entry_at, entry_named, first, group_at_path, group_named, has_entry_path, has_group_path, or_else, without_slashes}
 use Rattle.tree_core.specs.Path.{strip_prefix, strip_component, entry_among, entry_in, entry_in_all, group_in, group_in_all, is_exactly}
 use Rattle.tree_core.proofs.Leading.{leading, one_below, path_left}
 
@@ -27,7 +27,7 @@ first_append f [] ys = refl
 first_append f (x ∷ xs) ys = ap (or_else (f x)) (first_append f xs ys) ∙ sym (or_else_assoc (f x) (first f xs) (first f ys))
 
 -- one that is found where a test holds, before the others
-tested : {B : Type 0} (b : Bool) (x : B) (other : Option B) → or_else (cond b (Some x) None) other ≡ cond b (Some x) other
+pub tested : {B : Type 0} (b : Bool) (x : B) (other : Option B) → or_else (cond b (Some x) None) other ≡ cond b (Some x) other
 tested true x other = refl
 tested false x other = refl
 
@@ -73,8 +73,7 @@ mutual
       ∙ ap (λ (o : Option (List ℕ)). or_else (entry_in (strip_component (name_of t) (rest text names)) o t) (first (entry_named text) (walk_trees names ts))) (one_below (codes "/") names (name_of t) text)
       ∙ ap (or_else (entry_in (strip_component (name_of t) (rest text names)) (strip_component (name_of t) (other text names)) t)) (all_entries_walked text names ts)
 
-pub entry_by_groups : (doc : BareDoc) (text : List ℕ) → entry_in (Some text) (strip_prefix (codes "/") text) doc.tree ≡ entry_found doc text
-unfolding entry_found
+pub entry_by_groups : (doc : BareDoc) (text : List ℕ) → entry_in (Some text) (strip_prefix (codes "/") text) doc.tree ≡ first (entry_named text) (walk doc)
 entry_by_groups doc text = sym (entries_walked text [] doc.tree)
 
 -- ---- groups
@@ -105,17 +104,17 @@ mutual
       ∙ ap (or_else (cond (is_exactly (name_of t) (rest text names)) (Some (id_of t)) (group_in (strip_component (name_of t) (rest text names)) t))) (all_groups_walked text names ts)
 
 pub group_by_groups : (doc : BareDoc) (text : List ℕ)
-    → cond (bytes_eq (without_slashes text) []) (Some (id_of doc.tree)) (group_in (Some (without_slashes text)) doc.tree) ≡ group_found doc text
-unfolding group_found
+    → cond (bytes_eq (without_slashes text) []) (Some (id_of doc.tree)) (group_in (Some (without_slashes text)) doc.tree) ≡ group_at_path doc text
+unfolding group_at_path
 group_by_groups doc text = sym (groups_walked (without_slashes text) [] doc.tree)
 
 -- the root is found by no text, and another group by a text that is left
-pub root_found : (doc : BareDoc) (text path : List ℕ) → path ≡ without_slashes text → path ≡ [] → Some (id_of doc.tree) ≡ group_found doc text
+pub root_found : (doc : BareDoc) (text path : List ℕ) → path ≡ without_slashes text → path ≡ [] → Some (id_of doc.tree) ≡ group_at_path doc text
 root_found doc text path is empty =
     ap (λ (b : Bool). cond b (Some (id_of doc.tree)) (group_in (Some (without_slashes text)) doc.tree)) (sym ((bytes_eq-Decides (without_slashes text) []).1 (sym is ∙ empty)))
     ∙ group_by_groups doc text
 
-pub below_found : (doc : BareDoc) (text path : List ℕ) → path ≡ without_slashes text → (path ≡ [] → ⊥) → group_in (Some path) doc.tree ≡ group_found doc text
+pub below_found : (doc : BareDoc) (text path : List ℕ) → path ≡ without_slashes text → (path ≡ [] → ⊥) → group_in (Some path) doc.tree ≡ group_at_path doc text
 below_found doc text path is some =
     ap (λ p. group_in (Some p) doc.tree) is
     ∙ ap (λ (b : Bool). cond b (Some (id_of doc.tree)) (group_in (Some (without_slashes text)) doc.tree))

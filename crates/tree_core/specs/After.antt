@@ -1,23 +1,23 @@
 -- The document after each command that changes it, or the first refusal.
-use Rattle.std.specs.Prelude.{◌≡◌, ◌⊎◌, ℕ, ◌+◌, Bool, true, false, not, ◌&&◌, ◌||◌, cond, if◌then◌else◌, max, nat_lt, List, [], ◌∷◌, Option, None, Some, Result, Ok, Err, MatchResult}
-use Rattle.std.specs.Option.{option_and_then, unwrap_or}
+use Rattle.std.specs.Prelude.{◌≡◌, ◌⊎◌, ℕ, ◌+◌, Bool, true, false, not, ◌&&◌, ◌||◌, if◌then◌else◌, max, nat_lt, List, [], ◌∷◌, Option, None, Some, Result, Ok, Err, MatchResult}
+use Rattle.std.specs.Option.{ok_or, option_and_then, unwrap_or}
 use Rattle.outside_core.specs.Results.{◌>>=◌}
 use Rattle.time_core.specs.Times.{last_stamp}
-use Rattle.vault_model.specs.declared.metas.Bin.{Bin}
 use Rattle.vault_model.specs.declared.metas.Meta.{Meta}
+use Rattle.vault_model.specs.Bare.{BareContent}
 use Rattle.vault_model.specs.Db.{NodeId}
 use Rattle.vault_model.specs.Join.{is_id}
 use Rattle.vault_model.specs.SeenNodes.{entry_time}
-use Rattle.vault_model.specs.Shape.{EntryRecord}
+use Rattle.vault_model.specs.Shape.{BareVersion, EntryRecord}
 use Rattle.vault_model.specs.Tree.{BareDoc, LEVELS, Tree, height, id_of}
-use Rattle.tree_core.specs.Finding.{entry_found, group_found, has_entry_path, has_group_path, without_slashes}
+use Rattle.tree_core.specs.Finding.{entry_found, group_at_path, group_found, has_entry_path, has_group_path, without_slashes}
 use Rattle.tree_core.specs.declared.fails.Removed.{Removed}
 use Rattle.tree_core.specs.declared.fails.Removed.TheVariants.{Deleted, Recycled}
 use Rattle.tree_core.specs.declared.fails.TreeFail.{TreeFail}
-use Rattle.tree_core.specs.declared.fails.TreeFail.TheVariants.{AlreadyThere, IdTaken, IntoItself, NameTaken, NoMemory, NoSuchPath, RootFixed, StampLimit, TooDeep}
+use Rattle.tree_core.specs.declared.fails.TreeFail.TheVariants.{AlreadyThere, IdTaken, IntoItself, NameTaken, NoMemory, NoSuchPath, NoVersion, RootFixed, StampLimit, TooDeep}
 use Rattle.tree_core.specs.Changes.{changed_at, changed_entry, entries_buried, entry_at, entry_moved, group_moved, group_with, has_group, holder, is_free, level_of, parent_of, placed_of, tree_buried, with_entry, with_group, without_entry, without_group}
-use Rattle.tree_core.specs.Histories.{settled_history, with_version}
-use Rattle.tree_core.specs.NewNodes.{GivenValues, edited_version, empty_bin, empty_group, new_entry, new_fields}
+use Rattle.tree_core.specs.Histories.{settled_history, version_numbered, with_version}
+use Rattle.tree_core.specs.NewNodes.{GivenValues, edited_content, empty_bin, empty_group, new_entry, new_fields, new_version}
 use Rattle.tree_core.specs.NewPaths.{after_last, before_last, names_root, new_path}
 
 -- ---- what a call answers
@@ -52,7 +52,7 @@ time_after now time =
 -- `add`: a new entry, the last of its group
 abbrev pub after_add : List ℕ → NodeId → GivenValues → ℕ → BareDoc → Result BareDoc TreeFail
 after_add path id values now d = do
-  group ← named_or_refusal (group_found d (before_last path))
+  group ← named_or_refusal (group_at_path d (before_last path))
   _ ← refuse_if (has_entry_path d (new_path path)) NameTaken
   _ ← refuse_if (not (is_free id d)) (IdTaken id)
   Ok (record d {
@@ -69,7 +69,7 @@ is_group_taken path d = has_group_path d path || names_root path
 -- a new group of a path without slashes around it, the last of its group
 abbrev pub after_new_group : List ℕ → NodeId → ℕ → BareDoc → Result BareDoc TreeFail
 after_new_group path id now d = do
-  group ← named_or_refusal (group_found d (before_last path))
+  group ← named_or_refusal (group_at_path d (before_last path))
   _ ← refuse_if (is_group_taken (new_path path) d) NameTaken
   _ ← refuse_if (nat_lt LEVELS (level_of group d.tree + 1)) TooDeep
   _ ← refuse_if (not (is_free id d)) (IdTaken id)
@@ -101,11 +101,16 @@ entry_named path d = do
   group ← named_or_refusal (holder id d.tree)
   held_in id d.tree group
 
--- an entry with the values that are given, made at a time; its history is within the limits
-abbrev pub edited_entry : Meta → GivenValues → ℕ → EntryRecord → EntryRecord
-edited_entry meta values time e =
+-- an entry that says something else, by what it said, in a version made at a time; its history is
+-- within the limits
+abbrev pub changed_content : Meta → (BareContent → BareContent) → ℕ → EntryRecord → EntryRecord
+changed_content meta says time e =
     settled_history meta.settings.value.history_items meta.settings.value.history_size
-    (with_version (edited_version meta.settings.value.protect values time e.current) e)
+    (with_version (new_version (says e.current.mark.content) time e.current) e)
+
+-- an entry with the values that are given
+abbrev pub edited_entry : Meta → GivenValues → ℕ → EntryRecord → EntryRecord
+edited_entry meta values = changed_content meta (edited_content meta.settings.value.protect values)
 
 -- `edit`: other values, and the versions before them as the history
 abbrev pub after_edit : List ℕ → GivenValues → ℕ → BareDoc → Result BareDoc TreeFail
@@ -115,6 +120,21 @@ after_edit path values now d = do
   Ok (record d {
     tree = changed_at held.group
         (changed_entry held.entry.0 (edited_entry d.meta values time)) d.tree;
+  })
+
+-- the version of an entry that has this number, or the refusal
+abbrev pub version_or_refusal : ℕ → EntryRecord → Result BareVersion TreeFail
+version_or_refusal number e = ok_or (version_numbered number e) (NoVersion number)
+
+-- `restore`: what a version says, again, and all versions before it as the history
+abbrev pub after_restore : List ℕ → (number : ℕ) → ℕ → BareDoc → Result BareDoc TreeFail
+after_restore path number now d = do
+  held ← entry_named path d
+  version ← version_or_refusal number held.entry.1
+  time ← time_after now (entry_time held.entry.1)
+  Ok (record d {
+    tree = changed_at held.group (changed_entry held.entry.0
+        (changed_content d.meta (λ _. version.mark.content) time)) d.tree;
   })
 
 -- ---- nodes that are moved

@@ -1,6 +1,6 @@
 -- Changes of a tree: one group changed, nodes put into it and taken out.
-use Rattle.std.specs.Prelude.{ℕ, suc, max, find, is_some, Bool, false, not, ◌&&◌, ◌||◌, ◌+◌, cond, List, [], ◌∷◌, ◌++◌, Option, None, Some, map}
-use Rattle.std.specs.Option.{option_and_then, option_map}
+use Rattle.std.specs.Prelude.{ℕ, suc, max, find, is_some, Bool, false, not, ◌&&◌, ◌||◌, cond, List, [], ◌∷◌, ◌++◌, Option, None, Some}
+use Rattle.std.specs.Option.{option_and_then}
 use Rattle.std.specs.Ordering.{is_lt}
 use Rattle.std.specs.List.{list_all}
 use Rattle.vault_model.specs.declared.nodes.Tombstone.{Tombstone}

@@ -1,5 +1,5 @@
 -- The history of an entry that is edited: in rising order, and within its limits.
-use Rattle.std.specs.Prelude.{ℕ, ℤ, Bool, true, false, ◌&&◌, ◌+◌, cond, List, [], ◌∷◌, map, length, sum, nat_le, negsuc, pos}
+use Rattle.std.specs.Prelude.{ℕ, ℤ, Bool, true, ◌&&◌, ◌+◌, cond, List, [], ◌∷◌, map, length, reverse, slice_get, sum, nat_le, negsuc, pos, Option}
 use Rattle.std.specs.FinMap.{entries}
 use Rattle.vault_model.specs.Bare.{BareAttachment, BareContent, BareField}
 use Rattle.vault_model.specs.Shape.{BareVersion, EntryRecord, version_of, versions_of}
@@ -39,6 +39,15 @@ within_limits items size (v ∷ vs) =
 -- an entry whose history is within the limits
 abbrev pub settled_history : ℤ → ℤ → EntryRecord → EntryRecord
 settled_history items size e = record e { history = within_limits items size e.history }
+
+-- the versions of an entry by their numbers: the current one is 0, the newest of its history, which
+-- is the last there, 1, and so on
+abbrev pub numbered_versions : EntryRecord → List BareVersion
+numbered_versions e = e.current ∷ reverse e.history
+
+-- the version that has a number
+abbrev pub version_numbered : ℕ → EntryRecord → Option BareVersion
+version_numbered number e = slice_get (numbered_versions e) number
 
 -- an entry with another version; all that it had are its history, in rising order
 abbrev pub with_version : BareVersion → EntryRecord → EntryRecord

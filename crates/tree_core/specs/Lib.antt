@@ -1,3 +1,4 @@
+pub mod ById
 pub mod Finding
 pub mod Path
 pub mod After

@@ -123,15 +123,20 @@ with_otp (Some (b ∷ bs)) fields =
 abbrev pub edited_fields : Protection → GivenValues → List BareField → List BareField
 edited_fields p v fields = with_otp v.otp (with_values p v fields)
 
--- a version with the values that are given, made and looked at then, and used as often as before
-abbrev pub edited_version : Protection → GivenValues → ℕ → BareVersion → BareVersion
-edited_version p v time old = record {
-  mark = record {
-    modified = time;
-    content = record old.mark.content { fields = edited_fields p v old.mark.content.fields };
-  };
+-- what an entry says, with the values that are given
+abbrev pub edited_content : Protection → GivenValues → BareContent → BareContent
+edited_content p v content = record content { fields = edited_fields p v content.fields }
+
+-- a version that says this, made and looked at at a time, and used as often as another
+abbrev pub new_version : BareContent → ℕ → BareVersion → BareVersion
+new_version content time old = record {
+  mark = record { modified = time; content = content };
   stats = record { accessed = time; usage = old.stats.usage };
 }
+
+-- the version that an edit with these values makes of another
+abbrev pub edited_version : Protection → GivenValues → ℕ → BareVersion → BareVersion
+edited_version p v time old = new_version (edited_content p v old.mark.content) time old
 
 -- ---- new groups
 

@@ -12,6 +12,8 @@ use uuid_core::Uuid;
 pub enum TreeFail {
     /// A path, or the part of it that must name a group, names nothing.
     NoSuchPath,
+    /// The entry has no version of this number.
+    NoVersion(u64),
     /// The path of the new node is another's already.
     NameTaken,
     /// The node is in that group already.

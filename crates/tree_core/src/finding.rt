@@ -1,12 +1,13 @@
-//! Finding nodes by their paths.
+//! Finding nodes by their ids and by their paths.
 
 ghost use Rattle.std.specs.Prelude.{◌≡◌, Some, map, option_map};
 ghost use Rattle.vault_model.specs.SeenDoc.{doc_seen};
 ghost use Rattle.vault_model.specs.SeenNodes.{entry_record, entry_row, tree_seen};
 ghost use Rattle.vault_model.specs.Walk.{title_of};
-ghost use Rattle.tree_core.specs.Finding.{entry_found, group_found, has_entry_path, has_group_path};
+ghost use Rattle.tree_core.specs.Finding.{entry_found, group_at_path, group_found, has_entry_path, has_group_path};
 ghost use Rattle.tree_core.specs.Path as spec;
 
+use crate::by_id::{entry_with_name, group_with_name};
 use crate::path::{is_exactly, strip_component, strip_prefix, without_slashes};
 use uuid_core::Uuid;
 use vault_model::{Doc, Entry, Group};
@@ -75,29 +76,36 @@ pub(crate) fn group_in(group: &Group, rest: Option<&[u8]>) -> Option<Uuid>
     None
 }
 
-/// The entry that a path names: the first in document order of which the text is the path, or a
-/// slash and the path. An entry's path is the names of its groups below the root and its title,
-/// with a slash between each two. Takes no memory.
+/// The entry that a text names: the one whose id in braces it is, and else the first in document
+/// order of which it is the path, or a slash and the path. An entry's path is the names of its
+/// groups below the root and its title, with a slash between each two. Takes no memory.
 pub fn find_entry(doc: &Doc, path: &str) -> Option<Uuid>
     ensures { result ≡ entry_found (doc_seen doc.now) path.now }
 {
     let path = path.as_bytes();
+    if let Some(id) = entry_with_name(&doc.root, path) {
+        return Some(id);
+    }
     entry_in(&doc.root, Some(path), strip_prefix(b"/", path))
 }
 
-/// The group that a path names: the first in document order whose path the text is, but for one
-/// leading slash and one at its end. A group's path is the names of the groups that lead to it
-/// from below the root and its own, with a slash between each two; the root's path is empty. Takes
-/// no memory.
+/// The group that a text names, but for one leading slash and one at its end: the one whose id in
+/// braces the text is, and else the one whose path it is. Takes no memory.
 pub fn find_group(doc: &Doc, path: &str) -> Option<Uuid>
     ensures { result ≡ group_found (doc_seen doc.now) path.now }
 {
-    find_group_of(doc, path.as_bytes())
+    let path = path.as_bytes();
+    if let Some(id) = group_with_name(&doc.root, without_slashes(path)) {
+        return Some(id);
+    }
+    find_group_at(doc, path)
 }
 
-/// The group that a path names which is given as bytes. Takes no memory.
-pub fn find_group_of(doc: &Doc, path: &[u8]) -> Option<Uuid>
-    ensures { result ≡ group_found (doc_seen doc.now) path.now }
+/// The group at a path: the first in document order whose path the text is, but for one leading
+/// slash and one at its end. A group's path is the names of the groups that lead to it from below
+/// the root and its own, with a slash between each two; the root's path is empty. Takes no memory.
+pub fn find_group_at(doc: &Doc, path: &[u8]) -> Option<Uuid>
+    ensures { result ≡ group_at_path (doc_seen doc.now) path.now }
 {
     let path = without_slashes(path);
     if path.is_empty() {

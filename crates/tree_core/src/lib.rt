@@ -3,12 +3,15 @@
 //! it is in `tree_edits`, `tree_groups`, `tree_moves` and `tree_removals`.
 #![tactic(auto)]
 
+mod by_id;
 pub mod fails;
 mod finding;
 mod path;
 pub mod values;
+mod versions;
 
 pub use fails::{Removed, TreeFail};
-pub use finding::{find_entry, find_group, find_group_of, is_entry_path, is_group_path, title};
+pub use finding::{find_entry, find_group, find_group_at, is_entry_path, is_group_path, title};
 pub use path::without_slashes;
 pub use values::Values;
+pub use versions::version_numbered;

@@ -1,8 +1,10 @@
 pub mod AddedDoc
 pub mod AfterAdd
 pub mod AfterEdit
+pub mod AfterRestore
 pub mod EditedDoc
 pub mod LastVersions
+pub mod NamedEntries
 pub mod MovedUp
 pub mod Suffixes
 pub mod Taken

@@ -1,6 +1,8 @@
 -- What a new entry and an edited one say is in order.
-use Rattle.std.proofs.Common.{◌≡◌, ◌&&◌, ℕ, ℤ, length, Bool, true, false, cond, List, [], ◌∷◌, Option, None, Some, IfSome, inl, inr, refl, sym, ap, ◌∙◌}
-use Rattle.std.specs.Prelude.{codes}
+use Rattle.std.proofs.Common.{◌≡◌, ◌&&◌, ℕ, zero, suc, ℤ, length, reverse, Bool, true, false, cond, List, [], ◌∷◌, Option, None, Some, IfSome, inl, inr, refl, sym, ap, ◌∙◌}
+use Rattle.std.specs.Prelude.{codes, slice_get}
+use mathlib.Core.List.{reverse_aux}
+use Rattle.std.proofs.lemmas.Option.{none-some, same_Some}
 use Rattle.std.specs.declared.cmp.Ordering.{Ordering}
 use Rattle.std.specs.declared.cmp.Ordering.TheVariants.{Less, Equal, Greater}
 use Rattle.std.specs.Borrow.{Bor}
@@ -23,10 +25,10 @@ use Rattle.vault_model.proofs.Orders.{bytes_order, mark_order}
 use Rattle.vault_model.proofs.Tests.{and_both, and_true, from_map}
 use Rattle.merge_core.proofs.SoundDoc.{all_in, version_marks}
 use Rattle.merge_core.proofs.Tables.{entry_get}
-use Rattle.tree_core.specs.After.{edited_entry}
-use Rattle.tree_core.specs.Histories.{is_within, rising_versions, versions_size, within_limits}
+use Rattle.tree_core.specs.After.{changed_content}
+use Rattle.tree_core.specs.Histories.{is_within, numbered_versions, rising_versions, version_numbered, versions_size, within_limits}
 use Rattle.tree_edits.specs.Texts.{AreTexts, is_text_value}
-use Rattle.tree_core.specs.NewNodes.{GivenValues, edited_fields, edited_version, field, lent_value, new_content, new_entry, new_fields, with_given, with_otp, with_value, with_values, without_field}
+use Rattle.tree_core.specs.NewNodes.{GivenValues, edited_content, edited_fields, field, lent_value, new_content, new_entry, new_fields, with_given, with_otp, with_value, with_values, without_field}
 
 -- ---- texts
 
@@ -269,11 +271,34 @@ suffix_proper items size (v ∷ vs) h =
       | false ↦ rest
     ]
 
-pub edited_entry_proper : (meta : Meta) (v : GivenValues) (time : ℕ) (e : EntryRecord) → AreTexts v → is_text_value v.otp ≡ true → is_proper_entry e ≡ true
-    → is_proper_entry (edited_entry meta v time e) ≡ true
-edited_entry_proper meta v time e t otp h =
+-- an entry that says something else
+pub changed_content_proper : (meta : Meta) (says : BareContent → BareContent) (time : ℕ) (e : EntryRecord)
+    → is_proper_content (says e.current.mark.content) ≡ true → is_proper_entry e ≡ true → is_proper_entry (changed_content meta says time e) ≡ true
+changed_content_proper meta says time e good h =
     let s = meta.settings.value in
+    and_both (is_proper_content (says e.current.mark.content)) (list_all proper (within_limits s.history_items s.history_size (rising_versions e)))
+    good (suffix_proper s.history_items s.history_size (rising_versions e) (rising_proper e h))
+
+-- the values that are given
+pub edited_content_good : (p : Protection) (v : GivenValues) (e : EntryRecord) → AreTexts v → is_text_value v.otp ≡ true → is_proper_entry e ≡ true
+    → is_proper_content (edited_content p v e.current.mark.content) ≡ true
+edited_content_good p v e t otp h =
     let both = and_true (proper e.current) (list_all proper e.history) h in
-    and_both (proper (edited_version s.protect v time e.current)) (list_all proper (within_limits s.history_items s.history_size (rising_versions e)))
-    (edited_content_proper e.current.mark.content (edited_fields s.protect v e.current.mark.content.fields) both.0 (good_edited s.protect v e.current.mark.content.fields t otp))
-    (suffix_proper s.history_items s.history_size (rising_versions e) (rising_proper e h))
+    edited_content_proper e.current.mark.content (edited_fields p v e.current.mark.content.fields) both.0 (good_edited p v e.current.mark.content.fields t otp)
+
+-- a version of a number
+reversed : (vs ws : List BareVersion) → list_all proper vs ≡ true → list_all proper ws ≡ true → list_all proper (reverse_aux vs ws) ≡ true
+reversed [] ws h k = k
+reversed (v ∷ vs) ws h k =
+    let both = and_true (proper v) (list_all proper vs) h in
+    reversed vs (v ∷ ws) both.1 (and_both (proper v) (list_all proper ws) both.0 k)
+
+got : (vs : List BareVersion) (n : ℕ) (v : BareVersion) → list_all proper vs ≡ true → slice_get vs n ≡ Some v → proper v ≡ true
+got [] n v h there = absurd (none-some v there)
+got (w ∷ vs) zero v h there = ap proper (sym (same_Some w v there)) ∙ (and_true (proper w) (list_all proper vs) h).0
+got (w ∷ vs) (suc n) v h there = got vs n v (and_true (proper w) (list_all proper vs) h).1 there
+
+pub numbered_good : (number : ℕ) (e : EntryRecord) (v : BareVersion) → version_numbered number e ≡ Some v → is_proper_entry e ≡ true → is_proper_content v.mark.content ≡ true
+numbered_good number e v there h =
+    let both = and_true (proper e.current) (list_all proper e.history) h in
+    got (numbered_versions e) number v (and_both (proper e.current) (list_all proper (reverse e.history)) both.0 (reversed e.history [] both.1 refl)) there

@@ -9,7 +9,7 @@ ghost use Rattle.tree_core.specs.NewNodes.{given_values};
 use crate::new_entries::{new_entry, new_fields};
 use crate::texts::values_are_utf8;
 use std::alloc::Global;
-use tree_core::{TreeFail, Values, find_group_of, is_entry_path};
+use tree_core::{TreeFail, Values, find_group_at, is_entry_path};
 use tree_steps::{before_last, is_free, name_after, path_of_new, put_entry};
 use uuid_core::Uuid;
 use vault_model::{Doc, Stamp};
@@ -30,7 +30,7 @@ pub fn add(
     ensures { Changes (after_add path.now id (given_values values.now) now (doc_seen doc.old))
         result (doc_seen doc.old) (doc_seen doc.new) }
 {
-    let Some(group) = find_group_of(doc, before_last(path.as_bytes())) else {
+    let Some(group) = find_group_at(doc, before_last(path.as_bytes())) else {
         return Err(TreeFail::NoSuchPath);
     };
     let new_path = path_of_new(alloc, path)?;

@@ -10,9 +10,8 @@ ghost use Rattle.tree_core.specs.After.{Changes, after_edit, edited_entry};
 ghost use Rattle.tree_core.specs.Histories.{settled_history, with_version};
 ghost use Rattle.tree_core.specs.NewNodes as spec;
 
+use crate::changing::{Versions, past_versions};
 use crate::fields::{remove_field, set_value};
-use crate::histories::rising_versions;
-use crate::limits::limit_history;
 use crate::texts::values_are_utf8;
 use outside_core::{List, NoMemory};
 use std::alloc::Global;
@@ -155,27 +154,6 @@ fn edited_version(
     }
 }
 
-// The history of an entry that is edited: all its versions, within the limits.
-fn edited_history(alloc: Global, entry: &Entry, meta: &Meta) -> Result<List<Version>, NoMemory>
-    ensures { IfOk result (λ history. (version : BareVersion) → record (entry_record entry.now) {
-      current = version;
-      history = map bare_version history;
-    } ≡ settled_history meta.now.settings.value.history_items meta.now.settings.value.history_size
-        (with_version version (entry_record entry.now))) }
-{
-    let settings = &meta.settings.value;
-    let mut history = rising_versions(alloc, entry)?;
-    limit_history(&mut history, settings.history_items, settings.history_size);
-    Ok(history)
-}
-
-// The versions of an entry that was edited: the new one, and the others as its history.
-#[derive(Drop)]
-struct Versions {
-    current: Version,
-    history: List<Version>,
-}
-
 // The versions of an entry that is edited at this time.
 fn edited_versions(
     alloc: Global,
@@ -189,7 +167,7 @@ fn edited_versions(
       history = map bare_version versions.history;
     } ≡ edited_entry meta.now (spec.given_values values.now) time (entry_record entry.now)) }
 {
-    let history = edited_history(alloc, entry, meta)?;
+    let history = past_versions(alloc, entry, meta)?;
     let protect = &meta.settings.value.protect;
     match edited_version(alloc, &entry.current, protect, values, time) {
         Ok(current) => Ok(Versions { current, history }),

@@ -11,7 +11,7 @@ use crate::levels::{LEVELS, levels_below};
 use crate::new_groups::new_group;
 use crate::paths::is_taken;
 use std::alloc::Global;
-use tree_core::{TreeFail, find_group_of};
+use tree_core::{TreeFail, find_group_at};
 use tree_steps::{before_last, is_free, name_after, path_of_new};
 use uuid_core::Uuid;
 use vault_model::{Doc, Stamp};
@@ -37,7 +37,7 @@ fn make_of(alloc: Global, doc: &mut Doc, path: &str, id: Uuid, now: Stamp) -> Re
     ensures { Changes (after_new_group path.now id now (doc_seen doc.old)) result
         (doc_seen doc.old) (doc_seen doc.new) }
 {
-    let Some(group) = find_group_of(doc, before_last(path.as_bytes())) else {
+    let Some(group) = find_group_at(doc, before_last(path.as_bytes())) else {
         return Err(TreeFail::NoSuchPath);
     };
     let new_path = path_of_new(alloc, path)?;

@@ -1,5 +1,5 @@
 -- The example's run is one of the kind that the laws speak of.
-use Rattle.std.proofs.Common.{◌≡◌, ◌≤◌, false, true, inl, inr, [], ◌∷◌, None, Some, Ok, codes, refl, sym, ap, subst, ◌∙◌, arith}
+use Rattle.std.proofs.Common.{◌≡◌, false, inl, inr, [], ◌∷◌, None, Some, Ok, codes, refl, subst, arith}
 use Rattle.std.proofs.lemmas.Option.{same_Some}
 use Rattle.std.specs.FinMap.{get}
 use Rattle.std.specs.List.{list_any}
@@ -13,7 +13,7 @@ use Rattle.vault_model.proofs.Tests.{any_true, apart, is_false}
 use Rattle.merge_core.specs.Example.{as_it_was}
 use Rattle.merge_core.proofs.SoundDoc.{db_tomb, holds_node}
 use Rattle.tree_core.specs.After.{after_add, after_make_group}
-use Rattle.tree_core.specs.Finding.{group_found, has_entry_path, has_group_path}
+use Rattle.tree_core.specs.Finding.{group_at_path, group_found, has_entry_path, has_group_path}
 use Rattle.typed_runs.specs.Example.{example_run, no_values, shop, trips, with_shop, with_trips}
 use Rattle.typed_runs.specs.TypedRuns.{IsTypedRun}
 
@@ -63,11 +63,11 @@ doc_with_trips = record {
 }
 
 shop_added : after_add (codes "Shop") shop no_values 50 as_it_was ≡ Ok with_shop
-unfolding group_found has_entry_path
+unfolding group_found group_at_path has_entry_path
 shop_added = refl
 
 trips_made : after_make_group (codes "Trips") trips 60 as_it_was ≡ Ok with_trips
-unfolding group_found has_group_path
+unfolding group_found group_at_path has_group_path
 trips_made = refl
 
 -- an id that is none of a document's is not held

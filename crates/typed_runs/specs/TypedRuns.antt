@@ -4,7 +4,7 @@ use Rattle.vault_model.specs.Db.{Db, NodeId}
 use Rattle.vault_model.specs.Join.{join, IsWithin, Agreed}
 use Rattle.vault_model.specs.Plans.{World, begin}
 use Rattle.vault_model.specs.Tree.{BareDoc, IsDoc, db_in}
-use Rattle.tree_core.specs.After.{after_add, after_edit, after_make_group, after_move_entry, after_remove_entry, needs_bin}
+use Rattle.tree_core.specs.After.{after_add, after_edit, after_make_group, after_move_entry, after_remove_entry, after_restore, needs_bin}
 use Rattle.tree_core.specs.declared.fails.Removed.TheVariants.{Recycled}
 use Rattle.tree_core.specs.NewNodes.{GivenValues}
 use Rattle.document_merge.specs.Merging.{merge_result}
@@ -20,6 +20,7 @@ use Rattle.run_laws.specs.TrimmedRuns.{DocEvent, after_doc_event, after_doc_even
 pub data Command : Type 0 where
   add : List ℕ → NodeId → GivenValues → ℕ → Command
   edit : List ℕ → GivenValues → ℕ → Command
+  restore : List ℕ → (number : ℕ) → ℕ → Command
   move_entry : List ℕ → List ℕ → ℕ → Command
   make_group : List ℕ → NodeId → ℕ → Command
   recycle : List ℕ → Option NodeId → ℕ → Command
@@ -28,6 +29,7 @@ pub data Command : Type 0 where
 abbrev pub Makes : Command → BareDoc → BareDoc → Type 0
 Makes (add path id values now) d e = after_add path id values now d ≡ Ok e
 Makes (edit path values now) d e = after_edit path values now d ≡ Ok e
+Makes (restore path number now) d e = after_restore path number now d ≡ Ok e
 Makes (move_entry path goal now) d e = after_move_entry path goal now d ≡ Ok e
 Makes (make_group path id now) d e = after_make_group path id now d ≡ Ok e
 Makes (recycle path bin now) d e = (is_some bin ≡ needs_bin d)
@@ -37,6 +39,7 @@ Makes (recycle path bin now) d e = (is_some bin ≡ needs_bin d)
 abbrev pub drawn : Command → Option NodeId
 drawn (add path id values now) = Some id
 drawn (edit path values now) = None
+drawn (restore path number now) = None
 drawn (move_entry path goal now) = None
 drawn (make_group path id now) = Some id
 drawn (recycle path bin now) = bin
@@ -97,10 +100,11 @@ TypedRunsSame = (d : BareDoc) (xs : List TypedEvent) → IsTypedRun d xs → (i 
     → IsWithin (after_run d xs j).learned (after_run d xs i).learned
     → current_view (db_in (after_run d xs i).doc) ≡ current_view (db_in (after_run d xs j).doc)
 
--- a command drops no version: an edit within the limits of histories
+-- a command drops no version: an edit, or a version restored, within the limits of histories
 abbrev pub IsWithinLimits : Command → BareDoc → Type 0
 IsWithinLimits (add path id values now) d = Unit {0}
 IsWithinLimits (edit path values now) d = DropsNothing path d
+IsWithinLimits (restore path number now) d = DropsNothing path d
 IsWithinLimits (move_entry path goal now) d = Unit {0}
 IsWithinLimits (make_group path id now) d = Unit {0}
 IsWithinLimits (recycle path bin now) d = Unit {0}

@@ -59,9 +59,10 @@ fn name_of(command: &Command) -> &'static str {
     match command {
         Command::Ls { .. } => "ls",
         Command::Show { .. } => "show",
+        Command::History { .. } => "history",
         Command::Search { .. } => "search",
         Command::Add { .. } => "add",
-        Command::Edit { .. } => "edit",
+        Command::Edit { .. } | Command::Restore { .. } => "edit",
         Command::Move { .. } => "mv",
         Command::Remove { .. } => "rm",
         Command::MakeGroup { .. } => "mkdir",
@@ -89,17 +90,19 @@ fn add_asked(parts: &mut Parts, alloc: Global, asked: &Asked) -> Result<(), Allo
 }
 
 // What a command says beside its database, of those that only read.
-fn add_reading(parts: &mut Parts, command: &Command) -> Result<(), AllocError> {
+fn add_reading(parts: &mut Parts, alloc: Global, command: &Command) -> Result<(), AllocError> {
     match command {
         Command::Ls {
             group,
             recursive,
             flat,
+            ids,
             ..
         } => {
             parts.option("group", group)?;
             parts.flag("recursive", *recursive)?;
-            parts.flag("flatten", *flat)
+            parts.flag("flatten", *flat)?;
+            parts.flag("ids", *ids)
         }
         Command::Show {
             entry,
@@ -108,6 +111,7 @@ fn add_reading(parts: &mut Parts, command: &Command) -> Result<(), AllocError> {
             attachments,
             names,
             totp,
+            at,
             ..
         } => {
             parts.text("entry", entry.as_str())?;
@@ -115,8 +119,10 @@ fn add_reading(parts: &mut Parts, command: &Command) -> Result<(), AllocError> {
             parts.flag("all", *all)?;
             parts.flag("show-attachments", *attachments)?;
             parts.texts("attribute", names)?;
-            parts.flag("totp", *totp)
+            parts.flag("totp", *totp)?;
+            parts.number(alloc, "at", *at)
         }
+        Command::History { entry, .. } => parts.text("entry", entry.as_str()),
         Command::Search { term, .. } => parts.text("term", term.as_str()),
         Command::Export { format, .. } => parts.text("format", export_name(*format)),
         _ => Ok(()),
@@ -133,6 +139,10 @@ fn add_changing(parts: &mut Parts, alloc: Global, command: &Command) -> Result<(
         Command::Edit { entry, asked, .. } => {
             parts.text("entry", entry.as_str())?;
             add_asked(parts, alloc, asked)
+        }
+        Command::Restore { entry, version, .. } => {
+            parts.text("entry", entry.as_str())?;
+            parts.number(alloc, "restore", *version)
         }
         Command::Move { node, group, .. } => {
             parts.text("node", node.as_str())?;
@@ -153,13 +163,15 @@ fn add_other(parts: &mut Parts, command: &Command) -> Result<(), AllocError> {
             from,
             same,
             dry,
+            details,
             ..
         } => {
             for source in sources.as_slice() {
                 parts.access(source.as_str(), from)?;
             }
             parts.flag("same-credentials", *same)?;
-            parts.flag("dry-run", *dry)
+            parts.flag("dry-run", *dry)?;
+            parts.flag("details", *details)
         }
         Command::Import {
             format,
@@ -233,7 +245,7 @@ fn add_files(parts: &mut Parts, alloc: Global, command: &Command) -> Result<(), 
 pub(crate) fn written(alloc: Global, command: &Command) -> Result<Parts, AllocError> {
     let mut parts = Parts::new(alloc, name_of(command))?;
     parts.access(target_of(command).as_str(), target_access(command))?;
-    add_reading(&mut parts, command)?;
+    add_reading(&mut parts, alloc, command)?;
     add_changing(&mut parts, alloc, command)?;
     add_other(&mut parts, command)?;
     add_files(&mut parts, alloc, command)?;

@@ -7,5 +7,5 @@ use Rattle.cli_printing.proofs.listing.+add_group.Given as goal
 
 abbrev pub invariant-loop-child : goal.invariant-loop-child
 invariant-loop-child l =
-    l.text ++ name_lines l.manner.recursive l.manner.flat l.front (all_trees (map tree_seen (drop l.child-index l.child-items)))
-    ≡ l.initial.text ++ name_lines l.manner.recursive l.manner.flat l.front (all_trees (map tree_seen l.child-items))
+    l.text ++ name_lines l.manner.recursive l.manner.flat l.manner.ids l.front (all_trees (map tree_seen (drop l.child-index l.child-items)))
+    ≡ l.initial.text ++ name_lines l.manner.recursive l.manner.flat l.manner.ids l.front (all_trees (map tree_seen l.child-items))

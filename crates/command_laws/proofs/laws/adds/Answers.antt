@@ -1,4 +1,4 @@
-use Rattle.command_laws.proofs.Commands.{add_adds, edit_adds, make_group_adds, move_entry_adds, recycling_adds}
+use Rattle.command_laws.proofs.Commands.{add_adds, edit_adds, make_group_adds, move_entry_adds, recycling_adds, restore_adds}
 use Rattle.command_laws.proofs.laws.adds.Goals as goal
 
 pub returns-clause-add : goal.returns-clause-add
@@ -6,6 +6,9 @@ returns-clause-add c = add_adds
 
 pub returns-clause-edit : goal.returns-clause-edit
 returns-clause-edit c = edit_adds
+
+pub returns-clause-restore : goal.returns-clause-restore
+returns-clause-restore c = restore_adds
 
 pub returns-clause-move_entry : goal.returns-clause-move_entry
 returns-clause-move_entry c = move_entry_adds

@@ -1,6 +1,6 @@
 use Rattle.std.proofs.Common.{ap}
 use Rattle.history_laws.specs.Current.{current_view}
-use Rattle.command_laws.proofs.Edits.{edit_grows_in_current, edit_is_now}
+use Rattle.command_laws.proofs.Edits.{edit_grows_in_current, edit_is_now, restore_grows_in_current, restore_is_now}
 use Rattle.command_laws.proofs.laws.growing.Goals as goal
 
 pub returns-clause-edit : goal.returns-clause-edit
@@ -14,3 +14,9 @@ returns-clause-event c n w i e h = h
 
 pub returns-clause-now : goal.returns-clause-now
 returns-clause-now c = edit_is_now
+
+pub returns-clause-restore : goal.returns-clause-restore
+returns-clause-restore c = restore_grows_in_current
+
+pub returns-clause-restored : goal.returns-clause-restored
+returns-clause-restored c = restore_is_now

@@ -1,4 +1,4 @@
-use Rattle.growth_laws.proofs.Commands.{add_grows, edit_grows, move_entry_grows}
+use Rattle.growth_laws.proofs.Commands.{add_grows, edit_grows, move_entry_grows, restore_grows}
 use Rattle.growth_laws.proofs.GroupCommands.{make_group_grows, move_group_grows}
 use Rattle.growth_laws.proofs.laws.changes_grow.Goals as goal
 
@@ -7,6 +7,9 @@ returns-clause-add c = add_grows
 
 pub returns-clause-edit : goal.returns-clause-edit
 returns-clause-edit c = edit_grows
+
+pub returns-clause-restore : goal.returns-clause-restore
+returns-clause-restore c = restore_grows
 
 pub returns-clause-move_entry : goal.returns-clause-move_entry
 returns-clause-move_entry c = move_entry_grows

@@ -5,9 +5,9 @@ use Rattle.vault_model.proofs.DocumentLaws.{is_doc}
 use Rattle.vault_model.specs.Bare.{BareField}
 use Rattle.vault_model.specs.SeenDoc.{doc_seen}
 use Rattle.vault_model.specs.SeenNodes.{entry_row, tree_seen}
-use Rattle.tree_core.specs.Finding.{group_found, has_entry_path}
+use Rattle.tree_core.specs.Finding.{group_at_path, has_entry_path}
 use Rattle.vault_model.proofs.Tests.{apart}
-use Rattle.tree_core.proofs.Named.{named_group}
+use Rattle.tree_core.proofs.Named.{group_there}
 use Rattle.tree_core.specs.Changes.{changed_at, has_group, with_entry}
 use Rattle.tree_core.specs.NewNodes.{given_values, new_entry, new_fields}
 use Rattle.tree_core.specs.NewPaths.{before_last}
@@ -19,7 +19,7 @@ pub invariant_of-doc : goal.invariant_of-doc
 invariant_of-doc c =
     let d = doc_seen c.args.doc.now in
     let path = c.args.path.now in
-    let there = sym (ap (group_found d) (c.before_last.ensures ∙ ap before_last c.as_bytes.ensures.value)) ∙ sym c.find_group_of.ensures ∙ c.in-Some.is in
+    let there = sym (ap (group_at_path d) (c.before_last.ensures ∙ ap before_last c.as_bytes.ensures.value)) ∙ sym c.find_group_at.ensures ∙ c.in-Some.is in
     let row = c.new_entry.ensures ∙ ap (λ (fs : List BareField). (c.args.id, new_entry fs c.args.now)) (c.in_ok-fields.ensures ∙ ap (λ (t : List ℕ). new_fields d.meta.settings.value.protect t (given_values c.args.values.now)) c.name_after.ensures) in
     let title = ap is_utf8 (sym c.name_after.ensures) ∙ is_utf8-from_IsUtf8 c.name_after.result.now c.name_after.utf8 in
     let h = add_is_doc d (is_doc c.args.doc.now) path c.in-Some.group c.args.id (given_values c.args.values.now) c.args.now (entry_row c.new_entry.result) row there
@@ -41,7 +41,7 @@ pub returns-in-Some-Ok : goal.returns-in-Some-Ok
 returns-in-Some-Ok c =
     let d = doc_seen c.args.doc.now in
     let path = c.args.path.now in
-    let there = sym (ap (group_found d) (c.before_last.ensures ∙ ap before_last c.as_bytes.ensures.value)) ∙ sym c.find_group_of.ensures ∙ c.in-Some.is in
+    let there = sym (ap (group_at_path d) (c.before_last.ensures ∙ ap before_last c.as_bytes.ensures.value)) ∙ sym c.find_group_at.ensures ∙ c.in-Some.is in
     let off = sym (ap (has_entry_path d) (c.as_slice.ensures ∙ c.in_ok-new_path.ensures)) ∙ sym c.is_entry_path.ensures ∙ c.if-is_entry_path.false in
     let row = c.new_entry.ensures ∙ ap (λ (fs : List BareField). (c.args.id, new_entry fs c.args.now)) (c.in_ok-fields.ensures ∙ ap (λ (t : List ℕ). new_fields d.meta.settings.value.protect t (given_values c.args.values.now)) c.name_after.ensures) in
     let put = rw (c.in-Some-Ok.is ∙ ap Some c.in-Some-Ok.field-0-is) at c.put_entry.ensures in
@@ -52,25 +52,25 @@ returns-in-Some-Ok c =
 pub returns : goal.returns
 returns c =
     let d = doc_seen c.args.doc.now in
-    let there = sym (ap (group_found d) (c.before_last.ensures ∙ ap before_last c.as_bytes.ensures.value)) ∙ sym c.find_group_of.ensures ∙ c.in-Some.is in
-    apart (has_group c.in-Some.group d.tree) (named_group d (before_last c.args.path.now) c.in-Some.group there) (rw c.in-None.is at c.put_entry.ensures).0
+    let there = sym (ap (group_at_path d) (c.before_last.ensures ∙ ap before_last c.as_bytes.ensures.value)) ∙ sym c.find_group_at.ensures ∙ c.in-Some.is in
+    apart (has_group c.in-Some.group d.tree) (group_there d (before_last c.args.path.now) c.in-Some.group there) (rw c.in-None.is at c.put_entry.ensures).0
 
 pub returns-in_default : goal.returns-in_default
 returns-in_default c =
     let d = doc_seen c.args.doc.now in
-    let none = sym (ap (group_found d) (c.before_last.ensures ∙ ap before_last c.as_bytes.ensures.value)) ∙ sym c.find_group_of.ensures ∙ c.in_default.is in
+    let none = sym (ap (group_at_path d) (c.before_last.ensures ∙ ap before_last c.as_bytes.ensures.value)) ∙ sym c.find_group_at.ensures ∙ c.in_default.is in
     (refl, inl (add_no_path c.args.path.now c.args.id (given_values c.args.values.now) c.args.now d none))
 
 pub returns-then-is_entry_path : goal.returns-then-is_entry_path
 returns-then-is_entry_path c =
     let d = doc_seen c.args.doc.now in
-    let there = sym (ap (group_found d) (c.before_last.ensures ∙ ap before_last c.as_bytes.ensures.value)) ∙ sym c.find_group_of.ensures ∙ c.in-Some.is in
+    let there = sym (ap (group_at_path d) (c.before_last.ensures ∙ ap before_last c.as_bytes.ensures.value)) ∙ sym c.find_group_at.ensures ∙ c.in-Some.is in
     let taken = sym (ap (has_entry_path d) (c.as_slice.ensures ∙ c.in_ok-new_path.ensures)) ∙ sym c.is_entry_path.ensures ∙ c.if-is_entry_path.true in
     (refl, inl (add_taken c.args.path.now c.args.id (given_values c.args.values.now) c.args.now d c.in-Some.group there taken))
 
 pub returns-then-not-is_free : goal.returns-then-not-is_free
 returns-then-not-is_free c =
     let d = doc_seen c.args.doc.now in
-    let there = sym (ap (group_found d) (c.before_last.ensures ∙ ap before_last c.as_bytes.ensures.value)) ∙ sym c.find_group_of.ensures ∙ c.in-Some.is in
+    let there = sym (ap (group_at_path d) (c.before_last.ensures ∙ ap before_last c.as_bytes.ensures.value)) ∙ sym c.find_group_at.ensures ∙ c.in-Some.is in
     let off = sym (ap (has_entry_path d) (c.as_slice.ensures ∙ c.in_ok-new_path.ensures)) ∙ sym c.is_entry_path.ensures ∙ c.if-is_entry_path.false in
     (refl, inl (add_id_taken c.args.path.now c.args.id (given_values c.args.values.now) c.args.now d c.in-Some.group there off (sym c.is_free.ensures ∙ c.if-not-is_free.true)))

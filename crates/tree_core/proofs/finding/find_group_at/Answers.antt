@@ -3,7 +3,7 @@ use Rattle.vault_model.specs.SeenDoc.{doc_seen}
 use Rattle.vault_model.specs.Tree.{id_of}
 use Rattle.vault_model.proofs.SeenGroups.{seen_group}
 use Rattle.tree_core.proofs.Walks.{below_found, is_empty, is_not_empty, root_found}
-use Rattle.tree_core.proofs.finding.find_group_of.Goals as goal
+use Rattle.tree_core.proofs.finding.find_group_at.Goals as goal
 
 pub returns-then-is_empty : goal.returns-then-is_empty
 returns-then-is_empty c =

@@ -1,0 +1,9 @@
+pub mod Computed
+pub mod EntryVersions
+pub mod Examples
+pub mod Found
+pub mod JoinedTexts
+pub mod KeyMaps
+pub mod Rows
+pub mod TreeRows
+pub mod WalkedPaths

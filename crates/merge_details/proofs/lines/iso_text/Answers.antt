@@ -1,0 +1,5 @@
+use Rattle.doc_spelling.proofs.IsoTexts.{iso_same}
+use Rattle.merge_details.proofs.lines.iso_text.Goals as goal
+
+pub returns : goal.returns
+returns c = iso_same _ _ c.iso_of.ensures
