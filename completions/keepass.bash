@@ -30,7 +30,7 @@ _keepass() {
   if [ "$COMP_CWORD" -eq 1 ]; then
     case $word in
       -*) COMPREPLY=($(compgen -W '--help --version --why' -- "$word")) ;;
-      *) COMPREPLY=($(compgen -W 'ls show search add edit mv rm mkdir rmdir merge import db-create export db-edit db-info generate clip' -- "$word")) ;;
+      *) COMPREPLY=($(compgen -W 'ls show history search add edit mv rm mkdir rmdir merge import db-create export db-edit db-info generate clip' -- "$word")) ;;
     esac
     return
   fi
@@ -46,19 +46,20 @@ _keepass() {
   esac
   case $before in
     --key-file | --key-file-from | --set-key-file | -k) _keepass_files "$word" all; return ;;
-    --attributes | --cipher | --exclude | --kdf | --lanes | --length | --memory | --name | --notes | --rounds | --seconds | --title | --url | --username | --version | -L | -a | -u | -x) return ;;
+    --at | --attributes | --cipher | --exclude | --kdf | --lanes | --length | --memory | --name | --notes | --restore | --rounds | --seconds | --title | --url | --username | --version | -L | -a | -u | -x) return ;;
   esac
   case $command in
-    ls) kinds=(file group) options='-R --recursive -f --flatten -k --key-file --no-password --plain -q --quiet --help' ;;
-    show) kinds=(file entry) options='-s --show-protected --all --show-attachments -a --attributes -t --totp -k --key-file --no-password --plain -q --quiet --help' ;;
+    ls) kinds=(file group) options='-R --recursive -f --flatten --ids -k --key-file --no-password --plain -q --quiet --help' ;;
+    show) kinds=(file entry) options='-s --show-protected --all --show-attachments -a --attributes -t --totp --at -k --key-file --no-password --plain -q --quiet --help' ;;
+    history) kinds=(file entry) options='-k --key-file --no-password --plain -q --quiet --help' ;;
     search) kinds=(file nothing) options='-k --key-file --no-password --plain -q --quiet --help' ;;
     add) kinds=(file entry) options='-u --username --url --notes -p --password-prompt -g --generate -L --length -l --lower -U --upper -n --numeric -s --special -x --exclude -k --key-file --no-password --plain -q --quiet --help' ;;
-    edit) kinds=(file entry) options='-t --title -u --username --url --notes -p --password-prompt -g --generate -L --length -l --lower -U --upper -n --numeric -s --special -x --exclude --otp -k --key-file --no-password --plain -q --quiet --help' ;;
+    edit) kinds=(file entry) options='-t --title -u --username --url --notes -p --password-prompt -g --generate -L --length -l --lower -U --upper -n --numeric -s --special -x --exclude --otp --restore -k --key-file --no-password --plain -q --quiet --help' ;;
     mv) kinds=(file node group) options='-k --key-file --no-password --plain -q --quiet --help' ;;
     rm) kinds=(file entry) options='-k --key-file --no-password --plain -q --quiet --help' ;;
     mkdir) kinds=(file group) options='-k --key-file --no-password --plain -q --quiet --help' ;;
     rmdir) kinds=(file group) options='-k --key-file --no-password --plain -q --quiet --help' ;;
-    merge) kinds=(file file...) options='-s --same-credentials -d --dry-run --key-file-from --no-password-from -k --key-file --no-password --plain -q --quiet --help' ;;
+    merge) kinds=(file file...) options='-s --same-credentials -d --dry-run --details --key-file-from --no-password-from -k --key-file --no-password --plain -q --quiet --help' ;;
     import) kinds=(file file) options='--format -p --set-password --set-key-file --plain -q --quiet --help' ;;
     db-create) kinds=(file) options='-p --set-password --set-key-file --cipher --kdf --rounds --memory --lanes --name --plain -q --quiet --help' ;;
     export) kinds=(file) options='-f --format -k --key-file --no-password --plain -q --quiet --help' ;;
@@ -76,7 +77,7 @@ _keepass() {
     case $value${COMP_WORDS[number]} in
       *=) value=1 ;;
       1*) value= ;;
-      --attributes | --cipher | --exclude | --format | --kdf | --key-file | --key-file-from | --lanes | --length | --memory | --name | --notes | --rounds | --seconds | --set-key-file | --title | --url | --username | --version | -L | -a | -k | -u | -x) value=1 ;;
+      --at | --attributes | --cipher | --exclude | --format | --kdf | --key-file | --key-file-from | --lanes | --length | --memory | --name | --notes | --restore | --rounds | --seconds | --set-key-file | --title | --url | --username | --version | -L | -a | -k | -u | -x) value=1 ;;
       -*) case "$command ${COMP_WORDS[number]}" in 'edit -t' | 'export -f' | 'clip -t') value=1 ;; esac ;;
       *)
         place=$((place + 1))

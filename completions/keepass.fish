@@ -7,7 +7,7 @@ function __keepass_positions
     for word in (commandline -opc)[3..-1]
         if set -q value[1]
             set -e value[1]
-        else if contains -- $word --attributes --cipher --exclude --format --kdf --key-file --key-file-from --lanes --length --memory --name --notes --rounds --seconds --set-key-file --title --url --username --version -L -a -k -u -x
+        else if contains -- $word --at --attributes --cipher --exclude --format --kdf --key-file --key-file-from --lanes --length --memory --name --notes --restore --rounds --seconds --set-key-file --title --url --username --version -L -a -k -u -x
             set value 1
         else if contains -- "$command $word" 'edit -t' 'export -f' 'clip -t'
             set value 1
@@ -56,6 +56,7 @@ complete -c keepass -n __fish_use_subcommand -a ls -d 'list a group'
 complete -c keepass -n '__fish_seen_subcommand_from ls' -l help -d 'How the command is called.'
 complete -c keepass -n '__fish_seen_subcommand_from ls' -l recursive -s R -d 'The groups inside are listed too, each indented by two spaces more.'
 complete -c keepass -n '__fish_seen_subcommand_from ls' -l flatten -s f -d 'With --recursive: each line begins with its path in place of spaces.'
+complete -c keepass -n '__fish_seen_subcommand_from ls' -l ids -d 'Each name comes after the id of its node, by which it can be named.'
 complete -c keepass -n '__fish_seen_subcommand_from ls' -l key-file -s k -r -F -d 'The database needs this key file besides its password.'
 complete -c keepass -n '__fish_seen_subcommand_from ls' -l no-password -d 'The database has no password: no line is read for it. Needs a key file.'
 complete -c keepass -n '__fish_seen_subcommand_from ls' -l plain -d 'The database is a plain XML export, which has no password and no key file.'
@@ -67,10 +68,17 @@ complete -c keepass -n '__fish_seen_subcommand_from show' -l all -d 'All fields 
 complete -c keepass -n '__fish_seen_subcommand_from show' -l show-attachments -d 'The names and the sizes of the entry\'s attachments are shown too.'
 complete -c keepass -n '__fish_seen_subcommand_from show' -l attributes -s a -x -d 'The value of this field alone is shown, a protected one too. May be given several times.'
 complete -c keepass -n '__fish_seen_subcommand_from show' -l totp -s t -d 'The entry\'s one-time code is shown and nothing else, or after the values of --attributes. Goes with neither --all nor --show-attachments.'
+complete -c keepass -n '__fish_seen_subcommand_from show' -l at -x -d 'The version of this number is shown, as history lists them: 0 is the current one.'
 complete -c keepass -n '__fish_seen_subcommand_from show' -l key-file -s k -r -F -d 'The database needs this key file besides its password.'
 complete -c keepass -n '__fish_seen_subcommand_from show' -l no-password -d 'The database has no password: no line is read for it. Needs a key file.'
 complete -c keepass -n '__fish_seen_subcommand_from show' -l plain -d 'The database is a plain XML export, which has no password and no key file.'
 complete -c keepass -n '__fish_seen_subcommand_from show' -l quiet -s q -d 'Nothing is reported.'
+complete -c keepass -n __fish_use_subcommand -a history -d 'list an entry\'s versions'
+complete -c keepass -n '__fish_seen_subcommand_from history' -l help -d 'How the command is called.'
+complete -c keepass -n '__fish_seen_subcommand_from history' -l key-file -s k -r -F -d 'The database needs this key file besides its password.'
+complete -c keepass -n '__fish_seen_subcommand_from history' -l no-password -d 'The database has no password: no line is read for it. Needs a key file.'
+complete -c keepass -n '__fish_seen_subcommand_from history' -l plain -d 'The database is a plain XML export, which has no password and no key file.'
+complete -c keepass -n '__fish_seen_subcommand_from history' -l quiet -s q -d 'Nothing is reported.'
 complete -c keepass -n __fish_use_subcommand -a search -d 'find entries'
 complete -c keepass -n '__fish_seen_subcommand_from search' -l help -d 'How the command is called.'
 complete -c keepass -n '__fish_seen_subcommand_from search' -l key-file -s k -r -F -d 'The database needs this key file besides its password.'
@@ -109,6 +117,7 @@ complete -c keepass -n '__fish_seen_subcommand_from edit' -l numeric -s n -d 'Di
 complete -c keepass -n '__fish_seen_subcommand_from edit' -l special -s s -d 'Signs are among them: the 32 of ASCII.'
 complete -c keepass -n '__fish_seen_subcommand_from edit' -l exclude -s x -x -d 'None of these characters is among them.'
 complete -c keepass -n '__fish_seen_subcommand_from edit' -l otp -d 'The entry\'s one-time code is a line of standard input, after all others: an otpauth URI. An empty line takes it away.'
+complete -c keepass -n '__fish_seen_subcommand_from edit' -l restore -x -d 'The version of this number, as history lists them, becomes the current one. Goes with none of the options above.'
 complete -c keepass -n '__fish_seen_subcommand_from edit' -l key-file -s k -r -F -d 'The database needs this key file besides its password.'
 complete -c keepass -n '__fish_seen_subcommand_from edit' -l no-password -d 'The database has no password: no line is read for it. Needs a key file.'
 complete -c keepass -n '__fish_seen_subcommand_from edit' -l plain -d 'The database is a plain XML export, which has no password and no key file.'
@@ -141,6 +150,7 @@ complete -c keepass -n __fish_use_subcommand -a merge -d 'merge copies of a data
 complete -c keepass -n '__fish_seen_subcommand_from merge' -l help -d 'How the command is called.'
 complete -c keepass -n '__fish_seen_subcommand_from merge' -l same-credentials -s s -d 'The sources are opened with the password and the key file of the target.'
 complete -c keepass -n '__fish_seen_subcommand_from merge' -l dry-run -s d -d 'What the merge would change is reported, and nothing is written.'
+complete -c keepass -n '__fish_seen_subcommand_from merge' -l details -d 'The report says what a person has to look at: it names nodes by their paths, says where a moved one was, which entries of TARGET show another version now though a source did not have the one that they showed, and how much changed.'
 complete -c keepass -n '__fish_seen_subcommand_from merge' -l key-file-from -r -F -d 'The sources need this key file.'
 complete -c keepass -n '__fish_seen_subcommand_from merge' -l no-password-from -d 'The sources have no password. Needs --key-file-from.'
 complete -c keepass -n '__fish_seen_subcommand_from merge' -l key-file -s k -r -F -d 'The database needs this key file besides its password.'
@@ -209,8 +219,8 @@ complete -c keepass -n '__fish_seen_subcommand_from clip' -l key-file -s k -r -F
 complete -c keepass -n '__fish_seen_subcommand_from clip' -l no-password -d 'The database has no password: no line is read for it. Needs a key file.'
 complete -c keepass -n '__fish_seen_subcommand_from clip' -l plain -d 'The database is a plain XML export, which has no password and no key file.'
 complete -c keepass -n '__fish_seen_subcommand_from clip' -l quiet -s q -d 'Nothing is reported.'
-complete -c keepass -n '__keepass_at 0 ls show search add edit mv rm mkdir rmdir merge import db-create export db-edit db-info clip' -a '(__keepass_files)'
-complete -c keepass -n '__keepass_at 1 show add edit rm clip' -a '(__keepass_paths entry)'
+complete -c keepass -n '__keepass_at 0 ls show history search add edit mv rm mkdir rmdir merge import db-create export db-edit db-info clip' -a '(__keepass_files)'
+complete -c keepass -n '__keepass_at 1 show history add edit rm clip' -a '(__keepass_paths entry)'
 complete -c keepass -n '__keepass_at 1 merge import' -a '(__keepass_files)'
 complete -c keepass -n '__keepass_at 1 ls mkdir rmdir' -a '(__keepass_paths group)'
 complete -c keepass -n '__keepass_at 1 mv' -a '(__keepass_paths node)'

@@ -3,16 +3,17 @@
 
 # The options of each command: name, letter, value, and `many` where it may be repeated.
 declare -gA option_rows=(
-  ['ls']='recursive:R:: flatten:f:: key-file:k:FILE: no-password::: plain::: quiet:q::'
-  ['show']='show-protected:s:: all::: show-attachments::: attributes:a:NAME:many totp:t:: key-file:k:FILE: no-password::: plain::: quiet:q::'
+  ['ls']='recursive:R:: flatten:f:: ids::: key-file:k:FILE: no-password::: plain::: quiet:q::'
+  ['show']='show-protected:s:: all::: show-attachments::: attributes:a:NAME:many totp:t:: at::NUMBER: key-file:k:FILE: no-password::: plain::: quiet:q::'
+  ['history']='key-file:k:FILE: no-password::: plain::: quiet:q::'
   ['search']='key-file:k:FILE: no-password::: plain::: quiet:q::'
   ['add']='username:u:NAME: url::URL: notes::TEXT: password-prompt:p:: generate:g:: length:L:NUMBER: lower:l:: upper:U:: numeric:n:: special:s:: exclude:x:CHARS: key-file:k:FILE: no-password::: plain::: quiet:q::'
-  ['edit']='title:t:TITLE: username:u:NAME: url::URL: notes::TEXT: password-prompt:p:: generate:g:: length:L:NUMBER: lower:l:: upper:U:: numeric:n:: special:s:: exclude:x:CHARS: otp::: key-file:k:FILE: no-password::: plain::: quiet:q::'
+  ['edit']='title:t:TITLE: username:u:NAME: url::URL: notes::TEXT: password-prompt:p:: generate:g:: length:L:NUMBER: lower:l:: upper:U:: numeric:n:: special:s:: exclude:x:CHARS: otp::: restore::NUMBER: key-file:k:FILE: no-password::: plain::: quiet:q::'
   ['mv']='key-file:k:FILE: no-password::: plain::: quiet:q::'
   ['rm']='key-file:k:FILE: no-password::: plain::: quiet:q::'
   ['mkdir']='key-file:k:FILE: no-password::: plain::: quiet:q::'
   ['rmdir']='key-file:k:FILE: no-password::: plain::: quiet:q::'
-  ['merge']='same-credentials:s:: dry-run:d:: key-file-from::FILE: no-password-from::: key-file:k:FILE: no-password::: plain::: quiet:q::'
+  ['merge']='same-credentials:s:: dry-run:d:: details::: key-file-from::FILE: no-password-from::: key-file:k:FILE: no-password::: plain::: quiet:q::'
   ['import']='format::FORMAT: set-password:p:: set-key-file::FILE: plain::: quiet:q::'
   ['db-create']='set-password:p:: set-key-file::FILE: cipher::CIPHER: kdf::KDF: rounds::NUMBER: memory::KIB: lanes::NUMBER: name::NAME: plain::: quiet:q::'
   ['export']='format:f:FORMAT: key-file:k:FILE: no-password::: plain::: quiet:q::'
@@ -26,6 +27,7 @@ declare -gA option_rows=(
 declare -gA command_positions=(
   ['ls']='DATABASE [GROUP]'
   ['show']='DATABASE ENTRY'
+  ['history']='DATABASE ENTRY'
   ['search']='DATABASE TERM'
   ['add']='DATABASE ENTRY'
   ['edit']='DATABASE ENTRY'
@@ -47,6 +49,7 @@ declare -gA command_positions=(
 declare -gA command_briefs=(
   ['ls']='list a group'
   ['show']='show an entry'
+  ['history']=$'list an entry\'s versions'
   ['search']='find entries'
   ['add']='add an entry'
   ['edit']='change an entry'
@@ -65,7 +68,7 @@ declare -gA command_briefs=(
 )
 
 # The commands in the order of the help.
-command_order='ls show search add edit mv rm mkdir rmdir merge import db-create export db-edit db-info generate clip'
+command_order='ls show history search add edit mv rm mkdir rmdir merge import db-create export db-edit db-info generate clip'
 
 # The formats of the commands that have one.
 declare -gA command_formats=(
@@ -174,6 +177,7 @@ hint_rows=(
   $'2\x1fid taken *\x1f\x1f\x1fthe id that was drawn is in use: try again'
   $'2\x1fno attribute *\x1fclip\x1fnumber\x1fseconds are given by -t: keepass clip -t {found} {opened}{database} {entry}'
   $'2\x1fno attribute *\x1f\x1f\x1fkeepass show --all {opened}{database} {entry} shows the names; they are compared letter by letter, as in Password, UserName, URL'
+  $'2\x1fno version *\x1f\x1f\x1fkeepass history {opened}{database} {entry} lists the versions; 0 is the current one'
   $'2\x1fno one-time code\x1f\x1f\x1fkeepass edit --otp {opened}{database} {entry} gives it one, from a line that is an otpauth URI'
   $'2\x1fno results\x1f\x1f\x1fa term is a part of title, user name, URL, notes or tags, and all must match; keepass ls -Rf {opened}{database} lists everything'
   $'2\x1ffile exists\x1fdb-create\x1f\x1fdb-create makes new files alone: choose another name, or change the key of the file that is there by db-edit'

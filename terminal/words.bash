@@ -256,6 +256,30 @@ read_change() {
   esac
 }
 
+# Looks at the number of a version, if the option is given that has it: one to six digits.
+read_version() {
+  if is_given "$1" && [[ ! ${given[$1]} =~ ^[0-9]{1,6}$ ]]; then
+    because "'--$1' needs the number of a version, in one to six digits: '${given[$1]}'"
+  fi
+}
+
+# Looks at an edit: it restores a version and changes nothing else, or it changes something.
+read_edit() {
+  local word
+  if is_given restore; then
+    for word in title username url notes password-prompt generate otp length exclude lower upper numeric special; do
+      if is_given "$word"; then because "'--restore' does not go with '--$word'"; fi
+    done
+    read_version restore
+    return
+  fi
+  read_profile
+  for word in title username url notes password-prompt generate otp; do
+    if is_given "$word"; then return; fi
+  done
+  because 'nothing to change: give -t, -u, --url, --notes, -p, -g or --otp'
+}
+
 # Looks for options that do not go together, formats that are unknown, and an edit of nothing.
 read_options() {
   local word
@@ -274,15 +298,12 @@ read_options() {
   for word in all show-attachments; do
     if is_given totp && is_given "$word"; then because "'--totp' does not go with '--$word'"; fi
   done
+  read_version at
   case $command in
     db-create) read_settings ;;
     db-edit) read_change ;;
   esac
-  read_profile
-  if [ "$command" = edit ] && ! is_given title && ! is_given username && ! is_given url && ! is_given notes && ! is_given password-prompt \
-    && ! is_given generate && ! is_given otp; then
-    because 'nothing to change: give -t, -u, --url, --notes, -p, -g or --otp'
-  fi
+  if [ "$command" = edit ]; then read_edit; else read_profile; fi
 }
 
 # Reads the words of a call into `command`, `given` (the options with their values) and `positions`, and sets `reason`
