@@ -85,8 +85,8 @@ def path_with(folder, does):
 
 def commands(extras):
     """Each command that changes a file, by itself, sealed, over a link and under odd names."""
-    for words in (["add", "w.xml", "New"], ["edit", "-u", "me", "w.xml", "Bank"], ["mv", "w.xml", "Bank", "Work"], ["rm", "w.xml", "Bank"],
-                  ["mkdir", "w.xml", "New"], ["rmdir", "w.xml", "School"], ["merge", "w.xml", "v.xml"]):
+    for words in (["add", "w.xml", "New"], ["edit", "-u", "me", "w.xml", "Bank"], ["edit", "--restore", "0", "w.xml", "Bank"], ["mv", "w.xml", "Bank", "Work"],
+                  ["rm", "w.xml", "Bank"], ["mkdir", "w.xml", "New"], ["rmdir", "w.xml", "School"], ["merge", "w.xml", "v.xml"]):
         extras.anew("w.xml")
         extras.rows.copy("v.xml")
         extras.rows.call(["add", "--plain", "-q", "v.xml", "Merged"])
@@ -117,8 +117,8 @@ def nothing_to_do(extras, work):
     extras.row("a merge that finds everything there", ["merge", "--plain", "-q", "w.xml", "w.xml"], None)
     note = os.path.join(work, "note")
     environment = path_with(os.path.join(work, "noting"), {tool: f'echo {tool} >>"{note}"; PATH=${{PATH#*:}}; exec {tool} "$@"' for tool in TOOLS})
-    for words, most in ((["ls", "w.xml"], 0), (["show", "w.xml", "Bank"], 0), (["search", "w.xml", "bank"], 0), (["export", "w.xml"], 0),
-                        (["db-info", "w.xml"], 0), (["import", "w.xml", "n.xml"], 0), (["edit", "-u", "me", "v.xml", "Bank"], 1), (["merge", "-d", "v.xml", "u.xml"], 1)):
+    for words, most in ((["ls", "w.xml"], 0), (["show", "w.xml", "Bank"], 0), (["history", "w.xml", "Bank"], 0), (["search", "w.xml", "bank"], 0),
+                        (["export", "w.xml"], 0), (["db-info", "w.xml"], 0), (["import", "w.xml", "n.xml"], 0), (["edit", "-u", "me", "v.xml", "Bank"], 1), (["merge", "-d", "v.xml", "u.xml"], 1)):
         extras.anew("w.xml")
         extras.rows.copy("v.xml")
         extras.rows.copy("u.xml")

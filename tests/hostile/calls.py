@@ -38,21 +38,24 @@ class Call:
 
 
 COMMANDS = [
-    Call("ls", "ls", "-Rf", FILE),
+    Call("ls", "ls", "-Rf", "--ids", FILE),
     Call("show", "show", "-s", "--all", "--show-attachments", FILE, "Bank"),
+    Call("show --at", "show", "-s", "--all", "--show-attachments", "--at", "1", FILE, "Bank"),
+    Call("history", "history", FILE, "Bank"),
     Call("search", "search", FILE, "password:hidden"),
     Call("export", "export", FILE),
     Call("export -f csv", "export", "-f", "csv", FILE),
     Call("db-info", "db-info", FILE),
     Call("add", "add", "-u", "me", FILE, "Work/New", writes=FILE),
     Call("edit", "edit", "-u", "me", FILE, "Bank", writes=FILE),
+    Call("edit --restore", "edit", "--restore", "1", FILE, "Bank", writes=FILE),
     Call("mv", "mv", FILE, "Bank", "Work", writes=FILE),
     Call("rm", "rm", FILE, "Bank", writes=FILE),
     Call("mkdir", "mkdir", FILE, "Work/New", writes=FILE),
     Call("rmdir", "rmdir", FILE, "Work", writes=FILE),
     Call("merge into it", "merge", FILE, OTHER, writes=FILE),
-    Call("merge of it", "merge", OTHER, FILE, writes=OTHER),
-    Call("merge -d", "merge", "-d", FILE, OTHER),
+    Call("merge of it", "merge", "--details", OTHER, FILE, writes=OTHER),
+    Call("merge -d", "merge", "-d", "--details", FILE, OTHER),
 ]
 
 

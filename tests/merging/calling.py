@@ -64,7 +64,7 @@ class Trial:
         """What the model says: status, output, line, and the document that is written, if one is."""
         try:
             given = [self.files[one].document for one in sources]
-            new, report = joining.merged(self.files[target].document, given, target, sources)
+            new, report = joining.merged(self.files[target].document, given, target, sources, "D" in letters, "d" in letters)
             return 0, "" if "q" in letters else report, "", None if "d" in letters else new
         except joining.Refused as refused:
             return refused.status, "", f"keepass: {target}: {refused.text}\n", None

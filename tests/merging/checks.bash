@@ -165,6 +165,7 @@ merges_of_other_programs() {
 merged_files() {
   local seed=$RANDOM
   compared 'merges by hand' "$merging/against" "$program" table
+  compared 'merges by hand, in detail' "$merging/against" "$program" details
   many_times "drawn families, seed $seed" "$merging/families" "$program" "$seed" 1000
   many_times "drawn histories, seed $seed" "$merging/histories" "$program" "$seed" 1000
   merge_refusals "$1"

@@ -5,7 +5,7 @@ writes. Documents are the dictionaries of tests/moving/model.py, which also read
     joining.py WORD...         does what the program does with these words (--plain alone, and `ls`), so that the tests can be tried on it
 
 A refusal is raised as `Refused`. No document that is given is changed."""
-import copy, itertools, os, sys
+import copy, itertools, os, sys, types
 
 sys.dont_write_bytecode = True
 here = os.path.dirname(os.path.realpath(__file__))
@@ -346,9 +346,28 @@ def current_versions(document):
             for is_entry, one in documents.walk(document["Root"]) if is_entry}
 
 
-def changes(target, old, new, join):
-    """A line for each change from the target to the new document; the databases are those of both."""
-    before, after = names_of(target), names_of(new)
+def paths_of(document):
+    """The paths of the nodes, each after a slash."""
+    return {one.node["UUID"]: "/" + one.path for _, one in documents.walk(document["Root"])}
+
+
+def time_of(mark):
+    return documents.Writer.time(types.SimpleNamespace(stream=None), mark[0])
+
+
+def conflicts(target, sources, new):
+    """The entries whose current version of the target is now in the history, though a source has the entry without that version: by their paths
+    and ids, with both versions. The sources are the databases of the files that were merged."""
+    was, now, paths = current_versions(target), current_versions(new), paths_of(new)
+    found = [identity for identity in now if identity in was and was[identity] != now[identity]
+             and any(identity in source.entries and was[identity] not in source.entries[identity] for source in sources)]
+    return sorted((paths[identity].encode(), identity, now[identity], was[identity]) for identity in found)
+
+
+def changes(target, old, new, join, in_detail=False):
+    """A line for each change from the target to the new document, with names, or in detail with paths; the databases are those of both."""
+    said_of = paths_of if in_detail else names_of
+    before, after = said_of(target), said_of(new)
     was_current, is_current = current_versions(target), current_versions(new)
     lines = []
     for identity in sorted(before.keys() | after.keys()):
@@ -364,20 +383,34 @@ def changes(target, old, new, join):
             if old.places.get(identity) != join.places.get(identity):
                 done.append("moved")
         kind, name = (join if identity in after else old).kind(identity), (after if identity in after else before)[identity]
-        lines += [f"{one} {kind} {name} [{hyphenated(identity)}]" for one in done]
+        came = f" from {before[identity]}" if in_detail and "moved" in done else ""
+        lines += [f"{one} {kind} {name} [{hyphenated(identity)}]" + came * (one == "moved") for one in done]
     lines += ["metadata"] if target["Meta"] != new["Meta"] else []
     lines += ["deletions"] if target["DeletedObjects"] != new["DeletedObjects"] else []
-    return "".join(line + "\n" for line in lines or ["order"])
+    return lines or ["order"]
 
 
-def merged(target, sources, name, names):
+def detailed(lines, found, merges):
+    """The report in detail: the changes, the conflicts, the files, and how many there are of each."""
+    counts = [sum(line.startswith(what) for line in lines) for what in ("created ", "updated ", "moved ", "deleted ")]
+    clashes = [f"conflict entry {path.decode()} [{hyphenated(identity)}]: {time_of(now)} is current, {time_of(was)} is in its history"
+               for path, identity, now, was in found]
+    created, updated, moved, deleted = counts
+    return [*lines, *clashes, *merges, f"{created} created, {updated} updated, {moved} moved, {deleted} deleted, {len(found)} conflicts"]
+
+
+def merged(target, sources, name, names, in_detail=False, is_dry=False):
     """The document after a merge into the file `name` of the files `names`, or None where it is the target as it was; and the report."""
     members = members_of(target, sources)
     join = joined(members)
     new = laid(join, target)
     if new == target:
-        return None, UNCHANGED
-    return new, changes(target, members[0], new, join) + "".join(f"Successfully merged {one} into {name}.\n" for one in names)
+        return None, UNCHANGED + "0 created, 0 updated, 0 moved, 0 deleted, 0 conflicts\n" * in_detail
+    lines = changes(target, members[0], new, join, in_detail)
+    done = "Would merge" if in_detail and is_dry else "Successfully merged"
+    merges = [f"{done} {one} into {name}." for one in names]
+    lines = detailed(lines, conflicts(target, members[1:], new), merges) if in_detail else lines + merges
+    return new, "".join(line + "\n" for line in lines)
 
 
 # ---- in the place of the program
@@ -412,9 +445,9 @@ def stand_in(words):
     try:
         target = read(path)
         if command == "ls":
-            sys.stdout.write(documents.listed(target, "R" in options, "f" in options, *positions))
+            sys.stdout.write(documents.listed(target, "R" in options, "f" in options, *positions or [None], ids="i" in options))
             return 0
-        new, report = merged(target, [read(one) for one in positions], path, positions)
+        new, report = merged(target, [read(one) for one in positions], path, positions, "D" in options, "d" in options)
     except (Refused, OfFile) as refused:
         sys.stderr.write(f"keepass: {getattr(refused, 'path', path)}: {refused.text}\n")
         return refused.status

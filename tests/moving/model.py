@@ -1,6 +1,6 @@
 #!/usr/bin/env python3
-"""A slow model of `keepass mv`, `rm`, `mkdir`, `rmdir` and `edit`, written from the rules alone: what a call prints or refuses, and every byte
-of the document that it writes. Documents are read by the reader of tests/damaged, in the form of tests/writing/compare.
+"""A slow model of `keepass mv`, `rm`, `mkdir`, `rmdir`, `edit` and `ls`, written from the rules alone: what a call prints or refuses, and every
+byte of the document that it writes. Documents are read by the reader of tests/damaged, in the form of tests/writing/compare.
 
     model.py                   tries the model on known texts: their lengths and SHA-256 are from another writer of the same rules
     model.py WORD...           does what the program does with these words (--plain alone, and `ls`), so that the tests can be tried on it
@@ -50,11 +50,34 @@ def walk(group, path="", parent=None, level=1):
         yield from walk(below, front + below["Name"], group, level + 1)
 
 
+def hyphenated(identity):
+    text = identity.hex()
+    return "-".join((text[:8], text[8:12], text[12:16], text[16:20], text[20:]))
+
+
+def braced(identity):
+    """The text by which an id names a node."""
+    return f"{{{hyphenated(identity)}}}"
+
+
+def first(document, of_entry, holds):
+    """The first node of a kind of which something holds; or None."""
+    return next((found for is_entry, found in walk(document["Root"]) if is_entry == of_entry and holds(found)), None)
+
+
+def by_id(document, of_entry, text):
+    """The node of a kind whose id a text is in braces; or None."""
+    return first(document, of_entry, lambda found: braced(found.node["UUID"]) == text)
+
+
+def there(found):
+    refuse_if(found is None, 2, "not found")
+    return found
+
+
 def find_entry(document, text):
-    for is_entry, found in walk(document["Root"]):
-        if is_entry and text in (found.path, "/" + found.path):
-            return found
-    raise Refused(2, "not found")
+    """The entry whose id a text is, or else the first one whose path it is."""
+    return there(by_id(document, True, text) or first(document, True, lambda found: text in (found.path, "/" + found.path)))
 
 
 def trimmed(text):
@@ -63,11 +86,13 @@ def trimmed(text):
     return text[:-1] if text.endswith("/") else text
 
 
+def group_at(document, text):
+    """The first group whose path a text is, whatever ids there are."""
+    return there(first(document, False, lambda found: found.path == trimmed(text)))
+
+
 def find_group(document, text):
-    for is_entry, found in walk(document["Root"]):
-        if not is_entry and found.path == trimmed(text):
-            return found
-    raise Refused(2, "not found")
+    return by_id(document, False, trimmed(text)) or group_at(document, text)
 
 
 def groups_in(group):
@@ -91,11 +116,6 @@ def time_after(now, before):
     """The later of now and a second after another time, which must be in the calendar."""
     refuse_if(max(now, before + 1) > LAST, 8, "limit passed")
     return max(now, before + 1)
-
-
-def hyphenated(identity):
-    text = identity.hex()
-    return "-".join((text[:8], text[8:12], text[12:16], text[16:20], text[20:]))
 
 
 def refuse_taken(document, identity):
@@ -143,7 +163,7 @@ def move_group(document, path, goal, now):
 
 def make_group(document, path, identity, now):
     front, _, name = trimmed(path).rpartition("/")
-    parent = find_group(document, front)
+    parent = group_at(document, front)
     new = name if parent.parent is None else f"{parent.path}/{name}"
     taken = [found.path for is_entry, found in walk(document["Root"]) if not is_entry]
     refuse_if(new in taken or trimmed(new) == "", 2, "already there")
@@ -238,16 +258,19 @@ def changed(document, command, positions, identity, now):
     return document, f"Successfully {'recycled' if recycled else 'deleted'} {'entry' if command == 'rm' else 'group'} {name}.\n"
 
 
-def listed(document, recursive=False, flat=False, text=None):
-    """What `ls` prints."""
+def listed(document, recursive=False, flat=False, text=None, ids=False):
+    """What `ls` prints, with each name after its node's id where that is asked for."""
     def lines(group, level, path):
         front = path if flat else "  " * level
         for entry in group["Entry"]:
-            yield front + title(entry)
+            yield front + named(entry) + title(entry)
         for below in group["Group"]:
-            yield front + below["Name"] + "/"
+            yield front + named(below) + below["Name"] + "/"
             if recursive:
                 yield from lines(below, level + 1, f"{path}{below['Name']}/")
+
+    def named(node):
+        return braced(node["UUID"]) + " " if ids else ""
 
     group = document["Root"] if text is None else find_group(document, text).node
     return "".join(line + "\n" for line in lines(group, 0, ""))
@@ -571,12 +594,16 @@ def whole(text):
 # ---- in the place of the program
 
 
+# The letters by which long options are known here that are not their first one.
+LETTERS = {"--details": "D"}
+
+
 def parted(words):
     """The command, its options by their letters, and its positions, in words that are known to be right."""
     command, *rest = words
     end = rest.index("--") if "--" in rest else len(rest)
     options = [word for word in rest[:end] if word.startswith("-") and word != "-"]
-    letters = "".join(word[2] if word.startswith("--") else word[1:] for word in options)
+    letters = "".join(LETTERS.get(word, word[2]) if word.startswith("--") else word[1:] for word in options)
     return command, letters, [word for word in rest[:end] if word not in options] + rest[end + 1 :]
 
 
@@ -587,7 +614,7 @@ def stand_in(words):
         with open(path, "rb") as file:
             document = document_of(file.read())
         if command == "ls":
-            sys.stdout.write(listed(document, "R" in options, "f" in options, *positions))
+            sys.stdout.write(listed(document, "R" in options, "f" in options, *positions or [None], ids="i" in options))
             return 0
         document, report = changed(document, command, positions, new_id(os.urandom(16)), seconds(time.time()))
     except Refused as refused:

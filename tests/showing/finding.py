@@ -47,10 +47,12 @@ def text_in(element, name):
 
 
 class Entry:
-    """The current version of an entry: its id, its fields by their keys, its tags, its attachments."""
+    """A version of an entry: its id, its fields by their keys, its tags, its attachments; and, of the current one, the
+    older ones, the last of the file first."""
 
     def __init__(self, element, binaries):
         self.id = uuid.UUID(bytes=base64.b64decode(text_in(element, "UUID").strip()))
+        self.older = [Entry(version, binaries) for version in reversed(element.findall("History/Entry"))]
         self.tags = text_in(element, "Tags")
         self.values, self.hidden, self.attachments = {}, {}, {}
         for string in element.findall("String"):
@@ -114,7 +116,7 @@ class Resolving:
         self.references, self.bytes, self.pieces = 0, 0, []
 
     def find(self, place, text):
-        """The first entry in document order whose value as it stands is the text. I is the id in 32
+        """The first entry in document order whose current value as it stands is the text. I is the id in 32
         digits of any case, and O any other field."""
         for entry in self.entries:
             if place == "I":
@@ -235,10 +237,11 @@ def search(document, file, text):
     return answered(file, compose)
 
 
-def show(document, file, path, clear=False, all=False, attachments=False, names=()):
+def show(document, file, path, clear=False, all=False, attachments=False, names=(), at=0):
     """Without names: a line for each of the five fields, with `all` the others by rising key, then the
     id and the tags; a hidden value is PROTECTED unless it is asked for. With names: their values
-    alone. First the path is looked for, then every name, and then values are resolved."""
+    alone. First the entry of this id in braces is looked for, then the path, then the version that
+    has the number, then every name, and then values are resolved, in what is current."""
 
     def value(entry, key, clear):
         if entry.hidden.get(key) and not clear:
@@ -246,9 +249,13 @@ def show(document, file, path, clear=False, all=False, attachments=False, names=
         return resolved(document, entry.value(key))
 
     def compose():
-        entry = next((entry for entry, own, *_ in document.walk() if path in (own, "/" + own)), None)
+        entry = next((entry for entry, *_ in document.walk() if path == "{%s}" % entry.id), None) \
+            or next((entry for entry, own, *_ in document.walk() if path in (own, "/" + own)), None)
         if entry is None:
             raise Refused(2, None, "not found")
+        if at > len(entry.older):
+            raise Refused(2, None, "no version %d" % at)
+        entry = [entry, *entry.older][at]
         for name in names:
             if name not in entry.values and name not in NAMED.values():
                 raise Refused(2, None, "no attribute " + name)
@@ -272,7 +279,7 @@ def written(text):
     return text.replace("&", "&amp;").replace("<", "&lt;").replace(">", "&gt;").replace("\r", "&#xD;")
 
 
-def entry_of(number, fields, tags="", binaries=()):
+def entry_of(number, fields, tags="", binaries=(), older=""):
     """The text of an entry, whose id repeats a byte; fields are (key, value) or (key, value, True)."""
     text = "<Entry><UUID>%s</UUID>" % base64.b64encode(bytes([number]) * 16).decode()
     for key, value, *hidden in fields:
@@ -280,7 +287,7 @@ def entry_of(number, fields, tags="", binaries=()):
             written(key), ' ProtectInMemory="True"' if hidden else "", written(value))
     for name, content in binaries:
         text += "<Binary><Key>%s</Key><Value>%s</Value></Binary>" % (written(name), base64.b64encode(content).decode())
-    return text + "<Tags>%s</Tags></Entry>" % written(tags)
+    return text + "<Tags>%s</Tags><History>%s</History></Entry>" % (written(tags), older)
 
 
 def group_of(number, name, inside="", searching="null"):
@@ -300,6 +307,7 @@ def words_of(call, file, *given, **options):
     words += [word for name, word in (("clear", "-s"), ("all", "--all"), ("attachments", "--show-attachments"))
               if options.get(name)]
     words += ["--attributes=" + name for name in options.get("names", ())]
+    words += ["--at=%d" % options["at"]] if "at" in options else []
     return words + ["--", file, *given]
 
 
@@ -360,6 +368,14 @@ def worked_cases(trial):
     trial.row("named values are shown", (0, "s3\n\n77\nAttachments:\n  a.txt (0 bytes)\n  b.txt (5 bytes)\n", ""),
               SMALL, show, "Mail", names=("Password", "URL", "Pin"), all=True, attachments=True)
     trial.row("an attribute is missing", (2, "", "keepass: FILE: no attribute pin\n"), SMALL, show, "Mail", names=("Pin", "pin"))
+    trial.row("an entry by its id", (0, "s3\n", ""), SMALL, show, "{03030303-0303-0303-0303-030303030303}", names=("Password",))
+    trial.row("an id with a slash is none", (2, "", "keepass: FILE: not found\n"), SMALL, show, "/{03030303-0303-0303-0303-030303030303}")
+    older = entry_of(2, [("Title", "Old"), ("UserName", "was:{REF:U@T:Bank}{REF:U@T:Old}")]) + entry_of(2, [("Notes", "a note")])
+    two = document_of(entry_of(2, [("Title", "Bank"), ("UserName", "ada")], older=older))
+    trial.row("the last of the history is the first version", (0, "a note\n", ""), two, show, "Bank", names=("Notes",), at=1)
+    trial.row("a version before that", (0, "Old\nwas:ada{REF:U@T:Old}\n", ""), two, show, "Bank", names=("Title", "UserName"), at=2)
+    trial.row("no such version, before a name", (2, "", "keepass: FILE: no version 3\n"), two, show, "Bank", names=("x",), at=3)
+    trial.row("no such entry, before a version", (2, "", "keepass: FILE: not found\n"), two, show, "Old", at=3)
     trial.row("clear", (0, "HTTPS://x/\n", ""), SMALL, show, "Work/Bank", names=("Password",))
     for words, want in [
             ("ba", (0, "/Mail\n/Work/Shared/bank two\n", "")), ("t:ba", (0, "/Work/Shared/bank two\n", "")), ("title:", empty(0)), ("zz", none), ("", empty(0)), ("   ", empty(0)),
@@ -402,10 +418,14 @@ def random_calls(trial, count, seed):
         return "".join(chance.choice(pieces) for _ in range(chance.randint(0, most)))
 
     def entry(numbers):
+        number = next(numbers)
+        return version(number, "".join(version(number) for _ in range(chance.choice([0, 0, 0, 1, 2]))))
+
+    def version(number, older=""):
         keys = chance.sample(["Title", "UserName", "Password", "URL", "Notes", "x", "X", "Other", "title"], chance.randint(0, 7))
         fields = [(key, text(), *([True] if chance.random() < 0.3 else [])) for key in keys]
         binaries = [(name, bytes(chance.randint(0, 9))) for name in ("f", "é")[:chance.randint(0, 2)]]
-        return entry_of(next(numbers), fields, text(3), binaries)
+        return entry_of(number, fields, text(3), binaries, older)
 
     def inside(numbers, most, depth):
         held = "".join(entry(numbers) for _ in range(chance.randint(0, most)))
@@ -425,8 +445,9 @@ def random_calls(trial, count, seed):
             trial.call(document, search, chance.choice([" ", "", "  "]).join(word() for _ in range(chance.randint(0, 3))))
             continue
         paths = [path for _, path, *_ in Document(document).walk()] + [text(2)]
+        paths += ["{%s}" % entry.id for entry, *_ in Document(document).walk()][:3]
         names = [chance.choice(["Title", "Notes", "Password", "x", "X", "Other", "title"]) for _ in range(chance.choice([0, 0, 1, 2]))]
-        trial.call(document, show, chance.choice(["", "", "/"]) + chance.choice(paths), names=tuple(names),
+        trial.call(document, show, chance.choice(["", "", "/"]) + chance.choice(paths), names=tuple(names), **chance.choice([{}, {"at": 0}, {"at": 1}, {"at": 1}, {"at": 2}]),
                    **{option: chance.random() < 0.5 for option in ("clear", "all", "attachments")})
 
 

@@ -23,9 +23,22 @@ def value(version, key):
 # ---- show
 
 
-def shown(document, path, clear=False, every=False, attachments=False, names=()):
-    """The lines of an entry."""
-    entry = documents.find_entry(document, path).node
+def versions(entry):
+    """The versions of an entry by their numbers: the current one, and then its history from the end."""
+    return [entry, *reversed(entry["History"]["Entry"])]
+
+
+def version(entry, number):
+    found = versions(entry)
+    if number >= len(found):
+        raise Refused(2, f"no version {number}")
+    return found[number]
+
+
+def shown(document, path, clear=False, every=False, attachments=False, names=(), at=0):
+    """The lines of an entry as its version of a number has them. References are resolved in the document as it is now."""
+    node = documents.find_entry(document, path).node
+    entry = version(node, at)
     fields = entry["String"]
     for name in names:
         if name not in FIVE and name not in fields:
@@ -35,7 +48,7 @@ def shown(document, path, clear=False, every=False, attachments=False, names=())
     else:
         others = [string["Key"] for string in documents.in_order(fields) if string["Key"] not in FIVE]
         lines = [f"{key}: {visible(document, fields.get(key), clear)}" for key in (*FIVE, *(others if every else ()))]
-        lines += [f"Uuid: {{{documents.hyphenated(entry['UUID'])}}}", f"Tags: {entry['Tags']}"]
+        lines += [f"Uuid: {documents.braced(node['UUID'])}", f"Tags: {entry['Tags']}"]
     if attachments:
         lines.append("Attachments:")
         lines += [f"  {one['Key']} ({len(one['Value'][0])} bytes)" for one in documents.in_order(entry["Binary"])]
@@ -116,7 +129,7 @@ class Words:
 
     def __init__(self, words):
         self.command, *words = words
-        self.flags, self.names, self.format, self.positions = set(), [], "xml", []
+        self.flags, self.names, self.format, self.at, self.positions = set(), [], "xml", 0, []
         while words:
             word = words.pop(0)
             if word == "--":
@@ -130,6 +143,8 @@ class Words:
                 self.names.append(words.pop(0))
             elif word in ("-f", "--format"):
                 self.format = words.pop(0)
+            elif word == "--at":
+                self.at = int(words.pop(0))
             elif word[:2] == "-a":
                 self.names.append(word[2:].removeprefix("="))
             elif word[:2] == "-f":
@@ -138,6 +153,8 @@ class Words:
                 self.names.append(word.partition("=")[2])
             elif word.startswith("--format="):
                 self.format = word.partition("=")[2]
+            elif word.startswith("--at="):
+                self.at = int(word.partition("=")[2])
             else:
                 self.flags |= {self.FLAGS["-" + letter] for letter in word[1:]}
         self.file = self.positions.pop(0)
@@ -146,7 +163,7 @@ class Words:
 def said(document, words, settings=Settings()):
     """What a call prints."""
     if words.command == "show":
-        return shown(document, *words.positions, "clear" in words.flags, "every" in words.flags, "attachments" in words.flags, words.names)
+        return shown(document, *words.positions, "clear" in words.flags, "every" in words.flags, "attachments" in words.flags, words.names, words.at)
     if words.command == "search":
         return searched(document, *words.positions)
     if words.command == "export":

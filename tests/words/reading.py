@@ -13,6 +13,7 @@ CREDENTIALS = ["key-file", "no-password"]
 COMMANDS = {command["name"]: command for command in table["commands"]}
 FILE_CHANGES = ("other-password", "set-key-file", "unset-password", "unset-key-file", "cipher", "kdf", "file-version")
 COSTS = ("rounds", "memory", "lanes")
+VERSIONS = ("at", "restore")
 CHANGES = ("title", "username", "url", "notes", "password-prompt", "generate", "otp")
 PROFILE = ("length", "lower", "upper", "numeric", "special", "exclude")
 CLASSES = {"lower": string.ascii_lowercase, "upper": string.ascii_uppercase, "numeric": string.digits, "special": string.punctuation}
@@ -132,6 +133,14 @@ def derivation(given):
     return given["kdf"], *map(int, costs)
 
 
+def check_entry_change(given):
+    """What an entry is changed to: an older version of it and nothing else, or at least one value."""
+    if "restore" in given and any(name in given for name in CHANGES + PROFILE):
+        raise Wrong
+    if not any(name in given for name in CHANGES + ("restore",)):
+        raise Wrong
+
+
 def check_change(given):
     """What a file is changed to: something, no part of the key both set and unset, and one of them left."""
     if not any(name in given for name in FILE_CHANGES):
@@ -169,8 +178,10 @@ def command_of(words):
     for name, value in given.items():
         if "choices" in OPTIONS[name] and value not in OPTIONS[name]["choices"]:
             raise Wrong
-    if command == "edit" and not any(name in given for name in CHANGES):
+    if any(name in given and not re.fullmatch("[0-9]{1,6}", given[name]) for name in VERSIONS):
         raise Wrong
+    if command == "edit":
+        check_entry_change(given)
     if "totp" in given and ("all" in given or "show-attachments" in given):
         raise Wrong
     generated = None
@@ -238,10 +249,12 @@ def own_parts(command, given, positions, generated, kdf):
 
     plain, quiet = "plain" in given, "quiet" in given
     if command == "ls":
-        return [f"group={group}" for group in positions[1:]] + flags("recursive", "flatten")
+        return [f"group={group}" for group in positions[1:]] + flags("recursive", "flatten", "ids")
     if command == "show":
         return ([f"entry={positions[1]}"] + flags("show-protected", "all", "show-attachments")
-                + [f"attribute={name}" for name in given.get("attributes", [])] + flags("totp"))
+                + [f"attribute={name}" for name in given.get("attributes", [])] + flags("totp") + [f"at={int(given.get('at', 0))}"])
+    if "restore" in given:
+        return [f"entry={positions[1]}", f"restore={int(given['restore'])}"]
     if command in ("add", "edit"):
         return ([f"entry={positions[1]}"] + texts("title", "username", "url", "notes")
                 + (["password"] if "password-prompt" in given else []) + profile_parts(generated) + flags("otp"))
@@ -250,7 +263,7 @@ def own_parts(command, given, positions, generated, kdf):
         if "same-credentials" in given:
             opened = given.get("key-file"), "no-password" in given
         return ([part for source in positions[1:] for part in access(source, plain, quiet, *opened)]
-                + flags("same-credentials", "dry-run"))
+                + flags("same-credentials", "dry-run", "details"))
     if command == "import":
         form = given.get("import-format", "xml")
         return access(positions[0], form != "psafe3", quiet, None, False) + [f"format={form}"]
@@ -262,7 +275,7 @@ def own_parts(command, given, positions, generated, kdf):
         version = [f"version={given['file-version']}"] if "file-version" in given else []
         password = ["set-password"] if "other-password" in given else flags("unset-password")
         return password + (texts("set-key-file") or flags("unset-key-file")) + settings_parts(given, kdf) + version
-    names = {"search": ["term"], "mv": ["node", "group"], "rm": ["entry"], "mkdir": ["group"], "rmdir": ["group"], "db-info": []}
+    names = {"history": ["entry"], "search": ["term"], "mv": ["node", "group"], "rm": ["entry"], "mkdir": ["group"], "rmdir": ["group"], "db-info": []}
     return [f"{name}={word}" for name, word in zip(names[command], positions[1:], strict=True)]
 
 
