@@ -405,7 +405,7 @@ def merged(target, sources, name, names, in_detail=False, is_dry=False):
     join = joined(members)
     new = laid(join, target)
     if new == target:
-        return None, UNCHANGED + "0 created, 0 updated, 0 moved, 0 deleted, 0 conflicts\n" * in_detail
+        return None, UNCHANGED
     lines = changes(target, members[0], new, join, in_detail)
     done = "Would merge" if in_detail and is_dry else "Successfully merged"
     merges = [f"{done} {one} into {name}." for one in names]
