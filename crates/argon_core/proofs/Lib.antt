@@ -9,5 +9,6 @@ pub mod Times
 pub mod EarlierPlaces
 pub mod Holding
 pub mod LastBlocks
+pub mod BlockLemmas
 pub mod PairLemmas
 pub mod TurnLemmas

@@ -5,7 +5,6 @@ use Rattle.std.proofs.Math.Nat.{mul_assoc}
 use Rattle.argon_core.specs.Compression.{multiply_add}
 use Rattle.std.specs.Int.{w64, rotate_right}
 use Rattle.std.specs.Simd.Lanes.{zip2}
-use Rattle.argon_core.specs.Pairs.{pair_word, words_of}
 
 -- what holds of each of two numbers
 pub below_two : (P : ℕ → Type 0) → P 0 → P 1 → (j : ℕ) → j < 2 → P j

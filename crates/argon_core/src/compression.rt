@@ -1,6 +1,6 @@
 //! The compression function G of Argon2 (RFC 9106, 3.5 and 3.6).
 
-ghost use Rattle.std.specs.Prelude.{◌≡◌, ◌≢◌, ℕ, ◌+◌, ◌*◌, ◌/◌, ◌%◌, ◌<◌, [], ◌∷◌, slice_index};
+ghost use Rattle.std.specs.Prelude.{◌≡◌, ◌≢◌, ℕ, ◌+◌, ◌*◌, ◌/◌, ◌%◌, ◌<◌, [], ◌∷◌, bit_xor, slice_index};
 ghost use Rattle.argon_core.specs.Pairs.{IsTurn, words_of};
 ghost use Rattle.argon_core.specs.Compression.{mix_product, mixed_columns, mixed_diagonals, permutation, row, column, permuted_rows, permuted_columns, xor_blocks, compression};
 
@@ -142,15 +142,16 @@ fn column(block: &Block, j: usize) -> [u64x2; 8]
     ]
 }
 
+// Mixes words into those of a column, by the exclusive or.
 #[inline(always)]
-fn put_column(block: &mut Block, j: usize, words: [u64; 16])
+fn xor_column(block: &mut Block, j: usize, words: [u64; 16])
     requires { j < 8 }
-    ensures here { (k : ℕ) → k < 16 → slice_index block.new (16 * (k / 2) + 2 * j + k % 2)
-        ≡ slice_index words k }
+    ensures here { (i : ℕ) → i < 128 → i % 16 / 2 ≡ j → slice_index block.new i
+        ≡ bit_xor (slice_index block.old i) (slice_index words (2 * (i / 16) + i % 2)) }
     ensures others { (i : ℕ) → i % 16 / 2 ≢ j → slice_index block.new i ≡ slice_index block.old i }
 {
     'words: for k in 0..16usize {
-        block[16 * (k / 2) + 2 * j + k % 2] = words[k];
+        block[16 * (k / 2) + 2 * j + k % 2] ^= words[k];
     }
 }
 
@@ -166,15 +167,16 @@ fn permute_rows(turns: &Turns, block: &mut Block)
     }
 }
 
-fn permute_columns(turns: &Turns, block: &mut Block)
+// Mixes the permuted columns of `block` into another block.
+fn xor_columns(turns: &Turns, into: &mut Block, block: &Block)
     requires by_32 { IsTurn 32 turns.now.by_32 }
     requires by_24 { IsTurn 24 turns.now.by_24 }
     requires by_16 { IsTurn 16 turns.now.by_16 }
-    ensures { block.new ≡ permuted_columns block.old }
+    ensures { into.new ≡ xor_blocks into.old (permuted_columns block.now) }
 {
     'columns: for j in 0..8usize {
         let words = words_of(permute(turns, column(block, j)));
-        put_column(block, j, words);
+        xor_column(into, j, words);
     }
 }
 
@@ -187,16 +189,22 @@ pub(crate) fn xor_into(block: &mut Block, other: &Block)
     }
 }
 
+/// Mixes `fresh` into another block once its rows and columns are permuted.
+pub(crate) fn xor_permuted(into: &mut Block, fresh: &mut Block)
+    ensures { into.new ≡ xor_blocks into.old (permuted_columns (permuted_rows fresh.old)) }
+{
+    let turns = Turns::new();
+    permute_rows(&turns, fresh);
+    xor_columns(&turns, into, fresh);
+}
+
 /// The function G of two blocks.
 pub(crate) fn compress(x: &Block, y: &Block) -> Block
     ensures { result ≡ compression x.now y.now }
 {
-    let mut mixed = *x;
-    xor_into(&mut mixed, y);
-    let mut fresh = mixed;
-    let turns = Turns::new();
-    permute_rows(&turns, &mut fresh);
-    permute_columns(&turns, &mut fresh);
-    xor_into(&mut fresh, &mixed);
-    fresh
+    let mut fresh = *x;
+    xor_into(&mut fresh, y);
+    let mut mixed = fresh;
+    xor_permuted(&mut mixed, &mut fresh);
+    mixed
 }

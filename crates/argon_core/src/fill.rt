@@ -5,15 +5,30 @@ ghost use Rattle.argon_core.specs.Compression.{compression, xor_blocks};
 ghost use Rattle.argon_core.specs.Argon2.{IsWithinLimits, address_block, chooser_of, chosen_place, column_before, is_independent, lane_len, last_blocks, memory_len, mixed_from, next_from, other_column, other_lane, segment_len, window_len, window_start};
 ghost use Rattle.argon_core.specs.Memory.{HoldsBlocks, place_in, seen_in, segment_time};
 
-use crate::compression::{Block, LOW_HALF, compress, xor_into};
+use crate::compression::{Block, LOW_HALF, compress, xor_into, xor_permuted};
 use crate::hashes::{first_block, type_number};
 use crate::memory::SingleBlock;
 use crate::params::{ArgonKind, Instance, Segment};
 
 const ADDRESSES_IN_BLOCK: usize = 128;
 
+// What the permuted block is mixed into: the block itself, and after the first pass also what stood
+// at its place.
+fn mix_old(old: &mut Block, fresh: &Block, is_first: bool)
+    ensures { old.new ≡ if is_first then fresh.now else xor_blocks old.old fresh.now }
+{
+    if is_first {
+        *old = *fresh;
+    } else {
+        xor_into(old, fresh);
+    }
+}
+
 // Fills place `at` of the memory from the blocks before it and of another lane. After the first
 // pass what was there is mixed in.
+//
+// The two blocks that are seldom in the cache are copied first, so that the processor waits for
+// them together.
 fn refill(memory: &mut [Block], before: usize, other: usize, at: usize, is_first: bool)
     requires few { length memory.old ≤ 1048576 }
     requires before { before < length memory.old }
@@ -24,11 +39,12 @@ fn refill(memory: &mut [Block], before: usize, other: usize, at: usize, is_first
         (slice_index_or memory.old other []) in
         if is_first then fresh else xor_blocks fresh (slice_index_or memory.old at [])) }
 {
-    let mut fresh = compress(&memory[before], &memory[other]);
-    if !is_first {
-        xor_into(&mut fresh, &memory[at]);
-    }
-    memory[at] = fresh;
+    let mut fresh = memory[other];
+    let mut mixed = memory[at];
+    xor_into(&mut fresh, &memory[before]);
+    mix_old(&mut mixed, &fresh, is_first);
+    xor_permuted(&mut mixed, &mut fresh);
+    memory[at] = mixed;
 }
 
 // The place in a window of blocks that a half of the choosing value chooses: the later, the

@@ -1,4 +1,4 @@
-use Rattle.std.proofs.Common.{◌<◌, mod-lt, arith}
+use Rattle.std.proofs.Common.{mod-lt, arith}
 use Rattle.argon_core.proofs.Limits.{segment_len-least}
 use Rattle.argon_core.proofs.params.Instance.other_column.Goals as goal
 

@@ -1,9 +1,0 @@
-use Rattle.std.proofs.Common.{◌≡◌, ◌≢◌, ℕ, ◌+◌, ◌*◌, ◌/◌, ◌%◌, ◌<◌, length, slice_index}
-use Rattle.argon_core.proofs.compression.put_column.Given as goal
-
-abbrev pub invariant-words : goal.invariant-words
-invariant-words l = record {
-  here : (k : ℕ) → k < l.k → slice_index l.block (16 * (k / 2) + 2 * l.j + k % 2) ≡ slice_index l.words k;
-  others : (i : ℕ) → i % 16 / 2 ≢ l.j → slice_index l.block i ≡ slice_index l.fn.block i;
-  len : length l.block ≡ 128;
-}
