@@ -1,6 +1,6 @@
 -- What the memory of a computation holds while it is filled in place: lane after lane, in each lane
 -- a block for each column.
-use Rattle.std.specs.Prelude.{◌≡◌, ℕ, ◌+◌, ◌*◌, ◌<◌, List, [], length, replicate, slice_index_or}
+use Rattle.std.specs.Prelude.{◌≡◌, ℕ, ◌+◌, ◌*◌, ◌<◌, List, [], length, slice_index, slice_index_or}
 use Rattle.argon_core.specs.Argon2.{blocks, lane_len, latest, memory_len, offset_of, segment_len}
 use Rattle.argon_core.specs.declared.params.ArgonParams.{ArgonParams}
 use Rattle.argon_core.specs.declared.params.Instance.{Instance}
@@ -25,6 +25,6 @@ pub record HoldsBlocks (i : Instance) (memory : List (List ℕ)) (n : ℕ) : Typ
 abbrev pub segment_time : ArgonParams → ℕ → ℕ → ℕ → ℕ
 segment_time p pass slice lane = pass * memory_len p + (slice * p.lanes + lane) * segment_len p
 
--- nothing is left of what the blocks were: each word of them is zero
-abbrev pub IsWiped : List (List ℕ) → Type 0
-IsWiped memory = (k : ℕ) → k < length memory → slice_index_or memory k [] ≡ replicate 128 0
+-- nothing is left of what the memory held: each word of it is zero
+abbrev pub IsWiped : List ℕ → Type 0
+IsWiped words = (k : ℕ) → k < length words → slice_index words k ≡ 0

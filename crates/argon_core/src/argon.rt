@@ -34,8 +34,8 @@ fn first_unmet(params: &ArgonParams, salt_len: usize) -> Option<ArgonFail>
 /// The Argon2 tag of 32 bytes (RFC 9106, version 0x13) of a password, a salt, a secret and extra
 /// data, each of at most 65,536 bytes.
 ///
-/// The limits are looked at in the order of `ArgonFail`. The memory takes `params.kib` units of
-/// 1,024 bytes at most, and is zeroed before it is given back.
+/// The limits are looked at in the order of `ArgonFail`. The memory takes at most `params.kib` units
+/// of 1,024 bytes and less than one besides, and is zeroed before it is given back.
 pub fn argon2(
     alloc: Global,
     kind: ArgonKind,
@@ -77,8 +77,9 @@ fn tag_of(alloc: Global, instance: &Instance) -> Result<Key, ArgonFail>
     let Ok(mut memory) = Memory::zeros(alloc, instance.memory_len()) else {
         return Err(ArgonFail::NoMemory);
     };
-    instance.fill(&mut memory.blocks);
-    let mut last = instance.last_block(&memory.blocks);
+    let blocks = memory.blocks();
+    instance.fill(blocks);
+    let mut last = instance.last_block(blocks);
     memory.wipe();
     memory.release();
     let key = tag(&last.words);

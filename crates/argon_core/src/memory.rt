@@ -1,49 +1,63 @@
 //! The memory of a computation, and single blocks beside it, which are all zero again before they
 //! are given back.
 
-ghost use Rattle.std.specs.Prelude.{◌≡◌, IfOk, length, replicate, vec_len};
+ghost use Rattle.std.specs.Prelude.{◌≡◌, ◌/◌, ◌≤◌, IfOk, length, replicate, vec_len};
 ghost use Rattle.argon_core.specs.Memory.{IsWiped};
 
 use crate::compression::Block;
 use std::alloc::{AllocError, Global};
 
-// The blocks of all lanes. They are as secret as the password, so the memory must be spent, and it
-// can be given up only once it is zero.
+// How many words stand before the first block. An allocator gives a large piece of memory from 16
+// bytes after the start of a page on; with these words they are a block's length, so that no block
+// lies across two pages, which would have to be looked for one after the other.
+const WORDS_BEFORE: usize = 126;
+
+// The blocks of all lanes, and the words before them. They are as secret as the password, so the
+// memory must be spent, and it can be given up only once it is zero.
 pub(crate) struct Memory {
-    pub(crate) blocks: Vec<Block>,
+    pub(crate) words: Vec<u64>,
 }
 
-// Zeroes every word of some blocks.
-fn zero(blocks: &mut [Block])
-    ensures { IsWiped blocks.new }
+// Zeroes every word.
+fn zero(words: &mut [u64])
+    ensures { IsWiped words.new }
 {
-    'each: for block in blocks.iter_mut() {
-        *block = [0; 128];
+    'each: for word in words.iter_mut() {
+        *word = 0;
     }
 }
 
 impl Memory {
     /// A memory of `len` blocks.
     pub(crate) fn zeros(alloc: Global, len: usize) -> Result<Memory, AllocError>
-        ensures { IfOk result (λ memory. vec_len memory.blocks ≡ len) }
+        requires { len ≤ 1048576 }
+        ensures { IfOk result (λ memory. vec_len memory.words / 128 ≡ len) }
     {
-        let blocks = vec![in alloc; [0; 128]; len]?;
-        Ok(Memory { blocks })
+        let words = vec![in alloc; 0; 128 * len + WORDS_BEFORE]?;
+        Ok(Memory { words })
+    }
+
+    /// Its blocks.
+    pub(crate) fn blocks(&mut self) -> &mut [Block]
+        ensures { length result.now ≡ vec_len self.old.words / 128 }
+    {
+        let (_, blocks) = self.words.as_rchunks_mut::<128>();
+        blocks
     }
 
     /// Zeroes every word.
     pub(crate) fn wipe(&mut self)
-        ensures { IsWiped self.new.blocks.items }
+        ensures { IsWiped self.new.words.items }
     {
-        zero(&mut self.blocks);
+        zero(&mut self.words);
     }
 
     /// Gives the memory up.
     pub(crate) fn release(self)
-        requires { IsWiped self.blocks.items }
+        requires { IsWiped self.words.items }
     {
-        let Memory { blocks } = self;
-        drop(blocks);
+        let Memory { words } = self;
+        drop(words);
     }
 }
 
