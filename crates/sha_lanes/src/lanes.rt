@@ -1,0 +1,105 @@
+//! Operations on four words side by side.
+
+ghost use Rattle.std.specs.Prelude.{◌≡◌, ℕ, ◌/◌, ◌^◌, ◌<◌, slice_index, bit_and, bit_xor};
+ghost use Rattle.std.specs.Int.{w32, bit_not, rotate_right};
+ghost use Rattle.sha2.specs.Sha256.{add32, big_sigma0, big_sigma1, ch, maj, small_sigma0, small_sigma1};
+
+use std::simd::u32x4;
+
+#[inline(always)]
+pub(crate) fn add(a: u32x4, b: u32x4) -> u32x4
+    ensures { (j : ℕ) → j < 4 → slice_index result j ≡ add32 (slice_index a j) (slice_index b j) }
+{
+    a + b
+}
+
+// The same number added to each lane.
+#[inline(always)]
+pub(crate) fn add_number(a: u32x4, number: u32) -> u32x4
+    ensures { (j : ℕ) → j < 4 → slice_index result j ≡ add32 (slice_index a j) number }
+{
+    a + u32x4::splat(number)
+}
+
+#[inline(always)]
+pub(crate) fn xor(a: u32x4, b: u32x4) -> u32x4
+    ensures { (j : ℕ) → j < 4 → slice_index result j ≡ bit_xor (slice_index a j) (slice_index b j) }
+{
+    a ^ b
+}
+
+#[inline(always)]
+fn and(a: u32x4, b: u32x4) -> u32x4
+    ensures { (j : ℕ) → j < 4 → slice_index result j ≡ bit_and (slice_index a j) (slice_index b j) }
+{
+    a & b
+}
+
+#[inline(always)]
+fn not(a: u32x4) -> u32x4
+    ensures { (j : ℕ) → j < 4 → slice_index result j ≡ bit_not w32 (slice_index a j) }
+{
+    !a
+}
+
+// Each lane rotated right by `k` bits.
+#[inline(always)]
+fn rotate(x: u32x4, k: u32) -> u32x4
+    requires { (0 < k) × (k < 32) }
+    ensures { (j : ℕ) → j < 4 → slice_index result j ≡ rotate_right w32 (slice_index x j) k }
+{
+    (x >> u32x4::splat(k)) | (x << u32x4::splat(32 - k))
+}
+
+// Each lane without its `k` lowest bits, which are shifted out.
+#[inline(always)]
+fn shift(x: u32x4, k: u32) -> u32x4
+    requires { k < 32 }
+    ensures { (j : ℕ) → j < 4 → slice_index result j ≡ slice_index x j / 2 ^ k }
+{
+    x >> u32x4::splat(k)
+}
+
+#[inline(always)]
+pub(crate) fn ch(x: u32x4, y: u32x4, z: u32x4) -> u32x4
+    ensures { (j : ℕ) → j < 4
+        → slice_index result j ≡ ch (slice_index x j) (slice_index y j) (slice_index z j) }
+{
+    xor(and(x, y), and(not(x), z))
+}
+
+#[inline(always)]
+pub(crate) fn maj(x: u32x4, y: u32x4, z: u32x4) -> u32x4
+    ensures { (j : ℕ) → j < 4
+        → slice_index result j ≡ maj (slice_index x j) (slice_index y j) (slice_index z j) }
+{
+    xor(xor(and(x, y), and(x, z)), and(y, z))
+}
+
+#[inline(always)]
+pub(crate) fn big_sigma0(x: u32x4) -> u32x4
+    ensures { (j : ℕ) → j < 4 → slice_index result j ≡ big_sigma0 (slice_index x j) }
+{
+    xor(xor(rotate(x, 2), rotate(x, 13)), rotate(x, 22))
+}
+
+#[inline(always)]
+pub(crate) fn big_sigma1(x: u32x4) -> u32x4
+    ensures { (j : ℕ) → j < 4 → slice_index result j ≡ big_sigma1 (slice_index x j) }
+{
+    xor(xor(rotate(x, 6), rotate(x, 11)), rotate(x, 25))
+}
+
+#[inline(always)]
+pub(crate) fn small_sigma0(x: u32x4) -> u32x4
+    ensures { (j : ℕ) → j < 4 → slice_index result j ≡ small_sigma0 (slice_index x j) }
+{
+    xor(xor(rotate(x, 7), rotate(x, 18)), shift(x, 3))
+}
+
+#[inline(always)]
+pub(crate) fn small_sigma1(x: u32x4) -> u32x4
+    ensures { (j : ℕ) → j < 4 → slice_index result j ≡ small_sigma1 (slice_index x j) }
+{
+    xor(xor(rotate(x, 17), rotate(x, 19)), shift(x, 10))
+}
