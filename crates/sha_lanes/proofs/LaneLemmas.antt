@@ -1,9 +1,11 @@
 -- What holds of each of four lanes, from the cases, and how lanes are read and set.
-use Rattle.std.proofs.Common.{◌≡◌, ℕ, zero, suc, ◌<◌, ◌+◌, ◌-◌, ◌*◌, ◌/◌, ◌%◌, ◌^◌, List, [], ◌∷◌, length, slice_index, slice_index_or, slice_set, bit_or, arith, refl, ap}
+use Rattle.std.proofs.Common.{◌≡◌, ℕ, zero, suc, ◌<◌, ◌+◌, ◌-◌, ◌*◌, ◌/◌, ◌%◌, ◌^◌, List, [], ◌∷◌, length, slice_index, slice_index_or, slice_set, take, drop, bit_or, arith, refl, ap, subst, inl, inr}
+use Rattle.std.proofs.lemmas.Bool.{cases_lt}
+use Rattle.std.proofs.lemmas.List.{take_rest}
 use Rattle.std.specs.Int.{w32, rotate_right}
 use Rattle.std.specs.Simd.Lanes.{zip2}
 use Rattle.sha2.specs.Sha256.{add32}
-use Rattle.sha_lanes.specs.Lanes.{HaveLength, lane, one_of}
+use Rattle.sha_lanes.specs.Lanes.{HaveLength, lane, one_of, state_lane}
 
 -- what holds of each of four numbers
 pub below_four : (P : ℕ → Type 0) → P 0 → P 1 → P 2 → P 3 → (j : ℕ) → j < 4 → P j
@@ -76,3 +78,19 @@ one_of-parts f a b c d = below_four _ refl refl refl refl
 -- each of four lists has their length
 pub length-one_of : (n : ℕ) (a b c d : List ℕ) → HaveLength n a b c d → (j : ℕ) → j < 4 → length (one_of a b c d j) ≡ n
 length-one_of n a b c d long = below_four _ long.first long.second long.third long.fourth
+
+-- a word of a state's lane is that lane of the word's vector
+pub slice_index-state_lane : (v : List (List ℕ)) (j i : ℕ) → i < 8 → slice_index (state_lane v j) i ≡ slice_index (slice_index_or v i []) j
+slice_index-state_lane v j i below = elim (cases_lt i 4) [
+  | inl low ↦ below_four (λ i. slice_index (state_lane v j) i ≡ slice_index (slice_index_or v i []) j) refl refl refl refl i low
+  | inr high ↦
+      let at : 4 + (i - 4) ≡ i = omega arith in
+      subst (λ i. slice_index (state_lane v j) i ≡ slice_index (slice_index_or v i []) j) at
+      (below_four (λ i. slice_index (state_lane v j) (4 + i) ≡ slice_index (slice_index_or v (4 + i) []) j) refl refl refl refl (i - 4) (omega arith))
+]
+
+-- one of what is left of four
+pub one_of-rests : (a b c d : List ℕ) (n j : ℕ) → j < 4
+    → one_of (take (length a - n) (drop n a)) (take (length b - n) (drop n b)) (take (length c - n) (drop n c)) (take (length d - n) (drop n d)) j
+    ≡ drop n (one_of a b c d j)
+one_of-rests a b c d n = below_four _ (take_rest a n) (take_rest b n) (take_rest c n) (take_rest d n)

@@ -2,6 +2,11 @@
 #![tactic(auto)]
 
 mod blocks;
+mod digests;
+mod four;
 mod lanes;
+mod padding;
 mod steps;
 mod words;
+
+pub use four::{States, finish, first_states, take_blocks};
