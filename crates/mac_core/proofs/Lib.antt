@@ -2,6 +2,7 @@ pub mod AnswerLaws
 pub mod BlockLists
 mod BlockVectors
 pub mod ContentSteps
+pub mod FourMacSteps
 pub mod HashedBlocks
 pub mod HashedMoves
 mod HashedVectors

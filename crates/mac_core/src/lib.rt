@@ -10,6 +10,7 @@ pub use running_mac::block_key;
 pub use writer::BlockWriter;
 
 mod fail;
+mod four_macs;
 mod hashed;
 mod head;
 mod hmac;
