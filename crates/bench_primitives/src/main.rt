@@ -9,9 +9,9 @@ ghost use Rattle.std.specs.Prelude.{◌≡◌, ◌%◌, ◌≤◌, ◌^◌, leng
 use argon_core::{ArgonKind, ArgonParams, argon2};
 use block_core::{Aes256, Block16, Twofish256, cbc_decrypt, cbc_encrypt};
 use key_core::{Kdf, check_kdf, transform};
-use mac_core::Hmac256;
+use mac_core::{BlockWriter, Hmac256};
 use markup_core::{Piece, Reader};
-use secret_core::Key;
+use secret_core::{Key, Key64};
 use std::alloc::AllocGlobal;
 use std::process::ExitCode;
 use std::rt::Files;
@@ -20,6 +20,9 @@ use stream_core::{ChaCha20, Salsa20};
 
 /// The length of a piece.
 const PIECE: usize = 1_048_576;
+
+/// The length of a quarter of it.
+const QUARTER: usize = 262_144;
 
 /// The rounds of a turn of the transformation of a key by AES.
 const ROUNDS: u64 = 100_000;
@@ -77,6 +80,25 @@ fn hmac(text: &mut [u8], turns: u32) {
         code.update(text);
     }
     put(text, &code.finish());
+}
+
+// The heads of four blocks whose contents are the quarters of the piece, as often as asked; the last
+// at the start of the text.
+fn four_heads(text: &mut [u8], turns: u32)
+    requires { length text.old ≡ 1048576 }
+{
+    let mut base = Key64::of(&[7; 64]);
+    let mut last = [0; 32];
+    for _ in 0..turns {
+        let (a, rest) = text.split_at(QUARTER);
+        let (b, rest) = rest.split_at(QUARTER);
+        let (c, d) = rest.split_at(QUARTER);
+        let heads = BlockWriter::new(&base).four_heads(a, b, c, d);
+        last.copy_from_slice(&heads[3][..32]);
+    }
+    base.clear();
+    base.release();
+    put(text, &last);
 }
 
 // Argon2 with 64 MiB, as many passes as asked, and 2 lanes, its tag at the start of the text.
@@ -140,6 +162,7 @@ fn work(rt: &impl AllocGlobal, name: &str, text: &mut [u8], turns: u32) -> bool 
         "chacha20" => chacha(text, turns),
         "salsa20" => salsa(text, turns),
         "hmac" => hmac(text, turns),
+        "four-heads" => four_heads(text, turns),
         "aes-transform" => transform_by_aes(rt, text, turns),
         "argon2d" => argon(rt, ArgonKind::D, text, turns),
         "argon2id" => argon(rt, ArgonKind::Id, text, turns),

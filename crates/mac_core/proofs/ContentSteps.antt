@@ -28,16 +28,16 @@ tested base size i bytes short right a b =
     ap (λ (t : Bool). by_tests size i bytes t (bytes_eq (take 36 bytes) (head_of_block base i (block_read bytes).content))) a
     ∙ ap (λ (t : Bool). by_tests size i bytes short t) b
 
-block_short : (base : List ℕ) (size i : ℕ) (bytes : List ℕ) → length bytes < 36 + size_in bytes → block_at base size i bytes ≡ Err (Truncated size)
+pub block_short : (base : List ℕ) (size i : ℕ) (bytes : List ℕ) → length bytes < 36 + size_in bytes → block_at base size i bytes ≡ Err (Truncated size)
 block_short base size i bytes short = tested base size i bytes true _ (lt-ltb (length bytes) (36 + size_in bytes) short) refl
 
-block_wrong : (base : List ℕ) (size i : ℕ) (bytes : List ℕ) → 36 + size_in bytes ≤ length bytes
+pub block_wrong : (base : List ℕ) (size i : ℕ) (bytes : List ℕ) → 36 + size_in bytes ≤ length bytes
     → (take 36 bytes ≢ head_of_block base i (take (size_in bytes) (drop 36 bytes))) → block_at base size i bytes ≡ Err (BlockMac i)
 block_wrong base size i bytes whole wrong =
     tested base size i bytes false false (le-ltb (length bytes) (36 + size_in bytes) whole)
     (is_false _ (λ e. wrong ((bytes_eq-Decides (take 36 bytes) (head_of_block base i (block_read bytes).content)).0 e)))
 
-block_right : (base : List ℕ) (size i : ℕ) (bytes : List ℕ) → 36 + size_in bytes ≤ length bytes
+pub block_right : (base : List ℕ) (size i : ℕ) (bytes : List ℕ) → 36 + size_in bytes ≤ length bytes
     → take 36 bytes ≡ head_of_block base i (take (size_in bytes) (drop 36 bytes)) → block_at base size i bytes ≡ Ok (block_read bytes)
 block_right base size i bytes whole same =
     tested base size i bytes false true (le-ltb (length bytes) (36 + size_in bytes) whole)

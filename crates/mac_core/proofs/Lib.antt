@@ -1,13 +1,14 @@
 pub mod AnswerLaws
 pub mod BlockLists
+pub mod BlockMoves
 mod BlockVectors
 pub mod ContentSteps
 pub mod FourMacSteps
 pub mod HashedBlocks
-pub mod HashedMoves
 mod HashedVectors
 mod HmacVectors
 pub mod JoiningSteps
 pub mod OneReading
 pub mod ReaderContents
+pub mod RightSteps
 pub mod StateSteps

@@ -3,7 +3,7 @@ use Rattle.std.proofs.lemmas.List.{length-take-le}
 use Rattle.std.specs.Int.{w32, to_le_bytes}
 use Rattle.mac_core.specs.HashedBlocks.{content_hash, hashed_size_in}
 use Rattle.mac_core.proofs.HashedBlocks.{hashed_other, hashed_right, hashed_short, hashed_wrong}
-use Rattle.mac_core.proofs.HashedMoves.{block_of_len}
+use Rattle.mac_core.proofs.BlockMoves.{block_of_len}
 use Rattle.mac_core.proofs.hashed.content_len.Goals as goal
 
 -- the content that was hashed is the one that the head's size gives
@@ -46,4 +46,4 @@ returns-clause-gives c =
     hashed_right c.args.size c.args.index rest (omega (arith, told)) (c.is_same.ensures.0 c.if-not-is_same.false ∙ index)
     (c.is_same-2.ensures.0 c.if-not-is_same-2.false ∙ c.content_hash.ensures ∙ same_content rest len told)
     (sym c.number_at-len.ensures.bytes ∙ ap (to_le_bytes w32) (told ∙ sym long))
-    ∙ ap (λ (n : ℕ). Ok (block_of_len n rest)) (sym told)
+    ∙ ap (λ (n : ℕ). Ok (block_of_len 40 n rest)) (sym told)
