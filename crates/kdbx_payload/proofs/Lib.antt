@@ -1,5 +1,4 @@
 mod BlockContents
-mod BlocksTaken
 mod Fed
 mod Macs
 pub mod SealedPayloads
