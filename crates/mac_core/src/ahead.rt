@@ -17,8 +17,15 @@ pub fn size_at_start(bytes: &[u8]) -> u32
     u32::from_le_bytes([bytes[32], bytes[33], bytes[34], bytes[35]])
 }
 
-/// The length of the content of each of four blocks with which these bytes may begin, if it is one
-/// that is worth it; else 0.
+// Whether the head at an offset gives this size.
+fn has_size(bytes: &[u8], at: usize, len: usize) -> bool
+    requires { at + 36 ≤ length bytes.now }
+{
+    size_at_start(&bytes[at..at + HEAD]) as usize == len
+}
+
+/// The length of the content of each of four blocks with which these bytes begin by their heads, if
+/// there are four of one length, and it is one that is worth it; else 0.
 fn four_len(bytes: &[u8]) -> usize
     ensures size { 0 < result → result ≡ size_in bytes.now }
     ensures long { 0 < result → 52 ≤ result }
@@ -32,7 +39,14 @@ fn four_len(bytes: &[u8]) -> usize
     if len < FIRST || bytes.len() / 4 < HEAD + len {
         return 0;
     }
-    len
+    let step = HEAD + len;
+    if has_size(bytes, step, len)
+        && has_size(bytes, 2 * step, len)
+        && has_size(bytes, 3 * step, len)
+    {
+        return len;
+    }
+    0
 }
 
 // Whether the head at an offset has this MAC and this size.
