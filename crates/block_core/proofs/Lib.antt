@@ -3,6 +3,7 @@ mod TwofishVectors
 pub mod ByteTables
 pub mod AesColumns
 pub mod AesRounds
+pub mod SlicedSteps
 pub mod KeyWords
 pub mod CbcSteps
 pub mod PaddingSteps

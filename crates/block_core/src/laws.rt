@@ -1,7 +1,9 @@
-//! What holds of padded texts. Each law is a function whose contract is the law; it computes
-//! nothing.
+//! What holds of padded texts, and of deciphering by gates. Each law is a function whose contract is
+//! the law; it computes nothing.
 
-ghost use Rattle.std.specs.Prelude.{◌≡◌, ℕ, List, length, Option, Some};
+ghost use Rattle.std.specs.Prelude.{◌≡◌, ◌<◌, ℕ, List, length, Option, Some};
+ghost use Rattle.aes_slices.specs.InverseBox.{gates_byte};
+ghost use Rattle.block_core.specs.Aes.{inv_sub_byte};
 ghost use Rattle.block_core.specs.Padding.{IsBeforePadding, IsPadded, padded, unpadded};
 
 /// `unpadded` gives what comes before the right padding of a text, and nothing where there is none.
@@ -15,4 +17,10 @@ pub fn unpadded_texts()
 pub fn padded_texts()
     ensures right { (text : List ℕ) → IsPadded (padded text) (length text) }
     ensures undone { (text : List ℕ) → unpadded (padded text) ≡ Some text }
+{}
+
+/// The gates by which eight blocks are deciphered at once give what the table gives for one block:
+/// the inverse of the S-box.
+pub fn gates_of_the_inverse_box()
+    ensures { (b : ℕ) → b < 256 → gates_byte b ≡ inv_sub_byte b }
 {}

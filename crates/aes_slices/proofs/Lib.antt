@@ -1,0 +1,4 @@
+pub mod BitLemmas
+pub mod CircuitLanes
+pub mod SliceLemmas
+pub mod PackingLemmas

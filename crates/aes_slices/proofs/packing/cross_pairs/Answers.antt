@@ -1,0 +1,34 @@
+use Rattle.std.proofs.Common.{◌≡◌, ◌<◌, ℕ, List, [], ◌∷◌, slice_index, slice_index_or, arith}
+use Rattle.std.specs.Int.{bit_at}
+use Rattle.aes_slices.specs.Slices.{cell_bit}
+use Rattle.aes_slices.specs.Packing.{crossed_place}
+use Rattle.aes_slices.proofs.BitLemmas.{from_table, below_eight}
+use Rattle.aes_slices.proofs.PackingLemmas.{pairs_low, pairs_high}
+use Rattle.aes_slices.proofs.packing.cross_pairs.Goals as goal
+
+pub returns : goal.returns
+returns c j l b block lane bit =
+    let at : ℕ → ℕ = λ v. slice_index (slice_index_or c.args.s v []) l in
+    let byte : (v : ℕ) → v < 8 → at v < 256 = λ v h. c.are_bytes.ensures.bytes v l h lane in
+    let source : ℕ → ℕ → ℕ = λ v i. cell_bit c.args.s (crossed_place 2 i v) l (crossed_place 2 v i) in
+    let result : List (List ℕ) =
+    c.swap_pairs.result.0 ∷ c.swap_pairs-2.result.0 ∷ c.swap_pairs.result.1 ∷ c.swap_pairs-2.result.1
+    ∷ c.swap_pairs-3.result.0 ∷ c.swap_pairs-4.result.0 ∷ c.swap_pairs-3.result.1 ∷ c.swap_pairs-4.result.1 ∷ [] in
+    below_eight (λ v. (i : ℕ) → i < 8 → cell_bit result i l v ≡ source v i)
+    (from_table 0 (bit_at (slice_index c.swap_pairs.result.0 l)) (source 0) 8
+    (pairs_low (at 0) (at 2) _ (c.swap_pairs.ensures.low l lane) (byte 0 (omega arith)) (byte 2 (omega arith))))
+    (from_table 0 (bit_at (slice_index c.swap_pairs-2.result.0 l)) (source 1) 8
+    (pairs_low (at 1) (at 3) _ (c.swap_pairs-2.ensures.low l lane) (byte 1 (omega arith)) (byte 3 (omega arith))))
+    (from_table 0 (bit_at (slice_index c.swap_pairs.result.1 l)) (source 2) 8
+    (pairs_high (at 0) (at 2) _ (c.swap_pairs.ensures.high l lane) (byte 0 (omega arith)) (byte 2 (omega arith))))
+    (from_table 0 (bit_at (slice_index c.swap_pairs-2.result.1 l)) (source 3) 8
+    (pairs_high (at 1) (at 3) _ (c.swap_pairs-2.ensures.high l lane) (byte 1 (omega arith)) (byte 3 (omega arith))))
+    (from_table 0 (bit_at (slice_index c.swap_pairs-3.result.0 l)) (source 4) 8
+    (pairs_low (at 4) (at 6) _ (c.swap_pairs-3.ensures.low l lane) (byte 4 (omega arith)) (byte 6 (omega arith))))
+    (from_table 0 (bit_at (slice_index c.swap_pairs-4.result.0 l)) (source 5) 8
+    (pairs_low (at 5) (at 7) _ (c.swap_pairs-4.ensures.low l lane) (byte 5 (omega arith)) (byte 7 (omega arith))))
+    (from_table 0 (bit_at (slice_index c.swap_pairs-3.result.1 l)) (source 6) 8
+    (pairs_high (at 4) (at 6) _ (c.swap_pairs-3.ensures.high l lane) (byte 4 (omega arith)) (byte 6 (omega arith))))
+    (from_table 0 (bit_at (slice_index c.swap_pairs-4.result.1 l)) (source 7) 8
+    (pairs_high (at 5) (at 7) _ (c.swap_pairs-4.ensures.high l lane) (byte 5 (omega arith)) (byte 7 (omega arith))))
+    b bit j block

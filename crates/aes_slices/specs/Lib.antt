@@ -1,0 +1,4 @@
+pub mod Slices
+pub mod Circuits
+pub mod InverseBox
+pub mod Packing
