@@ -3,31 +3,35 @@ use Rattle.std.specs.Prelude.{◌≡◌, ◌≤◌, ℕ, Bool, true, false, List
 use Rattle.time_core.specs.Times.{last_stamp}
 use Rattle.stream_core.specs.InnerStream.{NoKeystream}
 use Rattle.vault_model.specs.declared.forms.DocForm.TheVariants.{Plain}
+use Rattle.vault_model.specs.Bare.{BareAttachment}
 use Rattle.vault_model.specs.Db.{NodeId, nil_id}
 use Rattle.vault_model.specs.Tree.{BareDoc, Tree}
+use Rattle.tree_core.specs.Attachments.{attachment_of}
 use Rattle.tree_core.specs.Finding.{without_slashes}
-use Rattle.condition_laws.specs.Conditions.{CanAdd, CanEdit, CanMakeGroup, CanMoveEntry, CanMoveGroup, CanRemoveEntry, CanRemoveGroup, CanRestore}
+use Rattle.tree_core.specs.FurtherChanges.{FurtherChange}
+use Rattle.condition_laws.specs.Conditions.{CanAdd, CanAttach, CanDetach, CanEdit, CanMakeGroup, CanMoveEntry, CanMoveGroup, CanRemoveEntry, CanRemoveGroup, CanRestore, NamesEntry}
 use Rattle.generation_laws.specs.Conditions.{CanChoose}
 use Rattle.content_condition_laws.specs.Conditions.{CanBeMerged, CanExport, CanSearch, CanShow, CanShowCode, CanShowHistory}
 use Rattle.doc_write.specs.Written.{write_outcome}
 use Rattle.kdbx_frame.specs.declared.settings.Settings.{Settings}
 use Rattle.kdbx_frame.specs.declared.sealings.Sealing.{Sealing}
 use Rattle.kdbx_seal.specs.Answers.{size_refusal}
-use Rattle.cli_parse.specs.declared.command.Command.{Command}
-use Rattle.cli_parse.specs.declared.command.Command.TheVariants.{Ls, Show, History, Search, Add, Edit, Restore, Move, Remove, MakeGroup, RemoveGroup, Merge, Import, Create, Export, EditFile, Info}
-use Rattle.cli_parse.specs.Needs.{generated_by}
+use Rattle.cli_needs.specs.declared.command.Command.{Command}
+use Rattle.cli_needs.specs.declared.command.Command.TheVariants.{Ls, Show, History, Search, Add, Edit, Restore, ExportAttachment, ImportAttachment, RemoveAttachment, Move, Remove, MakeGroup, RemoveGroup, Merge, Import, Create, Export, EditFile, Info}
+use Rattle.cli_needs.specs.Needs.{generated_by}
 use Rattle.cli_profiles.specs.declared.profiles.PasswordProfile.{PasswordProfile}
 use Rattle.cli_codes.specs.Codes.{code_refusal}
 use Rattle.cli_printing.specs.Listing.{tree_listed}
 use Rattle.cli_writing.specs.Drawing.{next_bytes}
 use Rattle.cli_sealing.specs.Draws.{draws_of}
 use Rattle.cli_sealing.specs.Sealing.{settings_for}
+use Rattle.cli_changes.specs.Entries.{further_of}
 use Rattle.cli_changes.specs.Ids.{new_id}
 use Rattle.cli_changes.specs.Nodes.{names_group}
 use Rattle.tree_core.specs.Changes.{is_free}
-use Rattle.cli_commands.specs.Commands.{Change, bin_id, change_with, makes_node}
+use Rattle.cli_commands.specs.Commands.{Change, Inputs, bin_id, change_with, makes_node}
 use Rattle.cli_files.specs.Tasks.{Task}
-use Rattle.call_run.specs.Endings.{change_of_task, settings_in}
+use Rattle.call_run.specs.Endings.{change_of_task, inputs_of}
 use Rattle.keepass_call.specs.Held.{IsTask}
 use Rattle.keepass_call.specs.Outcome.{World}
 
@@ -46,48 +50,57 @@ CanShowEntry false path clear all names at now d = CanShow path clear all names 
 
 -- An entry can be edited, and the text that its codes are to be made from, if one is given, is not
 -- refused.
-pub record CanEditWith (file : List ℕ) (otp : Option (List ℕ)) (path : List ℕ) (now : ℕ)
-    (d : BareDoc) : Type 0 where
+pub record CanEditWith (file : List ℕ) (otp : Option (List ℕ)) (path : List ℕ)
+    (further : FurtherChange) (now : ℕ) (d : BareDoc) : Type 0 where
   pub code : code_refusal file otp ≡ Ok tt
-  pub entry : CanEdit path now d
+  pub entry : CanEdit path further now d
+
+-- The path names an entry that has an attachment of this name.
+pub record CanTakeOut (path name : List ℕ) (d : BareDoc) : Type 0 where
+  pub entry : NamesEntry path d
+  pub attachment : BareAttachment
+  pub there : attachment_of name entry.before.current.mark.content ≡ Some attachment
 
 -- What a command makes of a document is defined, and no refusal.
-pub record Answers (time : ℕ) (command : Command) (line otp : Option (List ℕ))
-    (sources : List BareDoc) (settings : Option Settings) (passed : List (List ℕ)) (id : NodeId)
+pub record Answers (time : ℕ) (command : Command) (input : Inputs) (id : NodeId)
     (d : BareDoc) : Type 0 where
   pub change : Change
-  pub is : change_with time command line otp sources settings passed id d ≡ Ok change
+  pub is : change_with time command input id d ≡ Ok change
 
 -- The condition of each command on its document; a node that it makes has this id.
-abbrev pub CanChange : ℕ → Command → (otp : Option (List ℕ)) → List BareDoc → Option Settings
-    → NodeId → BareDoc → Type 0
-CanChange time (Ls access file group recursive flat ids) otp sources settings id d =
+abbrev pub CanChange : ℕ → Command → Inputs → NodeId → BareDoc → Type 0
+CanChange time (Ls access file group recursive flat ids) input id d =
     (tree : Tree) × (tree_listed group d ≡ Some tree)
-CanChange time (Show access file entry clear all attachments names totp at) otp sources settings
-    id d = CanShowEntry totp entry clear all names at time d
-CanChange time (History access file entry) otp sources settings id d = CanShowHistory entry d
-CanChange time (Search access file term) otp sources settings id d = CanSearch term d
-CanChange time (Add access file entry asked) otp sources settings id d = CanAdd entry id d
-CanChange time (Edit access file entry asked) otp sources settings id d =
-    CanEditWith file otp entry time d
-CanChange time (Restore access file entry version) otp sources settings id d =
+CanChange time (Show access file entry clear all attachments names totp at) input id d =
+    CanShowEntry totp entry clear all names at time d
+CanChange time (History access file entry) input id d = CanShowHistory entry d
+CanChange time (Search access file term) input id d = CanSearch term d
+CanChange time (Add access file entry asked) input id d = CanAdd entry id d
+CanChange time (Edit access file entry asked further) input id d =
+    CanEditWith file input.otp entry (further_of further input.fields) time d
+CanChange time (Restore access file entry version) input id d =
     CanRestore entry version time d
-CanChange time (Move access file node group) otp sources settings id d =
+CanChange time (ExportAttachment access file entry name to) input id d =
+    CanTakeOut entry name d
+CanChange time (ImportAttachment access file entry name source replaces) input id d =
+    CanAttach entry name replaces time d
+CanChange time (RemoveAttachment access file entry name) input id d = CanDetach entry name time d
+CanChange time (Move access file node group) input id d =
     CanMove (names_group node) node group time d
-CanChange time (Remove access file entry) otp sources settings id d =
+CanChange time (Remove access file entry) input id d =
     CanRemoveEntry entry (bin_id id d) time d
-CanChange time (MakeGroup access file group) otp sources settings id d =
+CanChange time (MakeGroup access file group) input id d =
     CanMakeGroup (without_slashes group) id d
-CanChange time (RemoveGroup access file group) otp sources settings id d =
+CanChange time (RemoveGroup access file group) input id d =
     CanRemoveGroup group (bin_id id d) time d
-CanChange time (Merge access file names from same dry details) otp sources settings id d =
-    CanBeMerged d sources
-CanChange time (Import access format source from file) otp sources settings id d = Unit {0}
-CanChange time (Create access file name cipher kdf) otp sources settings id d =
+CanChange time (Merge access file names from same dry details) input id d =
+    CanBeMerged d input.sources
+CanChange time (Import access format source from file) input id d = Unit {0}
+CanChange time (Create access file name cipher kdf) input id d =
     is_free id d ≡ true
-CanChange time (Export access format file) otp sources settings id d = CanExport format d
-CanChange time (EditFile access file change) otp sources settings id d = Unit {0}
-CanChange time (Info access file) otp sources settings id d = Unit {0}
+CanChange time (Export access format file) input id d = CanExport format d
+CanChange time (EditFile access file change) input id d = Unit {0}
+CanChange time (Info access file) input id d = Unit {0}
 
 -- ---- the call
 
@@ -123,8 +136,7 @@ pub record CanBeCarried (words : List (List ℕ)) (time : ℕ) (world : World) :
   pub in_calendar : time ≤ last_stamp
   pub can_generate : CanGenerate (generated_by task.command)
       (dice_after_id (makes_node task.command task.opened.doc) world.dice)
-  pub can : CanChange time task.command task.lines.otp task.sources
-      (settings_in task.opened.sealing)
+  pub can : CanChange time task.command (inputs_of task)
       (id_for (makes_node task.command task.opened.doc) world.dice) task.opened.doc
   pub fits : (change : Change) (d : BareDoc)
       → (change_of_task time task world.dice).answer ≡ Ok change → change.doc ≡ Some d

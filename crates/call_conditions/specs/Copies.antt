@@ -7,9 +7,9 @@ use Rattle.vault_model.specs.Tree.{BareDoc}
 use Rattle.doc_forms.specs.Documents.{DocumentAndHash}
 use Rattle.kdbx_open.specs.Opening.{FileContents}
 use Rattle.kdbx_open.specs.Sealed.{Sealed}
-use Rattle.cli_parse.specs.declared.command.Access.{Access}
-use Rattle.cli_parse.specs.Needs as from
-use Rattle.cli_parse.specs.Needs.{needs_of, origin_of}
+use Rattle.cli_needs.specs.declared.command.Access.{Access}
+use Rattle.cli_needs.specs.Needs as from
+use Rattle.cli_needs.specs.Needs.{Origin, needs_of, origin_of}
 use Rattle.cli_files.specs.Files.{plain_document}
 use Rattle.cli_files.specs.Held.{GivesKey}
 use Rattle.cli_files.specs.Tasks.{Task}
@@ -97,9 +97,19 @@ AreOpened copies c from same target (name ∷ names) (line ∷ lines) (i ∷ is)
     IsOpened copies c from (password_from same target line) name i
     × AreOpened copies c from same target names lines is
 
+-- A database is opened, and stays under its key: it is not made, and its file is not to be sealed
+-- otherwise.
+abbrev pub is_opened : Origin → Bool
+is_opened from.Opened = true
+is_opened (from.Exported to) = true
+is_opened (from.Attached source) = true
+is_opened (from.Imported import) = false
+is_opened (from.Created create) = false
+is_opened (from.Changed change) = false
+
 -- A task makes no database and changes no key, and opens the copies that the call names.
 pub record OpensCopies (copies : Copies) (c : CallSeen) (task : Task) : Type 0 where
-  pub opens : origin_of task.command ≡ from.Opened
+  pub opens : is_opened (origin_of task.command) ≡ true
   pub target : IsOpened copies c (needs_of task.command).access task.lines.password
       (needs_of task.command).file c.target
   pub sources : AreOpened copies c (needs_of task.command).from (needs_of task.command).same

@@ -6,7 +6,7 @@ use Rattle.std.specs.Option.{unwrap_or}
 use Rattle.outside_core.specs.Files.{FileMap}
 use Rattle.vault_model.specs.Tree.{BareDoc, IsDoc}
 use Rattle.run_laws.specs.TrimmedRuns.{DocEvent, IsRun, growth, joining, overwriting, world_after}
-use Rattle.cli_parse.specs.declared.command.Command.{Command}
+use Rattle.cli_needs.specs.declared.command.Command.{Command}
 use Rattle.cli_parse.specs.Words.{command_of}
 use Rattle.cli_files.specs.Tasks.{Task}
 use Rattle.cli_commands.specs.Commands.{may_write}

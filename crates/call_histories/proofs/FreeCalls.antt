@@ -9,7 +9,7 @@ use Rattle.command_laws.proofs.Commands.{adding_is_free}
 use Rattle.run_laws.specs.FreeRuns.{AreFreeDocEvents, IsFreeDocEvent}
 use Rattle.run_laws.specs.TrimmedRuns.{AreDocEvents, DocEvent, IsDocEvent, after_doc_event, growth, joining, overwriting}
 use Rattle.run_laws.proofs.RunLaws.{doc_after, free_runs_agree}
-use Rattle.call_run.specs.Endings.{settings_in}
+use Rattle.call_run.specs.Endings.{inputs_of}
 use Rattle.change_laws.specs.Adding.{made_id}
 use Rattle.change_laws.proofs.Adding.{commands_add}
 use Rattle.call_histories.specs.FreeHistories.{AreFreeEvents, FreeCallsAgree, IsFreeEvent, known_with}
@@ -22,7 +22,7 @@ grown_free : (w : World) (known : List Db) (e : Event) (i : ℕ) (d : BareDoc) �
 grown_free w known e i d was isd g free =
     let f = subst (IsFreeEvent known) g.is free g.task g.is_task g.writes g.no_merge in
     let id = made_id g.task.command g.task.opened.doc g.c.world.dice in
-    let a = commands_add g.c.time g.task.command g.task.lines.more g.task.lines.otp g.task.sources (settings_in g.task.opened.sealing) g.task.opened.passed_over g.task.opened.doc g.c.world.dice g.change
+    let a = commands_add g.c.time g.task.command (inputs_of g.task) g.task.opened.doc g.c.world.dice g.change
     (subst IsDoc (sym g.opened) was) f.0 g.makes in
     let same : a.doc ≡ d = same_Some a.doc d (sym a.is ∙ g.doc) in
     let adds : AddsOnly id (w i).doc d =

@@ -15,8 +15,8 @@ use Rattle.history_laws.proofs.CurrentAgreed.{agreed_alike}
 use Rattle.history_laws.proofs.HistoryLaws.{there}
 use Rattle.run_laws.specs.TrimmedRuns.{AreDocEvents, DocEvent, after_doc_event, after_doc_events, growth, joining, overwriting, world_after}
 use Rattle.run_laws.proofs.RunLaws.{are_docs, doc_after, runs_join}
-use Rattle.cli_parse.specs.declared.command.Command.{Command}
-use Rattle.cli_parse.specs.declared.command.Command.TheVariants.{Ls, Show, History, Search, Add, Edit, Restore, Move, Remove, MakeGroup, RemoveGroup, Merge, Import, Create, Export, EditFile, Info}
+use Rattle.cli_needs.specs.declared.command.Command.{Command}
+use Rattle.cli_needs.specs.declared.command.Command.TheVariants.{Ls, Show, History, Search, Add, Edit, Restore, ExportAttachment, ImportAttachment, RemoveAttachment, Move, Remove, MakeGroup, RemoveGroup, Merge, Import, Create, Export, EditFile, Info}
 use Rattle.cli_commands.specs.Commands.{may_write}
 use Rattle.keepass_call.specs.Merges.{IsAgreedMerge, merges}
 use Rattle.call_histories.specs.HistoryLaws.{MergesGoOn}
@@ -79,8 +79,11 @@ merge_writes (Show access file entry clear all attachments names totp at) e = ab
 merge_writes (History access file entry) e = absurd (true≢false (sym e))
 merge_writes (Search access file term) e = absurd (true≢false (sym e))
 merge_writes (Add access file entry asked) e = refl
-merge_writes (Edit access file entry asked) e = refl
+merge_writes (Edit access file entry asked further) e = refl
 merge_writes (Restore access file entry version) e = refl
+merge_writes (ExportAttachment access file entry name to) e = absurd (true≢false (sym e))
+merge_writes (ImportAttachment access file entry name source replaces) e = refl
+merge_writes (RemoveAttachment access file entry name) e = refl
 merge_writes (Move access file node group) e = refl
 merge_writes (Remove access file entry) e = refl
 merge_writes (MakeGroup access file group) e = refl

@@ -26,14 +26,14 @@ use Rattle.kdbx_open.specs.Documents.{attachment, document_or_refusal}
 use Rattle.kdbx_open.specs.Opening.{FileContents}
 use Rattle.kdbx_open.specs.declared.fail.OpenFail.{OpenFail}
 use Rattle.kdbx_open.proofs.SealedFiles.{one_vault}
-use Rattle.cli_parse.specs.declared.command.Access.{Access}
+use Rattle.cli_needs.specs.declared.command.Access.{Access}
 use Rattle.cli_files.specs.Files.{Opened, plain_document}
 use Rattle.cli_databases.specs.Databases.{password_from}
 use Rattle.cli_databases.specs.Held.{HoldAll, HoldsBy}
-use Rattle.cli_writing.specs.Writing.{Store}
+use Rattle.cli_writing.specs.Writing.{IsSame, Store}
 use Rattle.cli_sealing.specs.Held.{contents_with}
 use Rattle.cli_sealing.specs.Sealing.{settings_for}
-use Rattle.call_run.specs.Endings.{HoldsNew, ReadsBack}
+use Rattle.call_run.specs.Endings.{HoldsNew, ReadsBackSo, Stores, Targets, attachment_file}
 use Rattle.call_conditions.specs.Copies.{AreApart, AreOpened, CallSeen, Copies, CopyHolds, Disks, HoldsDoc, IsKeyOf, IsOpened}
 use Rattle.call_conditions.specs.Histories.{put_files}
 
@@ -134,6 +134,12 @@ module _ (copies : Copies) (c : CallSeen) (w : plans.World)
 
 -- ---- what is written
 
+-- files of other names stay where one is put beside them
+one_put : (files : FileMap) (name bytes other : List ℕ) → other ≢ name → get (insert files name bytes) other ≡ get files other
+one_put files name bytes other off =
+    get-insert bytes_order.total files name bytes other
+    ∙ ap (λ b. cond b (Some bytes) (get files other)) (is_false (is_id other name) (λ q. off (same_id other name q)))
+
 -- The files hold this, and those of other names are as before.
 pub record IsWritten (name : List ℕ) (key : Option (List ℕ)) (d : BareDoc) (before : FileMap) (now : Store) : Type 0 where
   pub files : FileMap
@@ -141,32 +147,56 @@ pub record IsWritten (name : List ℕ) (key : Option (List ℕ)) (d : BareDoc) (
   pub held : IsHeld files name key d
   pub others : (other : List ℕ) → other ≢ name → get files other ≡ get before other
 
-module _ (name : List ℕ) (sealing : Option Sealing) (t e : BareDoc) (files : FileMap) (before now : Store) (are : before.files ≡ Some files) (held : IsHeld files name (key_in sealing) t) where
-  same_files : ReadsBack name sealing None before now → t ≡ e → IsWritten name (key_in sealing) e files now
+module _ (targets : Targets) (sealing : Option Sealing) (t e : BareDoc) (files : FileMap) (before now : Store) (are : before.files ≡ Some files) (held : IsHeld files targets.database (key_in sealing) t) where
+  same_files : IsSame before now → t ≡ e → IsWritten targets.database (key_in sealing) e files now
   same_files h is = record {
     files = files;
     are = h.files ∙ are;
-    held = subst (λ (d : BareDoc). IsHeld files name (key_in sealing) d) is held;
+    held = subst (λ (d : BareDoc). IsHeld files targets.database (key_in sealing) d) is held;
     others = λ other off. refl;
   }
 
-  new_files : ReadsBack name sealing (Some e) before now → IsWritten name (key_in sealing) e files now
-  new_files h = record {
-    files = insert files name h.bytes;
-    are = h.alone.files ∙ ap (option_map (λ (m : FileMap). insert m name h.bytes)) are;
-    held = record {
-      bytes = h.bytes;
-      found = get-insert bytes_order.total files name h.bytes name ∙ ap (λ b. cond b (Some h.bytes) (get files name)) (id_itself name);
-      holds = holds_new sealing e h.bytes h.holds;
-    };
-    others = λ other off.
-        get-insert bytes_order.total files name h.bytes other
-        ∙ ap (λ b. cond b (Some h.bytes) (get files other)) (is_false (is_id other name) (λ q. off (same_id other name q)));
-  }
+  new_files : (attachment : Option (List ℕ)) → ReadsBackSo targets sealing (Some e) attachment before now → IsWritten targets.database (key_in sealing) e files now
+  new_files attachment h =
+      let name = targets.database in
+      record {
+        files = insert files name h.bytes;
+        are = h.alone.files ∙ ap (option_map (λ (m : FileMap). insert m name h.bytes)) are;
+        held = record {
+          bytes = h.bytes;
+          found = get-insert bytes_order.total files name h.bytes name ∙ ap (λ b. cond b (Some h.bytes) (get files name)) (id_itself name);
+          holds = holds_new sealing e h.bytes h.holds;
+        };
+        others = one_put files name h.bytes;
+      }
 
-  pub written : (doc : Option BareDoc) → (doc ≡ Some e) ⊎ ((doc ≡ None) × (t ≡ e)) → ReadsBack name sealing doc before now → IsWritten name (key_in sealing) e files now
-  written doc (inl is) h = new_files (subst (λ (o : Option BareDoc). ReadsBack name sealing o before now) is h)
-  written doc (inr is) h = same_files (subst (λ (o : Option BareDoc). ReadsBack name sealing o before now) is.0 h) is.1
+  -- no attachment is taken out
+  stays : (attachment : Option (List ℕ)) → Stores (attachment_file None attachment) before now → IsSame before now
+  stays None h = h
+  stays (Some bytes) h = h
+
+  pub written : (doc : Option BareDoc) (attachment : Option (List ℕ)) → targets.attachment ≡ None → (doc ≡ Some e) ⊎ ((doc ≡ None) × (t ≡ e))
+      → ReadsBackSo targets sealing doc attachment before now → IsWritten targets.database (key_in sealing) e files now
+  written doc attachment none (inl is) h = new_files attachment (subst (λ (o : Option BareDoc). ReadsBackSo targets sealing o attachment before now) is h)
+  written doc attachment none (inr is) h =
+      same_files (stays attachment (subst (λ (o : Option (List ℕ)). Stores (attachment_file o attachment) before now) none
+      (subst (λ (o : Option BareDoc). ReadsBackSo targets sealing o attachment before now) is.0 h))) is.1
+
+-- Files of other names than this are as before.
+pub record IsBeside (name : List ℕ) (before : FileMap) (now : Store) : Type 0 where
+  pub files : FileMap
+  pub are : now.files ≡ Some files
+  pub others : (other : List ℕ) → other ≢ name → get files other ≡ get before other
+
+-- so they are where an attachment is taken out into a file of this name
+pub taken_out : (name : List ℕ) (attachment : Option (List ℕ)) (files : FileMap) (before now : Store) → before.files ≡ Some files → Stores (attachment_file (Some name) attachment) before now
+    → IsBeside name files now
+taken_out name None files before now are h = record { files = files; are = h.files ∙ are; others = λ other off. refl }
+taken_out name (Some bytes) files before now are h = record {
+  files = insert files name bytes;
+  are = h.files ∙ ap (option_map (λ (m : FileMap). insert m name bytes)) are;
+  others = one_put files name bytes;
+}
 
 -- ---- the files of all disks
 

@@ -17,9 +17,10 @@ use Rattle.call_conditions.specs.Copies.{CallSeen, Copies, CopyHolds, Disks}
 use Rattle.call_conditions.specs.Histories.{Event, IsHistory, IsRunOf, call, copied, disks_at_end, done}
 use Rattle.call_histories.specs.HistoryLaws.{learned_in}
 
--- A call that may write and is no merge only adds to its document: it adds or edits an entry, makes a
--- group, moves an entry, or puts one into the bin; and the id that it draws is that of no node of the
--- known databases, and of none that they deleted.
+-- A call that may write and is no merge only adds to its document: it adds, edits or restores an
+-- entry, puts an attachment to one or takes it away, makes a group, moves an entry, or puts one into
+-- the bin; and the id that it draws is that of no node of the known databases, and of none that they
+-- deleted.
 abbrev pub IsFreeCall : List Db → CallSeen → Type 0
 IsFreeCall known c = (task : Task) → IsTask c.words c.time c.world task
     → may_write task.command ≡ true → merges task.command ≡ false

@@ -1,3 +1,4 @@
 pub mod Reading
+pub mod Attaching
 pub mod Opening
 pub mod SeenAlone

@@ -3,26 +3,101 @@ ghost use Rattle.std.specs.Prelude.{◌≡◌, ◌≤◌, ℕ, List, Ok, Err, So
 ghost use Rattle.outside_core.specs.Files.{FileMap};
 ghost use Rattle.outside_core.specs.Reports.{StaysTruthful, reported};
 ghost use Rattle.kdbx_frame.specs.Settings.{IsInOrder};
-ghost use Rattle.cli_messages.specs.Phases.{IsEarlyStop, IsWordsStop, Leaves, Returns, TellsStream};
+ghost use Rattle.cli_messages.specs.Phases.{IsEarlyStop, IsFileStop, IsWordsStop, Leaves, Returns, TellsStream};
 ghost use Rattle.cli_messages.specs.declared.answers.Refusal.{Refusal};
-ghost use Rattle.cli_lines.specs.Lines.{AreTextLines};
+ghost use Rattle.cli_files.specs.Tasks.{databases_in};
+ghost use Rattle.cli_lines.specs.Lines.{AreTextLines, HasLines};
 ghost use Rattle.cli_profiles.specs.Profiles.{IsProfile};
 ghost use Rattle.cli_lines.specs.SeenLines.{lines_seen};
-ghost use Rattle.cli_parse.specs.Needs.{files_named, generated_by, needs_of, target_access};
+ghost use Rattle.cli_needs.specs.Needs.{HasKey, HasKeyAfter, HasKeys, files_named, generated_by, needs_of, target_access};
 ghost use Rattle.cli_files.specs.SeenTask.{task_seen};
 ghost use Rattle.cli_parse.specs.Words.{command_of};
-ghost use Rattle.call_input.specs.Reading.{HasSomeFile, asked_by, left_of, task_of};
+ghost use Rattle.call_input.specs.Attaching.{SomeAttached};
+ghost use Rattle.call_input.specs.Opening.{SomeCommandDatabases};
+ghost use Rattle.call_input.specs.Reading.{HasSomeFile, asked_by, left_of, opened_task, task_of};
 
-use crate::open_for;
+use crate::{attached_for, open_for};
 use cli_databases::Databases;
-use cli_files::Task;
-use cli_lines::read_lines;
+use cli_files::{Opened, Task};
+use cli_lines::{Lines, read_lines};
 use cli_messages::Stop;
+use cli_needs::Command;
 use cli_parse::read_words;
+use kdbx_frame::release_key;
 use outside_core::{FileStore, Source};
 use std::alloc::Global;
 
-/// What the words ask for at a moment: their command, its lines, and its databases.
+// Lets a database go, whose composite key is cleared and released.
+fn let_go(opened: Opened) {
+    let Opened {
+        doc,
+        sealing,
+        passed_over,
+    } = opened;
+    drop(doc);
+    drop(passed_over);
+    release_key(sealing);
+}
+
+// The task of a command at a moment by the lines that it asked for: with its databases, and then the
+// file that it puts into its database.
+fn open_task<F: FileStore>(
+    alloc: Global,
+    files: &mut F,
+    command: Command,
+    lines: Lines,
+    now: u64,
+) -> Result<Task, Stop>
+    requires keys { HasKeys (needs_of command) }
+    requires target_key { HasKey (target_access command) }
+    requires new_key { HasKeyAfter command }
+    requires lines { HasLines (needs_of command) (lines_seen lines) }
+    ensures told { (m : FileMap) → reported (F.truthful files.new) (F.files files.old) ≡ Some m
+        → Returns task_seen result (opened_task command (lines_seen lines) now m) }
+    ensures command { IfOk result (λ task. task.command ≡ command) }
+    ensures lines { IfOk result (λ task. lines_seen task.lines ≡ lines_seen lines) }
+    ensures holds { IfOk result (λ task. SomeCommandDatabases command (lines_seen lines) now
+        (databases_in (task_seen task))) }
+    ensures attaches { IfOk result (λ task. SomeAttached command (task_seen task).attached) }
+    ensures in_order { IfOk result (λ task. IfSome task.opened.sealing (λ s.
+        IsInOrder s.settings)) }
+    ensures cause { IfErr result (IsFileStop (files_named (Ok command))
+        (F.faults files.old) (F.faults files.new) (F.absences files.old) (F.absences files.new)) }
+    ensures faults { F.faults files.old ≤ F.faults files.new }
+    ensures files { F.files files.new ≡ F.files files.old }
+    ensures draft_name { F.draft_name files.new ≡ F.draft_name files.old }
+    ensures draft_bytes { F.draft_bytes files.new ≡ F.draft_bytes files.old }
+    ensures truthful { StaysTruthful (F.truthful files.old) (F.truthful files.new) }
+    ensures faultless { OnOk result (F.faults files.new ≡ F.faults files.old) }
+{
+    let Databases { target, sources } = match open_for(alloc, files, &command, &lines, now) {
+        Ok(databases) => databases,
+        Err(stop) => {
+            drop(lines);
+            drop(command);
+            return Err(stop);
+        }
+    };
+    match attached_for(alloc, files, &command) {
+        Ok(attached) => Ok(Task {
+            command,
+            lines,
+            opened: target,
+            sources,
+            attached,
+        }),
+        Err(stop) => {
+            drop(command);
+            drop(lines);
+            drop(sources);
+            let_go(target);
+            Err(stop)
+        }
+    }
+}
+
+/// What the words ask for at a moment: their command, its lines, its databases, and the file that it
+/// puts into its database. No file is changed.
 pub fn read_task<F: FileStore, S: Source>(
     alloc: Global,
     words: &[String],
@@ -39,7 +114,7 @@ pub fn read_task<F: FileStore, S: Source>(
     ensures some_file { IfOk result (λ task. HasSomeFile (map string_bytes words.now) now
         (task_seen task)) }
     ensures text { IfOk result (λ task. AreTextLines (lines_seen task.lines).more
-        (lines_seen task.lines).otp) }
+        (lines_seen task.lines).otp (lines_seen task.lines).fields) }
     ensures profile { IfOk result (λ task. IfSome (generated_by task.command) IsProfile) }
     ensures in_order { IfOk result (λ task. IfSome task.opened.sealing (λ s.
         IsInOrder s.settings)) }
@@ -70,7 +145,7 @@ pub fn read_task<F: FileStore, S: Source>(
         × (S.faults input.new ≡ S.faults input.old)) }
 {
     let command = read_words(alloc, words)?;
-    let needs = cli_parse::needs_of(&command);
+    let needs = cli_needs::needs_of(&command);
     let lines = match read_lines(alloc, input, needs) {
         Ok(lines) => lines,
         Err(stop) => {
@@ -78,18 +153,5 @@ pub fn read_task<F: FileStore, S: Source>(
             return Err(stop);
         }
     };
-    let Databases { target, sources } = match open_for(alloc, files, &command, &lines, now) {
-        Ok(databases) => databases,
-        Err(stop) => {
-            drop(lines);
-            drop(command);
-            return Err(stop);
-        }
-    };
-    Ok(Task {
-        command,
-        lines,
-        opened: target,
-        sources,
-    })
+    open_task(alloc, files, command, lines, now)
 }

@@ -6,13 +6,12 @@ use Rattle.vault_model.specs.Tree.{BareDoc, IsDoc}
 use Rattle.tree_core.specs.After.{AfterRemoval, after_remove_entry}
 use Rattle.tree_core.specs.declared.fails.Removed.TheVariants.{Recycled}
 use Rattle.command_laws.specs.Adding.{AddsOnly}
-use Rattle.kdbx_frame.specs.declared.settings.Settings.{Settings}
-use Rattle.cli_parse.specs.declared.command.Command.{Command}
-use Rattle.cli_parse.specs.declared.command.Command.TheVariants.{Add, Edit, Restore, Move, Remove, MakeGroup}
+use Rattle.cli_needs.specs.declared.command.Command.{Command}
+use Rattle.cli_needs.specs.declared.command.Command.TheVariants.{Add, Edit, ImportAttachment, Restore, Move, Remove, RemoveAttachment, MakeGroup}
 use Rattle.cli_writing.specs.Drawing.{next_bytes}
 use Rattle.cli_changes.specs.Ids.{new_id}
 use Rattle.cli_changes.specs.Nodes.{names_group}
-use Rattle.cli_commands.specs.Commands.{Change, bin_id, change_of, makes_node}
+use Rattle.cli_commands.specs.Commands.{Change, Inputs, bin_id, change_of, makes_node}
 
 -- The id of the node that a command makes, if it makes one: of the next bytes of the dice.
 abbrev pub made_id : Command → BareDoc → List ℕ → Option NodeId
@@ -24,12 +23,14 @@ abbrev pub PutsIntoBin : List ℕ → Option NodeId → ℕ → BareDoc → Type
 PutsIntoBin path bin time d = (a : AfterRemoval) → after_remove_entry path bin time d ≡ Ok a
     → a.removed ≡ Recycled
 
--- A command only adds to a document: it adds, edits or restores an entry, or makes a group, or moves
--- an entry, or puts one into the bin.
+-- A command only adds to a document: it adds, edits or restores an entry, puts an attachment to one or
+-- takes it away, makes a group, moves an entry, or puts one into the bin.
 abbrev pub OnlyAddsBy : ℕ → Command → List ℕ → BareDoc → Type 0
 OnlyAddsBy time (Add access file entry asked) dice d = Unit {0}
-OnlyAddsBy time (Edit access file entry asked) dice d = Unit {0}
+OnlyAddsBy time (Edit access file entry asked further) dice d = Unit {0}
 OnlyAddsBy time (Restore access file entry version) dice d = Unit {0}
+OnlyAddsBy time (ImportAttachment access file entry name source replaces) dice d = Unit {0}
+OnlyAddsBy time (RemoveAttachment access file entry name) dice d = Unit {0}
 OnlyAddsBy time (MakeGroup access file group) dice d = Unit {0}
 OnlyAddsBy time (Move access file node group) dice d = names_group node ≡ false
 OnlyAddsBy time (Remove access file entry) dice d =
@@ -44,8 +45,7 @@ pub record LeavesAdded (id : Option NodeId) (d : BareDoc) (change : Change) : Ty
 
 -- So does that of every command that only adds.
 abbrev pub CommandsAdd : Type 0
-CommandsAdd = (time : ℕ) (command : Command) (line otp : Option (List ℕ))
-    (sources : List BareDoc) (settings : Option Settings) (passed : List (List ℕ)) (d : BareDoc)
+CommandsAdd = (time : ℕ) (command : Command) (input : Inputs) (d : BareDoc)
     (dice : List ℕ) (change : Change) → IsDoc d → OnlyAddsBy time command dice d
-    → (change_of time command line otp sources settings passed d dice).answer ≡ Ok change
+    → (change_of time command input d dice).answer ≡ Ok change
     → LeavesAdded (made_id command d dice) d change

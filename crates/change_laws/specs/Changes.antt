@@ -4,11 +4,10 @@ use Rattle.std.specs.Prelude.{◌≡◌, ◌⊎◌, ℕ, Bool, false, true, List
 use Rattle.vault_model.specs.Tree.{BareDoc, IsDoc}
 use Rattle.document_merge.specs.Merging.{merge_result}
 use Rattle.command_laws.specs.Growing.{GrowsInCurrent}
-use Rattle.kdbx_frame.specs.declared.settings.Settings.{Settings}
-use Rattle.cli_parse.specs.declared.command.Access.{Access}
-use Rattle.cli_parse.specs.declared.command.Command.{Command}
-use Rattle.cli_parse.specs.declared.command.Command.TheVariants.{Ls, Show, History, Search, Add, Edit, Restore, Move, Remove, MakeGroup, RemoveGroup, Merge, Import, Create, Export, EditFile, Info}
-use Rattle.cli_commands.specs.Commands.{Change, change_of}
+use Rattle.cli_needs.specs.declared.command.Access.{Access}
+use Rattle.cli_needs.specs.declared.command.Command.{Command}
+use Rattle.cli_needs.specs.declared.command.Command.TheVariants.{Ls, Show, History, Search, Add, Edit, Restore, ExportAttachment, ImportAttachment, RemoveAttachment, Move, Remove, MakeGroup, RemoveGroup, Merge, Import, Create, Export, EditFile, Info}
+use Rattle.cli_commands.specs.Commands.{Change, Inputs, change_of}
 
 -- A command changes the document that it opens by itself: it is no merge, makes no database, changes
 -- no key, and does not only read.
@@ -18,8 +17,11 @@ edits (Show access file entry clear all attachments names totp at) = false
 edits (History access file entry) = false
 edits (Search access file term) = false
 edits (Add access file entry asked) = true
-edits (Edit access file entry asked) = true
+edits (Edit access file entry asked further) = true
 edits (Restore access file entry version) = true
+edits (ExportAttachment access file entry name to) = false
+edits (ImportAttachment access file entry name source replaces) = true
+edits (RemoveAttachment access file entry name) = true
 edits (Move access file node group) = true
 edits (Remove access file entry) = true
 edits (MakeGroup access file group) = true
@@ -39,10 +41,9 @@ pub record LeavesGrown (d : BareDoc) (change : Change) : Type 0 where
 
 -- so does that of every command that changes its document
 abbrev pub CommandsGrow : Type 0
-CommandsGrow = (time : ℕ) (command : Command) (line otp : Option (List ℕ))
-    (sources : List BareDoc) (settings : Option Settings) (passed : List (List ℕ)) (d : BareDoc)
+CommandsGrow = (time : ℕ) (command : Command) (input : Inputs) (d : BareDoc)
     (dice : List ℕ) (change : Change) → IsDoc d → edits command ≡ true
-    → (change_of time command line otp sources settings passed d dice).answer ≡ Ok change
+    → (change_of time command input d dice).answer ≡ Ok change
     → LeavesGrown d change
 
 -- A change leaves the document that a target and its sources are merged into, and is to be written
@@ -55,9 +56,7 @@ pub record LeavesMerged (t : BareDoc) (ss : List BareDoc) (change : Change) : Ty
 -- so does that of a merge that is no dry run
 abbrev pub MergesMerge : Type 0
 MergesMerge = (time : ℕ) (access : Access) (file : List ℕ) (names : List (List ℕ)) (from : Access)
-    (same details : Bool) (line otp : Option (List ℕ)) (sources : List BareDoc)
-    (settings : Option Settings) (passed : List (List ℕ)) (d : BareDoc) (dice : List ℕ)
+    (same details : Bool) (input : Inputs) (d : BareDoc) (dice : List ℕ)
     (change : Change)
-    → (change_of time (Merge access file names from same false details) line otp sources settings
-    passed d dice).answer ≡ Ok change
-    → LeavesMerged d sources change
+    → (change_of time (Merge access file names from same false details) input d dice).answer
+    ≡ Ok change → LeavesMerged d input.sources change

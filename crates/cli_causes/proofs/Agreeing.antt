@@ -13,16 +13,21 @@ use Rattle.cli_options.specs.Said.{Said, is_due, is_given, nothing_said, text_of
 use Rattle.cli_profiles.specs.Generating.{generated_in, has_profile_option}
 use Rattle.cli_profiles.specs.Profiles.{alphabet_of, length_asked, length_named, profile_in, profile_with}
 use Rattle.cli_profiles.specs.declared.profiles.PasswordProfile.{PasswordProfile}
-use Rattle.cli_parse.specs.declared.command.Asked.{Asked}
-use Rattle.cli_parse.specs.declared.command.Command.{Command}
-use Rattle.cli_parse.specs.declared.command.Command.TheVariants.{Add, Edit, Restore}
-use Rattle.cli_parse.specs.declared.command.ExportFormat.{ExportFormat}
-use Rattle.cli_parse.specs.declared.command.ImportFormat.{ImportFormat}
-use Rattle.cli_parse.specs.Words.{access_of, asked_of, asked_with, command_at, command_by, command_in, command_saying, create_at, edit_by, edit_file_at, export_as, export_at, format_asked, format_named, has_change, import_as, import_at, import_format_asked, import_format_named, is_mergeable, merge_at, merge_of, profile_at, profile_by, profile_of, profile_saying, show_of}
+use Rattle.cli_needs.specs.declared.command.Asked.{Asked}
+use Rattle.cli_needs.specs.declared.command.Command.{Command}
+use Rattle.cli_needs.specs.declared.command.Command.TheVariants.{Add, ExportAttachment, ImportAttachment, Restore}
+use Rattle.cli_needs.specs.declared.command.ExportFormat.{ExportFormat}
+use Rattle.cli_needs.specs.declared.command.FurtherAsked.{FurtherAsked}
+use Rattle.cli_needs.specs.declared.command.ImportFormat.{ImportFormat}
+use Rattle.cli_needs.specs.Needs.{is_filled}
+use Rattle.cli_parse.specs.Fields.{further_of}
+use Rattle.cli_parse.specs.Words.{access_of, asked_of, asked_with, command_at, command_by, command_in, command_saying, create_at, edit_by, edit_file_at, edit_of, edit_with, export_as, export_at, format_asked, format_named, has_change, import_as, import_at, import_format_asked, import_format_named, is_mergeable, merge_at, merge_of, profile_at, profile_by, profile_of, profile_saying, show_of}
 use Rattle.cli_causes.specs.declared.cause.Cause.{Cause}
-use Rattle.cli_causes.specs.declared.cause.Cause.TheVariants.{FewPositions, NeedsGenerate, NoKeyFile, NoKeyFileFrom, NotTogether, NotWithPlain, NotWithSame, NothingToChange, UnknownExportFormat, UnknownImportFormat, UnknownLength}
+use Rattle.cli_causes.specs.declared.cause.Cause.TheVariants.{EmptyAttachmentName, FewPositions, FileBesideStdout, NeedsGenerate, NoFileOrStdout, NoKeyFile, NoKeyFileFrom, NotTogether, NotWithPlain, NotWithSame, NothingToChange, UnknownExportFormat, UnknownImportFormat, UnknownLength}
+use Rattle.cli_causes.specs.Fields.{further_cause}
 use Rattle.cli_causes.specs.Files.{new_key_cause}
 use Rattle.cli_causes.specs.First.{first_of}
+use Rattle.cli_causes.proofs.FieldCauses.{further_agrees}
 use Rattle.cli_causes.proofs.FileCauses.{create_agrees, edit_file_agrees, fits_new}
 use Rattle.cli_causes.proofs.VersionCauses.{restore_agrees, shown_agrees}
 use Rattle.cli_causes.proofs.Tests.{or_false, or_true, some_if, some_mapped, some_or}
@@ -147,19 +152,28 @@ asked_agrees F said =
     generated_agrees said ∙ ap not (sym (some_mapped (asked_with said) (generated_in said)))
     ∙ ap not (sym (some_mapped F (asked_of said))) ∙ ap not (sym (or_false (is_some (option_map F (asked_of said)))))
 
-edit_agrees : (F : Asked → Command) (said : Said)
-    → is_some (option_or (generated_cause said) (change_cause said)) ≡ not (is_some (if has_change said then option_map F (asked_of said) else None) || false)
-edit_agrees F said = some_or (generated_cause said) (change_cause said) ∙ by (has_change said)
+edit_agrees : (said : Said) (file entry : List ℕ)
+    → is_some (option_or (generated_cause said) (option_or (further_cause said) (change_cause said)))
+    ≡ not (is_some (if has_change said then edit_of said file entry else None) || false)
+edit_agrees said file entry =
+    some_or (generated_cause said) _
+    ∙ ap₂ (λ (a b : Bool). a || b) (generated_agrees said ∙ ap not (sym (some_mapped (asked_with said) (generated_in said))))
+    (some_or (further_cause said) (change_cause said) ∙ ap (λ (a : Bool). a || is_some (change_cause said)) (further_agrees said))
+    ∙ by (has_change said) (asked_of said) (further_of said)
   where
-    by : (change : Bool)
-        → (is_some (generated_cause said) || is_some (if change then None else Some NothingToChange))
-        ≡ not (is_some (if change then option_map F (asked_of said) else None) || false)
-    by true = or_false (is_some (generated_cause said)) ∙ asked_agrees F said
-    by false = or_true (is_some (generated_cause said))
+    by : (change : Bool) (asked : Option Asked) (further : Option FurtherAsked)
+        → (not (is_some asked) || (not (is_some further) || is_some (if change then None else Some NothingToChange)))
+        ≡ not (is_some (if change then edit_with said file entry asked further else None) || false)
+    by true None further = refl
+    by true (Some asked) None = refl
+    by true (Some asked) (Some further) = refl
+    by false None further = refl
+    by false (Some asked) None = refl
+    by false (Some asked) (Some further) = refl
 
 -- An edit of values, or of a version.
 edited_agrees : (said : Said) (file entry : List ℕ) (t : Option (List ℕ)) → is_some (edit_cause said t) ≡ not (is_some (edit_by said file entry t) || false)
-edited_agrees said file entry None = edit_agrees (Edit (access_of said) file entry) said
+edited_agrees said file entry None = edit_agrees said file entry
 edited_agrees said file entry (Some text) = restore_agrees said (Restore (access_of said) file entry) text
 
 -- ---- positions
@@ -181,16 +195,16 @@ enough command positions h =
 
 -- A position more than a command takes is a cause.
 one_more : (command : CommandName) (said : Said) (positions : List (List ℕ)) → fewest command ≤ length positions → is_some (slice_get positions (most command)) ≡ true
-    → (is_some (positions_cause command positions) || is_some (own_cause command said)) ≡ true
+    → (is_some (positions_cause command positions) || is_some (own_cause command said positions)) ≡ true
 one_more command said positions h more =
-    ap (λ (o : Option Cause). is_some o || is_some (own_cause command said)) (enough command positions h)
-    ∙ ap (λ (b : Bool). b || is_some (own_cause command said)) (some_mapped (extra_cause command) (slice_get positions (most command)) ∙ more)
+    ap (λ (o : Option Cause). is_some o || is_some (own_cause command said positions)) (enough command positions h)
+    ∙ ap (λ (b : Bool). b || is_some (own_cause command said positions)) (some_mapped (extra_cause command) (slice_get positions (most command)) ∙ more)
 
 -- Of a command at these positions there is a cause exactly where it is none and asks for no
 -- password.
 abbrev Agrees : CommandName → Said → List (List ℕ) → Type 0
 Agrees command said positions =
-    (is_some (positions_cause command positions) || is_some (own_cause command said))
+    (is_some (positions_cause command positions) || is_some (own_cause command said positions))
     ≡ not (is_some (command_at command said positions) || is_some (profile_at command said positions))
 
 not_not : (b : Bool) → b ≡ not (not b)
@@ -218,6 +232,42 @@ merge_agrees said (a ∷ b ∷ rest) =
     ∙ some_mapped (extra_cause name.Merge) (slice_get (a ∷ b ∷ rest) 17) ∙ some_at (a ∷ b ∷ rest) 17 ∙ not_not (nat_lt 17 (length (a ∷ b ∷ rest)))
     ∙ ap not (sym (mergeable (length rest))) ∙ ap not (sym (some_if (is_mergeable (length (b ∷ rest))) (merge_of said a (b ∷ rest))))
     ∙ ap not (sym (or_false (is_some (merge_at said (a ∷ b ∷ rest)))))
+
+export_attachment_agrees : (said : Said) (positions : List (List ℕ)) → Agrees name.ExportAttachment said positions
+export_attachment_agrees said [] = refl
+export_attachment_agrees said (a ∷ []) = refl
+export_attachment_agrees said (a ∷ b ∷ []) = refl
+export_attachment_agrees said (a ∷ b ∷ c ∷ []) = by (is_given option.Stdout said)
+  where
+    by : (printed : Bool)
+        → is_some (if printed then None else Some NoFileOrStdout)
+        ≡ not (is_some (if printed then Some (ExportAttachment (access_of said) a b c None) else None) || false)
+    by true = refl
+    by false = refl
+export_attachment_agrees said (a ∷ b ∷ c ∷ d ∷ []) = by (is_given option.Stdout said)
+  where
+    by : (printed : Bool)
+        → is_some (if printed then Some (FileBesideStdout d) else None)
+        ≡ not (is_some (if printed then None else Some (ExportAttachment (access_of said) a b c (Some d))) || false)
+    by true = refl
+    by false = refl
+export_attachment_agrees said (a ∷ b ∷ c ∷ d ∷ e ∷ rest) =
+    one_more name.ExportAttachment said (a ∷ b ∷ c ∷ d ∷ e ∷ rest) (omega arith) refl
+
+import_attachment_agrees : (said : Said) (positions : List (List ℕ)) → Agrees name.ImportAttachment said positions
+import_attachment_agrees said [] = refl
+import_attachment_agrees said (a ∷ []) = refl
+import_attachment_agrees said (a ∷ b ∷ []) = refl
+import_attachment_agrees said (a ∷ b ∷ c ∷ []) = refl
+import_attachment_agrees said (a ∷ b ∷ c ∷ d ∷ []) = by (is_filled c)
+  where
+    by : (filled : Bool)
+        → is_some (if filled then None else Some EmptyAttachmentName)
+        ≡ not (is_some (if filled then Some (ImportAttachment (access_of said) a b c d (is_given option.Force said)) else None) || false)
+    by true = refl
+    by false = refl
+import_attachment_agrees said (a ∷ b ∷ c ∷ d ∷ e ∷ rest) =
+    one_more name.ImportAttachment said (a ∷ b ∷ c ∷ d ∷ e ∷ rest) (omega arith) refl
 
 agrees : (command : CommandName) (said : Said) (positions : List (List ℕ)) → Agrees command said positions
 agrees name.Ls said [] = refl
@@ -283,6 +333,13 @@ agrees name.EditFile said (a ∷ b ∷ rest) = one_more name.EditFile said (a �
 agrees name.Info said [] = refl
 agrees name.Info said (a ∷ []) = refl
 agrees name.Info said (a ∷ b ∷ rest) = one_more name.Info said (a ∷ b ∷ rest) (omega arith) refl
+agrees name.ExportAttachment said positions = export_attachment_agrees said positions
+agrees name.ImportAttachment said positions = import_attachment_agrees said positions
+agrees name.RemoveAttachment said [] = refl
+agrees name.RemoveAttachment said (a ∷ []) = refl
+agrees name.RemoveAttachment said (a ∷ b ∷ []) = refl
+agrees name.RemoveAttachment said (a ∷ b ∷ c ∷ []) = refl
+agrees name.RemoveAttachment said (a ∷ b ∷ c ∷ d ∷ rest) = one_more name.RemoveAttachment said (a ∷ b ∷ c ∷ d ∷ rest) (omega arith) refl
 agrees name.Generate said [] = profile_agrees said
 agrees name.Generate said (a ∷ rest) = one_more name.Generate said (a ∷ rest) (omega arith) refl
 
@@ -316,9 +373,9 @@ is_asked command profile = is_some command || is_some profile
 said_agrees : (command : CommandName) (last : List ℕ) (said : Said)
     → is_some (said_cause command last said) ≡ not (is_asked (command_saying command said) (profile_saying command said))
 said_agrees command last said =
-    parted (due_cause last said.due) (positions_cause command said.positions) (credentials_cause said) (own_cause command said)
-    ∙ ap (λ d. d || (is_some (positions_cause command said.positions) || (is_some (credentials_cause said) || is_some (own_cause command said)))) (some_mapped _ said.due)
-    ∙ in_order (is_due said) (is_some (positions_cause command said.positions)) (is_some (credentials_cause said)) (is_some (own_cause command said))
+    parted (due_cause last said.due) (positions_cause command said.positions) (credentials_cause said) (own_cause command said said.positions)
+    ∙ ap (λ d. d || (is_some (positions_cause command said.positions) || (is_some (credentials_cause said) || is_some (own_cause command said said.positions)))) (some_mapped _ said.due)
+    ∙ in_order (is_due said) (is_some (positions_cause command said.positions)) (is_some (credentials_cause said)) (is_some (own_cause command said said.positions))
     (is_fit (is_given option.Plain said) (is_given option.NoPassword said) (is_given option.KeyFile said) && is_fit_from said)
     (is_some (command_at command said said.positions)) (is_some (profile_at command said said.positions))
     (fits (is_given option.Plain said) (is_given option.NoPassword said) (is_given option.KeyFile said) (is_given option.SameCredentials said)

@@ -9,10 +9,10 @@ use Rattle.cli_options.specs.declared.forms.CommandOption.TheVariants as option
 use Rattle.cli_options.specs.Credentials.{has_part, is_fit_change, is_fit_new}
 use Rattle.cli_options.specs.Numbers.{number_of}
 use Rattle.cli_options.specs.Said.{Said, is_given, text_of}
-use Rattle.cli_parse.specs.declared.command.Command.{Command}
-use Rattle.cli_parse.specs.declared.command.Command.TheVariants.{EditFile}
-use Rattle.cli_parse.specs.declared.command.KdfAsked.{KdfAsked}
-use Rattle.cli_parse.specs.declared.command.KdfKind.{KdfKind}
+use Rattle.cli_needs.specs.declared.command.Command.{Command}
+use Rattle.cli_needs.specs.declared.command.Command.TheVariants.{EditFile}
+use Rattle.cli_needs.specs.declared.command.KdfAsked.{KdfAsked}
+use Rattle.cli_needs.specs.declared.command.KdfKind.{KdfKind}
 use Rattle.cli_parse.specs.Settings.{change_in, change_with, cipher_in, cipher_named, cost_or, has_argon_cost, has_file_change, if_named, is_argon, kdf_asked, kdf_in, kdf_named, kdf_of, kdf_with, usual_rounds, version_in, version_named}
 use Rattle.cli_parse.specs.Words.{access_sealed, create_at, create_with, edit_file_at}
 use Rattle.kdbx_frame.specs.declared.settings.Cipher.{Cipher}

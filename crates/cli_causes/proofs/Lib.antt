@@ -1,4 +1,5 @@
 pub mod Agreeing
+pub mod FieldCauses
 pub mod FileCauses
 pub mod Steps
 pub mod Tests

@@ -6,7 +6,7 @@ use Rattle.cli_options.specs.declared.forms.CommandOption.{CommandOption}
 use Rattle.cli_options.specs.declared.forms.CommandOption.TheVariants as option
 use Rattle.cli_options.specs.Said.{Said, is_given}
 use Rattle.cli_profiles.specs.Generating.{has_profile_option}
-use Rattle.cli_parse.specs.declared.command.Command.{Command}
+use Rattle.cli_needs.specs.declared.command.Command.{Command}
 use Rattle.cli_parse.specs.Words.{has_change, is_fit_show, version_asked, version_numbered}
 use Rattle.cli_causes.specs.declared.cause.Cause.TheVariants.{NotTogether, UnknownNumber}
 use Rattle.cli_causes.specs.Causes.{code_cause}
@@ -47,32 +47,44 @@ shown_agrees said F t =
 -- ---- what is restored
 
 -- The first option that changes an entry is there where any is.
-any_given : (title user url notes line generate otp length exclude lower upper numeric special : Bool)
-    → is_some (if title then Some option.Title else (if user then Some option.User else (if url then Some option.Url else (if notes then Some option.Notes
-    else (if line then Some option.EntryPassword else (if generate then Some option.Generate else (if otp then Some option.Otp
-    else (if length then Some option.Length else (if exclude then Some option.Exclude else (if lower then Some option.Lower
-    else (if upper then Some option.Upper else (if numeric then Some option.Numeric else (if special then Some option.Special else None)))))))))))))
-    ≡ ((title || user || url || notes || line || generate || otp) || (length || exclude || (lower || upper || numeric || special)))
-any_given true user url notes line generate otp length exclude lower upper numeric special = refl
-any_given false true url notes line generate otp length exclude lower upper numeric special = refl
-any_given false false true notes line generate otp length exclude lower upper numeric special = refl
-any_given false false false true line generate otp length exclude lower upper numeric special = refl
-any_given false false false false true generate otp length exclude lower upper numeric special = refl
-any_given false false false false false true otp length exclude lower upper numeric special = refl
-any_given false false false false false false true length exclude lower upper numeric special = refl
-any_given false false false false false false false true exclude lower upper numeric special = refl
-any_given false false false false false false false false true lower upper numeric special = refl
-any_given false false false false false false false false false true upper numeric special = refl
-any_given false false false false false false false false false false true numeric special = refl
-any_given false false false false false false false false false false false true special = refl
-any_given false false false false false false false false false false false false true = refl
-any_given false false false false false false false false false false false false false = refl
+any_given : (title user url notes line generate otp set protect unset tag untag expires length exclude lower upper numeric special : Bool)
+    → is_some (if title then Some option.Title else (if user then Some option.User else (if url then Some option.Url else (
+    if notes then Some option.Notes else (if line then Some option.EntryPassword else (if generate then Some option.Generate else (
+    if otp then Some option.Otp else (if set then Some option.Set else (if protect then Some option.Protect else (
+    if unset then Some option.Unset else (if tag then Some option.Tag else (if untag then Some option.Untag else (
+    if expires then Some option.Expires else (if length then Some option.Length else (if exclude then Some option.Exclude else (
+    if lower then Some option.Lower else (if upper then Some option.Upper else (if numeric then Some option.Numeric else (
+    if special then Some option.Special else (None))))))))))))))))))))
+    ≡ ((title || user || url || notes || line || generate || otp || (set || protect || unset || tag || untag || expires))
+    || (length || exclude || (lower || upper || numeric || special)))
+any_given true user url notes line generate otp set protect unset tag untag expires length exclude lower upper numeric special = refl
+any_given false true url notes line generate otp set protect unset tag untag expires length exclude lower upper numeric special = refl
+any_given false false true notes line generate otp set protect unset tag untag expires length exclude lower upper numeric special = refl
+any_given false false false true line generate otp set protect unset tag untag expires length exclude lower upper numeric special = refl
+any_given false false false false true generate otp set protect unset tag untag expires length exclude lower upper numeric special = refl
+any_given false false false false false true otp set protect unset tag untag expires length exclude lower upper numeric special = refl
+any_given false false false false false false true set protect unset tag untag expires length exclude lower upper numeric special = refl
+any_given false false false false false false false true protect unset tag untag expires length exclude lower upper numeric special = refl
+any_given false false false false false false false false true unset tag untag expires length exclude lower upper numeric special = refl
+any_given false false false false false false false false false true tag untag expires length exclude lower upper numeric special = refl
+any_given false false false false false false false false false false true untag expires length exclude lower upper numeric special = refl
+any_given false false false false false false false false false false false true expires length exclude lower upper numeric special = refl
+any_given false false false false false false false false false false false false true length exclude lower upper numeric special = refl
+any_given false false false false false false false false false false false false false true exclude lower upper numeric special = refl
+any_given false false false false false false false false false false false false false false true lower upper numeric special = refl
+any_given false false false false false false false false false false false false false false false true upper numeric special = refl
+any_given false false false false false false false false false false false false false false false false true numeric special = refl
+any_given false false false false false false false false false false false false false false false false false true special = refl
+any_given false false false false false false false false false false false false false false false false false false true = refl
+any_given false false false false false false false false false false false false false false false false false false false = refl
 
 given_agrees : (said : Said) → is_some (first_given said entry_options) ≡ (has_change said || has_profile_option said)
 given_agrees said =
     any_given (is_given option.Title said) (is_given option.User said) (is_given option.Url said) (is_given option.Notes said)
-    (is_given option.EntryPassword said) (is_given option.Generate said) (is_given option.Otp said) (is_given option.Length said)
-    (is_given option.Exclude said) (is_given option.Lower said) (is_given option.Upper said) (is_given option.Numeric said) (is_given option.Special said)
+    (is_given option.EntryPassword said) (is_given option.Generate said) (is_given option.Otp said) (is_given option.Set said)
+    (is_given option.Protect said) (is_given option.Unset said) (is_given option.Tag said) (is_given option.Untag said)
+    (is_given option.Expires said) (is_given option.Length said) (is_given option.Exclude said) (is_given option.Lower said)
+    (is_given option.Upper said) (is_given option.Numeric said) (is_given option.Special said)
 
 pub restore_agrees : (said : Said) (F : ℕ → Command) (text : List ℕ)
     → is_some (restore_cause said text)

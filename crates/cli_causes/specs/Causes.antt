@@ -12,6 +12,8 @@ use Rattle.cli_options.specs.Prefixes.{after_sign, before_sign, strip_prefix}
 use Rattle.cli_options.specs.Said.{Said, is_given, is_option, nothing_said, text_of, with_word}
 use Rattle.cli_profiles.specs.Profiles.{alphabet_of, length_named}
 use Rattle.cli_parse.specs.Words.{format_named, has_change, import_format_named}
+use Rattle.cli_causes.specs.Attachments.{export_attachment_cause, import_attachment_cause}
+use Rattle.cli_causes.specs.Fields.{further_cause}
 use Rattle.cli_causes.specs.Files.{create_cause, edit_file_cause, new_key_cause}
 use Rattle.cli_causes.specs.First.{first_of}
 use Rattle.cli_causes.specs.Versions.{number_cause, restore_cause}
@@ -102,6 +104,9 @@ due_cause previous due = option_map (λ option. NoValue previous) due
 abbrev pub fewest : CommandName → ℕ
 fewest name.Ls = 1
 fewest name.Move = 3
+fewest name.ExportAttachment = 3
+fewest name.ImportAttachment = 4
+fewest name.RemoveAttachment = 3
 fewest name.Create = 1
 fewest name.Export = 1
 fewest name.EditFile = 1
@@ -113,6 +118,7 @@ fewest command = 2
 abbrev pub most : CommandName → ℕ
 most name.Merge = 17
 most name.Ls = 2
+most name.ExportAttachment = 4
 most command = fewest command
 
 -- A position more than a command takes.
@@ -120,11 +126,16 @@ abbrev pub extra_cause : CommandName → List ℕ → Cause
 extra_cause name.Merge word = ManySources
 extra_cause command word = ExtraPosition command word
 
+-- Fewer positions than these, or one more than those.
+abbrev pub count_cause : CommandName → (fewest most : ℕ) → List (List ℕ) → Option Cause
+count_cause command fewest most positions = if nat_lt (length positions) fewest
+    then Some (FewPositions command)
+    else option_map (extra_cause command) (slice_get positions most)
+
 -- Fewer positions than a command needs, or one too many.
 abbrev pub positions_cause : CommandName → List (List ℕ) → Option Cause
-positions_cause command positions = if nat_lt (length positions) (fewest command)
-    then Some (FewPositions command)
-    else option_map (extra_cause command) (slice_get positions (most command))
+positions_cause command positions =
+    count_cause command (fewest command) (most command) positions
 
 -- What goes with no plain document, since that has no key, and is given beside it.
 abbrev pub plain_cause : Said → Option Cause
@@ -226,7 +237,8 @@ generated_cause said = if is_given option.Generate said
 
 -- What is said of the values of an entry that is edited does not fit together, or none is given.
 abbrev pub values_cause : Said → Option Cause
-values_cause said = option_or (generated_cause said) (change_cause said)
+values_cause said =
+    option_or (generated_cause said) (option_or (further_cause said) (change_cause said))
 
 -- What is said of an edit does not fit: of the version that is restored where a text says which, or
 -- else of the values.
@@ -234,25 +246,27 @@ abbrev pub edit_cause : Said → Option (List ℕ) → Option Cause
 edit_cause said (Some text) = restore_cause said text
 edit_cause said None = values_cause said
 
--- What a command asks for beside what all of them do.
-abbrev pub own_cause : CommandName → Said → Option Cause
-own_cause name.Show said = show_cause said
-own_cause name.Add said = generated_cause said
-own_cause name.Edit said = edit_cause said (text_of option.Restore said)
-own_cause name.Import said =
+-- What a command with these positions asks for beside what all of them do.
+abbrev pub own_cause : CommandName → Said → (positions : List (List ℕ)) → Option Cause
+own_cause name.Show said positions = show_cause said
+own_cause name.Add said positions = generated_cause said
+own_cause name.Edit said positions = edit_cause said (text_of option.Restore said)
+own_cause name.ExportAttachment said positions = export_attachment_cause said positions
+own_cause name.ImportAttachment said positions = import_attachment_cause positions
+own_cause name.Import said positions =
     option_or (new_key_cause name.Import said)
     (import_format_cause (text_of option.ImportFormat said))
-own_cause name.Create said = create_cause said
-own_cause name.Export said = export_format_cause (text_of option.Format said)
-own_cause name.EditFile said = edit_file_cause said
-own_cause name.Generate said = profile_cause said
-own_cause command said = None
+own_cause name.Create said positions = create_cause said
+own_cause name.Export said positions = export_format_cause (text_of option.Format said)
+own_cause name.EditFile said positions = edit_file_cause said
+own_cause name.Generate said positions = profile_cause said
+own_cause command said positions = None
 
 -- What is wrong in all words together, of which this is the last.
 abbrev pub said_cause : CommandName → List ℕ → Said → Option Cause
 said_cause command last said = option_or (due_cause last said.due)
     (option_or (positions_cause command said.positions)
-    (option_or (credentials_cause said) (own_cause command said)))
+    (option_or (credentials_cause said) (own_cause command said said.positions)))
 
 -- ---- words
 

@@ -8,7 +8,7 @@ use Rattle.cli_options.specs.declared.forms.CommandOption.TheVariants as option
 use Rattle.cli_options.specs.Credentials.{has_part}
 use Rattle.cli_options.specs.Numbers.{number_of}
 use Rattle.cli_options.specs.Said.{Said, is_given, text_of}
-use Rattle.cli_parse.specs.declared.command.KdfKind.{KdfKind}
+use Rattle.cli_needs.specs.declared.command.KdfKind.{KdfKind}
 use Rattle.cli_parse.specs.Settings.{cipher_named, has_file_change, is_argon, kdf_named, version_named}
 use Rattle.cli_causes.specs.declared.cause.Cause.{Cause}
 use Rattle.cli_causes.specs.declared.cause.Cause.TheVariants.{KeyFileChangesNothing, NeedsArgon, NeedsKdf, NoFileChange, NoKeyLeft, NoNewKey, NotTogether, NotWithPlain, UnknownCipher, UnknownCost, UnknownKdf, UnknownVersion}

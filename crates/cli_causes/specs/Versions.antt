@@ -19,7 +19,8 @@ number_cause option (Some text) =
 abbrev pub entry_options : List CommandOption
 entry_options =
     option.Title ∷ option.User ∷ option.Url ∷ option.Notes ∷ option.EntryPassword
-    ∷ option.Generate ∷ option.Otp ∷ option.Length ∷ option.Exclude ∷ option.Lower
+    ∷ option.Generate ∷ option.Otp ∷ option.Set ∷ option.Protect ∷ option.Unset ∷ option.Tag
+    ∷ option.Untag ∷ option.Expires ∷ option.Length ∷ option.Exclude ∷ option.Lower
     ∷ option.Upper ∷ option.Numeric ∷ option.Special ∷ []
 
 -- The first of these options that is given.

@@ -60,6 +60,22 @@ pub enum Cause {
     NeedsGenerate(CommandOption),
     /// The value of this option is no number of a version, of one to six digits.
     UnknownNumber(CommandOption, Text),
+    /// This option names a field of one's own, and its name is empty.
+    EmptyFieldName(CommandOption),
+    /// This option names a field of one's own, and this is one of those that every entry has.
+    StandardField(CommandOption, Text),
+    /// The value of this option is no tag.
+    UnknownTag(CommandOption, Text),
+    /// Values are to be hidden, and no field gets one.
+    NeedsSet,
+    /// No entry expires at this time.
+    UnknownTime(Text),
+    /// An attachment is to be printed, and this file is named for it.
+    FileBesideStdout(Text),
+    /// An attachment is to be taken out, and is neither to be printed nor is a file named for it.
+    NoFileOrStdout,
+    /// A new attachment has an empty name.
+    EmptyAttachmentName,
     /// No password has this length.
     UnknownLength(Text),
     /// No character is left of which a password could be made.

@@ -5,10 +5,11 @@ ghost use Rattle.cli_options.specs.Said.{text_of};
 ghost use Rattle.cli_options.specs.SaidWords.{said_seen, text_seen};
 
 use crate::cause::Cause;
+use cli_needs::KdfKind;
 use cli_options::{
     CommandName, CommandOption, SaidWords, is_fit_change, is_given, number_of, text_of,
 };
-use cli_parse::{KdfKind, cipher_named, has_file_change, is_argon, kdf_named, version_named};
+use cli_parse::{cipher_named, has_file_change, is_argon, kdf_named, version_named};
 use outside_core::{NoMemory, Text};
 use std::alloc::Global;
 

@@ -10,7 +10,7 @@ use outside_core::{NoMemory, Text};
 use std::alloc::Global;
 
 /// The options that change an entry, or say how its password is generated.
-const ENTRY_OPTIONS: [CommandOption; 13] = [
+const ENTRY_OPTIONS: [CommandOption; 19] = [
     CommandOption::Title,
     CommandOption::User,
     CommandOption::Url,
@@ -18,6 +18,12 @@ const ENTRY_OPTIONS: [CommandOption; 13] = [
     CommandOption::EntryPassword,
     CommandOption::Generate,
     CommandOption::Otp,
+    CommandOption::Set,
+    CommandOption::Protect,
+    CommandOption::Unset,
+    CommandOption::Tag,
+    CommandOption::Untag,
+    CommandOption::Expires,
     CommandOption::Length,
     CommandOption::Exclude,
     CommandOption::Lower,

@@ -2,9 +2,13 @@
 ghost use Rattle.std.specs.Prelude.{◌≡◌, IfOk};
 ghost use Rattle.std.specs.Option.{option_or};
 ghost use Rattle.cli_causes.specs.Causes as spec;
+ghost use Rattle.cli_causes.specs.Fields.{further_cause};
+ghost use Rattle.cli_options.specs.declared.names.CommandName.TheVariants as name;
 ghost use Rattle.cli_options.specs.SaidWords.{said_seen, text_seen};
 
+use crate::attachments::{export_attachment_cause, import_attachment_cause};
 use crate::cause::Cause;
+use crate::fields;
 use crate::files::{create_cause, edit_file_cause, new_key_cause};
 use crate::generating::{generated_cause, profile_cause};
 use crate::versions::{number_cause, restore_cause};
@@ -23,7 +27,8 @@ fn fewest(command: CommandName) -> usize
         | CommandName::Export
         | CommandName::EditFile
         | CommandName::Info => 1,
-        CommandName::Move => 3,
+        CommandName::Move | CommandName::ExportAttachment | CommandName::RemoveAttachment => 3,
+        CommandName::ImportAttachment => 4,
         CommandName::Generate => 0,
         _ => 2,
     }
@@ -36,6 +41,7 @@ fn most(command: CommandName) -> usize
     match command {
         CommandName::Merge => 17,
         CommandName::Ls => 2,
+        CommandName::ExportAttachment => 4,
         _ => fewest(command),
     }
 }
@@ -50,6 +56,26 @@ fn extra_cause(alloc: Global, command: CommandName, word: &str) -> Result<Cause,
     }
 }
 
+// Fewer positions than these, or one more than those.
+fn count_cause(
+    alloc: Global,
+    command: CommandName,
+    fewest: usize,
+    most: usize,
+    positions: &[Text],
+) -> Result<Option<Cause>, NoMemory>
+    ensures { IfOk result (λ cause. cause
+        ≡ spec.count_cause command fewest most positions.now) }
+{
+    if positions.len() < fewest {
+        return Ok(Some(Cause::FewPositions(command)));
+    }
+    match positions.get(most) {
+        Some(word) => Ok(Some(extra_cause(alloc, command, word.as_str())?)),
+        None => Ok(None),
+    }
+}
+
 // Fewer positions than a command needs, or one too many.
 fn positions_cause(
     alloc: Global,
@@ -58,13 +84,7 @@ fn positions_cause(
 ) -> Result<Option<Cause>, NoMemory>
     ensures { IfOk result (λ cause. cause ≡ spec.positions_cause command positions.now) }
 {
-    if positions.len() < fewest(command) {
-        return Ok(Some(Cause::FewPositions(command)));
-    }
-    match positions.get(most(command)) {
-        Some(word) => Ok(Some(extra_cause(alloc, command, word.as_str())?)),
-        None => Ok(None),
-    }
+    count_cause(alloc, command, fewest(command), most(command), positions)
 }
 
 // What goes with no plain document and is given beside it.
@@ -176,13 +196,27 @@ fn change_cause(said: &SaidWords<'_, '_>) -> Option<Cause>
     }
 }
 
+// What else of an entry is to change does not fit together, or nothing is to change.
+fn further_or_change_cause(
+    alloc: Global,
+    said: &SaidWords<'_, '_>,
+) -> Result<Option<Cause>, NoMemory>
+    ensures { IfOk result (λ cause. cause
+        ≡ option_or (further_cause (said_seen said.now)) (spec.change_cause (said_seen said.now))) }
+{
+    match fields::further_cause(alloc, said)? {
+        Some(cause) => Ok(Some(cause)),
+        None => Ok(change_cause(said)),
+    }
+}
+
 // What is said of the values of an entry that is edited does not fit, or none is given.
 fn values_cause(alloc: Global, said: &SaidWords<'_, '_>) -> Result<Option<Cause>, NoMemory>
     ensures { IfOk result (λ cause. cause ≡ spec.values_cause (said_seen said.now)) }
 {
     match generated_cause(alloc, said)? {
         Some(cause) => Ok(Some(cause)),
-        None => Ok(change_cause(said)),
+        None => further_or_change_cause(alloc, said),
     }
 }
 
@@ -201,22 +235,33 @@ fn edit_cause(
     }
 }
 
+// A new database has no key that fits it, or the format of what is imported is unknown.
+fn import_cause(alloc: Global, said: &SaidWords<'_, '_>) -> Result<Option<Cause>, NoMemory>
+    ensures { IfOk result (λ cause. cause
+        ≡ spec.own_cause name.Import (said_seen said.now) said.now.positions.now) }
+{
+    match new_key_cause(CommandName::Import, said) {
+        Some(cause) => Ok(Some(cause)),
+        None => import_format_cause(alloc, text_of(said, CommandOption::ImportFormat)),
+    }
+}
+
 // What a command asks for beside what all of them do.
 fn own_cause(
     alloc: Global,
     command: CommandName,
     said: &SaidWords<'_, '_>,
 ) -> Result<Option<Cause>, NoMemory>
-    ensures { IfOk result (λ cause. cause ≡ spec.own_cause command (said_seen said.now)) }
+    ensures { IfOk result (λ cause. cause
+        ≡ spec.own_cause command (said_seen said.now) said.now.positions.now) }
 {
     match command {
         CommandName::Show => show_cause(alloc, said),
         CommandName::Add => generated_cause(alloc, said),
         CommandName::Edit => edit_cause(alloc, said, text_of(said, CommandOption::Restore)),
-        CommandName::Import => match new_key_cause(command, said) {
-            Some(cause) => Ok(Some(cause)),
-            None => import_format_cause(alloc, text_of(said, CommandOption::ImportFormat)),
-        },
+        CommandName::ExportAttachment => export_attachment_cause(alloc, said),
+        CommandName::ImportAttachment => Ok(import_attachment_cause(said.positions)),
+        CommandName::Import => import_cause(alloc, said),
         CommandName::Create => create_cause(alloc, said),
         CommandName::Export => export_format_cause(alloc, text_of(said, CommandOption::Format)),
         CommandName::EditFile => edit_file_cause(alloc, said),
@@ -233,7 +278,7 @@ fn options_cause(
 ) -> Result<Option<Cause>, NoMemory>
     ensures { IfOk result (λ cause. cause
         ≡ option_or (spec.credentials_cause (said_seen said.now))
-        (spec.own_cause command (said_seen said.now))) }
+        (spec.own_cause command (said_seen said.now) said.now.positions.now)) }
 {
     match credentials_cause(said) {
         Some(cause) => Ok(Some(cause)),

@@ -12,12 +12,14 @@ use Rattle.vault_model.specs.Shape.{EntryRecord}
 use Rattle.vault_model.specs.Tree.{BareDoc, beside, node, none}
 use Rattle.tree_core.specs.Finding.{entry_found, group_at_path, group_found, has_group_path}
 use Rattle.tree_core.specs.Changes.{entry_at}
+use Rattle.tree_core.specs.FurtherChanges.{no_further_change}
 use Rattle.tree_core.specs.NewNodes.{GivenValues, field, new_entry, new_fields}
 use Rattle.cli_messages.specs.Messages.{error_line, reason_text, refusal_of}
 use Rattle.cli_messages.specs.declared.answers.Reason.TheVariants.{IdTaken, IntoItself, OtpForm}
 use Rattle.cli_messages.specs.declared.answers.Refusal.{Refusal}
 use Rattle.otp_core.specs.Reading.{base32, bytes32, equals_after, otp_of_label, otp_of_uri, parts_between, with_parameter, with_parameters, with_value, within_limits}
 use Rattle.cli_codes.specs.Codes.{code_refusal}
+use Rattle.cli_changes.specs.Attachments.{AttachedFile, after_attach_command, after_detach_command, attachment_bytes, export_report}
 use Rattle.cli_changes.specs.Entries.{AfterCommand, after_edit_command}
 use Rattle.cli_changes.specs.Nodes.{after_entry_move, after_group_move, after_mkdir, after_mv, after_rm, after_rmdir}
 
@@ -185,13 +187,13 @@ doc_shown = record doc {
 
 -- The document after an edit of what codes are made from.
 abbrev coded : List ℕ → BareDoc
-coded text = document_after (after_edit_command (codes "P") false (codes "Mail") (with_code text) 5 doc_shown) doc
+coded text = document_after (after_edit_command (codes "P") false (codes "Mail") (with_code text) no_further_change 5 doc_shown) doc
 
 -- The last field of the entry Mail, after the five that every entry has.
 abbrev last_field : BareDoc → Option BareField
 last_field d = option_and_then (λ e. slice_get e.1.current.mark.content.fields 5) (entry_at (id 1) (id 3) d.tree)
 
-code_refused : after_edit_command (codes "P") false (codes "Nothing") (with_code (codes "GE")) 5 doc
+code_refused : after_edit_command (codes "P") false (codes "Nothing") (with_code (codes "GE")) no_further_change 5 doc
     ≡ Err (refusal_of (OtpForm 0) (codes "P"))
 unfolding after_edit_command code_refusal otp_of_uri
 code_refused = refl
@@ -203,3 +205,42 @@ code_hidden = refl
 code_taken_away : last_field (coded []) ≡ None
 unfolding after_edit_command code_refusal entry_found
 code_taken_away = refl
+
+-- ---- a field that is to be taken away and is not there is refused by its name
+
+field_missing :
+    printed_text (after_edit_command (codes "P") false (codes "Mail") no_values (record no_further_change { unset = codes "PIN" ∷ [] }) 5 doc)
+    ≡ codes "keepass: P: no attribute PIN\n"
+unfolding after_edit_command code_refusal entry_found
+field_missing = refl
+
+-- ---- something is attached, taken out and taken away
+
+abbrev key_file : AttachedFile
+key_file = record { name = codes "key"; source = codes "key.bin"; bytes = codes "K"; replaces = false }
+
+abbrev with_key : BareDoc
+with_key = document_after (after_attach_command (codes "P") false (codes "Mail") key_file 5 doc) doc
+
+file_attached : printed_text (after_attach_command (codes "P") false (codes "Mail") key_file 5 doc)
+    ≡ codes "Successfully imported attachment key.bin as key to entry Mail.\n"
+unfolding after_attach_command entry_found
+file_attached = refl
+
+attached_before : printed_text (after_attach_command (codes "P") false (codes "Mail") key_file 6 with_key)
+    ≡ codes "keepass: P: already there\n"
+unfolding after_attach_command entry_found
+attached_before = refl
+
+attachment_found : attachment_bytes (codes "P") (codes "Mail") (codes "key") with_key ≡ Ok (codes "K")
+unfolding after_attach_command entry_found
+attachment_found = refl
+
+attachment_exported : export_report false (codes "Mail") (codes "key") (codes "K")
+    ≡ codes "Successfully exported attachment key of entry Mail to K.\n"
+attachment_exported = refl
+
+attachment_missing : printed_text (after_detach_command (codes "P") false (codes "Mail") (codes "key") 6 doc)
+    ≡ codes "keepass: P: no attachment key\n"
+unfolding after_detach_command entry_found
+attachment_missing = refl

@@ -1,3 +1,4 @@
 pub mod Stopped
 pub mod Examples
 pub mod Names
+pub mod RemovalLine

@@ -1,5 +1,5 @@
 -- What `add` and `edit` make of a document.
-use Rattle.std.specs.Prelude.{◌≡◌, ℕ, Bool, if◌then◌else◌, nat_lt, List, [], codes, Option, Result, Ok, Err}
+use Rattle.std.specs.Prelude.{◌≡◌, ℕ, Bool, if◌then◌else◌, nat_lt, List, [], zip, codes, Option, Result, Ok, Err}
 use Rattle.std.specs.Option.{unwrap_or}
 use Rattle.outside_core.specs.Results.{◌>>=◌}
 use Rattle.secret_core.specs.Secret.{SecretBuffer}
@@ -8,6 +8,7 @@ use Rattle.vault_model.specs.Db.{NodeId}
 use Rattle.vault_model.specs.Tree.{BareDoc}
 use Rattle.vault_model.specs.Walk.{title_of}
 use Rattle.tree_core.specs.After.{Holding, after_add, after_edit, entry_named}
+use Rattle.tree_core.specs.FurtherChanges.{FurtherChange}
 use Rattle.tree_core.specs.NewNodes.{GivenValues}
 use Rattle.tree_core.specs.NewPaths.{after_last}
 use Rattle.tree_core.specs.declared.fails.TreeFail.{TreeFail}
@@ -16,8 +17,9 @@ use Rattle.cli_messages.specs.Phases.{Stops}
 use Rattle.cli_messages.specs.declared.answers.Refusal.{Refusal}
 use Rattle.cli_messages.specs.declared.answers.Stop.{Stop}
 use Rattle.cli_codes.specs.Codes.{code_refusal}
-use Rattle.cli_parse.specs.declared.command.Asked.{Asked}
-use Rattle.cli_changes.specs.Fails.{change_or_refusal}
+use Rattle.cli_needs.specs.declared.command.Asked.{Asked}
+use Rattle.cli_needs.specs.declared.command.FurtherAsked.{FurtherAsked}
+use Rattle.cli_changes.specs.Fails.{change_or_refusal, named_or_refusal}
 use Rattle.cli_changes.specs.Texts.{report}
 
 -- What a command makes of a document: what it reports, and the document after it.
@@ -35,6 +37,17 @@ values_of asked password otp = record {
   url = asked.url;
   notes = asked.notes;
   otp = otp;
+}
+
+-- What else of an entry is to change, with the values of its fields.
+abbrev pub further_of : FurtherAsked → (values : List (List ℕ)) → FurtherChange
+further_of asked values = record {
+  set = zip asked.set values;
+  protect = asked.protect;
+  unset = asked.unset;
+  tags = asked.tags;
+  untags = asked.untags;
+  expiry = asked.expiry;
 }
 
 -- A moment as a time of the calendar, which ends with the year 9999.
@@ -71,16 +84,20 @@ abbrev pub edited_title : Option (List ℕ) → List ℕ → BareDoc → List �
 edited_title given path d = unwrap_or given (entry_title path d)
 
 -- A document with an entry edited, at a moment.
-abbrev pub with_edited_at : List ℕ → GivenValues → ℕ → BareDoc → Result BareDoc TreeFail
-with_edited_at path values now d = time_of now >>= λ time. after_edit path values time d
+abbrev pub with_edited_at : List ℕ → GivenValues → FurtherChange → ℕ → BareDoc
+    → Result BareDoc TreeFail
+with_edited_at path values further now d =
+    time_of now >>= λ time. after_edit path values further time d
 
--- What `edit` makes of the document of a file: an entry with other values. A text that no one-time
--- codes are made from is refused before anything else. It reports the title that the entry has then.
-unfoldable pub after_edit_command : List ℕ → Bool → List ℕ → GivenValues → ℕ → BareDoc
-    → Result AfterCommand Refusal
-after_edit_command file quiet path values now d = do
+-- What `edit` makes of the document of a file: an entry with other values, and what else is to change
+-- of it. A text that no one-time codes are made from is refused before anything else; a field that
+-- is to be taken away and is not there is refused by its name. It reports the title that the entry
+-- has then.
+unfoldable pub after_edit_command : List ℕ → Bool → List ℕ → GivenValues → FurtherChange → ℕ
+    → BareDoc → Result AfterCommand Refusal
+after_edit_command file quiet path values further now d = do
   _ ← code_refusal file values.otp
-  new ← change_or_refusal file (with_edited_at path values now d)
+  new ← named_or_refusal file further.unset [] (with_edited_at path values further now d)
   Ok (record {
     text = report quiet (codes "edited") (edited_title values.title path d);
     doc = new;

@@ -1,3 +1,4 @@
+pub mod Attachments
 pub mod Entries
 pub mod Fails
 pub mod Ids
@@ -5,3 +6,4 @@ pub mod Texts
 pub mod Versions
 pub mod Nodes
 pub mod Reports
+pub mod SeenAttached

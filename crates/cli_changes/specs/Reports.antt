@@ -1,7 +1,13 @@
 -- The lines that report what became of a node.
-use Rattle.std.specs.Prelude.{ℕ, Bool, true, false, List, [], ◌++◌, codes, Option, None, Some}
+use Rattle.std.specs.Prelude.{ℕ, Bool, true, false, List, [], ◌∷◌, ◌++◌, codes, Option, None, Some}
+use Rattle.std.specs.Borrow.{Bor}
 use Rattle.tree_core.specs.declared.fails.Removed.{Removed}
 use Rattle.tree_core.specs.declared.fails.Removed.TheVariants.{Deleted, Recycled}
+
+-- The parts of a line that are lent, one after another.
+abbrev pub parts_text : List (Bor (List ℕ)) → List ℕ
+parts_text [] = []
+parts_text (part ∷ parts) = part.now ++ parts_text parts
 
 -- Where a node was moved to, if it was moved: the word that named the group.
 abbrev pub goal_text : Option (List ℕ) → List ℕ

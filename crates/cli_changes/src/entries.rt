@@ -1,22 +1,24 @@
 //! `add` and `edit` on a document.
-ghost use Rattle.std.specs.Prelude.{◌≡◌, IfErr, IfSome, MatchResult, Err, None, Ok, true};
+ghost use Rattle.std.specs.Prelude.{◌≡◌, IfErr, IfSome, MatchResult, Err, None, Ok, map, true};
+ghost use Rattle.std.specs.List.{list_all};
 ghost use Rattle.std.specs.Str.{is_utf8};
 ghost use Rattle.vault_model.specs.SeenDoc.{doc_seen};
 ghost use Rattle.tree_core.specs.After.{Changes};
+ghost use Rattle.tree_core.specs.FurtherChanges.{further_seen};
 ghost use Rattle.tree_core.specs.NewNodes as nodes;
 ghost use Rattle.cli_messages.specs.Phases.{IsPlainStop};
 ghost use Rattle.cli_changes.specs.Entries as spec;
 ghost use Rattle.cli_changes.specs.Entries.{CommandChanges, after_add_command, after_edit_command};
 
-use crate::fails::unchanged;
+use crate::fails::{unchanged, unchanged_by};
 use crate::texts::report;
 use cli_codes::check_code;
 use cli_messages::Stop;
-use cli_parse::Asked;
+use cli_needs::{Asked, FurtherAsked};
 use outside_core::Text;
 use secret_core::Secret;
 use std::alloc::Global;
-use tree_core::{TreeFail, Values, find_entry, title};
+use tree_core::{FurtherChange, TreeFail, Values, find_entry, title};
 use tree_edits::{add, edit};
 use tree_steps::{entry_of, holder, name_after};
 use uuid_core::Uuid;
@@ -33,6 +35,8 @@ pub struct Given<'a> {
     pub password: Option<&'a [u8]>,
     /// What the entry's one-time codes are made from, in UTF-8, where an edit gives it.
     pub otp: Option<&'a [u8]>,
+    /// The values of the fields that an edit names, in UTF-8 and in their order.
+    pub fields: &'a [Secret],
     /// The moment, in seconds since the year 1.
     pub now: u64,
 }
@@ -92,21 +96,41 @@ fn add_at(
     add(alloc, doc, path, id, values, time)
 }
 
+// What else of an entry is to change.
+fn further_of<'a>(asked: &'a FurtherAsked, values: &'a [Secret]) -> FurtherChange<'a>
+    ensures seen { further_seen result
+        ≡ spec.further_of asked.now (map (λ value. value.bytes) values.now) }
+    ensures values { result.values.now ≡ values.now }
+{
+    FurtherChange {
+        names: asked.set.as_slice(),
+        values,
+        protect: asked.protect,
+        unset: asked.unset.as_slice(),
+        tags: asked.tags.as_slice(),
+        untags: asked.untags.as_slice(),
+        expiry: asked.expiry,
+    }
+}
+
 // Edits an entry at a moment.
 fn edit_at(
     alloc: Global,
     doc: &mut Doc,
     path: &str,
     values: &Values<'_>,
+    further: &FurtherChange<'_>,
     now: u64,
 ) -> Result<(), TreeFail>
     requires password { IfSome values.now.password (λ password. is_utf8 password.now ≡ true) }
     requires otp { IfSome values.now.otp (λ otp. is_utf8 otp.now ≡ true) }
-    ensures { Changes (spec.with_edited_at path.now (nodes.given_values values.now) now
-        (doc_seen doc.old)) result (doc_seen doc.old) (doc_seen doc.new) }
+    requires fields { list_all (λ value. is_utf8 value.bytes) further.now.values.now ≡ true }
+    ensures { Changes (spec.with_edited_at path.now (nodes.given_values values.now)
+        (further_seen further.now) now (doc_seen doc.old)) result (doc_seen doc.old)
+        (doc_seen doc.new) }
 {
     let time = time_of(now)?;
-    edit(alloc, doc, path, values, time)
+    edit(alloc, doc, path, values, further, time)
 }
 
 /// What `add` makes of a document: an entry more, of this path and this id. A refusal changes
@@ -164,22 +188,26 @@ fn edited_title<'a>(doc: &'a Doc, path: &str, given: Option<&'a str>) -> &'a [u8
     }
 }
 
-/// What `edit` makes of a document: the entry that a path names has other values. A text that no
-/// one-time codes are made from is refused first. A refusal changes nothing.
+/// What `edit` makes of a document: the entry that a path names has other values, and else says what
+/// is to change of it. A text that no one-time codes are made from is refused first. A refusal
+/// changes nothing.
 #[tactic(auto, unfolding(crate::specs::Entries::after_edit_command))]
 pub fn edit_entry(
     alloc: Global,
     doc: &mut Doc,
     path: &str,
     asked: &Asked,
+    further: &FurtherAsked,
     given: Given<'_>,
 ) -> Result<Secret, Stop>
     requires password { IfSome given.password (λ password. is_utf8 password.now ≡ true) }
     requires otp { IfSome given.otp (λ otp. is_utf8 otp.now ≡ true) }
+    requires fields { list_all (λ value. is_utf8 value.bytes) given.fields.now ≡ true }
     ensures told { CommandChanges result (after_edit_command given.entry.file.now given.entry.quiet
         path.now (spec.values_of asked.now (nodes.lent_value given.entry.password)
-        (nodes.lent_value given.entry.otp)) given.entry.now (doc_seen doc.old)) (doc_seen doc.old)
-        (doc_seen doc.new) }
+        (nodes.lent_value given.entry.otp))
+        (spec.further_of further.now (map (λ value. value.bytes) given.entry.fields.now))
+        given.entry.now (doc_seen doc.old)) (doc_seen doc.old) (doc_seen doc.new) }
     ensures cause { IfErr result IsPlainStop }
 {
     check_code(alloc, given.file, given.otp)?;
@@ -190,11 +218,12 @@ pub fn edit_entry(
         b"edited",
         edited_title(doc, path, values.title),
     )?;
-    match edit_at(alloc, doc, path, &values, given.now) {
+    let change = further_of(further, given.fields);
+    match edit_at(alloc, doc, path, &values, &change, given.now) {
         Ok(()) => Ok(text),
         Err(fail) => {
             drop(text);
-            Err(unchanged(alloc, fail, given.file))
+            Err(unchanged_by(alloc, fail, given.file, further.unset.as_slice(), ""))
         }
     }
 }

@@ -2,6 +2,7 @@
 //! changed, nodes moved and removed, and groups made.
 #![tactic(auto)]
 
+mod attachments;
 mod entries;
 mod fails;
 mod groups;
@@ -12,6 +13,7 @@ mod reports;
 mod texts;
 mod versions;
 
+pub use attachments::{AttachedFile, attach_file, attachment_of, detach_file, export_report};
 pub use entries::{Given, add_entry, edit_entry, entry_title, time_of};
 pub use fails::unchanged;
 pub use groups::make_group_of;

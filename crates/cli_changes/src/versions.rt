@@ -15,7 +15,7 @@ use crate::texts::report;
 use cli_messages::Stop;
 use secret_core::Secret;
 use std::alloc::Global;
-use tree_core::{TreeFail, find_entry, version_numbered};
+use tree_core::{TreeFail, find_entry, title_of_version, version_numbered};
 use tree_edits::restore;
 use tree_steps::{entry_of, holder};
 use vault_model::{Doc, Version};
@@ -24,15 +24,10 @@ use vault_model::{Doc, Version};
 fn title_in(version: Option<&Version>) -> &[u8]
     ensures { result.now ≡ spec.title_in (option_map (λ v. bare_version v.now) version.entry) }
 {
-    let Some(version) = version else {
-        return &[];
-    };
-    for field in version.content.fields.as_slice() {
-        if "Title" == field.key.as_str() {
-            return field.value.lend(0, field.value.len());
-        }
+    match version {
+        Some(version) => title_of_version(version),
+        None => &[],
     }
-    &[]
 }
 
 // The title that the entry that a path names has once it is restored.

@@ -8,7 +8,8 @@ use Rattle.std.proofs.lemmas.List.{drop-drop, drop_at}
 use Rattle.vault_model.specs.Db.{NodeId, nil_id}
 use Rattle.cli_profiles.specs.Profiles.{IsProfile}
 use Rattle.cli_profiles.specs.declared.profiles.PasswordProfile.{PasswordProfile}
-use Rattle.cli_parse.specs.Needs.{generated_by}
+use Rattle.cli_needs.specs.Needs.{generated_by, needs_of}
+use Rattle.cli_needs.specs.declared.command.Access.{Access}
 use Rattle.vault_model.specs.Tree.{BareDoc, Tree}
 use Rattle.tree_core.specs.After.{needs_bin}
 use Rattle.tree_core.specs.NewNodes.{lent_value}
@@ -16,13 +17,14 @@ use Rattle.cli_messages.specs.declared.answers.Refusal.{Refusal}
 use Rattle.cli_messages.specs.declared.answers.Stop.{Stop}
 use Rattle.cli_messages.specs.declared.answers.Stop.TheVariants.{Refused, FileFault, InputFault, NoMemory}
 use Rattle.cli_messages.specs.Phases.{IsLeft, IsPlainStop, IsStreamStop, RefusesAskedStream, RefusesStream, Returns, ReturnsAskedStream, StreamAnswer, TellsStream, after_left, then_left, with_left}
+use Rattle.cli_changes.specs.Attachments.{attachment_bytes}
 use Rattle.cli_changes.specs.Ids.{new_id}
 use Rattle.cli_writing.proofs.Drawn.{next_first}
 use Rattle.cli_lines.specs.Lines.{IsTextLine}
-use Rattle.cli_parse.specs.declared.command.Command.{Command}
-use Rattle.cli_parse.specs.declared.command.Command.TheVariants.{Ls, Show, History, Search, Add, Edit, Restore, Move, Remove, MakeGroup, RemoveGroup, Merge, Import, Create, Export, EditFile, Info}
+use Rattle.cli_needs.specs.declared.command.Command.{Command}
+use Rattle.cli_needs.specs.declared.command.Command.TheVariants.{Ls, Show, History, Search, Add, Edit, Restore, ExportAttachment, ImportAttachment, RemoveAttachment, Move, Remove, MakeGroup, RemoveGroup, Merge, Import, Create, Export, EditFile, Info}
 use Rattle.cli_commands.specs.declared.output.Change as declared
-use Rattle.cli_commands.specs.Commands.{Change, bin_id, change_by, change_of, change_with, drawn_id, draws_change, draws_id, password_of, some_password, listing_of, makes_node, may_write, merged_change, printed_text}
+use Rattle.cli_commands.specs.Commands.{Change, Inputs, bin_id, change_by, change_of, change_with, drawn_id, draws_change, draws_id, exported_file, exported_so, password_of, some_password, listing_of, makes_node, may_write, merged_change, printed_text, with_password}
 use Rattle.cli_printing.specs.Exporting.{exported}
 use Rattle.cli_printing.specs.Info.{info_shown}
 use Rattle.cli_printing.specs.Listing.{tree_listed}
@@ -30,7 +32,6 @@ use Rattle.cli_merging.proofs.DryRuns.{dry_none}
 use Rattle.cli_merging.specs.Merging.{AfterMerge, after_merge}
 use Rattle.cli_showing.specs.History.{history_shown}
 use Rattle.cli_showing.specs.Showing.{code_shown, entries_shown, entry_shown}
-use Rattle.kdbx_frame.specs.declared.settings.Settings.{Settings}
 use Rattle.cli_commands.specs.SeenChange.{IsDrawnBySome, change_seen}
 
 -- A line that is lent.
@@ -65,8 +66,11 @@ makes_drawn (Show access file entry clear all attachments names totp at) doc e =
 makes_drawn (History access file entry) doc e = refl
 makes_drawn (Search access file term) doc e = refl
 makes_drawn (Add access file entry asked) doc e = e
-makes_drawn (Edit access file entry asked) doc e = refl
+makes_drawn (Edit access file entry asked further) doc e = refl
 makes_drawn (Restore access file entry version) doc e = refl
+makes_drawn (ExportAttachment access file entry name to) doc e = refl
+makes_drawn (ImportAttachment access file entry name source replaces) doc e = refl
+makes_drawn (RemoveAttachment access file entry name) doc e = refl
 makes_drawn (Move access file node group) doc e = refl
 makes_drawn (Remove access file entry) doc e = cc
 makes_drawn (MakeGroup access file group) doc e = e
@@ -228,45 +232,89 @@ printed_none : (text : Result (List ℕ) Refusal) → IfOk (printed_text text) (
 printed_none (Ok text) = refl
 printed_none (Err refusal) = tt
 
+taken_none : (quiet : Bool) (path name to : List ℕ) (bytes : Result (List ℕ) Refusal) → IfOk (exported_file quiet path name to bytes) (λ change. change.doc ≡ None)
+taken_none quiet path name to (Ok bytes) = refl
+taken_none quiet path name to (Err refusal) = tt
+
+exported_none : (quiet : Bool) (path name : List ℕ) (to : Option (List ℕ)) (bytes : Result (List ℕ) Refusal)
+    → IfOk (exported_so quiet path name to bytes) (λ change. change.doc ≡ None)
+exported_none quiet path name None bytes = printed_none bytes
+exported_none quiet path name (Some to) bytes = taken_none quiet path name to bytes
+
 merged_none : (made : Result AfterMerge Refusal) → IfOk made (λ after. after.doc ≡ None) → IfOk (merged_change made) (λ change. change.doc ≡ None)
 merged_none (Ok after) h = h
 merged_none (Err refusal) h = tt
 
 -- A command that may write nothing makes no document.
-none_with : (time : ℕ) (command : Command) (line otp : Option (List ℕ)) (sources : List BareDoc) (settings : Option Settings) (passed : List (List ℕ)) (id : NodeId) (doc : BareDoc)
-    → may_write command ≡ false → IfOk (change_with time command line otp sources settings passed id doc) (λ change. change.doc ≡ None)
-none_with time (Ls access file group recursive flat ids) line otp sources settings passed id doc e = listed_none file recursive flat ids (tree_listed group doc)
-none_with time (Show access file entry clear all attachments names totp at) line otp sources settings passed id doc e =
+none_with : (time : ℕ) (command : Command) (input : Inputs) (id : NodeId) (doc : BareDoc)
+    → may_write command ≡ false → IfOk (change_with time command input id doc) (λ change. change.doc ≡ None)
+none_with time (Ls access file group recursive flat ids) input id doc e = listed_none file recursive flat ids (tree_listed group doc)
+none_with time (Show access file entry clear all attachments names totp at) input id doc e =
     printed_none (if totp then code_shown file names at entry time doc else entry_shown file clear all attachments names at entry doc)
-none_with time (History access file entry) line otp sources settings passed id doc e = printed_none (history_shown file entry doc)
-none_with time (Search access file term) line otp sources settings passed id doc e = printed_none (entries_shown file term doc)
-none_with time (Add access file entry asked) line otp sources settings passed id doc e = cc
-none_with time (Edit access file entry asked) line otp sources settings passed id doc e = cc
-none_with time (Restore access file entry version) line otp sources settings passed id doc e = cc
-none_with time (Move access file node group) line otp sources settings passed id doc e = cc
-none_with time (Remove access file entry) line otp sources settings passed id doc e = cc
-none_with time (MakeGroup access file group) line otp sources settings passed id doc e = cc
-none_with time (RemoveGroup access file group) line otp sources settings passed id doc e = cc
-none_with time (Merge access file names from same false details) line otp sources settings passed id doc e = cc
-none_with time (Merge access file names from same true details) line otp sources settings passed id doc e =
-    merged_none (after_merge file access.quiet true details names doc sources) (dry_none file access.quiet details names doc sources)
-none_with time (Import access format source from file) line otp sources settings passed id doc e = cc
-none_with time (Create access file name cipher kdf) line otp sources settings passed id doc e = cc
-none_with time (Export access format file) line otp sources settings passed id doc e = printed_none (exported file format doc)
-none_with time (EditFile access file change) line otp sources settings passed id doc e = cc
-none_with time (Info access file) line otp sources settings passed id doc e = printed_none (Ok (info_shown settings doc))
+none_with time (History access file entry) input id doc e = printed_none (history_shown file entry doc)
+none_with time (Search access file term) input id doc e = printed_none (entries_shown file term doc)
+none_with time (Add access file entry asked) input id doc e = cc
+none_with time (Edit access file entry asked further) input id doc e = cc
+none_with time (Restore access file entry version) input id doc e = cc
+none_with time (ExportAttachment access file entry name to) input id doc e =
+    exported_none access.quiet entry name to (attachment_bytes file entry name doc)
+none_with time (ImportAttachment access file entry name source replaces) input id doc e = cc
+none_with time (RemoveAttachment access file entry name) input id doc e = cc
+none_with time (Move access file node group) input id doc e = cc
+none_with time (Remove access file entry) input id doc e = cc
+none_with time (MakeGroup access file group) input id doc e = cc
+none_with time (RemoveGroup access file group) input id doc e = cc
+none_with time (Merge access file names from same false details) input id doc e = cc
+none_with time (Merge access file names from same true details) input id doc e =
+    merged_none (after_merge file access.quiet true details names doc input.sources) (dry_none file access.quiet details names doc input.sources)
+none_with time (Import access format source from file) input id doc e = cc
+none_with time (Create access file name cipher kdf) input id doc e = cc
+none_with time (Export access format file) input id doc e = printed_none (exported file format doc)
+none_with time (EditFile access file change) input id doc e = cc
+none_with time (Info access file) input id doc e = printed_none (Ok (info_shown input.settings doc))
 
 none_after : {A : Type 0} (next : A → List ℕ → StreamAnswer Change) → ((a : A) (left : List ℕ) → IfOk (next a left).answer (λ change. change.doc ≡ None))
     → (answer : Result A Refusal) (left : List ℕ) → IfOk (after_left answer left next).answer (λ change. change.doc ≡ None)
 none_after next none (Ok a) left = none a left
 none_after next none (Err refusal) left = tt
 
-pub none_changed : (time : ℕ) (command : Command) (line otp : Option (List ℕ)) (sources : List BareDoc) (settings : Option Settings) (passed : List (List ℕ)) (doc : BareDoc) (dice : List ℕ)
-    → may_write command ≡ false → IfOk (change_of time command line otp sources settings passed doc dice).answer (λ change. change.doc ≡ None)
-none_changed time command line otp sources settings passed doc dice e =
-    none_after (λ id. change_by time command line otp sources settings passed id doc)
+pub none_changed : (time : ℕ) (command : Command) (input : Inputs) (doc : BareDoc) (dice : List ℕ)
+    → may_write command ≡ false → IfOk (change_of time command input doc dice).answer (λ change. change.doc ≡ None)
+none_changed time command input doc dice e =
+    none_after (λ id. change_by time command input id doc)
     (λ id left.
-    let password = password_of (generated_by command) line left in
-    none_after (λ p rest. with_left (change_with time command p otp sources settings passed id doc) rest)
-    (λ p rest. none_with time command p otp sources settings passed id doc e) password.answer password.left)
+    let password = password_of (generated_by command) input.line left in
+    none_after (λ p rest. with_left (change_with time command (with_password p input) id doc) rest)
+    (λ p rest. none_with time command (with_password p input) id doc e) password.answer password.left)
     (drawn_id (makes_node command doc) dice).answer (drawn_id (makes_node command doc) dice).left
+
+-- ---- an attachment that is taken out
+
+module _ {X : Type 0} (seen : X → Change) (r : Result X Stop) (time : ℕ) (command : Command) (access : Access) (file entry name : List ℕ) (to : Option (List ℕ))
+    (input : Inputs) (id : NodeId) (d : BareDoc) (is : command ≡ ExportAttachment access file entry name to) where
+  -- What such a command makes of its document.
+  makes_so : change_with time command input id d ≡ exported_so access.quiet entry name to (attachment_bytes file entry name d)
+  makes_so = ap (λ (k : Command). change_with time k input id d) is
+
+  file_is : (f : List ℕ) → f ≡ (needs_of command).file → f ≡ file
+  file_is f e = e ∙ ap (λ (k : Command). (needs_of k).file) is
+
+  quiet_is : (q : Bool) → q ≡ (needs_of command).access.quiet → q ≡ access.quiet
+  quiet_is q e = e ∙ ap (λ (k : Command). (needs_of k).access.quiet) is
+
+  -- It makes a new file, whose report names what the command names.
+  pub exported_given : (goal : List ℕ) (q : Bool) (f e n e' n' t : List ℕ) → to ≡ Some goal → q ≡ (needs_of command).access.quiet → f ≡ (needs_of command).file
+      → e ≡ entry → n ≡ name → e' ≡ entry → n' ≡ name → t ≡ goal → Returns seen r (exported_file q e' n' t (attachment_bytes f e n d))
+      → Returns seen r (change_with time command input id d)
+  exported_given goal q f e n e' n' t some isq isf ise isn ise' isn' ist h =
+      subst (λ (made : Result Change Refusal). Returns seen r made)
+      ((λ i. exported_file (quiet_is q isq i) (ise' i) (isn' i) (ist i) (attachment_bytes (file_is f isf i) (ise i) (isn i) d))
+      ∙ sym (makes_so ∙ ap (λ (o : Option (List ℕ)). exported_so access.quiet entry name o (attachment_bytes file entry name d)) some)) h
+
+  -- It prints the attachment.
+  pub printed_given : (f e n : List ℕ) → to ≡ None → f ≡ (needs_of command).file → e ≡ entry → n ≡ name → Returns seen r (printed_text (attachment_bytes f e n d))
+      → Returns seen r (change_with time command input id d)
+  printed_given f e n none isf ise isn h =
+      subst (λ (made : Result Change Refusal). Returns seen r made)
+      ((λ i. printed_text (attachment_bytes (file_is f isf i) (ise i) (isn i) d))
+      ∙ sym (makes_so ∙ ap (λ (o : Option (List ℕ)). exported_so access.quiet entry name o (attachment_bytes file entry name d)) none)) h

@@ -9,7 +9,7 @@ ghost use Rattle.cli_commands.specs.Commands as spec;
 ghost use Rattle.cli_commands.specs.SeenChange.{IsDrawnBySome};
 
 use cli_changes::new_id;
-use cli_parse::Command;
+use cli_needs::Command;
 use cli_writing::draw_id;
 use outside_core::{Dice, DiceFail};
 use tree_moves::needs_bin;
@@ -28,6 +28,9 @@ pub(crate) fn makes_node(command: &Command, doc: &Doc) -> bool
         Command::Add { .. } => true,
         Command::Edit { .. } => false,
         Command::Restore { .. } => false,
+        Command::ExportAttachment { .. } => false,
+        Command::ImportAttachment { .. } => false,
+        Command::RemoveAttachment { .. } => false,
         Command::Move { .. } => false,
         Command::Remove { .. } => needs_bin(doc),
         Command::MakeGroup { .. } => true,

@@ -6,4 +6,4 @@ mod output;
 mod performing;
 
 pub use output::{Change, Output, lend_text};
-pub use performing::{CommandInput, may_write, perform};
+pub use performing::{CommandInput, may_store, may_write, perform};

@@ -6,6 +6,7 @@ use cli_merging::MergeReport;
 use cli_messages::Stop;
 use outside_core::Bytes;
 use secret_core::Secret;
+use std::rc::Rc;
 
 /// What a command prints.
 #[derive(Drop)]
@@ -14,6 +15,8 @@ pub enum Output {
     Listing(Bytes),
     /// What is shown, or the report of a change, in memory that is wiped, since a title may be secret.
     Report(Secret),
+    /// The bytes of an attachment, which are shared with the document.
+    Attachment(Rc<Secret>),
 }
 
 /// What a command makes of its database, which it changes in place.
@@ -23,6 +26,8 @@ pub struct Change {
     pub output: Output,
     /// Whether the database is to be written.
     pub is_written: bool,
+    /// The bytes of the attachment that is taken out into a new file, if one is.
+    pub attachment: Option<Rc<Secret>>,
 }
 
 /// Lends the text that a command prints.
@@ -32,6 +37,7 @@ pub fn lend_text(output: &Output) -> &[u8]
     match output {
         Output::Listing(text) => text.as_slice(),
         Output::Report(text) => text.lend(0, text.len()),
+        Output::Attachment(bytes) => bytes.lend(0, bytes.len()),
     }
 }
 
@@ -43,6 +49,7 @@ pub(crate) fn reported(report: Result<Secret, Stop>) -> Result<Change, Stop>
         Ok(text) => Ok(Change {
             output: Output::Report(text),
             is_written: true,
+            attachment: None,
         }),
         Err(stop) => Err(stop),
     }
@@ -56,6 +63,7 @@ pub(crate) fn printed(text: Result<Secret, Stop>) -> Result<Change, Stop>
         Ok(text) => Ok(Change {
             output: Output::Report(text),
             is_written: false,
+            attachment: None,
         }),
         Err(stop) => Err(stop),
     }
@@ -69,6 +77,7 @@ pub(crate) fn merge_change(report: Result<MergeReport, Stop>) -> Result<Change, 
         Ok(MergeReport { text, is_written }) => Ok(Change {
             output: Output::Report(text),
             is_written,
+            attachment: None,
         }),
         Err(stop) => Err(stop),
     }

@@ -1,44 +1,49 @@
 //! Carrying a command out on its document.
-ghost use Rattle.std.specs.Prelude.{◌≡◌, ◌≤◌, ◌++◌, ℕ, List, Ok, OnOk, Some, IfErr, IfOk, IfSome, codes, false, is_some, map, true};
+ghost use Rattle.std.specs.List.{list_all};
+ghost use Rattle.std.specs.Option.{unwrap_or};
+ghost use Rattle.cli_lines.specs.SeenLines.{values_seen};
+ghost use Rattle.cli_messages.specs.declared.answers.Refusal.{Refusal};
+ghost use Rattle.std.specs.Prelude.{◌≡◌, ◌≤◌, ◌++◌, ℕ, List, [], Result, option_map, Ok, OnOk, Some, IfErr, IfOk, IfSome, codes, false, is_some, map, true};
 ghost use Rattle.outside_core.specs.Streams.{LosesPrefix};
 ghost use Rattle.vault_model.specs.SeenDoc.{doc_seen};
 ghost use Rattle.vault_model.specs.Tree.{BareDoc};
 ghost use Rattle.vault_model.specs.SeenNodes.{tree_seen};
 ghost use Rattle.tree_core.specs.Changes as changes;
 ghost use Rattle.tree_core.specs.NewNodes.{lent_value};
-ghost use Rattle.cli_messages.specs.Phases.{IsPlainStop, IsStreamStop, Returns, ReturnsAskedStream, TellsStream};
+ghost use Rattle.cli_messages.specs.Phases.{IsMemoryStop, IsPlainStop, IsStreamStop, Returns, ReturnsAskedStream, TellsStream};
 ghost use Rattle.std.specs.Str.{is_utf8};
 ghost use Rattle.outside_core.specs.Reports.{StaysTruthful};
 ghost use Rattle.cli_lines.specs.Lines.{AreTextLines, IsTextLine};
 ghost use Rattle.cli_profiles.specs.Profiles.{IsProfile};
-ghost use Rattle.cli_parse.specs.Needs.{generated_by, needs_of};
+ghost use Rattle.cli_needs.specs.Needs.{generated_by, needs_of};
 ghost use Rattle.cli_printing.specs.Listing.{tree_listed};
 ghost use Rattle.cli_commands.specs.Commands as spec;
-ghost use Rattle.cli_commands.specs.Commands.{change_of, change_with, changed_text, created_change, created_or_refusal, draws_change, imported_text, listing_of, passed_lines, rooted_at, text_unless, with_root_id};
-ghost use Rattle.cli_commands.specs.SeenChange.{change_seen, lent_settings};
+ghost use Rattle.cli_commands.specs.Commands.{change_of, change_with, changed_text, created_change, created_or_refusal, draws_change, imported_text, listing_of, passed_lines, rooted_at, text_unless, with_password, with_root_id, writing};
+ghost use Rattle.cli_commands.specs.SeenChange.{change_seen, inputs_seen, lent_settings};
 ghost use Rattle.cli_printing.specs.Info.{info_shown};
 
 use crate::ids::{bin_id, draw_if, makes_node};
 use crate::output::{Change, Output, merge_change, printed, reported};
 use cli_changes::{
-    Given, add_entry, edit_entry, make_group_of, move_node, remove_entry_of, remove_group_of,
-    restore_entry,
+    AttachedFile, Given, add_entry, attach_file, attachment_of, detach_file, edit_entry,
+    export_report, make_group_of, move_node, remove_entry_of, remove_group_of, restore_entry,
 };
 use cli_generating::choose_password;
 use cli_merging::{MergeGiven, merge_into};
 use cli_messages::{Reason, Stop, refused};
-use cli_parse::Command;
+use cli_needs::{Command, exported_to};
 use cli_printing::{Manner, add_group, export, group_listed, info};
 use cli_showing::{CodeGiven, ShowGiven, search_entries, show_code, show_entry, show_history};
 use kdbx_frame::Settings;
 use outside_core::{Bytes, Dice, NoMemory, Text};
 use secret_core::Secret;
 use std::alloc::Global;
+use std::rc::Rc;
 use tree_steps::is_free;
 use uuid_core::Uuid;
 use vault_model::{Doc, Group};
 
-/// Reports whether a command may write a file.
+/// Reports whether a command may write its database, or one that it makes.
 pub fn may_write(command: &Command) -> bool
     ensures { result ≡ spec.may_write command.now }
 {
@@ -50,6 +55,9 @@ pub fn may_write(command: &Command) -> bool
         Command::Add { .. } => true,
         Command::Edit { .. } => true,
         Command::Restore { .. } => true,
+        Command::ExportAttachment { .. } => false,
+        Command::ImportAttachment { .. } => true,
+        Command::RemoveAttachment { .. } => true,
         Command::Move { .. } => true,
         Command::Remove { .. } => true,
         Command::MakeGroup { .. } => true,
@@ -61,6 +69,14 @@ pub fn may_write(command: &Command) -> bool
         Command::EditFile { .. } => true,
         Command::Info { .. } => false,
     }
+}
+
+/// Reports whether a command may write a file: its database, or one that it takes an attachment out
+/// into.
+pub fn may_store(command: &Command) -> bool
+    ensures { result ≡ spec.may_store command.now }
+{
+    may_write(command) || exported_to(command).is_some()
 }
 
 // Lists the group of a document that a path names, or refuses about the file.
@@ -85,6 +101,7 @@ fn list(
         Ok(()) => Ok(Change {
             output: Output::Listing(text),
             is_written: false,
+            attachment: None,
         }),
         Err(NoMemory) => Err(Stop::NoMemory),
     }
@@ -97,6 +114,10 @@ pub struct CommandInput<'a> {
     pub line: Option<&'a [u8]>,
     /// The text of a one-time code that it asked for.
     pub otp: Option<&'a [u8]>,
+    /// The values of fields that it asked for.
+    pub fields: &'a [Secret],
+    /// The bytes of the file that it puts into its database.
+    pub attached: Option<&'a Rc<Secret>>,
     /// The documents of its sources.
     pub sources: &'a [Doc],
     /// The settings of its database's file; a plain document has none.
@@ -113,14 +134,16 @@ fn given_of<'a>(command: &'a Command, input: CommandInput<'a>) -> Given<'a>
     ensures quiet { result.quiet ≡ (needs_of command.now).access.quiet }
     ensures password { result.password ≡ input.entry.line }
     ensures otp { result.otp ≡ input.entry.otp }
+    ensures fields { result.fields ≡ input.entry.fields }
     ensures now { result.now ≡ input.entry.now }
 {
-    let needs = cli_parse::needs_of(command);
+    let needs = cli_needs::needs_of(command);
     Given {
         file: needs.file.as_str(),
         quiet: needs.access.quiet,
         password: input.line,
         otp: input.otp,
+        fields: input.fields,
         now: input.now,
     }
 }
@@ -195,7 +218,7 @@ fn describe(alloc: Global, doc: &Doc, settings: Option<&Settings>) -> Result<Sec
 // where the command is quiet.
 fn report_written(alloc: Global, quiet: bool, report: &[u8]) -> Result<Change, Stop>
     ensures told { (doc : BareDoc) → Returns (λ change. change_seen change doc) result
-        (Ok (record { text = text_unless quiet report.now; doc = Some doc })) }
+        (Ok (writing (text_unless quiet report.now) doc)) }
     ensures cause { IfErr result IsPlainStop }
 {
     let mut text = Bytes::new(alloc);
@@ -205,6 +228,7 @@ fn report_written(alloc: Global, quiet: bool, report: &[u8]) -> Result<Change, S
     Ok(Change {
         output: Output::Listing(text),
         is_written: true,
+        attachment: None,
     })
 }
 
@@ -257,7 +281,7 @@ fn import_report(alloc: Global, names: &[Text]) -> Result<Bytes, NoMemory>
 // The change of an import.
 fn report_import(alloc: Global, quiet: bool, names: &[Text]) -> Result<Change, Stop>
     ensures told { (doc : BareDoc) → Returns (λ change. change_seen change doc) result
-        (Ok (record { text = imported_text quiet names.now; doc = Some doc })) }
+        (Ok (writing (imported_text quiet names.now) doc)) }
     ensures cause { IfErr result IsPlainStop }
 {
     let report = import_report(alloc, names)?;
@@ -269,7 +293,7 @@ fn report_import(alloc: Global, quiet: bool, names: &[Text]) -> Result<Change, S
 // The change of a command that changes how its database is sealed.
 fn report_changed(alloc: Global, quiet: bool) -> Result<Change, Stop>
     ensures told { (doc : BareDoc) → Returns (λ change. change_seen change doc) result
-        (Ok (record { text = changed_text quiet; doc = Some doc })) }
+        (Ok (writing (changed_text quiet) doc)) }
     ensures cause { IfErr result IsPlainStop }
 {
     report_written(alloc, quiet, b"Successfully edited the database.\n")
@@ -334,6 +358,90 @@ fn merge_given<'a>(
     }
 }
 
+// The texts that the report of an attachment that is taken out names.
+#[derive(Clone, Copy)]
+struct ExportTexts<'a> {
+    entry: &'a str,
+    name: &'a str,
+    to: &'a str,
+}
+
+// The change of a command that takes an attachment out into a new file.
+fn exported_file(
+    alloc: Global,
+    quiet: bool,
+    texts: ExportTexts<'_>,
+    taken: Result<Rc<Secret>, Stop>,
+) -> Result<Change, Stop>
+    requires { IfErr taken IsPlainStop }
+    ensures told { (doc : BareDoc) (defined : Result (List ℕ) Refusal)
+        → Returns (λ bytes. bytes.value.bytes) taken defined
+        → Returns (λ change. change_seen change doc) result (spec.exported_file quiet
+        texts.entry.entry.now texts.entry.name.now texts.entry.to.now defined) }
+    ensures written { IfOk result (λ change. change.is_written ≡ false) }
+    ensures cause { IfErr result IsPlainStop }
+{
+    let bytes = taken?;
+    match export_report(alloc, quiet, texts.entry, texts.name, texts.to) {
+        Ok(text) => Ok(Change {
+            output: Output::Report(text),
+            is_written: false,
+            attachment: Some(bytes),
+        }),
+        Err(_) => {
+            drop(bytes);
+            Err(Stop::NoMemory)
+        }
+    }
+}
+
+// The change of a command that prints an attachment.
+fn attachment_printed(taken: Result<Rc<Secret>, Stop>) -> Result<Change, Stop>
+    requires { IfErr taken IsPlainStop }
+    ensures told { (doc : BareDoc) (defined : Result (List ℕ) Refusal)
+        → Returns (λ bytes. bytes.value.bytes) taken defined
+        → Returns (λ change. change_seen change doc) result (spec.printed_text defined) }
+    ensures written { IfOk result (λ change. change.is_written ≡ false) }
+    ensures cause { IfErr result IsPlainStop }
+{
+    match taken {
+        Ok(bytes) => Ok(Change {
+            output: Output::Attachment(bytes),
+            is_written: false,
+            attachment: None,
+        }),
+        Err(stop) => Err(stop),
+    }
+}
+
+// Bytes that are shared once more.
+fn shared_with(bytes: &Rc<Secret>) -> Result<Rc<Secret>, Stop>
+    ensures bytes { IfOk result (λ shared. shared.value.bytes ≡ bytes.now.value.bytes) }
+    ensures cause { IfErr result IsMemoryStop }
+{
+    match bytes.clone() {
+        Ok(shared) => Ok(shared),
+        Err(_) => Err(Stop::NoMemory),
+    }
+}
+
+// The bytes of the file that a command puts into its database, which are shared; none where there is
+// no file.
+fn attached_bytes(alloc: Global, attached: Option<&Rc<Secret>>) -> Result<Rc<Secret>, Stop>
+    ensures bytes { IfOk result (λ bytes. bytes.value.bytes
+        ≡ unwrap_or (option_map (λ bytes. bytes.now.value.bytes) attached.entry) []) }
+    ensures cause { IfErr result IsMemoryStop }
+{
+    if let Some(bytes) = attached {
+        return shared_with(bytes);
+    }
+    let none = Secret::with_room(alloc, 0)?;
+    match Rc::new(alloc, none) {
+        Ok(bytes) => Ok(bytes),
+        Err(_none) => Err(Stop::NoMemory),
+    }
+}
+
 // Carries a command out on its document, with what it works with. A node that it makes has this id.
 fn change_document<'a>(
     alloc: Global,
@@ -342,11 +450,10 @@ fn change_document<'a>(
     id: Uuid,
     doc: &mut Doc,
 ) -> Result<Change, Stop>
-    requires { AreTextLines (lent_value input.line) (lent_value input.otp) }
+    requires { AreTextLines (lent_value input.line) (lent_value input.otp)
+        (values_seen input.fields.now) }
     ensures told { Returns (λ change. change_seen change (doc_seen doc.new)) result
-        (change_with input.entry.now command.now (lent_value input.entry.line)
-        (lent_value input.entry.otp) (map doc_seen input.entry.sources.now)
-        (lent_settings input.entry.settings) input.entry.passed_over.now id (doc_seen doc.old)) }
+        (change_with input.entry.now command.now (inputs_seen input.entry) id (doc_seen doc.old)) }
     ensures unwritten { spec.may_write command.now ≡ false
         → IfOk result (λ change. change.is_written ≡ false) }
     ensures unchanged { IfErr result (λ _. doc_seen doc.new ≡ doc_seen doc.old) }
@@ -392,11 +499,52 @@ fn change_document<'a>(
         Command::Add { entry, asked, .. } => {
             reported(add_entry(alloc, doc, entry.as_str(), id, asked, given))
         }
-        Command::Edit { entry, asked, .. } => {
-            reported(edit_entry(alloc, doc, entry.as_str(), asked, given))
-        }
+        Command::Edit {
+            entry,
+            asked,
+            further,
+            ..
+        } => { reported(edit_entry(alloc, doc, entry.as_str(), asked, further, given)) }
         Command::Restore { entry, version, .. } => {
             reported(restore_entry(alloc, doc, entry.as_str(), *version, given))
+        }
+        Command::ExportAttachment {
+            entry,
+            name,
+            to,
+            ..
+        } => {
+            let taken = attachment_of(alloc, doc, given.file, entry.as_str(), name.as_str());
+            match to {
+                Some(to) => {
+                    let texts = ExportTexts {
+                        entry: entry.as_str(),
+                        name: name.as_str(),
+                        to: to.as_str(),
+                    };
+                    exported_file(alloc, given.quiet, texts, taken)
+                }
+                None => attachment_printed(taken),
+            }
+        }
+        Command::ImportAttachment {
+            entry,
+            name,
+            source,
+            replaces,
+            ..
+        } => {
+            let bytes = attached_bytes(alloc, input.attached)?;
+            let attached = AttachedFile {
+                name: name.as_str(),
+                source: source.as_str(),
+                bytes: &bytes,
+                replaces: *replaces,
+            };
+            reported(attach_file(alloc, doc, entry.as_str(), attached, given))
+        }
+        Command::RemoveAttachment { entry, name, .. } => {
+            reported(detach_file(alloc, doc, entry.as_str(), name.as_str(), given))
         }
         Command::Move { node, group, .. } => {
             reported(move_node(alloc, doc, node.as_str(), group.as_str(), given))
@@ -433,6 +581,8 @@ fn change_document<'a>(
 fn with_line<'a>(input: CommandInput<'a>, line: &'a [u8]) -> CommandInput<'a>
     ensures line { lent_value result.line ≡ Some line.now }
     ensures otp { result.otp ≡ input.entry.otp }
+    ensures fields { result.fields ≡ input.entry.fields }
+    ensures attached { result.attached ≡ input.entry.attached }
     ensures sources { result.sources ≡ input.entry.sources }
     ensures settings { result.settings ≡ input.entry.settings }
     ensures passed { result.passed_over ≡ input.entry.passed_over }
@@ -441,6 +591,8 @@ fn with_line<'a>(input: CommandInput<'a>, line: &'a [u8]) -> CommandInput<'a>
     CommandInput {
         line: Some(line),
         otp: input.otp,
+        fields: input.fields,
+        attached: input.attached,
         sources: input.sources,
         settings: input.settings,
         passed_over: input.passed_over,
@@ -459,10 +611,10 @@ fn change_with_password(
 ) -> Result<Change, Stop>
     requires password { is_utf8 password.now.bytes ≡ true }
     requires otp { IsTextLine (lent_value input.otp) }
+    requires fields { list_all is_utf8 (values_seen input.fields.now) ≡ true }
     ensures told { Returns (λ change. change_seen change (doc_seen doc.new)) result
-        (change_with input.entry.now command.now (Some password.now.bytes)
-        (lent_value input.entry.otp) (map doc_seen input.entry.sources.now)
-        (lent_settings input.entry.settings) input.entry.passed_over.now id (doc_seen doc.old)) }
+        (change_with input.entry.now command.now
+        (with_password (Some password.now.bytes) (inputs_seen input.entry)) id (doc_seen doc.old)) }
     ensures unwritten { spec.may_write command.now ≡ false
         → IfOk result (λ change. change.is_written ≡ false) }
     ensures unchanged { IfErr result (λ _. doc_seen doc.new ≡ doc_seen doc.old) }
@@ -482,21 +634,19 @@ fn change_by<D: Dice>(
     id: Uuid,
     doc: &mut Doc,
 ) -> Result<Change, Stop>
-    requires text { AreTextLines (lent_value input.line) (lent_value input.otp) }
+    requires text { AreTextLines (lent_value input.line) (lent_value input.otp)
+        (values_seen input.fields.now) }
     requires profile { IfSome (generated_by command.now) IsProfile }
     ensures told { D.truthful dice.new ≡ true
         → (d : List ℕ)
         → TellsStream (is_some (generated_by command.now)) (D.stream dice.old) d
         → ReturnsAskedStream (λ change. change_seen change (doc_seen doc.new)) result
         (D.stream dice.old) (D.stream dice.new)
-        (spec.change_by input.entry.now command.now (lent_value input.entry.line)
-        (lent_value input.entry.otp) (map doc_seen input.entry.sources.now)
-        (lent_settings input.entry.settings) input.entry.passed_over.now id (doc_seen doc.old) d) }
+        (spec.change_by input.entry.now command.now (inputs_seen input.entry) id
+        (doc_seen doc.old) d) }
     ensures some_dice { IfOk result (λ change. (d : List ℕ)
-        × ((spec.change_by input.entry.now command.now (lent_value input.entry.line)
-        (lent_value input.entry.otp) (map doc_seen input.entry.sources.now)
-        (lent_settings input.entry.settings) input.entry.passed_over.now id (doc_seen doc.old)
-        d).answer ≡ Ok (change_seen change (doc_seen doc.new)))) }
+        × ((spec.change_by input.entry.now command.now (inputs_seen input.entry) id
+        (doc_seen doc.old) d).answer ≡ Ok (change_seen change (doc_seen doc.new)))) }
     ensures unwritten { spec.may_write command.now ≡ false
         → IfOk result (λ change. change.is_written ≡ false) }
     ensures unchanged { IfErr result (λ _. doc_seen doc.new ≡ doc_seen doc.old) }
@@ -508,7 +658,7 @@ fn change_by<D: Dice>(
     ensures faults { D.faults dice.old ≤ D.faults dice.new }
     ensures faultless { OnOk result (D.faults dice.new ≡ D.faults dice.old) }
 {
-    let Some(profile) = cli_parse::generated_by(command) else {
+    let Some(profile) = cli_needs::generated_by(command) else {
         return change_document(alloc, command, input, id, doc);
     };
     let alphabet = profile.alphabet.as_str().as_bytes();
@@ -531,19 +681,16 @@ pub fn perform<'a, D: Dice>(
     input: CommandInput<'a>,
     doc: &mut Doc,
 ) -> Result<Change, Stop>
-    requires text { AreTextLines (lent_value input.line) (lent_value input.otp) }
+    requires text { AreTextLines (lent_value input.line) (lent_value input.otp)
+        (values_seen input.fields.now) }
     requires profile { IfSome (generated_by command.now) IsProfile }
     ensures told { D.truthful dice.new ≡ true
         → (d : List ℕ) → TellsStream (draws_change command.now) (D.stream dice.old) d
         → ReturnsAskedStream (λ change. change_seen change (doc_seen doc.new)) result
         (D.stream dice.old) (D.stream dice.new)
-        (change_of input.entry.now command.now (lent_value input.entry.line)
-        (lent_value input.entry.otp) (map doc_seen input.entry.sources.now)
-        (lent_settings input.entry.settings) input.entry.passed_over.now (doc_seen doc.old) d) }
+        (change_of input.entry.now command.now (inputs_seen input.entry) (doc_seen doc.old) d) }
     ensures some_dice { IfOk result (λ change. (d : List ℕ)
-        × ((change_of input.entry.now command.now (lent_value input.entry.line)
-        (lent_value input.entry.otp) (map doc_seen input.entry.sources.now)
-        (lent_settings input.entry.settings) input.entry.passed_over.now (doc_seen doc.old)
+        × ((change_of input.entry.now command.now (inputs_seen input.entry) (doc_seen doc.old)
         d).answer ≡ Ok (change_seen change (doc_seen doc.new)))) }
     ensures unwritten { spec.may_write command.now ≡ false
         → IfOk result (λ change. change.is_written ≡ false) }

@@ -22,8 +22,8 @@ use Rattle.cli_files.proofs.HeldKeys.{given, in_turn, key_given, key_held, used}
 use Rattle.cli_databases.specs.Databases.{document_in, document_or_refusal, database_of, databases_of, docs_from, held_in, held_under, opened_plain, opened_under, password_from, plain_of, sealed_in, sources_of, vault_or_refusal}
 use Rattle.cli_databases.specs.Held.{HoldAll, HoldDatabases, Holds, HoldsBy, HoldsSource, IsPlain, IsSealed}
 use Rattle.outside_core.specs.Results.{◌>>=◌}
-use Rattle.cli_parse.specs.declared.command.Access.{Access}
-use Rattle.cli_parse.specs.Needs.{Needs, asks_passwords_from}
+use Rattle.cli_needs.specs.declared.command.Access.{Access}
+use Rattle.cli_needs.specs.Needs.{Needs, asks_passwords_from}
 use Rattle.cli_lines.specs.Lines.{HasLines, Lines}
 use Rattle.vault_model.specs.Tree.{BareDoc}
 

@@ -1,8 +1,8 @@
 -- What opens databases: a line that was asked for, or a key file.
 use Rattle.std.proofs.Common.{◌≡◌, ℕ, List, [], ◌∷◌, refl, inl, inr, sym, subst, Bool, true, false, map, Option}
 use Rattle.std.specs.Prelude.{◌⊎◌, ◌&&◌, ◌||◌, not, IsSome, is_some}
-use Rattle.cli_parse.specs.declared.command.Access.{Access}
-use Rattle.cli_parse.specs.Needs.{HasKey, HasKeys, Needs, asks_password}
+use Rattle.cli_needs.specs.declared.command.Access.{Access}
+use Rattle.cli_needs.specs.Needs.{HasKey, HasKeys, Needs, asks_password}
 use Rattle.cli_lines.specs.Lines.{CanOpen, HasLines, Lines}
 use Rattle.cli_databases.specs.Databases.{CanOpenAll}
 

@@ -7,7 +7,7 @@ use Rattle.cli_messages.specs.declared.answers.Refusal.{Refusal}
 use Rattle.cli_messages.specs.declared.answers.Stop.{Stop}
 use Rattle.cli_messages.specs.declared.answers.Stop.TheVariants.{FileFault, InputFault, NoMemory, Refused}
 use Rattle.cli_messages.specs.Phases.{Returns, Stops}
-use Rattle.cli_parse.specs.Needs.{Needs}
+use Rattle.cli_needs.specs.Needs.{Needs}
 use Rattle.cli_lines.specs.Lines.{Lines}
 use Rattle.cli_files.specs.Files.{Databases, Opened, key_of}
 use Rattle.cli_files.specs.SeenOpened.{opened_seen}

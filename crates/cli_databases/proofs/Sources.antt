@@ -11,8 +11,8 @@ use Rattle.vault_model.specs.declared.documents.Doc.{Doc}
 use Rattle.cli_messages.specs.declared.answers.Refusal.{Refusal}
 use Rattle.cli_messages.specs.declared.answers.Stop.{Stop}
 use Rattle.cli_messages.specs.Phases.{IsFileStop, Returns, Stops}
-use Rattle.cli_parse.specs.declared.command.Access.{Access}
-use Rattle.cli_parse.specs.Needs.{database_files, source_files}
+use Rattle.cli_needs.specs.declared.command.Access.{Access}
+use Rattle.cli_needs.specs.Needs.{database_files, source_files}
 use Rattle.cli_lines.specs.SeenLines.{line_seen}
 use Rattle.cli_files.specs.Files.{Opened}
 use Rattle.cli_databases.specs.Databases.{docs_from, document_in, password_from}

@@ -22,8 +22,8 @@ use Rattle.cli_messages.specs.declared.answers.Reason.TheVariants as answer
 use Rattle.cli_messages.specs.declared.answers.Reason.TheVariants.{NoSuchFile, TooLarge, OutOfMemory}
 use Rattle.cli_messages.specs.declared.answers.Refusal.{Refusal}
 use Rattle.cli_messages.specs.declared.answers.Stop.{Stop}
-use Rattle.cli_parse.specs.declared.command.Access.{Access}
-use Rattle.cli_parse.specs.Needs.{Needs}
+use Rattle.cli_needs.specs.declared.command.Access.{Access}
+use Rattle.cli_needs.specs.Needs.{Needs}
 use Rattle.cli_lines.specs.Lines.{CanOpen, Lines}
 use Rattle.cli_messages.specs.Messages.{refusal_of, Refuses}
 use Rattle.outside_core.specs.Results.{◌>>=◌}

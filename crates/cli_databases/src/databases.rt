@@ -16,14 +16,14 @@ ghost use Rattle.cli_lines.specs.Lines.{CanOpen, HasLines};
 ghost use Rattle.cli_lines.specs.SeenLines.{line_seen, lines_seen};
 ghost use Rattle.vault_model.specs.SeenDoc.{doc_seen};
 ghost use Rattle.cli_messages.specs.Phases.{Returns, IsFileStop};
-ghost use Rattle.cli_parse.specs.Needs.{HasKeys, database_files, files_of, key_files, source_files};
-ghost use Rattle.cli_parse.specs.SeenNeeds.{needs_seen};
+ghost use Rattle.cli_needs.specs.Needs.{HasKeys, database_files, files_of, key_files, source_files};
+ghost use Rattle.cli_needs.specs.SeenNeeds.{needs_seen};
 
 use crate::plain::build;
 use cli_files::{Opened, bytes_in, document_answer, key_of, name_in, unread};
 use cli_lines::Lines;
 use cli_messages::{Reason, Stop, refused};
-use cli_parse::{Access, Needs};
+use cli_needs::{Access, Needs};
 use kdbx_frame::{FILE_LIMIT, FrameFail, Sealing, release_key};
 use kdbx_open::{OpenFail, open_file};
 use key_core::composite;

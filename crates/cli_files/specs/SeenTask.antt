@@ -1,5 +1,5 @@
 -- What is seen of a task in memory.
-use Rattle.std.specs.Prelude.{map}
+use Rattle.std.specs.Prelude.{map, option_map}
 use Rattle.vault_model.specs.SeenDoc.{doc_seen}
 use Rattle.cli_files.specs.SeenOpened.{opened_seen}
 use Rattle.cli_lines.specs.SeenLines.{lines_seen}
@@ -13,4 +13,5 @@ task_seen task = record {
   lines = lines_seen task.lines;
   opened = opened_seen task.opened;
   sources = map doc_seen task.sources;
+  attached = option_map (λ bytes. bytes.value.bytes) task.attached;
 }

@@ -5,7 +5,7 @@ ghost use Rattle.outside_core.specs.Files.{FileMap};
 ghost use Rattle.outside_core.specs.Reports.{reported};
 ghost use Rattle.key_core.specs.KeyFile.{key_file_key};
 ghost use Rattle.cli_messages.specs.Phases.{IsFileStop, IsPlainStop, Returns};
-ghost use Rattle.cli_parse.specs.Needs.{key_files};
+ghost use Rattle.cli_needs.specs.Needs.{key_files};
 ghost use Rattle.cli_files.specs.Answers as answer;
 ghost use Rattle.cli_files.specs.Files as spec;
 ghost use Rattle.cli_files.specs.Files.{key_in, key_or_refusal};

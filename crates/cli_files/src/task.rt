@@ -1,8 +1,10 @@
 //! What a call is to do.
 use crate::Opened;
 use cli_lines::Lines;
-use cli_parse::Command;
+use cli_needs::Command;
 use outside_core::List;
+use secret_core::Secret;
+use std::rc::Rc;
 use vault_model::Doc;
 
 /// What a call is to do.
@@ -15,4 +17,6 @@ pub struct Task {
     pub opened: Opened,
     /// The documents of its sources.
     pub sources: List<Doc>,
+    /// The bytes of the file that is put into the database, where there is one.
+    pub attached: Option<Rc<Secret>>,
 }

@@ -21,9 +21,9 @@ use Rattle.cli_messages.specs.Phases.{Returns}
 use Rattle.cli_messages.specs.declared.answers.Stop.{Stop}
 use Rattle.cli_messages.specs.declared.answers.Reason.TheVariants.{StampLimit}
 use Rattle.cli_messages.specs.declared.answers.Refusal.{Refusal}
-use Rattle.cli_parse.specs.Needs.{ImportNeeds}
-use Rattle.cli_parse.specs.declared.command.ImportFormat.{ImportFormat}
-use Rattle.cli_parse.specs.declared.command.ImportFormat.TheVariants.{Xml, Psafe, Csv, Bitwarden}
+use Rattle.cli_needs.specs.Needs.{ImportNeeds}
+use Rattle.cli_needs.specs.declared.command.ImportFormat.{ImportFormat}
+use Rattle.cli_needs.specs.declared.command.ImportFormat.TheVariants.{Xml, Psafe, Csv, Bitwarden}
 use Rattle.cli_lines.specs.Lines.{Lines}
 use Rattle.cli_files.specs.Files.{Opened, key_of, plain_document}
 use Rattle.cli_files.proofs.HeldKeys.{given, in_turn, key_given, key_held, used}

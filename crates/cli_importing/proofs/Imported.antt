@@ -7,7 +7,7 @@ use Rattle.kdbx_frame.specs.declared.sealings.Sealing.{Sealing}
 use Rattle.cli_messages.specs.Phases.{IsFileStop, Stops}
 use Rattle.cli_messages.specs.declared.answers.Stop.{Stop}
 use Rattle.cli_messages.specs.declared.answers.Stop.TheVariants.{Refused, FileFault, InputFault, NoMemory}
-use Rattle.cli_parse.specs.Needs.{ImportNeeds}
+use Rattle.cli_needs.specs.Needs.{ImportNeeds}
 use Rattle.cli_lines.specs.Lines.{Lines}
 use Rattle.cli_files.proofs.FileStops.{first_at_files, later_at_files}
 use Rattle.cli_importing.specs.Imports.{Source, imported_of, refuse_file, sealing_of, source_of}

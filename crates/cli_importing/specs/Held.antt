@@ -9,9 +9,9 @@ use Rattle.doc_forms.specs.Documents.{DocumentAndHash}
 use Rattle.kdbx_frame.specs.declared.sealings.Sealing.{Sealing}
 use Rattle.psafe_core.specs.Outcome.{psafe_outcome}
 use Rattle.table_reading.specs.Documents.{csv_document}
-use Rattle.cli_parse.specs.Needs.{ImportNeeds}
-use Rattle.cli_parse.specs.declared.command.ImportFormat.{ImportFormat}
-use Rattle.cli_parse.specs.declared.command.ImportFormat.TheVariants.{Xml, Psafe, Csv, Bitwarden}
+use Rattle.cli_needs.specs.Needs.{ImportNeeds}
+use Rattle.cli_needs.specs.declared.command.ImportFormat.{ImportFormat}
+use Rattle.cli_needs.specs.declared.command.ImportFormat.TheVariants.{Xml, Psafe, Csv, Bitwarden}
 use Rattle.cli_lines.specs.Lines.{Lines}
 use Rattle.cli_files.specs.Files.{Opened, plain_document}
 use Rattle.cli_files.specs.Held.{GivesKey, IsThere}

@@ -24,9 +24,9 @@ use Rattle.table_reading.specs.declared.fails.TableFail.{TableFail}
 use Rattle.cli_messages.specs.Messages.{refusal_of}
 use Rattle.cli_messages.specs.declared.answers.Reason.TheVariants.{FileExists, StampLimit}
 use Rattle.cli_messages.specs.declared.answers.Refusal.{Refusal}
-use Rattle.cli_parse.specs.Needs.{ImportNeeds}
-use Rattle.cli_parse.specs.declared.command.ImportFormat.{ImportFormat}
-use Rattle.cli_parse.specs.declared.command.ImportFormat.TheVariants.{Xml, Psafe, Csv, Bitwarden}
+use Rattle.cli_needs.specs.Needs.{ImportNeeds}
+use Rattle.cli_needs.specs.declared.command.ImportFormat.{ImportFormat}
+use Rattle.cli_needs.specs.declared.command.ImportFormat.TheVariants.{Xml, Psafe, Csv, Bitwarden}
 use Rattle.cli_lines.specs.Lines.{Lines}
 use Rattle.cli_files.specs.Answers.{document_answer}
 use Rattle.cli_files.specs.Files.{Opened, key_of, of_file, plain_document}

@@ -1,14 +1,14 @@
 -- What is left of the input, where it reports that or where no line is due.
-use Rattle.std.proofs.Common.{◌≡◌, ◌≤◌, ℕ, List, refl, inl, inr, sym, ◌∙◌, ap, subst, arith, Bool, true, false, ◌||◌, Option, Some, None, option_map, Result, Ok, Err}
-use Rattle.std.specs.Prelude.{IfErr, OnOk}
+use Rattle.std.proofs.Common.{◌≡◌, ◌≤◌, ℕ, List, [], refl, inl, inr, sym, ◌∙◌, ap, subst, arith, Bool, true, false, ◌||◌, Option, Some, None, option_map, Result, Ok, Err}
+use Rattle.std.specs.Prelude.{IfErr, IfOk, OnOk}
 use Rattle.outside_core.specs.Counts.{Increased}
 use Rattle.cli_messages.specs.declared.answers.Refusal.{Refusal}
 use Rattle.cli_messages.specs.declared.answers.Stop.{Stop}
 use Rattle.cli_messages.specs.declared.answers.Stop.TheVariants.{Refused, FileFault, InputFault, NoMemory}
 use Rattle.outside_core.specs.Results.{◌>>=◌}
 use Rattle.cli_messages.specs.Phases.{StreamAnswer, IsLeft, IsStreamStop, RefusesAskedStream, RefusesStream, ReturnsAskedStream, TellsStream, then_left, with_left}
-use Rattle.cli_parse.specs.Needs.{Needs}
-use Rattle.cli_lines.specs.Lines.{LastLines, Lines, after_more, after_passwords, last_lines, line_if, line_of, lines_with, number_of_otp}
+use Rattle.cli_needs.specs.Needs.{Needs}
+use Rattle.cli_lines.specs.Lines.{LastLines, Lines, after_otp, after_passwords, field_lines, last_lines, line_if, line_of, lines_with, number_of_fields}
 
 -- An input that is not read.
 pub left_alone : (asked : Bool) (before : Option (List ℕ)) (input : List ℕ) → TellsStream asked before input → IsLeft before before input
@@ -23,6 +23,14 @@ told_by asked None input e t = let same : true ≡ false = sym e ∙ t in cc
 -- What is left of an input that reports it.
 pub left_so : (before now : Option (List ℕ)) (input left : List ℕ) → before ≡ Some input → now ≡ Some left → IsLeft before now left
 left_so before now input left e h = h ∙ sym (ap (option_map (λ (l : List ℕ). left)) e)
+
+-- An input that is asked, and was refused.
+pub asked_stops : {A : Type 0} (stop : Stop) (before now : Option (List ℕ)) (input : List ℕ) (taken : StreamAnswer A) → before ≡ Some input
+    → RefusesStream stop now taken → RefusesAskedStream stop before now taken
+asked_stops (Refused refusal) before now input taken e h = (h.0, left_so before now input taken.left e h.1)
+asked_stops (FileFault name) before now input taken e h = tt
+asked_stops InputFault before now input taken e h = tt
+asked_stops NoMemory before now input taken e h = tt
 
 -- A line that is due is refused.
 pub line_stops : (stop : Stop) (before now : Option (List ℕ)) (input : List ℕ) (due : Bool) (number : ℕ) → due ≡ true → before ≡ Some input
@@ -90,15 +98,15 @@ later_returns seen (Ok x) before mid now taken a next p is h =
     (h.0, left_after before mid now taken.left (next a taken.left).left is h.1)
 later_returns seen (Err stop) before mid now taken a next p is h = second_stops stop before mid now taken a next p is h
 
--- The text of a one-time code was read, after the line before it.
-pub otp_given : (needs : Needs) (more : Option (List ℕ)) (before now : Option (List ℕ)) (input : List ℕ) (otp : Option (List ℕ))
-    → (line_if needs.has_otp (number_of_otp needs) input).answer ≡ Ok otp
-    → IsLeft before now (line_if needs.has_otp (number_of_otp needs) input).left
-    → ((after_more needs more input).answer ≡ Ok (record { more = more; otp = otp })) × IsLeft before now (after_more needs more input).left
-otp_given needs more before now input otp p is =
-    subst (λ (t : StreamAnswer LastLines). (t.answer ≡ Ok (record { more = more; otp = otp })) × IsLeft before now t.left)
-    (sym (first_gave (line_if needs.has_otp (number_of_otp needs) input) otp
-    (λ o end. with_left (Ok (record { more = more; otp = o })) end) p)) (refl, is)
+-- The values of fields were read, after the lines before them.
+pub fields_given : (needs : Needs) (more otp : Option (List ℕ)) (before now : Option (List ℕ)) (input : List ℕ) (fields : List (List ℕ))
+    → (field_lines needs.fields (number_of_fields needs) [] input).answer ≡ Ok fields
+    → IsLeft before now (field_lines needs.fields (number_of_fields needs) [] input).left
+    → ((after_otp needs more otp input).answer ≡ Ok (record { more = more; otp = otp; fields = fields })) × IsLeft before now (after_otp needs more otp input).left
+fields_given needs more otp before now input fields p is =
+    subst (λ (t : StreamAnswer LastLines). (t.answer ≡ Ok (record { more = more; otp = otp; fields = fields })) × IsLeft before now t.left)
+    (sym (first_gave (field_lines needs.fields (number_of_fields needs) [] input) fields
+    (λ fs end. with_left (Ok (record { more = more; otp = otp; fields = fs })) end) p)) (refl, is)
 
 -- The lines after all passwords were read.
 pub lines_given : (needs : Needs) (password : Option (List ℕ)) (sources : List (Option (List ℕ))) (before now : Option (List ℕ)) (input : List ℕ) (last : LastLines)
@@ -108,6 +116,12 @@ pub lines_given : (needs : Needs) (password : Option (List ℕ)) (sources : List
 lines_given needs password sources before now input last p is =
     subst (λ (t : StreamAnswer Lines). (t.answer ≡ Ok (lines_with password sources last)) × IsLeft before now t.left)
     (sym (first_gave (last_lines needs input) last (λ l end. with_left (Ok (lines_with password sources l)) end) p)) (refl, is)
+
+-- What holds of a line holds of it where a later phase hands it on.
+pub handed_on : {X : Type 0} (P : Option (List ℕ) → Type 0) (part : X → Option (List ℕ)) (result : Result X Stop) (line : Option (List ℕ)) → P line
+    → IfOk result (λ x. part x ≡ line) → IfOk result (λ x. P (part x))
+handed_on P part (Ok x) line p h = subst P (sym h) p
+handed_on P part (Err stop) line p h = tt
 
 -- ---- causes
 

@@ -1,10 +1,11 @@
 -- The lines that a call takes from its input.
-use Rattle.std.specs.Prelude.{◌≡◌, ◌⊎◌, ◌++◌, map, ℕ, ◌+◌, Bool, true, false, ◌&&◌, ◌==◌, if◌then◌else◌, nat_lt, drop, is_some, IsSome, List, [], ◌∷◌, codes, Option, None, Some, Result, Ok, Err}
+use Rattle.std.specs.Prelude.{◌≡◌, ◌⊎◌, ◌++◌, map, ℕ, ◌+◌, Bool, true, false, ◌&&◌, ◌==◌, if◌then◌else◌, nat_lt, drop, is_some, IsSome, length, List, [], ◌∷◌, codes, Option, None, Some, Result, Ok, Err}
+use Rattle.std.specs.List.{list_all}
 use Rattle.std.specs.Str.{is_utf8}
 use Rattle.cli_messages.specs.declared.answers.Reason.TheVariants.{LineLimit, LineForm, InputEnded}
 use Rattle.cli_messages.specs.declared.answers.Refusal.{Refusal}
-use Rattle.cli_parse.specs.declared.command.Access.{Access}
-use Rattle.cli_parse.specs.Needs.{Needs, asks_password, asks_passwords_from}
+use Rattle.cli_needs.specs.declared.command.Access.{Access}
+use Rattle.cli_needs.specs.Needs.{Needs, asks_password, asks_passwords_from}
 use Rattle.cli_messages.specs.Messages.{refusal_of}
 use Rattle.outside_core.specs.Results.{◌>>=◌}
 use Rattle.cli_messages.specs.Phases.{StreamAnswer, then_left, with_left}
@@ -84,19 +85,30 @@ lines_from due (name ∷ names) number read input =
     then_left (line_if due number input) (λ line left.
     lines_from due names (number_after due number) (read ++ line ∷ []) left)
 
--- The lines after all passwords, each where it is due: the one that the command asks for, and the
--- text of a one-time code.
+-- The values of fields of these names, one line after another, after those that were read. The first
+-- is of this number.
+abbrev pub field_lines : List (List ℕ) → ℕ → List (List ℕ) → List ℕ → StreamAnswer (List (List ℕ))
+field_lines [] number read input = with_left (Ok read) input
+field_lines (name ∷ names) number read input =
+    then_left (line_of number input) (λ line left.
+    field_lines names (number + 1) (read ++ line ∷ []) left)
+
+-- The lines after all passwords, each where it is due: the one that the command asks for, the text of
+-- a one-time code, and the values of fields.
 pub record LastLines : Type 0 where
   pub more : Option (List ℕ)
   pub otp : Option (List ℕ)
+  pub fields : List (List ℕ)
 
 -- The lines of a call, each where it is due: the password of the database, those of its sources one
--- after another, the line that the command asks for after them, and the text of a one-time code.
+-- after another, the line that the command asks for after them, the text of a one-time code, and the
+-- values of fields.
 pub record Lines : Type 0 where
   pub password : Option (List ℕ)
   pub sources : List (Option (List ℕ))
   pub more : Option (List ℕ)
   pub otp : Option (List ℕ)
+  pub fields : List (List ℕ)
 
 -- The lines of databases, with the lines after them.
 abbrev pub lines_with : Option (List ℕ) → List (Option (List ℕ)) → LastLines → Lines
@@ -105,6 +117,7 @@ lines_with password sources last = record {
   sources = sources;
   more = last.more;
   otp = last.otp;
+  fields = last.fields;
 }
 
 -- The number of the line after the password of the database, if there is one.
@@ -120,11 +133,20 @@ number_of_more needs =
 abbrev pub number_of_otp : Needs → ℕ
 number_of_otp needs = number_after needs.has_line (number_of_more needs)
 
--- The text of a one-time code after this line, where it is due.
+-- The number of the line after that one.
+abbrev pub number_of_fields : Needs → ℕ
+number_of_fields needs = number_after needs.has_otp (number_of_otp needs)
+
+-- The values of fields after these lines.
+abbrev pub after_otp : Needs → (more otp : Option (List ℕ)) → List ℕ → StreamAnswer LastLines
+after_otp needs more otp input =
+    then_left (field_lines needs.fields (number_of_fields needs) [] input) (λ fields end.
+    with_left (Ok (record { more = more; otp = otp; fields = fields })) end)
+
+-- The text of a one-time code after this line, where it is due, and the values of fields.
 abbrev pub after_more : Needs → Option (List ℕ) → List ℕ → StreamAnswer LastLines
 after_more needs more input =
-    then_left (line_if needs.has_otp (number_of_otp needs) input) (λ otp end.
-    with_left (Ok (record { more = more; otp = otp })) end)
+    then_left (line_if needs.has_otp (number_of_otp needs) input) (after_otp needs more)
 
 -- The lines after all passwords, each where it is due.
 abbrev pub last_lines : Needs → List ℕ → StreamAnswer LastLines
@@ -158,6 +180,7 @@ pub record HasLines (needs : Needs) (lines : Lines) : Type 0 where
       ≡ map (λ name. asks_passwords_from needs) needs.sources
   pub has_more : is_some lines.more ≡ needs.has_line
   pub has_otp : is_some lines.otp ≡ needs.has_otp
+  pub has_fields : length lines.fields ≡ length needs.fields
 
 -- A line is in UTF-8, if there is one.
 abbrev pub IsTextLine : Option (List ℕ) → Type 0
@@ -165,9 +188,10 @@ IsTextLine None = Unit {0}
 IsTextLine (Some line) = is_utf8 line ≡ true
 
 -- The lines after all passwords are in UTF-8, if they are there.
-pub record AreTextLines (line text : Option (List ℕ)) : Type 0 where
+pub record AreTextLines (line text : Option (List ℕ)) (values : List (List ℕ)) : Type 0 where
   pub more : IsTextLine line
   pub otp : IsTextLine text
+  pub fields : list_all is_utf8 values ≡ true
 
 -- A database that is no plain document has a password or a key file.
 abbrev pub CanOpen : Access → Option (List ℕ) → Type 0

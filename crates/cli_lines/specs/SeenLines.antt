@@ -9,6 +9,10 @@ use Rattle.cli_lines.specs.Lines.{LastLines, Lines}
 abbrev pub line_seen : Option SecretBuffer → Option (List ℕ)
 line_seen = option_map (λ line. line.bytes)
 
+-- The bytes of lines that are there.
+abbrev pub values_seen : List SecretBuffer → List (List ℕ)
+values_seen = map (λ line. line.bytes)
+
 -- The bytes of all lines.
 abbrev pub lines_seen : declared.Lines → Lines
 lines_seen lines = record {
@@ -16,8 +20,13 @@ lines_seen lines = record {
   sources = map line_seen lines.sources;
   more = line_seen lines.more;
   otp = line_seen lines.otp;
+  fields = values_seen lines.fields;
 }
 
 -- The bytes of the lines after all passwords.
 abbrev pub last_seen : last.LastLines → LastLines
-last_seen lines = record { more = line_seen lines.more; otp = line_seen lines.otp }
+last_seen lines = record {
+  more = line_seen lines.more;
+  otp = line_seen lines.otp;
+  fields = values_seen lines.fields;
+}

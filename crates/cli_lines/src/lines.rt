@@ -1,19 +1,20 @@
 //! The lines that a call takes from its input.
 ghost use Rattle.std.specs.Prelude.{◌≡◌, ◌≢◌, ◌≤◌, ◌<◌, ◌+◌, ◌||◌, [], ◌∷◌, ◌++◌, ℕ, List, length, map, IfErr, IfOk, IfSome, OnOk, is_some, Some, true};
+ghost use Rattle.std.specs.List.{list_all};
 ghost use Rattle.std.specs.Str.{is_utf8};
 ghost use Rattle.outside_core.specs.Counts.{HasCause};
 ghost use Rattle.outside_core.specs.Reports.{StaysTruthful};
 ghost use Rattle.cli_lines.specs.Cutting.{ComesNext, Cuts, Ends, IsPushed, Puts, cut, weight};
 ghost use Rattle.cli_lines.specs.Lines as spec;
-ghost use Rattle.cli_lines.specs.Lines.{AreTextLines, HasLines, IsTextLine, after_password, after_passwords, last_lines, line_from, line_if, line_of, lines_from, lines_of, number_of_more};
-ghost use Rattle.cli_lines.specs.SeenLines.{last_seen, line_seen, lines_seen};
-ghost use Rattle.cli_parse.specs.Needs as words;
-ghost use Rattle.cli_parse.specs.Needs.{asks_line, asks_passwords_from};
-ghost use Rattle.cli_parse.specs.SeenNeeds.{needs_seen};
+ghost use Rattle.cli_lines.specs.Lines.{AreTextLines, HasLines, IsTextLine, after_more, after_otp, after_password, after_passwords, field_lines, last_lines, line_from, line_if, line_of, lines_from, lines_of, number_of_fields, number_of_more, number_of_otp};
+ghost use Rattle.cli_lines.specs.SeenLines.{last_seen, line_seen, lines_seen, values_seen};
+ghost use Rattle.cli_needs.specs.Needs as words;
+ghost use Rattle.cli_needs.specs.Needs.{asks_line, asks_passwords_from};
+ghost use Rattle.cli_needs.specs.SeenNeeds.{needs_seen};
 ghost use Rattle.cli_messages.specs.Phases.{IsStreamStop, ReturnsAskedStream, ReturnsStream, TellsStream};
 
 use cli_messages::{Reason, Stop, refused};
-use cli_parse::{Needs, asks_password};
+use cli_needs::{Needs, asks_password};
 use outside_core::{List, NoMemory, Source, SourceFail, Text};
 use secret_core::Secret;
 use std::alloc::Global;
@@ -284,6 +285,8 @@ pub struct Lines {
     pub more: Option<Secret>,
     /// The text of a one-time code, which a command asks for after that.
     pub otp: Option<Secret>,
+    /// The values of fields, which a command asks for after that.
+    pub fields: List<Secret>,
 }
 
 /// The lines after all passwords, each where it is due.
@@ -293,6 +296,56 @@ struct LastLines {
     more: Option<Secret>,
     /// The text of a one-time code.
     otp: Option<Secret>,
+    /// The values of fields.
+    fields: List<Secret>,
+}
+
+// The number of the line after one of this number. Memory never holds so many lines that the numbers
+// end.
+fn number_next(number: u64) -> Result<u64, NoMemory>
+    ensures { IfOk result (λ next. next ≡ number + 1) }
+{
+    match number.checked_add(1) {
+        Some(next) => Ok(next),
+        None => Err(NoMemory),
+    }
+}
+
+// Reads the values of fields of these names, one line after another, of which the first has this
+// number.
+fn read_fields<S: Source>(
+    alloc: Global,
+    input: &mut S,
+    names: &[Text],
+    number: u64,
+    lines: &mut List<Secret>,
+) -> Result<(), Stop>
+    ensures told { S.truthful input.new ≡ true → (i : List ℕ)
+        → TellsStream (words.is_filled names.now) (S.left input.old) i
+        → ReturnsAskedStream (λ _. values_seen lines.new) result (S.left input.old)
+        (S.left input.new) (field_lines names.now number (values_seen lines.old) i) }
+    ensures given { OnOk result (length (values_seen lines.new)
+        ≡ length (values_seen lines.old) + length names.now) }
+    ensures text { OnOk result (list_all is_utf8 (values_seen lines.new)
+        ≡ list_all is_utf8 (values_seen lines.old)) }
+    ensures truthful { StaysTruthful (S.truthful input.old) (S.truthful input.new) }
+    ensures cause { IfErr result (IsStreamStop (S.faults input.old) (S.faults input.new)) }
+    ensures faults { S.faults input.old ≤ S.faults input.new }
+    ensures faultless { OnOk result (S.faults input.new ≡ S.faults input.old) }
+{
+    let [_, names @ ..] = names else {
+        return Ok(());
+    };
+    let line = read_line(alloc, input, number)?;
+    let Ok(next) = number_next(number) else {
+        drop(line);
+        return Err(Stop::NoMemory);
+    };
+    if let Err(line) = lines.push(line) {
+        drop(line);
+        return Err(Stop::NoMemory);
+    }
+    read_fields(alloc, input, names, next, lines)
 }
 
 // The passwords of the sources of a database, and the number of the line after them. The first of
@@ -321,7 +374,7 @@ fn read_passwords<S: Source>(
     ensures faults { S.faults input.old ≤ S.faults input.new }
     ensures faultless { OnOk result (S.faults input.new ≡ S.faults input.old) }
 {
-    let due = cli_parse::asks_passwords_from(needs);
+    let due = cli_needs::asks_passwords_from(needs);
     read_sources(alloc, input, due, needs.sources, number, lines)
 }
 
@@ -330,6 +383,82 @@ fn number_from(asks: bool) -> u64
     ensures { result ≡ spec.number_after asks 1 }
 {
     if asks { 2 } else { 1 }
+}
+
+// Reads the values of fields after these lines, of which the first has this number.
+fn read_after_otp<S: Source>(
+    alloc: Global,
+    input: &mut S,
+    needs: Needs<'_>,
+    number: u64,
+    more: Option<Secret>,
+    otp: Option<Secret>,
+) -> Result<LastLines, Stop>
+    requires { number ≡ number_of_fields (needs_seen needs) }
+    ensures told { S.truthful input.new ≡ true → (i : List ℕ)
+        → TellsStream (words.is_filled needs.entry.fields.now) (S.left input.old) i
+        → ReturnsAskedStream last_seen result (S.left input.old) (S.left input.new)
+        (after_otp (needs_seen needs.entry) (line_seen more) (line_seen otp) i) }
+    ensures more { IfOk result (λ last. line_seen last.more ≡ line_seen more) }
+    ensures otp { IfOk result (λ last. line_seen last.otp ≡ line_seen otp) }
+    ensures fields { IfOk result (λ last. length (values_seen last.fields)
+        ≡ length needs.entry.fields.now) }
+    ensures text { IfOk result (λ last. list_all is_utf8 (values_seen last.fields) ≡ true) }
+    ensures truthful { StaysTruthful (S.truthful input.old) (S.truthful input.new) }
+    ensures cause { IfErr result (IsStreamStop (S.faults input.old) (S.faults input.new)) }
+    ensures faults { S.faults input.old ≤ S.faults input.new }
+    ensures faultless { OnOk result (S.faults input.new ≡ S.faults input.old) }
+{
+    let mut fields = List::new(alloc);
+    match read_fields(alloc, input, needs.fields, number, &mut fields) {
+        Ok(()) => Ok(LastLines { more, otp, fields }),
+        Err(stop) => {
+            drop(more);
+            drop(otp);
+            drop(fields);
+            Err(stop)
+        }
+    }
+}
+
+// Reads the text of a one-time code after this line, where it is due, and the values of fields.
+fn read_after_more<S: Source>(
+    alloc: Global,
+    input: &mut S,
+    needs: Needs<'_>,
+    number: u64,
+    more: Option<Secret>,
+) -> Result<LastLines, Stop>
+    requires { number ≡ number_of_otp (needs_seen needs) }
+    ensures told { S.truthful input.new ≡ true → (i : List ℕ)
+        → TellsStream (needs.entry.has_otp || words.is_filled needs.entry.fields.now)
+        (S.left input.old) i
+        → ReturnsAskedStream last_seen result (S.left input.old) (S.left input.new)
+        (after_more (needs_seen needs.entry) (line_seen more) i) }
+    ensures more { IfOk result (λ last. line_seen last.more ≡ line_seen more) }
+    ensures otp { IfOk result (λ last. is_some (line_seen last.otp) ≡ needs.entry.has_otp) }
+    ensures otp_text { IfOk result (λ last. IsTextLine (line_seen last.otp)) }
+    ensures fields { IfOk result (λ last. length (values_seen last.fields)
+        ≡ length needs.entry.fields.now) }
+    ensures text { IfOk result (λ last. list_all is_utf8 (values_seen last.fields) ≡ true) }
+    ensures truthful { StaysTruthful (S.truthful input.old) (S.truthful input.new) }
+    ensures cause { IfErr result (IsStreamStop (S.faults input.old) (S.faults input.new)) }
+    ensures faults { S.faults input.old ≤ S.faults input.new }
+    ensures faultless { OnOk result (S.faults input.new ≡ S.faults input.old) }
+{
+    let otp = match read_if(alloc, input, needs.has_otp, number) {
+        Ok(otp) => otp,
+        Err(stop) => {
+            drop(more);
+            return Err(stop);
+        }
+    };
+    let Ok(next) = number_after(needs.has_otp, number) else {
+        drop(more);
+        drop(otp);
+        return Err(Stop::NoMemory);
+    };
+    read_after_otp(alloc, input, needs, next, more, otp)
 }
 
 // Reads the lines after all passwords, of which the first has this number.
@@ -341,12 +470,15 @@ fn read_last<S: Source>(
 ) -> Result<LastLines, Stop>
     requires { number ≡ number_of_more (needs_seen needs) }
     ensures told { S.truthful input.new ≡ true → (i : List ℕ)
-        → TellsStream (needs.entry.has_line || needs.entry.has_otp) (S.left input.old) i
+        → TellsStream (words.asks_more (needs_seen needs.entry)) (S.left input.old) i
         → ReturnsAskedStream last_seen result (S.left input.old) (S.left input.new)
         (last_lines (needs_seen needs.entry) i) }
     ensures more { IfOk result (λ last. is_some (line_seen last.more) ≡ needs.entry.has_line) }
     ensures otp { IfOk result (λ last. is_some (line_seen last.otp) ≡ needs.entry.has_otp) }
-    ensures text { IfOk result (λ last. AreTextLines (line_seen last.more) (line_seen last.otp)) }
+    ensures fields { IfOk result (λ last. length (values_seen last.fields)
+        ≡ length needs.entry.fields.now) }
+    ensures text { IfOk result (λ last. AreTextLines (line_seen last.more) (line_seen last.otp)
+        (values_seen last.fields)) }
     ensures truthful { StaysTruthful (S.truthful input.old) (S.truthful input.new) }
     ensures cause { IfErr result (IsStreamStop (S.faults input.old) (S.faults input.new)) }
     ensures faults { S.faults input.old ≤ S.faults input.new }
@@ -357,13 +489,7 @@ fn read_last<S: Source>(
         drop(more);
         return Err(Stop::NoMemory);
     };
-    match read_if(alloc, input, needs.has_otp, next) {
-        Ok(otp) => Ok(LastLines { more, otp }),
-        Err(stop) => {
-            drop(more);
-            Err(stop)
-        }
-    }
+    read_after_more(alloc, input, needs, next, more)
 }
 
 // Reads the lines after all passwords: all lines are there then.
@@ -380,12 +506,12 @@ fn read_more<S: Source>(
     requires passwords { map is_some (map line_seen sources)
         ≡ map (λ name. asks_passwords_from (needs_seen needs)) needs.sources.now }
     ensures told { S.truthful input.new ≡ true → (i : List ℕ)
-        → TellsStream (needs.entry.has_line || needs.entry.has_otp) (S.left input.old) i
+        → TellsStream (words.asks_more (needs_seen needs.entry)) (S.left input.old) i
         → ReturnsAskedStream lines_seen result (S.left input.old) (S.left input.new)
         (after_passwords (needs_seen needs.entry) (line_seen password) (map line_seen sources) i) }
     ensures given { IfOk result (λ lines. HasLines (needs_seen needs.entry) (lines_seen lines)) }
     ensures text { IfOk result (λ lines. AreTextLines (lines_seen lines).more
-        (lines_seen lines).otp) }
+        (lines_seen lines).otp (lines_seen lines).fields) }
     ensures truthful { StaysTruthful (S.truthful input.old) (S.truthful input.new) }
     ensures cause { IfErr result (IsStreamStop (S.faults input.old) (S.faults input.new)) }
     ensures faults { S.faults input.old ≤ S.faults input.new }
@@ -397,6 +523,7 @@ fn read_more<S: Source>(
             sources,
             more: last.more,
             otp: last.otp,
+            fields: last.fields,
         }),
         Err(stop) => {
             drop(password);
@@ -418,12 +545,12 @@ fn read_after<S: Source>(
     requires password { is_some (line_seen password) ≡ words.asks_password needs.access.now }
     ensures told { S.truthful input.new ≡ true → (i : List ℕ)
         → TellsStream (asks_passwords_from (needs_seen needs.entry)
-        || (needs.entry.has_line || needs.entry.has_otp)) (S.left input.old) i
+        || (words.asks_more (needs_seen needs.entry))) (S.left input.old) i
         → ReturnsAskedStream lines_seen result (S.left input.old) (S.left input.new)
         (after_password (needs_seen needs.entry) (line_seen password) i) }
     ensures given { IfOk result (λ lines. HasLines (needs_seen needs.entry) (lines_seen lines)) }
     ensures text { IfOk result (λ lines. AreTextLines (lines_seen lines).more
-        (lines_seen lines).otp) }
+        (lines_seen lines).otp (lines_seen lines).fields) }
     ensures truthful { StaysTruthful (S.truthful input.old) (S.truthful input.new) }
     ensures cause { IfErr result (IsStreamStop (S.faults input.old) (S.faults input.new)) }
     ensures faults { S.faults input.old ≤ S.faults input.new }
@@ -448,7 +575,7 @@ pub fn read_lines<S: Source>(alloc: Global, input: &mut S, needs: Needs<'_>) -> 
         (S.left input.new) (lines_of (needs_seen needs.entry) i) }
     ensures given { IfOk result (λ lines. HasLines (needs_seen needs.entry) (lines_seen lines)) }
     ensures text { IfOk result (λ lines. AreTextLines (lines_seen lines).more
-        (lines_seen lines).otp) }
+        (lines_seen lines).otp (lines_seen lines).fields) }
     ensures truthful { StaysTruthful (S.truthful input.old) (S.truthful input.new) }
     ensures cause { IfErr result (IsStreamStop (S.faults input.old) (S.faults input.new)) }
     ensures faults { S.faults input.old ≤ S.faults input.new }

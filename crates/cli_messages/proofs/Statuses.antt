@@ -1,7 +1,7 @@
 -- What statuses refusals have.
 use Rattle.std.proofs.Common.{◌≡◌, ◌≢◌, ℕ, refl, arith}
 use Rattle.cli_messages.specs.declared.answers.Reason.{Reason}
-use Rattle.cli_messages.specs.declared.answers.Reason.TheVariants.{WrongWords, EmptyTerm, NoSuchPath, NameTaken, AlreadyThere, RootFixed, IntoItself, IdTaken, NoAttribute, NoVersion, NoResult, FileExists, NeedsVersion, DamagedOrWrongKey, DamagedBlock, WrongKeyOrDamaged, WrongPassword, KeyFileHash, NotKdbx, NotPsafe, EndsEarly, BadHeaderField, BadDictionary, Form, MissingElement, BadValue, NilId, NilRecord, DuplicateId, BinaryRef, BadKeyFile, BadField, NotUtf8, NoTitleColumn, BadRow, BadJson, BadFolder, BadItem, LineForm, Version, UnknownId, StreamUnknown, Compressed, Variant, EncryptedExport, Clash, MoveCycle, NoSuchFile, TooLarge, Depth, TooDeep, TooMany, KdfLimit, IterLimit, StampLimit, LineLimit, TooMuch, NoOtp, OtpForm, OtpUnknown, OtpLimit, Spent, OutOfMemory, InputEnded}
+use Rattle.cli_messages.specs.declared.answers.Reason.TheVariants.{WrongWords, EmptyTerm, NoSuchPath, NameTaken, AlreadyThere, RootFixed, IntoItself, IdTaken, NoAttribute, NoAttachment, NoVersion, NoResult, FileExists, NeedsVersion, DamagedOrWrongKey, DamagedBlock, WrongKeyOrDamaged, WrongPassword, KeyFileHash, NotKdbx, NotPsafe, EndsEarly, BadHeaderField, BadDictionary, Form, MissingElement, BadValue, NilId, NilRecord, DuplicateId, BinaryRef, BadKeyFile, BadField, NotUtf8, NoTitleColumn, BadRow, BadJson, BadFolder, BadItem, LineForm, Version, UnknownId, StreamUnknown, Compressed, Variant, EncryptedExport, Clash, MoveCycle, NoSuchFile, TooLarge, Depth, TooDeep, TooMany, KdfLimit, IterLimit, StampLimit, LineLimit, TooMuch, NoOtp, OtpForm, OtpUnknown, OtpLimit, Spent, OutOfMemory, InputEnded}
 use Rattle.cli_messages.specs.Messages.{status_of}
 
 -- A refusal of status 7 is that a file is missing.
@@ -15,6 +15,7 @@ seven_missing RootFixed h = absurd (omega arith)
 seven_missing (IntoItself id) h = absurd (omega arith)
 seven_missing (IdTaken id) h = absurd (omega arith)
 seven_missing (NoAttribute name) h = absurd (omega arith)
+seven_missing (NoAttachment name) h = absurd (omega arith)
 seven_missing (NoVersion number) h = absurd (omega arith)
 seven_missing NoResult h = absurd (omega arith)
 seven_missing FileExists h = absurd (omega arith)
@@ -87,6 +88,7 @@ own RootFixed = record { zero = λ h. omega arith; ten = λ h. omega arith; elev
 own (IntoItself id) = record { zero = λ h. omega arith; ten = λ h. omega arith; eleven = λ h. omega arith }
 own (IdTaken id) = record { zero = λ h. omega arith; ten = λ h. omega arith; eleven = λ h. omega arith }
 own (NoAttribute name) = record { zero = λ h. omega arith; ten = λ h. omega arith; eleven = λ h. omega arith }
+own (NoAttachment name) = record { zero = λ h. omega arith; ten = λ h. omega arith; eleven = λ h. omega arith }
 own (NoVersion number) = record { zero = λ h. omega arith; ten = λ h. omega arith; eleven = λ h. omega arith }
 own NoResult = record { zero = λ h. omega arith; ten = λ h. omega arith; eleven = λ h. omega arith }
 own FileExists = record { zero = λ h. omega arith; ten = λ h. omega arith; eleven = λ h. omega arith }

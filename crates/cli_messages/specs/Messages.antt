@@ -6,7 +6,7 @@ use Rattle.uuid.specs.Text.{hyphenated_text, lower}
 use Rattle.cli_messages.specs.declared.answers.NeededVersion.{NeededVersion}
 use Rattle.cli_messages.specs.declared.answers.NeededVersion.TheVariants as needed
 use Rattle.cli_messages.specs.declared.answers.Reason.{Reason}
-use Rattle.cli_messages.specs.declared.answers.Reason.TheVariants.{WrongWords, EmptyTerm, NoSuchPath, NameTaken, AlreadyThere, RootFixed, IntoItself, IdTaken, NoAttribute, NoVersion, NoResult, FileExists, NeedsVersion, DamagedOrWrongKey, DamagedBlock, WrongKeyOrDamaged, WrongPassword, KeyFileHash, NotKdbx, NotPsafe, EndsEarly, BadHeaderField, BadDictionary, Form, MissingElement, BadValue, NilId, NilRecord, DuplicateId, BinaryRef, BadKeyFile, BadField, NotUtf8, NoTitleColumn, BadRow, BadJson, BadFolder, BadItem, LineForm, Version, UnknownId, StreamUnknown, Compressed, Variant, EncryptedExport, Clash, MoveCycle, NoSuchFile, TooLarge, Depth, TooDeep, TooMany, KdfLimit, IterLimit, StampLimit, LineLimit, TooMuch, NoOtp, OtpForm, OtpUnknown, OtpLimit, Spent, OutOfMemory, InputEnded}
+use Rattle.cli_messages.specs.declared.answers.Reason.TheVariants.{WrongWords, EmptyTerm, NoSuchPath, NameTaken, AlreadyThere, RootFixed, IntoItself, IdTaken, NoAttribute, NoAttachment, NoVersion, NoResult, FileExists, NeedsVersion, DamagedOrWrongKey, DamagedBlock, WrongKeyOrDamaged, WrongPassword, KeyFileHash, NotKdbx, NotPsafe, EndsEarly, BadHeaderField, BadDictionary, Form, MissingElement, BadValue, NilId, NilRecord, DuplicateId, BinaryRef, BadKeyFile, BadField, NotUtf8, NoTitleColumn, BadRow, BadJson, BadFolder, BadItem, LineForm, Version, UnknownId, StreamUnknown, Compressed, Variant, EncryptedExport, Clash, MoveCycle, NoSuchFile, TooLarge, Depth, TooDeep, TooMany, KdfLimit, IterLimit, StampLimit, LineLimit, TooMuch, NoOtp, OtpForm, OtpUnknown, OtpLimit, Spent, OutOfMemory, InputEnded}
 use Rattle.cli_messages.specs.declared.answers.Refusal.{Refusal}
 use Rattle.cli_messages.specs.declared.answers.Stop.{Stop}
 use Rattle.cli_messages.specs.declared.answers.Stop.TheVariants.{Refused, FileFault, InputFault, NoMemory}
@@ -22,6 +22,7 @@ status_of RootFixed = 2
 status_of (IntoItself id) = 2
 status_of (IdTaken id) = 2
 status_of (NoAttribute name) = 2
+status_of (NoAttachment name) = 2
 status_of (NoVersion number) = 2
 status_of NoResult = 2
 status_of FileExists = 2
@@ -100,6 +101,7 @@ reason_text RootFixed = codes "the root stays"
 reason_text (IntoItself id) = hyphenated_text lower id ++ codes " into itself"
 reason_text (IdTaken id) = codes "id taken " ++ hyphenated_text lower id
 reason_text (NoAttribute name) = codes "no attribute " ++ name
+reason_text (NoAttachment name) = codes "no attachment " ++ name
 reason_text (NoVersion number) = codes "no version " ++ decimal number
 reason_text NoResult = codes "no results"
 reason_text FileExists = codes "file exists"

@@ -40,6 +40,8 @@ pub enum Reason {
     IdTaken(Uuid),
     /// The entry has no attribute of the name.
     NoAttribute(Text),
+    /// The entry has no attachment of this name.
+    NoAttachment(Text),
     /// The entry has no version of this number.
     NoVersion(u64),
     /// No entry matches the terms of a search.
@@ -202,6 +204,7 @@ pub fn status(reason: &Reason) -> u8
         Reason::IntoItself(_) => 2,
         Reason::IdTaken(_) => 2,
         Reason::NoAttribute(_) => 2,
+        Reason::NoAttachment(_) => 2,
         Reason::NoVersion(_) => 2,
         Reason::NoResult => 2,
         Reason::FileExists => 2,
@@ -347,6 +350,13 @@ fn no_attribute(alloc: Global, name: &str) -> Result<String, AllocError>
     format!(in alloc; "no attribute {name}")
 }
 
+// An attachment by its name, which is not there.
+fn no_attachment(alloc: Global, name: &str) -> Result<String, AllocError>
+    ensures { IfOk result (λ text. string_bytes text ≡ codes "no attachment " ++ name.now) }
+{
+    format!(in alloc; "no attachment {name}")
+}
+
 // The name of a version that is needed.
 fn name_of_version(version: NeededVersion) -> &'static str
     ensures { result.now ≡ needed_text version }
@@ -408,6 +418,7 @@ pub fn text_of_reason(alloc: Global, reason: &Reason) -> Result<String, AllocErr
         Reason::IntoItself(id) => into_itself(alloc, id),
         Reason::IdTaken(id) => with_id(alloc, "id taken ", id),
         Reason::NoAttribute(name) => no_attribute(alloc, name.as_str()),
+        Reason::NoAttachment(name) => no_attachment(alloc, name.as_str()),
         Reason::NoVersion(number) => numbered(alloc, "no version ", *number),
         Reason::NoResult => String::from_str(alloc, "no results"),
         Reason::FileExists => String::from_str(alloc, "file exists"),

@@ -74,7 +74,8 @@ keepass add [OPTION..] DATABASE ENTRY
         None of these characters is among them.
 
 keepass edit [OPTION..] DATABASE ENTRY
-    Gives an entry other values, and keeps what it was before in its history.
+    Gives an entry other values, fields of its own, tags or an expiry, and keeps
+    what it was before in its history.
     -t TITLE, --title TITLE
         Another title.
     -u NAME, --username NAME
@@ -103,8 +104,21 @@ keepass edit [OPTION..] DATABASE ENTRY
     -x CHARS, --exclude CHARS
         None of these characters is among them.
     --otp
-        The entry's one-time code is a line of standard input, after all others:
-        an otpauth URI. An empty line takes it away.
+        The entry's one-time code is a line of standard input, after those of
+        passwords: an otpauth URI. An empty line takes it away.
+    --set NAME
+        The field of this name gets a value: a line of standard input, after all
+        lines above, in the order of these options. May be given several times.
+    --protect
+        The fields of --set are hidden from now on.
+    --unset NAME
+        The field of this name is taken away. May be given several times.
+    --tag TAG
+        The entry gets this tag, unless it has it. May be given several times.
+    --untag TAG
+        The entry loses this tag, if it has it. May be given several times.
+    --expires TIME
+        When the entry expires: a time as 2027-01-31T00:00:00Z, or never.
     --restore NUMBER
         The version of this number, as history lists them, becomes the current
         one. Goes with none of the options above.
@@ -232,6 +246,24 @@ keepass generate [OPTION..]
     -x CHARS, --exclude CHARS
         None of these characters is among them.
 
+keepass attachment-export [OPTION..] DATABASE ENTRY NAME [FILE]
+    Puts the attachment of this name into FILE, which must not be there yet, or
+    prints it. One of FILE and --stdout is needed.
+    --stdout
+        The bytes of the attachment are printed and nothing else. Does not go
+        with FILE.
+
+keepass attachment-import [OPTION..] DATABASE ENTRY NAME FILE
+    Attaches the bytes of FILE to an entry under this name, and keeps what the
+    entry was before in its history. FILE stays as it is.
+    -f, --force
+        An attachment of this name is replaced where the entry has one, and
+        stays hidden or not.
+
+keepass attachment-rm [OPTION..] DATABASE ENTRY NAME
+    Takes the attachment of this name away from an entry, and keeps what the
+    entry was before in its history.
+
 Options of every command but generate:
     -q, --quiet
         Nothing is reported.
@@ -270,8 +302,8 @@ Exit status:
    9  Memory ran out.
   10  The output could not be written.
   11  The input could not be read, or no random bytes could be drawn.
-  12  A line is missing on standard input: that of a password or of a one-time
-      code.
+  12  A line is missing on standard input: that of a password, of a one-time
+      code or of a field.
 "
 }
 

@@ -5,7 +5,7 @@ use Rattle.std.specs.Option.{option_and_then}
 use Rattle.std.proofs.lemmas.Bool.Decides.{Decides-eqb}
 use Rattle.cli_options.specs.declared.names.CommandName.{CommandName}
 use Rattle.cli_options.specs.declared.forms.CommandOption.{CommandOption}
-use Rattle.cli_options.specs.declared.forms.CommandOption.TheVariants.{Recursive, Flat, Quiet, Plain, NoPassword, KeyFile, Title, User, Url, Notes, EntryPassword, SameCredentials, DryRun, KeyFileFrom, NoPasswordFrom, Clear, All, Attachments, Format, Attribute, SetPassword, SetKeyFile, ImportFormat, Totp, Generate, Length, Lower, Upper, Numeric, Special, Exclude, Otp, Cipher, Kdf, Rounds, Memory, Lanes, UnsetPassword, UnsetKeyFile, FileVersion, DatabaseName, At, Restore, Details, Ids}
+use Rattle.cli_options.specs.declared.forms.CommandOption.TheVariants.{Recursive, Flat, Quiet, Plain, NoPassword, KeyFile, Title, User, Url, Notes, EntryPassword, SameCredentials, DryRun, KeyFileFrom, NoPasswordFrom, Clear, All, Attachments, Format, Attribute, SetPassword, SetKeyFile, ImportFormat, Totp, Generate, Length, Lower, Upper, Numeric, Special, Exclude, Otp, Cipher, Kdf, Rounds, Memory, Lanes, UnsetPassword, UnsetKeyFile, FileVersion, DatabaseName, At, Restore, Details, Ids, Set, Protect, Unset, Tag, Untag, Expires, Stdout, Force}
 use Rattle.cli_options.specs.Laws.{IsFlagWord, are_flag_letters, is_flag, is_flag_letter, lack_end}
 use Rattle.cli_options.specs.Options.{form_of, has_value, letter_option, name_option}
 use Rattle.cli_options.proofs.Letters.{no_dash}
@@ -87,6 +87,14 @@ name_whole At = λ c s. refl
 name_whole Restore = λ c s. refl
 name_whole Details = λ c s. refl
 name_whole Ids = λ c s. refl
+name_whole Set = λ c s. refl
+name_whole Protect = λ c s. refl
+name_whole Unset = λ c s. refl
+name_whole Tag = λ c s. refl
+name_whole Untag = λ c s. refl
+name_whole Expires = λ c s. refl
+name_whole Stdout = λ c s. refl
+name_whole Force = λ c s. refl
 
 -- The word of a name.
 name_says : (command : CommandName) (name : List ℕ) → is_flag (name_option command name) ≡ true

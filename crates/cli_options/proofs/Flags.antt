@@ -1,12 +1,13 @@
 -- Flags one after another, in any order.
-use Rattle.std.proofs.Common.{◌≡◌, ◌≢◌, ◌⊎◌, inl, inr, ℕ, zero, suc, Bool, true, false, not, ◌&&◌, cond, List, [], ◌∷◌, ◌++◌, is_some, slice_index_or, slice_set, Option, Some, None, refl, sym, ap, ◌∙◌}
+use Rattle.std.proofs.Common.{◌≡◌, ◌≢◌, ◌⊎◌, inl, inr, ℕ, zero, suc, Bool, true, false, not, ◌&&◌, cond, List, [], ◌∷◌, ◌++◌, is_some, slice_set, Option, Some, None, refl, sym, ap, ◌∙◌}
 use Rattle.std.specs.Option.{option_and_then}
 use Rattle.std.proofs.lemmas.Bool.{cases_eq}
+use Rattle.std.proofs.lemmas.Bool.Decides.{Decides-eqb}
 use Rattle.std.proofs.lemmas.List.{get_or-set_other}
 use Rattle.cli_options.specs.declared.forms.CommandOption.{CommandOption}
 use Rattle.cli_options.specs.Options.{is_repeatable, place_of}
-use Rattle.cli_options.proofs.Places.{one_repeatable, same_option}
-use Rattle.cli_options.specs.Said.{Said, is_given, unless_given, with_given, with_text}
+use Rattle.cli_options.proofs.Places.{same_option}
+use Rattle.cli_options.specs.Said.{Said, is_option_of, is_used, repeated_with, unless_given, with_given, with_option_text}
 
 -- The flags of a list, one after another.
 abbrev pub with_flags : List CommandOption → Said → Option Said
@@ -47,66 +48,36 @@ set_past_set (z ∷ zs) zero (suc j) x y h = refl
 set_past_set (z ∷ zs) (suc i) zero x y h = refl
 set_past_set (z ∷ zs) (suc i) (suc j) x y h = ap (λ ts. z ∷ ts) (set_past_set zs i j x y (λ e. h (ap suc e)))
 
--- An option by its place, or one that may occur more than once.
-abbrev put : Bool → ℕ → List ℕ → Said → Option Said
-put true place text said = Some (record said { names = said.names ++ text ∷ [] })
-put false place text said =
-    unless_given (is_some (slice_index_or said.given place None)) (record said { given = slice_set said.given place (Some text) })
-
--- An option with its text is put so.
-given_put : (option : CommandOption) (text : List ℕ) (said : Said)
-    → with_given said option text ≡ put (is_repeatable option) (place_of option) text said
-given_put option text said = by (is_repeatable option)
+-- Texts of two options, of which no other one is both.
+repeated_past : (a b : Bool) (repeated : CommandOption → List (List ℕ)) (f g : CommandOption) (t u : List ℕ) → place_of f ≢ place_of g
+    → repeated_with b (repeated_with a repeated f t) g u ≡ repeated_with a (repeated_with b repeated g u) f t
+repeated_past false b repeated f g t u h = refl
+repeated_past true false repeated f g t u h = refl
+repeated_past true true repeated f g t u h =
+    λ i other. by other (is_option_of f other) (is_option_of g other) refl refl i
   where
-    by : (b : Bool)
-        → unless_given (not b && is_given option said)
-        (cond b (record said { names = said.names ++ text ∷ [] }) (record said { given = with_text said.given option text }))
-        ≡ put b (place_of option) text said
-    by true = refl
-    by false = refl
-
--- An option in its place before one that may occur more than once, or after it.
-place_past_name : (said : Said) (p : ℕ) (t u : List ℕ)
-    → option_and_then (put true p u) (put false p t said) ≡ option_and_then (put false p t) (put true p u said)
-place_past_name said p t u = by (is_some (slice_index_or said.given p None))
-  where
-    by : (b : Bool)
-        → option_and_then (put true p u) (unless_given b (record said { given = slice_set said.given p (Some t) }))
-        ≡ unless_given b (record said { given = slice_set said.given p (Some t); names = said.names ++ u ∷ [] })
-    by true = refl
-    by false = refl
+    by : (other : CommandOption) (x y : Bool) → is_option_of f other ≡ x → is_option_of g other ≡ y
+        → cond y (cond x (repeated other ++ t ∷ []) (repeated other) ++ u ∷ []) (cond x (repeated other ++ t ∷ []) (repeated other))
+        ≡ cond x (cond y (repeated other ++ u ∷ []) (repeated other) ++ t ∷ []) (cond y (repeated other ++ u ∷ []) (repeated other))
+    by other true true e d = absurd (h ((Decides-eqb (place_of f) (place_of other)).0 e ∙ sym ((Decides-eqb (place_of g) (place_of other)).0 d)))
+    by other true false e d = refl
+    by other false y e d = refl
 
 -- Options in two places.
-place_past_place : (said : Said) (p q : ℕ) (t u : List ℕ) → p ≢ q
-    → option_and_then (put false q u) (put false p t said) ≡ option_and_then (put false p t) (put false q u said)
-place_past_place said p q t u other =
-    let texts = said.given in
-    let both = slice_set (slice_set texts p (Some t)) q (Some u) in
-    pair (is_some (slice_index_or texts p None)) (is_some (slice_index_or texts q None)) (put false q u) (put false p t)
-    (record said { given = slice_set texts p (Some t) }) (record said { given = slice_set texts q (Some u) }) (record said { given = both })
-    (ap (λ o. unless_given (is_some o) (record said { given = both })) (get_or-set_other texts p q (Some t) None (λ e. other (sym e))))
-    (ap (λ o. unless_given (is_some o) (record said { given = slice_set (slice_set texts q (Some u)) p (Some t) })) (get_or-set_other texts q p (Some u) None other)
-    ∙ ap (λ ts. unless_given (is_some (slice_index_or texts p None)) (record said { given = ts })) (set_past_set texts q p (Some u) (Some t) (λ e. other (sym e))))
-
--- Options that are not one, in either order.
-put_past_put : (said : Said) (a b : Bool) (p q : ℕ) (t u : List ℕ) → (a ≡ true → b ≡ true → p ≡ q) → p ≢ q
-    → option_and_then (put b q u) (put a p t said) ≡ option_and_then (put a p t) (put b q u said)
-put_past_put said true true p q t u one other = absurd (other (one refl refl))
-put_past_put said true false p q t u one other = sym (place_past_name said q u t)
-put_past_put said false true p q t u one other = place_past_name said p t u
-put_past_put said false false p q t u one other = place_past_place said p q t u other
-
--- The same with what options are.
-past_put : (said : Said) (f g : CommandOption) (t u : List ℕ)
-    → option_and_then (put (is_repeatable g) (place_of g) u) (put (is_repeatable f) (place_of f) t said)
-    ≡ option_and_then (put (is_repeatable f) (place_of f) t) (put (is_repeatable g) (place_of g) u said)
+place_past_place : (said : Said) (f g : CommandOption) (t u : List ℕ) → place_of f ≢ place_of g
     → option_and_then (λ s. with_given s g u) (with_given said f t) ≡ option_and_then (λ s. with_given s f t) (with_given said g u)
-past_put said f g t u h =
-    same_step (λ s. with_given s g u) (put (is_repeatable g) (place_of g) u) (given_put g u) (with_given said f t)
-    ∙ ap (option_and_then (put (is_repeatable g) (place_of g) u)) (given_put f t said)
-    ∙ h
-    ∙ sym (ap (option_and_then (put (is_repeatable f) (place_of f) t)) (given_put g u said))
-    ∙ sym (same_step (λ s. with_given s f t) (put (is_repeatable f) (place_of f) t) (given_put f t) (with_given said g u))
+place_past_place said f g t u other =
+    let texts = said.given in
+    let one = with_option_text said f t in
+    let two = with_option_text said g u in
+    let both = with_option_text one g u in
+    pair (is_used f texts) (is_used g texts) (λ s. with_given s g u) (λ s. with_given s f t) one two both
+    (ap (λ o. unless_given (not (is_repeatable g) && is_some o) both) (get_or-set_other texts (place_of f) (place_of g) (Some t) None (λ e. other (sym e))))
+    (ap (λ o. unless_given (not (is_repeatable f) && is_some o) (with_option_text two f t)) (get_or-set_other texts (place_of g) (place_of f) (Some u) None other)
+    ∙ (λ i. unless_given (is_used f texts) (record said {
+      given = set_past_set texts (place_of g) (place_of f) (Some u) (Some t) (λ e. other (sym e)) i;
+      repeated = repeated_past (is_repeatable g) (is_repeatable f) said.repeated g f u t (λ e. other (sym e)) i;
+    })))
 
 -- Two options in either order, with their texts: different options, or the same text.
 pub given_past_given : (said : Said) (f g : CommandOption) (t u : List ℕ) → (f ≢ g) ⊎ (t ≡ u)
@@ -121,9 +92,7 @@ given_past_given said f g t u h = by (cases_eq (place_of f) (place_of g))
     by : (place_of f ≡ place_of g) ⊎ (place_of f ≢ place_of g)
         → option_and_then (λ s. with_given s g u) (with_given said f t) ≡ option_and_then (λ s. with_given s f t) (with_given said g u)
     by (inl e) = alike (same_option f g e) h
-    by (inr other) =
-        past_put said f g t u
-        (put_past_put said (is_repeatable f) (is_repeatable g) (place_of f) (place_of g) t u (one_repeatable f g) other)
+    by (inr other) = place_past_place said f g t u other
 
 -- Two flags in either order.
 flag_past_flag : (said : Said) (f g : CommandOption)

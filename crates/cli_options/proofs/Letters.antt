@@ -5,7 +5,7 @@ use Rattle.std.proofs.lemmas.Bool.Decides.{Decides-eqb}
 use Rattle.cli_options.specs.declared.names.CommandName.{CommandName}
 use Rattle.cli_options.specs.declared.names.CommandName.TheVariants as name
 use Rattle.cli_options.specs.declared.forms.CommandOption.{CommandOption}
-use Rattle.cli_options.specs.declared.forms.CommandOption.TheVariants.{Recursive, Flat, Quiet, Plain, NoPassword, KeyFile, Title, User, Url, Notes, EntryPassword, SameCredentials, DryRun, KeyFileFrom, NoPasswordFrom, Clear, All, Attachments, Format, Attribute, SetPassword, SetKeyFile, ImportFormat, Totp, Generate, Length, Lower, Upper, Numeric, Special, Exclude, Otp, Cipher, Kdf, Rounds, Memory, Lanes, UnsetPassword, UnsetKeyFile, FileVersion, DatabaseName, At, Restore, Details, Ids}
+use Rattle.cli_options.specs.declared.forms.CommandOption.TheVariants.{Recursive, Flat, Quiet, Plain, NoPassword, KeyFile, Title, User, Url, Notes, EntryPassword, SameCredentials, DryRun, KeyFileFrom, NoPasswordFrom, Clear, All, Attachments, Format, Attribute, SetPassword, SetKeyFile, ImportFormat, Totp, Generate, Length, Lower, Upper, Numeric, Special, Exclude, Otp, Cipher, Kdf, Rounds, Memory, Lanes, UnsetPassword, UnsetKeyFile, FileVersion, DatabaseName, At, Restore, Details, Ids, Set, Protect, Unset, Tag, Untag, Expires, Stdout, Force}
 use Rattle.cli_options.specs.Options.{form_of, has_letter, is_letter, letter_option, with_letter}
 
 -- A letter is one of ASCII, where there is one.
@@ -58,6 +58,14 @@ low At = tt
 low Restore = tt
 low Details = tt
 low Ids = tt
+low Set = tt
+low Protect = tt
+low Unset = tt
+low Tag = tt
+low Untag = tt
+low Expires = tt
+low Stdout = tt
+low Force = omega arith
 
 low_letter : (own : Option ℕ) (letter : ℕ) → IsLow own → is_letter own letter ≡ true → letter < 128
 low_letter None letter h e = absurd (let no : false ≡ true → ⊥ = λ p. cc p in no e)
@@ -91,4 +99,7 @@ no_dash name.Create = refl
 no_dash name.Export = refl
 no_dash name.EditFile = refl
 no_dash name.Info = refl
+no_dash name.ExportAttachment = refl
+no_dash name.ImportAttachment = refl
+no_dash name.RemoveAttachment = refl
 no_dash name.Generate = refl

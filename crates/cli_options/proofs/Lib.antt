@@ -9,8 +9,10 @@ pub mod PrefixCases
 pub mod Saying
 pub mod Stripping
 pub mod Texts
+pub mod ValueWords
 pub mod Found
 pub mod Letters
 pub mod Named
 pub mod Places
+pub mod Repeated
 pub mod Taken

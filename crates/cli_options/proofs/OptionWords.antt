@@ -5,7 +5,7 @@ use Rattle.std.proofs.lemmas.Bool.Decides.{Decides-eqb}
 use Rattle.std.proofs.lemmas.List.{append_assoc}
 use Rattle.cli_options.specs.declared.names.CommandName.{CommandName}
 use Rattle.cli_options.specs.declared.forms.CommandOption.{CommandOption}
-use Rattle.cli_options.specs.declared.forms.CommandOption.TheVariants.{Recursive, Flat, Quiet, Plain, NoPassword, KeyFile, Title, User, Url, Notes, EntryPassword, SameCredentials, DryRun, KeyFileFrom, NoPasswordFrom, Clear, All, Attachments, Format, Attribute, SetPassword, SetKeyFile, ImportFormat, Totp, Generate, Length, Lower, Upper, Numeric, Special, Exclude, Otp, Cipher, Kdf, Rounds, Memory, Lanes, UnsetPassword, UnsetKeyFile, FileVersion, DatabaseName, At, Restore, Details, Ids}
+use Rattle.cli_options.specs.declared.forms.CommandOption.TheVariants.{Recursive, Flat, Quiet, Plain, NoPassword, KeyFile, Title, User, Url, Notes, EntryPassword, SameCredentials, DryRun, KeyFileFrom, NoPasswordFrom, Clear, All, Attachments, Format, Attribute, SetPassword, SetKeyFile, ImportFormat, Totp, Generate, Length, Lower, Upper, Numeric, Special, Exclude, Otp, Cipher, Kdf, Rounds, Memory, Lanes, UnsetPassword, UnsetKeyFile, FileVersion, DatabaseName, At, Restore, Details, Ids, Set, Protect, Unset, Tag, Untag, Expires, Stdout, Force}
 use Rattle.cli_options.specs.Options.{form_of, has_value, letter_option, name_option}
 use Rattle.cli_options.proofs.Letters.{no_dash}
 use Rattle.cli_options.proofs.Named.{named}
@@ -66,6 +66,14 @@ name_valued At = λ c s v. refl
 name_valued Restore = λ c s v. refl
 name_valued Details = λ c s v. refl
 name_valued Ids = λ c s v. refl
+name_valued Set = λ c s v. refl
+name_valued Protect = λ c s v. refl
+name_valued Unset = λ c s v. refl
+name_valued Tag = λ c s v. refl
+name_valued Untag = λ c s v. refl
+name_valued Expires = λ c s v. refl
+name_valued Stdout = λ c s v. refl
+name_valued Force = λ c s v. refl
 
 -- The letter of an option is not `-`.
 no_sign : (command : CommandName) (letter : ℕ) (option : CommandOption) → letter_option command letter ≡ Some option → (letter == 45) ≡ false

@@ -6,9 +6,9 @@ use Rattle.std.proofs.lemmas.Slice.Eq.{bytes_eq-Decides}
 use Rattle.cli_options.specs.declared.names.CommandName.{CommandName}
 use Rattle.cli_options.specs.declared.forms.CommandOption.{CommandOption}
 use Rattle.cli_options.specs.Laws.{lack_end}
-use Rattle.cli_options.specs.Options.{has_value, is_repeatable, letter_option, name_option}
+use Rattle.cli_options.specs.Options.{has_value, letter_option, name_option}
 use Rattle.cli_options.specs.Prefixes.{after_sign, before_sign, strip_prefix}
-use Rattle.cli_options.specs.Said.{Said, by_letter, is_option, unless_given, with_due, with_flag, with_given, with_joined, with_letters, with_long, with_next, with_option, with_option_text, with_position, with_short, with_text, with_word, with_words, without_sign}
+use Rattle.cli_options.specs.Said.{Said, by_letter, is_option, unless_given, with_due, with_flag, with_given, with_joined, with_letters, with_long, with_next, with_option, with_option_text, with_position, with_short, with_word, with_words, without_sign}
 use Rattle.cli_options.proofs.Flags.{joined, same_step, with_flags}
 
 -- What is said, if anything is, has a property.
@@ -45,12 +45,7 @@ IsState ended due said = (said.ended ≡ ended) × (said.due ≡ due)
 -- An option with its text changes neither.
 pub text_keeps : (ended : Bool) (due : Option CommandOption) (said : Said) (option : CommandOption) (text : List ℕ) → IsState ended due said
     → IsState ended due (with_option_text said option text)
-text_keeps e d said option text p = by (is_repeatable option)
-  where
-    by : (b : Bool)
-        → IsState e d (cond b (record said { names = said.names ++ text ∷ [] }) (record said { given = with_text said.given option text }))
-    by true = p
-    by false = p
+text_keeps e d said option text p = p
 
 -- Flags change neither.
 pub flags_keep : (ended : Bool) (due : Option CommandOption) (flags : List CommandOption) (said : Said)

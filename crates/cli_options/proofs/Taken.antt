@@ -17,7 +17,7 @@ found_each name.Show = ((refl, refl), ((refl, tt), ((refl, tt), ((refl, refl), (
 found_each name.History = ((refl, refl), ((refl, tt), ((refl, tt), ((refl, refl), tt))))
 found_each name.Search = ((refl, refl), ((refl, tt), ((refl, tt), ((refl, refl), tt))))
 found_each name.Add = ((refl, refl), ((refl, tt), ((refl, tt), ((refl, refl), ((refl, refl), ((refl, refl), ((refl, refl), ((refl, refl), ((refl, refl), ((refl, refl), ((refl, refl), ((refl, refl), ((refl, tt), ((refl, tt), ((refl, refl), tt)))))))))))))))
-found_each name.Edit = ((refl, refl), ((refl, refl), ((refl, tt), ((refl, tt), ((refl, refl), ((refl, refl), ((refl, refl), ((refl, refl), ((refl, refl), ((refl, refl), ((refl, refl), ((refl, refl), ((refl, tt), ((refl, tt), ((refl, refl), ((refl, tt), ((refl, tt), ((refl, refl), tt))))))))))))))))))
+found_each name.Edit = ((refl, refl), ((refl, refl), ((refl, tt), ((refl, tt), ((refl, refl), ((refl, refl), ((refl, refl), ((refl, refl), ((refl, refl), ((refl, refl), ((refl, refl), ((refl, refl), ((refl, tt), ((refl, tt), ((refl, tt), ((refl, tt), ((refl, tt), ((refl, tt), ((refl, tt), ((refl, tt), ((refl, refl), ((refl, tt), ((refl, tt), ((refl, refl), tt))))))))))))))))))))))))
 found_each name.Move = ((refl, refl), ((refl, tt), ((refl, tt), ((refl, refl), tt))))
 found_each name.Remove = ((refl, refl), ((refl, tt), ((refl, tt), ((refl, refl), tt))))
 found_each name.MakeGroup = ((refl, refl), ((refl, tt), ((refl, tt), ((refl, refl), tt))))
@@ -28,6 +28,9 @@ found_each name.Create = ((refl, refl), ((refl, tt), ((refl, tt), ((refl, tt), (
 found_each name.Export = ((refl, refl), ((refl, refl), ((refl, tt), ((refl, tt), ((refl, refl), tt)))))
 found_each name.EditFile = ((refl, refl), ((refl, tt), ((refl, tt), ((refl, tt), ((refl, tt), ((refl, tt), ((refl, tt), ((refl, tt), ((refl, tt), ((refl, tt), ((refl, refl), ((refl, tt), ((refl, refl), tt)))))))))))))
 found_each name.Info = ((refl, refl), ((refl, tt), ((refl, tt), ((refl, refl), tt))))
+found_each name.ExportAttachment = ((refl, tt), ((refl, refl), ((refl, tt), ((refl, tt), ((refl, refl), tt)))))
+found_each name.ImportAttachment = ((refl, refl), ((refl, refl), ((refl, tt), ((refl, tt), ((refl, refl), tt)))))
+found_each name.RemoveAttachment = ((refl, refl), ((refl, tt), ((refl, tt), ((refl, refl), tt))))
 found_each name.Generate = ((refl, refl), ((refl, refl), ((refl, refl), ((refl, refl), ((refl, refl), ((refl, refl), tt))))))
 
 -- Each option is found.

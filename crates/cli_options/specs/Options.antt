@@ -5,7 +5,7 @@ use Rattle.std.specs.Str.{bytes_eq}
 use Rattle.cli_options.specs.declared.names.CommandName.{CommandName}
 use Rattle.cli_options.specs.declared.names.CommandName.TheVariants as name
 use Rattle.cli_options.specs.declared.forms.CommandOption.{CommandOption}
-use Rattle.cli_options.specs.declared.forms.CommandOption.TheVariants.{Recursive, Flat, Quiet, Plain, NoPassword, KeyFile, Title, User, Url, Notes, EntryPassword, SameCredentials, DryRun, KeyFileFrom, NoPasswordFrom, Clear, All, Attachments, Format, Attribute, SetPassword, SetKeyFile, ImportFormat, Totp, Generate, Length, Lower, Upper, Numeric, Special, Exclude, Otp, Cipher, Kdf, Rounds, Memory, Lanes, UnsetPassword, UnsetKeyFile, FileVersion, DatabaseName, At, Restore, Details, Ids}
+use Rattle.cli_options.specs.declared.forms.CommandOption.TheVariants.{Recursive, Flat, Quiet, Plain, NoPassword, KeyFile, Title, User, Url, Notes, EntryPassword, SameCredentials, DryRun, KeyFileFrom, NoPasswordFrom, Clear, All, Attachments, Format, Attribute, SetPassword, SetKeyFile, ImportFormat, Totp, Generate, Length, Lower, Upper, Numeric, Special, Exclude, Otp, Cipher, Kdf, Rounds, Memory, Lanes, UnsetPassword, UnsetKeyFile, FileVersion, DatabaseName, At, Restore, Details, Ids, Set, Protect, Unset, Tag, Untag, Expires, Stdout, Force}
 
 -- ---- commands
 
@@ -29,7 +29,10 @@ command_named word =
     else (if bytes_eq word (codes "db-edit") then Some name.EditFile
     else (if bytes_eq word (codes "db-info") then Some name.Info
     else (if bytes_eq word (codes "generate") then Some name.Generate
-    else None))))))))))))))))
+    else (if bytes_eq word (codes "attachment-export") then Some name.ExportAttachment
+    else (if bytes_eq word (codes "attachment-import") then Some name.ImportAttachment
+    else (if bytes_eq word (codes "attachment-rm") then Some name.RemoveAttachment
+    else None)))))))))))))))))))
 
 -- ---- how options are written
 
@@ -120,6 +123,14 @@ form_of At = valued (codes "at") None
 form_of Restore = valued (codes "restore") None
 form_of Details = flag (codes "details") None
 form_of Ids = flag (codes "ids") None
+form_of Set = repeatable (codes "set") None
+form_of Protect = flag (codes "protect") None
+form_of Unset = repeatable (codes "unset") None
+form_of Tag = repeatable (codes "tag") None
+form_of Untag = repeatable (codes "untag") None
+form_of Expires = valued (codes "expires") None
+form_of Stdout = flag (codes "stdout") None
+form_of Force = flag (codes "force") (the (codes "f"))
 
 -- Whether an option has a value; the others are flags.
 abbrev pub has_value : CommandOption → Bool
@@ -176,6 +187,14 @@ place_of At = 41
 place_of Restore = 42
 place_of Details = 43
 place_of Ids = 44
+place_of Set = 45
+place_of Protect = 46
+place_of Unset = 47
+place_of Tag = 48
+place_of Untag = 49
+place_of Expires = 50
+place_of Stdout = 51
+place_of Force = 52
 
 -- ---- which options each command takes
 
@@ -188,7 +207,8 @@ own_options name.Search = []
 own_options name.Add = User ∷ Url ∷ Notes ∷ EntryPassword
     ∷ Generate ∷ Length ∷ Lower ∷ Upper ∷ Numeric ∷ Special ∷ Exclude ∷ []
 own_options name.Edit = Title ∷ User ∷ Url ∷ Notes ∷ EntryPassword
-    ∷ Generate ∷ Length ∷ Lower ∷ Upper ∷ Numeric ∷ Special ∷ Exclude ∷ Otp ∷ Restore ∷ []
+    ∷ Generate ∷ Length ∷ Lower ∷ Upper ∷ Numeric ∷ Special ∷ Exclude ∷ Otp ∷ Restore
+    ∷ Set ∷ Protect ∷ Unset ∷ Tag ∷ Untag ∷ Expires ∷ []
 own_options name.Move = []
 own_options name.Remove = []
 own_options name.MakeGroup = []
@@ -201,6 +221,9 @@ own_options name.Export = Format ∷ []
 own_options name.EditFile = SetPassword ∷ SetKeyFile ∷ UnsetPassword ∷ UnsetKeyFile
     ∷ Cipher ∷ Kdf ∷ Rounds ∷ Memory ∷ Lanes ∷ FileVersion ∷ []
 own_options name.Info = []
+own_options name.ExportAttachment = Stdout ∷ []
+own_options name.ImportAttachment = Force ∷ []
+own_options name.RemoveAttachment = []
 own_options name.Generate = Length ∷ Lower ∷ Upper ∷ Numeric ∷ Special ∷ Exclude ∷ []
 
 -- The options that a command shares with others: what has a database takes that of what is printed,

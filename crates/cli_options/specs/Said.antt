@@ -13,13 +13,13 @@ is_option [] = false
 is_option (b ∷ []) = false
 is_option (b ∷ c ∷ bs) = b == 45
 
--- What the words after a command's name say: the text of each option that was given, a flag's being
--- empty; the texts of the option that may occur more than once, in their order; the option whose
--- value is due in the next word; whether `--` was there, after which no word is an option; and the
--- positions.
+-- What the words after a command's name say: the last text of each option that was given, a flag's
+-- being empty; all texts of each option that may occur more than once, in their order; the option
+-- whose value is due in the next word; whether `--` was there, after which no word is an option; and
+-- the positions.
 pub record Said : Type 0 where
   pub given : List (Option (List ℕ))
-  pub names : List (List ℕ)
+  pub repeated : CommandOption → List (List ℕ)
   pub due : Option CommandOption
   pub ended : Bool
   pub positions : List (List ℕ)
@@ -27,8 +27,8 @@ pub record Said : Type 0 where
 -- What no words say.
 abbrev pub nothing_said : Said
 nothing_said = record {
-  given = replicate 45 None;
-  names = [];
+  given = replicate 53 None;
+  repeated = λ option. [];
   due = None;
   ended = false;
   positions = [];
@@ -38,11 +38,15 @@ nothing_said = record {
 abbrev pub text_in : CommandOption → List (Option (List ℕ)) → Option (List ℕ)
 text_in option texts = slice_index_or texts (place_of option) None
 
--- The text of an option, where it was given.
+-- The text of an option, the last one where it was given more than once.
 abbrev pub text_of : CommandOption → Said → Option (List ℕ)
 text_of option said = text_in option said.given
 
--- An option that occurs at most once was given.
+-- All texts of an option that may occur more than once, in their order.
+abbrev pub texts_of : CommandOption → Said → List (List ℕ)
+texts_of option said = said.repeated option
+
+-- An option was given.
 abbrev pub is_given : CommandOption → Said → Bool
 is_given option said = is_some (text_of option said)
 
@@ -65,12 +69,28 @@ unless_given false said = Some said
 abbrev pub with_text : List (Option (List ℕ)) → CommandOption → List ℕ → List (Option (List ℕ))
 with_text given option text = slice_set given (place_of option) (Some text)
 
--- An option with its text: after the texts before it where it may occur more than once, or else in
--- its place.
+-- Whether two options are one.
+abbrev pub is_option_of : (one other : CommandOption) → Bool
+is_option_of one other = place_of one == place_of other
+
+-- The texts of options that may occur more than once, with one more of an option after its others.
+abbrev pub with_repeated : (CommandOption → List (List ℕ)) → CommandOption → List ℕ
+    → CommandOption → List (List ℕ)
+with_repeated repeated option text other =
+    if is_option_of option other then repeated other ++ text ∷ [] else repeated other
+
+-- The same where this one may occur more than once.
+abbrev pub repeated_with : Bool → (CommandOption → List (List ℕ)) → CommandOption → List ℕ
+    → CommandOption → List (List ℕ)
+repeated_with true repeated option text = with_repeated repeated option text
+repeated_with false repeated option text = repeated
+
+-- An option with its text: in its place, and after its other texts where it may occur more than once.
 abbrev pub with_option_text : Said → CommandOption → List ℕ → Said
-with_option_text said option text = if is_repeatable option
-    then record said { names = said.names ++ text ∷ [] }
-    else record said { given = with_text said.given option text }
+with_option_text said option text = record said {
+  given = with_text said.given option text;
+  repeated = repeated_with (is_repeatable option) said.repeated option text;
+}
 
 -- An option with its text, unless it must not be given once more.
 abbrev pub with_given : Said → CommandOption → List ℕ → Option Said

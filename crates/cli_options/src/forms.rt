@@ -96,10 +96,26 @@ pub enum CommandOption {
     Details,
     /// `--ids`
     Ids,
+    /// `--set NAME`
+    Set,
+    /// `--protect`
+    Protect,
+    /// `--unset NAME`
+    Unset,
+    /// `--tag TAG`
+    Tag,
+    /// `--untag TAG`
+    Untag,
+    /// `--expires TIME`
+    Expires,
+    /// `--stdout`
+    Stdout,
+    /// `--force`, `-f`
+    Force,
 }
 
 /// How many options there are.
-pub const OPTIONS: usize = 45;
+pub const OPTIONS: usize = 53;
 
 /// How an option is written.
 #[derive(Clone, Copy)]
@@ -200,6 +216,14 @@ pub(crate) fn form_of(option: CommandOption) -> OptionForm
         CommandOption::Restore => valued("restore", None),
         CommandOption::Details => flag("details", None),
         CommandOption::Ids => flag("ids", None),
+        CommandOption::Set => repeatable("set", None),
+        CommandOption::Protect => flag("protect", None),
+        CommandOption::Unset => repeatable("unset", None),
+        CommandOption::Tag => repeatable("tag", None),
+        CommandOption::Untag => repeatable("untag", None),
+        CommandOption::Expires => valued("expires", None),
+        CommandOption::Stdout => flag("stdout", None),
+        CommandOption::Force => flag("force", Some(b'f')),
     }
 }
 
@@ -220,7 +244,7 @@ pub fn is_repeatable(option: CommandOption) -> bool
 /// The place of an option among all of them.
 pub fn place_of(option: CommandOption) -> usize
     ensures is { result ≡ spec.place_of option }
-    ensures most { result < 45 }
+    ensures most { result < 53 }
 {
     match option {
         CommandOption::Recursive => 0,
@@ -268,5 +292,13 @@ pub fn place_of(option: CommandOption) -> usize
         CommandOption::Restore => 42,
         CommandOption::Details => 43,
         CommandOption::Ids => 44,
+        CommandOption::Set => 45,
+        CommandOption::Protect => 46,
+        CommandOption::Unset => 47,
+        CommandOption::Tag => 48,
+        CommandOption::Untag => 49,
+        CommandOption::Expires => 50,
+        CommandOption::Stdout => 51,
+        CommandOption::Force => 52,
     }
 }

@@ -39,6 +39,12 @@ pub enum CommandName {
     Info,
     /// `generate`
     Generate,
+    /// `attachment-export`
+    ExportAttachment,
+    /// `attachment-import`
+    ImportAttachment,
+    /// `attachment-rm`
+    RemoveAttachment,
 }
 
 /// The command of a name.
@@ -63,6 +69,9 @@ pub fn command_named(name: &str) -> Option<CommandName>
         "db-edit" => Some(CommandName::EditFile),
         "db-info" => Some(CommandName::Info),
         "generate" => Some(CommandName::Generate),
+        "attachment-export" => Some(CommandName::ExportAttachment),
+        "attachment-import" => Some(CommandName::ImportAttachment),
+        "attachment-rm" => Some(CommandName::RemoveAttachment),
         _ => None,
     }
 }

@@ -1,6 +1,6 @@
 //! What the words of a call say.
 ghost use Rattle.std.specs.Prelude.{◌≡◌, [], ◌∷◌, ◌++◌, false, IfOk, None, Some, map};
-ghost use Rattle.cli_options.specs.SaidWords.{Gives, reading_seen, said_seen, text_seen};
+ghost use Rattle.cli_options.specs.SaidWords.{Gives, reading_seen, said_seen, text_seen, texts_among};
 ghost use Rattle.cli_options.specs.Said as spec;
 ghost use Rattle.cli_options.specs.declared.said.WordsFail.TheVariants as fail;
 
@@ -25,13 +25,22 @@ impl From<NoMemory> for WordsFail {
     }
 }
 
+/// A text of an option that may occur more than once.
+#[derive(Drop)]
+pub struct RepeatedText {
+    /// The option.
+    pub option: CommandOption,
+    /// The text.
+    pub text: Text,
+}
+
 /// What the words after a command's name say.
 #[derive(Clone, Copy)]
 pub struct SaidWords<'a, 'b> {
-    /// The text of each option that was given, by its place; a flag's text is empty.
+    /// The last text of each option that was given, by its place; a flag's text is empty.
     pub given: [Option<&'a str>; OPTIONS],
-    /// The texts of the option that may occur more than once.
-    pub names: &'b [Text],
+    /// All texts of options that may occur more than once, in their order.
+    pub repeated: &'b [RepeatedText],
     /// The option whose value is due in the next word.
     pub due: Option<CommandOption>,
     /// Whether `--` was there, after which no word is an option.
@@ -43,15 +52,15 @@ pub struct SaidWords<'a, 'b> {
 /// The texts of options that were given, while words are read.
 #[derive(Clone, Copy)]
 pub struct GivenTexts<'a> {
-    /// The text of each option, by its place; a flag's text is empty.
+    /// The last text of each option, by its place; a flag's text is empty.
     pub texts: [Option<&'a str>; OPTIONS],
 }
 
 /// What else words say, while they are read.
 #[derive(Drop)]
 pub struct ReadingState {
-    /// The texts of the option that may occur more than once.
-    pub names: List<Text>,
+    /// All texts of options that may occur more than once, in their order.
+    pub repeated: List<RepeatedText>,
     /// The option whose value is due in the next word.
     pub due: Option<CommandOption>,
     /// Whether `--` was there, after which no word is an option.
@@ -73,13 +82,13 @@ pub fn no_texts<'a>() -> GivenTexts<'a>
 
 /// What no words say beside options.
 pub fn empty_state(alloc: Global) -> ReadingState
-    ensures names { result.names ≡ [] }
+    ensures repeated { result.repeated ≡ [] }
     ensures due { result.due ≡ None }
     ensures ended { result.ended ≡ false }
     ensures positions { result.positions ≡ [] }
 {
     ReadingState {
-        names: List::new(alloc),
+        repeated: List::new(alloc),
         due: None,
         ended: false,
         positions: List::new(alloc),
@@ -94,14 +103,14 @@ fn text_in<'a>(texts: [Option<&'a str>; OPTIONS], option: CommandOption) -> Opti
     texts[place_of(option)]
 }
 
-/// The text of an option, where it was given.
+/// The text of an option, the last one where it was given more than once.
 pub fn text_of<'a>(said: &SaidWords<'a, '_>, option: CommandOption) -> Option<&'a str>
     ensures { text_seen result ≡ spec.text_of option (said_seen said.now) }
 {
     text_in(said.given, option)
 }
 
-/// Reports whether an option that occurs at most once was given.
+/// Reports whether an option was given.
 pub fn is_given(said: &SaidWords<'_, '_>, option: CommandOption) -> bool
     ensures { result ≡ spec.is_given option (said_seen said.now) }
 {
@@ -139,6 +148,23 @@ fn add_text(alloc: Global, texts: &mut List<Text>, text: &str) -> Result<(), Wor
     }
 }
 
+// A text more of an option that may occur more than once.
+fn add_repeated(
+    alloc: Global,
+    repeated: &mut List<RepeatedText>,
+    option: CommandOption,
+    text: &str,
+) -> Result<(), WordsFail>
+    ensures { Gives (λ done. texts_among repeated.new) result
+        (Some (spec.with_repeated (texts_among repeated.old) option text.now)) }
+{
+    let text = Text::of(alloc, text)?;
+    match repeated.push(RepeatedText { option, text }) {
+        Ok(()) => Ok(()),
+        Err(_text) => Err(WordsFail::NoMemory),
+    }
+}
+
 /// An option with its text, unless it must not be given once more.
 pub fn add_given<'a>(
     given: &mut GivenTexts<'a>,
@@ -154,7 +180,7 @@ pub fn add_given<'a>(
         return Err(WordsFail::Wrong);
     }
     if is_repeatable(option) {
-        return add_text(state.alloc, &mut state.names, text);
+        add_repeated(state.alloc, &mut state.repeated, option, text)?;
     }
     given.texts = with_text(texts, option, text);
     Ok(())
@@ -196,6 +222,26 @@ pub fn copy_of(alloc: Global, text: Option<&str>) -> Result<Option<Text>, NoMemo
         Some(text) => Ok(Some(Text::of(alloc, text)?)),
         None => Ok(None),
     }
+}
+
+/// Copies of all texts of an option that may occur more than once, in their order.
+pub fn texts_of(
+    alloc: Global,
+    said: &SaidWords<'_, '_>,
+    option: CommandOption,
+) -> Result<List<Text>, NoMemory>
+    ensures { IfOk result (λ texts. texts ≡ spec.texts_of option (said_seen said.now)) }
+{
+    let mut texts = List::new(alloc);
+    for repeated in said.repeated {
+        if place_of(repeated.option) != place_of(option) {
+            continue;
+        }
+        let Ok(()) = texts.push(Text::of(alloc, repeated.text.as_str())?) else {
+            return Err(NoMemory);
+        };
+    }
+    Ok(texts)
 }
 
 /// Copies of texts.

@@ -58,6 +58,12 @@ fn own_options(command: CommandName) -> &'static [CommandOption]
                 CommandOption::Exclude,
                 CommandOption::Otp,
                 CommandOption::Restore,
+                CommandOption::Set,
+                CommandOption::Protect,
+                CommandOption::Unset,
+                CommandOption::Tag,
+                CommandOption::Untag,
+                CommandOption::Expires,
             ]
         }
         CommandName::Merge => {
@@ -89,6 +95,8 @@ fn own_options(command: CommandName) -> &'static [CommandOption]
             ]
         }
         CommandName::Export => &[CommandOption::Format],
+        CommandName::ExportAttachment => &[CommandOption::Stdout],
+        CommandName::ImportAttachment => &[CommandOption::Force],
         CommandName::EditFile => {
             &[
                 CommandOption::SetPassword,

@@ -4,7 +4,7 @@ use Rattle.std.specs.Prelude.{◌⊎◌, not, ◌&&◌, ◌||◌, ◌==◌, nat_
 use Rattle.std.specs.List.{list_all}
 use Rattle.std.proofs.lemmas.List.Folds.{list_all-map}
 use Rattle.cli_messages.specs.Pages as alone
-use Rattle.cli_parse.specs.declared.command.Command.{Command}
+use Rattle.cli_needs.specs.declared.command.Command.{Command}
 use Rattle.cli_profiles.specs.declared.profiles.PasswordProfile.{PasswordProfile}
 use Rattle.cli_parse.specs.Words.{command_in, command_of, or_wrong_words, profile_of}
 use Rattle.cli_causes.specs.declared.cause.Cause.{Cause}

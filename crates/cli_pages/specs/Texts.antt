@@ -6,10 +6,10 @@ use Rattle.strsim.specs.Edits.{levenshtein_row}
 use Rattle.cli_options.specs.declared.names.CommandName.{CommandName}
 use Rattle.cli_options.specs.declared.names.CommandName.TheVariants as name
 use Rattle.cli_options.specs.declared.forms.CommandOption.{CommandOption}
-use Rattle.cli_options.specs.declared.forms.CommandOption.TheVariants.{Recursive, Flat, Quiet, Plain, NoPassword, KeyFile, Title, User, Url, Notes, EntryPassword, SameCredentials, DryRun, KeyFileFrom, NoPasswordFrom, Clear, All, Attachments, Format, Attribute, SetPassword, SetKeyFile, Totp, Generate, Length, Lower, Upper, Numeric, Special, Exclude, Otp, Cipher, Kdf, Rounds, Memory, Lanes, UnsetPassword, UnsetKeyFile, FileVersion, DatabaseName, At, Restore, Details, Ids}
+use Rattle.cli_options.specs.declared.forms.CommandOption.TheVariants.{Recursive, Flat, Quiet, Plain, NoPassword, KeyFile, Title, User, Url, Notes, EntryPassword, SameCredentials, DryRun, KeyFileFrom, NoPasswordFrom, Clear, All, Attachments, Format, Attribute, SetPassword, SetKeyFile, Totp, Generate, Length, Lower, Upper, Numeric, Special, Exclude, Otp, Cipher, Kdf, Rounds, Memory, Lanes, UnsetPassword, UnsetKeyFile, FileVersion, DatabaseName, At, Restore, Details, Ids, Set, Protect, Unset, Tag, Untag, Expires, Stdout, Force}
 use Rattle.cli_options.specs.Options.{form_of, name_option}
 use Rattle.cli_causes.specs.declared.cause.Cause.{Cause}
-use Rattle.cli_causes.specs.declared.cause.Cause.TheVariants.{NoCommand, OptionFirst, UnknownCommand, UnknownOption, UnknownLetter, UnknownWord, TakesNoValue, LetterTakesNoValue, OptionTwice, FlagsTwice, JoinedValue, NoValue, OptionAsValue, FewPositions, ExtraPosition, ManySources, NotWithPlain, NotWithSame, NotTogether, NoKeyFile, NoKeyFileFrom, NoNewKey, UnknownImportFormat, UnknownExportFormat, NeedsGenerate, UnknownNumber, UnknownLength, NoCharacters, UnknownCipher, UnknownKdf, UnknownVersion, UnknownCost, NeedsKdf, NeedsArgon, NoKeyLeft, NoFileChange, KeyFileChangesNothing}
+use Rattle.cli_causes.specs.declared.cause.Cause.TheVariants.{NoCommand, OptionFirst, UnknownCommand, UnknownOption, UnknownLetter, UnknownWord, TakesNoValue, LetterTakesNoValue, OptionTwice, FlagsTwice, JoinedValue, NoValue, OptionAsValue, FewPositions, ExtraPosition, ManySources, NotWithPlain, NotWithSame, NotTogether, NoKeyFile, NoKeyFileFrom, NoNewKey, UnknownImportFormat, UnknownExportFormat, NeedsGenerate, UnknownNumber, EmptyFieldName, StandardField, UnknownTag, NeedsSet, UnknownTime, FileBesideStdout, NoFileOrStdout, EmptyAttachmentName, UnknownLength, NoCharacters, UnknownCipher, UnknownKdf, UnknownVersion, UnknownCost, NeedsKdf, NeedsArgon, NoKeyLeft, NoFileChange, KeyFileChangesNothing}
 
 -- ---- commands and options
 
@@ -32,6 +32,9 @@ command_text name.Export = codes "export"
 command_text name.EditFile = codes "db-edit"
 command_text name.Info = codes "db-info"
 command_text name.Generate = codes "generate"
+command_text name.ExportAttachment = codes "attachment-export"
+command_text name.ImportAttachment = codes "attachment-import"
+command_text name.RemoveAttachment = codes "attachment-rm"
 
 -- The positions of a command by their names.
 abbrev pub positions_text : CommandName → List ℕ
@@ -52,13 +55,17 @@ positions_text name.Export = codes "DATABASE"
 positions_text name.EditFile = codes "DATABASE"
 positions_text name.Info = codes "DATABASE"
 positions_text name.Generate = codes "only options"
+positions_text name.ExportAttachment = codes "DATABASE ENTRY NAME [FILE]"
+positions_text name.ImportAttachment = codes "DATABASE ENTRY NAME FILE"
+positions_text name.RemoveAttachment = codes "DATABASE ENTRY NAME"
 
 -- The commands.
 abbrev pub commands : List CommandName
 commands =
     name.Ls ∷ name.Show ∷ name.History ∷ name.Search ∷ name.Add ∷ name.Edit ∷ name.Move
     ∷ name.Remove ∷ name.MakeGroup ∷ name.RemoveGroup ∷ name.Merge ∷ name.Import ∷ name.Create
-    ∷ name.Export ∷ name.EditFile ∷ name.Info ∷ name.Generate ∷ []
+    ∷ name.Export ∷ name.EditFile ∷ name.Info ∷ name.Generate ∷ name.ExportAttachment
+    ∷ name.ImportAttachment ∷ name.RemoveAttachment ∷ []
 
 -- The options, whichever command takes them.
 abbrev pub options : List CommandOption
@@ -67,7 +74,8 @@ options =
     ∷ EntryPassword ∷ SameCredentials ∷ DryRun ∷ KeyFileFrom ∷ NoPasswordFrom ∷ Clear ∷ All
     ∷ Attachments ∷ Format ∷ Attribute ∷ SetPassword ∷ SetKeyFile ∷ Totp ∷ Generate ∷ Length
     ∷ Lower ∷ Upper ∷ Numeric ∷ Special ∷ Exclude ∷ Otp ∷ Cipher ∷ Kdf ∷ Rounds ∷ Memory ∷ Lanes
-    ∷ UnsetPassword ∷ UnsetKeyFile ∷ FileVersion ∷ DatabaseName ∷ At ∷ Restore ∷ Details ∷ Ids ∷ []
+    ∷ UnsetPassword ∷ UnsetKeyFile ∷ FileVersion ∷ DatabaseName ∷ At ∷ Restore ∷ Details ∷ Ids
+    ∷ Set ∷ Protect ∷ Unset ∷ Tag ∷ Untag ∷ Expires ∷ Stdout ∷ Force ∷ []
 
 -- The long name of an option.
 abbrev pub option_text : CommandOption → List ℕ
@@ -206,6 +214,11 @@ unknown_number option text = about_option option
     (codes "' needs the number of a version, in one to six digits: '")
     ++ around [] text (codes "'")
 
+-- Nothing of an entry is changed.
+abbrev pub nothing_edited : List ℕ
+nothing_edited = codes "nothing to change: give -t, -u, --url, --notes, -p, -g, --otp, "
+    ++ codes "--set, --unset, --tag, --untag or --expires"
+
 -- Nothing is changed, or no key is left.
 abbrev pub nothing_text : Cause → List ℕ
 nothing_text NoKeyLeft = codes "no key is left: a database needs a password or a key file"
@@ -213,7 +226,7 @@ nothing_text NoFileChange =
     codes "nothing to change: give another key, --cipher, --kdf or --version"
 nothing_text KeyFileChangesNothing =
     codes "nothing to change: --set-key-file sets a key file, -k only opens with one"
-nothing_text cause = codes "nothing to change: give -t, -u, --url, --notes, -p, -g or --otp"
+nothing_text cause = nothing_edited
 
 -- What is said of the settings of a file.
 abbrev pub settings_text : Cause → List ℕ
@@ -229,6 +242,45 @@ settings_text (NeedsArgon option) =
     about_option option (codes "' needs '--kdf argon2d' or '--kdf argon2id'")
 settings_text cause = nothing_text cause
 
+-- What gives an entry another value of a field that every entry has.
+abbrev pub standard_giver : List ℕ → List ℕ
+standard_giver name =
+    if bytes_eq name (codes "Title") then codes "-t gives another title"
+    else (if bytes_eq name (codes "UserName") then codes "-u gives another one"
+    else (if bytes_eq name (codes "Password") then codes "-p gives another one"
+    else (if bytes_eq name (codes "URL") then codes "--url gives another one"
+    else codes "--notes gives others")))
+
+-- An option that names fields of one's own, and one that every entry has.
+abbrev pub standard_field : CommandOption → List ℕ → List ℕ
+standard_field option name = about_option option (codes "' does not take '")
+    ++ around [] name (codes "': ") ++ standard_giver name
+
+-- A text that is no tag.
+abbrev pub unknown_tag : CommandOption → List ℕ → List ℕ
+unknown_tag option text = about_option option
+    (codes "' needs one tag, without ; and , and white space around it: '")
+    ++ around [] text (codes "'")
+
+-- What is said of an attachment.
+abbrev pub attachment_text : Cause → List ℕ
+attachment_text (FileBesideStdout file) =
+    around (codes "'--stdout' does not go with FILE: '") file (codes "'")
+attachment_text NoFileOrStdout = codes "attachment-export needs FILE or --stdout"
+attachment_text EmptyAttachmentName = codes "attachment-import needs the name of an attachment"
+attachment_text cause = settings_text cause
+
+-- What is said of an entry's further fields, its tags, and when it expires.
+abbrev pub further_text : Cause → List ℕ
+further_text (EmptyFieldName option) =
+    about_option option (codes "' needs the name of a field")
+further_text (StandardField option name) = standard_field option name
+further_text (UnknownTag option text) = unknown_tag option text
+further_text NeedsSet = codes "'--protect' needs '--set NAME'"
+further_text (UnknownTime text) =
+    around (codes "'--expires' needs a time as 2027-01-31T00:00:00Z, or never: '") text (codes "'")
+further_text cause = attachment_text cause
+
 -- What does not go together beside what opens databases, and what is said of versions and of
 -- generated passwords.
 abbrev pub profile_text : Cause → List ℕ
@@ -237,7 +289,7 @@ profile_text (NeedsGenerate option) = about_option option (codes "' needs '--gen
 profile_text (UnknownNumber option text) = unknown_number option text
 profile_text (UnknownLength text) = around (codes "unknown length '") text (codes "': 1 to 4096")
 profile_text NoCharacters = codes "no characters are left: --exclude has all of them"
-profile_text cause = settings_text cause
+profile_text cause = further_text cause
 
 -- A command that is given no key for its new database.
 abbrev pub no_new_key : CommandName → List ℕ

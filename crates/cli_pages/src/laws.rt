@@ -5,7 +5,7 @@ ghost use Rattle.cli_pages.specs.Laws.{IsCommandPageOrProfile, IsLine};
 ghost use Rattle.cli_pages.specs.Pages.{page_of, why};
 ghost use Rattle.cli_profiles.specs.declared.profiles.PasswordProfile.{PasswordProfile};
 ghost use Rattle.cli_parse.specs.Words.{command_of, profile_of};
-ghost use Rattle.cli_parse.specs.declared.command.Command.{Command};
+ghost use Rattle.cli_needs.specs.declared.command.Command.{Command};
 
 /// Nothing is said of words that are a command, or that ask for a page or a generated password.
 pub fn commands_pages_and_profiles_have_no_line()

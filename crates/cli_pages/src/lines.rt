@@ -27,6 +27,9 @@ fn positions_text(command: CommandName) -> &'static str
         CommandName::Create | CommandName::Export | CommandName::EditFile | CommandName::Info =>
             "DATABASE",
         CommandName::Generate => "only options",
+        CommandName::ExportAttachment => "DATABASE ENTRY NAME [FILE]",
+        CommandName::ImportAttachment => "DATABASE ENTRY NAME FILE",
+        CommandName::RemoveAttachment => "DATABASE ENTRY NAME",
     }
 }
 
@@ -220,6 +223,14 @@ fn add_unknown_number(text: &mut Bytes, option: CommandOption, number: &str) -> 
     add_around(text, "", number, "'")
 }
 
+// Adds that nothing of an entry is changed.
+fn add_nothing_edited(text: &mut Bytes) -> Result<(), NoMemory>
+    ensures { OnOk result (text.new ≡ text.old ++ spec.nothing_edited) }
+{
+    text.add(b"nothing to change: give -t, -u, --url, --notes, -p, -g, --otp, ")?;
+    text.add(b"--set, --unset, --tag, --untag or --expires")
+}
+
 // Adds that nothing is changed, or that no key is left.
 fn add_nothing(text: &mut Bytes, cause: &Cause) -> Result<(), NoMemory>
     ensures { OnOk result (text.new ≡ text.old ++ spec.nothing_text cause.now) }
@@ -232,7 +243,7 @@ fn add_nothing(text: &mut Bytes, cause: &Cause) -> Result<(), NoMemory>
         Cause::KeyFileChangesNothing => {
             text.add(b"nothing to change: --set-key-file sets a key file, -k only opens with one")
         }
-        _ => text.add(b"nothing to change: give -t, -u, --url, --notes, -p, -g or --otp"),
+        _ => add_nothing_edited(text),
     }
 }
 
@@ -271,6 +282,79 @@ fn add_no_new_key(text: &mut Bytes, command: CommandName) -> Result<(), NoMemory
     text.add(b" needs a key for the new database: -p, --set-key-file FILE, or --plain for none")
 }
 
+// What gives an entry another value of a field that every entry has.
+fn standard_giver(name: &str) -> &'static str
+    ensures { result.now ≡ spec.standard_giver name.now }
+{
+    if name == "Title" {
+        "-t gives another title"
+    } else if name == "UserName" {
+        "-u gives another one"
+    } else if name == "Password" {
+        "-p gives another one"
+    } else if name == "URL" {
+        "--url gives another one"
+    } else {
+        "--notes gives others"
+    }
+}
+
+// Adds that an option does not take a field that every entry has, and what gives that another value.
+fn add_standard_field(text: &mut Bytes, option: CommandOption, name: &str) -> Result<(), NoMemory>
+    ensures { OnOk result (text.new ≡ text.old ++ spec.standard_field option name.now) }
+{
+    add_about(text, option, "' does not take '")?;
+    add_around(text, "", name, "': ")?;
+    text.add(standard_giver(name).as_bytes())
+}
+
+// Adds that a text is no tag.
+fn add_unknown_tag(text: &mut Bytes, option: CommandOption, tag: &str) -> Result<(), NoMemory>
+    ensures { OnOk result (text.new ≡ text.old ++ spec.unknown_tag option tag.now) }
+{
+    let wanted = "' needs one tag, without ; and , and white space around it: '";
+    add_about(text, option, wanted)?;
+    add_around(text, "", tag, "'")
+}
+
+// Adds what is said of an attachment.
+fn add_attachment(text: &mut Bytes, cause: &Cause) -> Result<(), NoMemory>
+    ensures { OnOk result (text.new ≡ text.old ++ spec.attachment_text cause.now) }
+{
+    match cause {
+        Cause::FileBesideStdout(file) => {
+            add_around(
+                text,
+                "'--stdout' does not go with FILE: '",
+                file.as_str(),
+                "'",
+            )
+        }
+        Cause::NoFileOrStdout => text.add(b"attachment-export needs FILE or --stdout"),
+        Cause::EmptyAttachmentName => {
+            text.add(b"attachment-import needs the name of an attachment")
+        }
+        _ => add_settings(text, cause),
+    }
+}
+
+// Adds what is said of an entry's further fields, its tags, and when it expires.
+fn add_further(text: &mut Bytes, cause: &Cause) -> Result<(), NoMemory>
+    ensures { OnOk result (text.new ≡ text.old ++ spec.further_text cause.now) }
+{
+    match cause {
+        Cause::EmptyFieldName(option) => add_about(text, *option, "' needs the name of a field"),
+        Cause::StandardField(option, name) => add_standard_field(text, *option, name.as_str()),
+        Cause::UnknownTag(option, tag) => add_unknown_tag(text, *option, tag.as_str()),
+        Cause::NeedsSet => text.add(b"'--protect' needs '--set NAME'"),
+        Cause::UnknownTime(time) => {
+            let wanted = "'--expires' needs a time as 2027-01-31T00:00:00Z, or never: '";
+            add_around(text, wanted, time.as_str(), "'")
+        }
+        _ => add_attachment(text, cause),
+    }
+}
+
 // Adds what does not go together beside what opens databases, and what is said of versions and of
 // generated passwords.
 fn add_profile(text: &mut Bytes, cause: &Cause) -> Result<(), NoMemory>
@@ -286,7 +370,7 @@ fn add_profile(text: &mut Bytes, cause: &Cause) -> Result<(), NoMemory>
             add_around(text, "unknown length '", length.as_str(), "': 1 to 4096")
         }
         Cause::NoCharacters => text.add(b"no characters are left: --exclude has all of them"),
-        _ => add_settings(text, cause),
+        _ => add_further(text, cause),
     }
 }
 

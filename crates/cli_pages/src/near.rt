@@ -9,7 +9,7 @@ use std::alloc::Global;
 use strsim::levenshtein;
 
 /// The commands.
-const COMMANDS: [CommandName; 17] = [
+const COMMANDS: [CommandName; 20] = [
     CommandName::Ls,
     CommandName::Show,
     CommandName::History,
@@ -27,10 +27,13 @@ const COMMANDS: [CommandName; 17] = [
     CommandName::EditFile,
     CommandName::Info,
     CommandName::Generate,
+    CommandName::ExportAttachment,
+    CommandName::ImportAttachment,
+    CommandName::RemoveAttachment,
 ];
 
 /// The options, whichever command takes them.
-const OPTIONS: [CommandOption; 44] = [
+const OPTIONS: [CommandOption; 52] = [
     CommandOption::Recursive,
     CommandOption::Flat,
     CommandOption::Quiet,
@@ -75,6 +78,14 @@ const OPTIONS: [CommandOption; 44] = [
     CommandOption::Restore,
     CommandOption::Details,
     CommandOption::Ids,
+    CommandOption::Set,
+    CommandOption::Protect,
+    CommandOption::Unset,
+    CommandOption::Tag,
+    CommandOption::Untag,
+    CommandOption::Expires,
+    CommandOption::Stdout,
+    CommandOption::Force,
 ];
 
 /// The name of a command.
@@ -99,6 +110,9 @@ pub(crate) fn command_text(command: CommandName) -> &'static str
         CommandName::EditFile => "db-edit",
         CommandName::Info => "db-info",
         CommandName::Generate => "generate",
+        CommandName::ExportAttachment => "attachment-export",
+        CommandName::ImportAttachment => "attachment-import",
+        CommandName::RemoveAttachment => "attachment-rm",
     }
 }
 
@@ -152,6 +166,14 @@ pub(crate) fn option_text(option: CommandOption) -> &'static str
         CommandOption::Restore => "restore",
         CommandOption::Details => "details",
         CommandOption::Ids => "ids",
+        CommandOption::Set => "set",
+        CommandOption::Protect => "protect",
+        CommandOption::Unset => "unset",
+        CommandOption::Tag => "tag",
+        CommandOption::Untag => "untag",
+        CommandOption::Expires => "expires",
+        CommandOption::Stdout => "stdout",
+        CommandOption::Force => "force",
     }
 }
 

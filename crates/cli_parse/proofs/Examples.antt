@@ -1,19 +1,48 @@
 -- Words of calls, and which commands they are.
 use Rattle.std.proofs.Common.{◌≡◌, refl, [], ◌∷◌, codes, true, false, Some, None}
-use Rattle.cli_parse.specs.declared.command.Access.{Access}
-use Rattle.cli_parse.specs.declared.command.Command.TheVariants.{Ls, Show, History, Edit, Restore, Merge, Import, Create, Export, EditFile}
-use Rattle.cli_parse.specs.declared.command.KdfKind.TheVariants as kdf
-use Rattle.cli_parse.specs.declared.command.KeyFileChange.TheVariants as key_file
-use Rattle.cli_parse.specs.declared.command.PasswordChange.TheVariants as password
+use Rattle.std.specs.Str.{chars, trim_end, trim_start}
+use Rattle.cli_needs.specs.declared.command.Access.{Access}
+use Rattle.cli_needs.specs.declared.command.Asked.{Asked}
+use Rattle.cli_needs.specs.declared.command.FurtherAsked.{FurtherAsked}
+use Rattle.tree_core.specs.declared.values.Expiry.TheVariants.{At, Never}
+use Rattle.doc_forms.specs.Values.{iso_time}
+use Rattle.jiff_core.specs.Calendar.{day_count, days_of_months, days_of_years}
+use Rattle.cli_needs.specs.declared.command.Command.TheVariants.{Ls, Show, History, Edit, Restore, ExportAttachment, ImportAttachment, RemoveAttachment, Merge, Import, Create, Export, EditFile}
+use Rattle.cli_needs.specs.declared.command.KdfKind.TheVariants as kdf
+use Rattle.cli_needs.specs.declared.command.KeyFileChange.TheVariants as key_file
+use Rattle.cli_needs.specs.declared.command.PasswordChange.TheVariants as password
 use Rattle.kdbx_frame.specs.declared.settings.Cipher.TheVariants as cipher
 use Rattle.vault_model.specs.declared.forms.FileVersion.TheVariants.{V41}
-use Rattle.cli_parse.specs.declared.command.ExportFormat.TheVariants.{Csv}
-use Rattle.cli_parse.specs.declared.command.ImportFormat.TheVariants as import_format
+use Rattle.cli_needs.specs.declared.command.ExportFormat.TheVariants.{Csv}
+use Rattle.cli_needs.specs.declared.command.ImportFormat.TheVariants as import_format
 use Rattle.cli_parse.specs.Words.{command_in, profile_of}
 
 -- A database is opened by its password alone.
 abbrev by_password : Access
 by_password = record { plain = false; quiet = false; key_file = None; no_password = false }
+
+-- No value of an entry is given.
+abbrev nothing_asked : Asked
+nothing_asked = record {
+  title = None;
+  user = None;
+  url = None;
+  notes = None;
+  password = false;
+  generated = None;
+  otp = false;
+}
+
+-- And nothing else is said of it.
+abbrev nothing_further : FurtherAsked
+nothing_further = record {
+  set = [];
+  protect = false;
+  unset = [];
+  tags = [];
+  untags = [];
+  expiry = None;
+}
 
 -- Names of fields are kept in their order, and `-s` of `show` is a flag of its own.
 fields_in_order : command_in (codes "show" ∷ codes "-s" ∷ codes "-a" ∷ codes "UserName" ∷ codes "-a=Pass" ∷ codes "--all" ∷ codes "F" ∷ codes "E" ∷ [])
@@ -145,8 +174,64 @@ code_given : command_in (codes "edit" ∷ codes "--otp" ∷ codes "-gn" ∷ code
       password = false;
       generated = Some (record { length = 32; alphabet = codes "0123456789" });
       otp = true;
-    }))
+    }) nothing_further)
 code_given = refl
+
+-- Fields, tags and when an entry expires, each kept in its order.
+further_given : command_in (codes "edit" ∷ codes "--set" ∷ codes "Pin" ∷ codes "--tag=work" ∷ codes "--protect" ∷ codes "--unset=Old"
+    ∷ codes "--set" ∷ codes "Room" ∷ codes "--untag" ∷ codes "home" ∷ codes "--expires=never" ∷ codes "F" ∷ codes "E" ∷ [])
+    ≡ Some (Edit by_password (codes "F") (codes "E") nothing_asked (record {
+      set = codes "Pin" ∷ codes "Room" ∷ [];
+      protect = true;
+      unset = codes "Old" ∷ [];
+      tags = codes "work" ∷ [];
+      untags = codes "home" ∷ [];
+      expiry = Some Never;
+    }))
+unfolding chars trim_start trim_end lib.Utf8.encode
+further_given = refl
+
+expires_at : command_in (codes "edit" ∷ codes "--expires=2030-01-02T03:04:05Z" ∷ codes "F" ∷ codes "E" ∷ [])
+    ≡ Some (Edit by_password (codes "F") (codes "E") nothing_asked (record nothing_further { expiry = Some (At 64029150245) }))
+unfolding iso_time day_count days_of_years days_of_months
+expires_at = refl
+
+no_time : command_in (codes "edit" ∷ codes "--expires=tomorrow" ∷ codes "F" ∷ codes "E" ∷ []) ≡ None
+unfolding iso_time
+no_time = refl
+
+standard_field : command_in (codes "edit" ∷ codes "--set=Password" ∷ codes "F" ∷ codes "E" ∷ []) ≡ None
+standard_field = refl
+
+two_tags : command_in (codes "edit" ∷ codes "--tag=a;b" ∷ codes "F" ∷ codes "E" ∷ []) ≡ None
+unfolding chars trim_start trim_end lib.Utf8.encode
+two_tags = refl
+
+protected_alone : command_in (codes "edit" ∷ codes "--protect" ∷ codes "F" ∷ codes "E" ∷ []) ≡ None
+protected_alone = refl
+
+-- An attachment is printed, or taken into a file, or put in, where `-f` replaces another one, or taken away.
+attachment_printed : command_in (codes "attachment-export" ∷ codes "--stdout" ∷ codes "F" ∷ codes "E" ∷ codes "A" ∷ [])
+    ≡ Some (ExportAttachment by_password (codes "F") (codes "E") (codes "A") None)
+attachment_printed = refl
+
+attachment_taken : command_in (codes "attachment-export" ∷ codes "F" ∷ codes "E" ∷ codes "A" ∷ codes "G" ∷ [])
+    ≡ Some (ExportAttachment by_password (codes "F") (codes "E") (codes "A") (Some (codes "G")))
+attachment_taken = refl
+
+printed_and_taken : command_in (codes "attachment-export" ∷ codes "--stdout" ∷ codes "F" ∷ codes "E" ∷ codes "A" ∷ codes "G" ∷ []) ≡ None
+printed_and_taken = refl
+
+attachment_put : command_in (codes "attachment-import" ∷ codes "-f" ∷ codes "F" ∷ codes "E" ∷ codes "A" ∷ codes "S" ∷ [])
+    ≡ Some (ImportAttachment by_password (codes "F") (codes "E") (codes "A") (codes "S") true)
+attachment_put = refl
+
+attachment_unnamed : command_in (codes "attachment-import" ∷ codes "F" ∷ codes "E" ∷ codes "" ∷ codes "S" ∷ []) ≡ None
+attachment_unnamed = refl
+
+attachment_removed : command_in (codes "attachment-rm" ∷ codes "F" ∷ codes "E" ∷ codes "A" ∷ [])
+    ≡ Some (RemoveAttachment by_password (codes "F") (codes "E") (codes "A"))
+attachment_removed = refl
 
 -- Costs are read as they are, and those that are not named are the usual ones.
 many_rounds : command_in (codes "db-edit" ∷ codes "--kdf" ∷ codes "aes" ∷ codes "--rounds" ∷ codes "4294967297" ∷ codes "D" ∷ [])

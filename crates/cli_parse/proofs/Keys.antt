@@ -7,26 +7,28 @@ use Rattle.cli_profiles.specs.Generating.{generated_in, has_profile_option}
 use Rattle.cli_profiles.specs.Profiles.{IsProfile}
 use Rattle.cli_profiles.specs.declared.profiles.PasswordProfile.{PasswordProfile}
 use Rattle.cli_profiles.proofs.Alphabets.{asked_profile, generated_profile}
-use Rattle.cli_parse.specs.declared.command.Access.{Access}
-use Rattle.cli_parse.specs.declared.command.Asked.{Asked}
-use Rattle.cli_parse.specs.declared.command.Command.{Command}
-use Rattle.cli_parse.specs.declared.command.Command.TheVariants.{Add, Edit, EditFile, Restore}
-use Rattle.cli_parse.specs.declared.command.FileChange.{FileChange}
-use Rattle.cli_parse.specs.declared.command.KdfAsked.{KdfAsked}
+use Rattle.cli_needs.specs.declared.command.Access.{Access}
+use Rattle.cli_needs.specs.declared.command.Asked.{Asked}
+use Rattle.cli_needs.specs.declared.command.Command.{Command}
+use Rattle.cli_needs.specs.declared.command.Command.TheVariants.{Add, EditFile, Restore}
+use Rattle.cli_needs.specs.declared.command.FileChange.{FileChange}
+use Rattle.cli_needs.specs.declared.command.FurtherAsked.{FurtherAsked}
+use Rattle.cli_needs.specs.declared.command.KdfAsked.{KdfAsked}
 use Rattle.cli_options.specs.declared.names.CommandName.{CommandName}
 use Rattle.cli_options.specs.declared.names.CommandName.TheVariants as name
 use Rattle.cli_options.specs.declared.forms.CommandOption.TheVariants as option
-use Rattle.cli_parse.specs.Needs.{HasKey, HasKeyAfter, HasKeys, asks_password, generated_by, keeps_key_file, keeps_password, needs_of, sets_password, target_access, without_sources}
+use Rattle.cli_needs.specs.Needs.{HasKey, HasKeyAfter, HasKeys, asks_password, generated_by, is_filled, keeps_key_file, keeps_password, needs_of, sets_password, target_access, without_sources}
 use Rattle.cli_parse.specs.Settings.{change_in, change_with, cipher_in, has_file_change, kdf_in, key_file_change, key_file_with, password_change, version_in}
-use Rattle.cli_parse.specs.declared.command.PasswordChange.TheVariants as password
+use Rattle.cli_needs.specs.declared.command.PasswordChange.TheVariants as password
 use Rattle.vault_model.specs.declared.forms.FileVersion.{FileVersion}
 use Rattle.kdbx_frame.specs.declared.settings.Cipher.{Cipher}
 use Rattle.cli_options.specs.Options.{command_named}
-use Rattle.cli_parse.specs.declared.command.ExportFormat.{ExportFormat}
-use Rattle.cli_parse.specs.declared.command.ImportFormat.{ImportFormat}
+use Rattle.cli_needs.specs.declared.command.ExportFormat.{ExportFormat}
+use Rattle.cli_needs.specs.declared.command.ImportFormat.{ImportFormat}
 use Rattle.cli_options.specs.Credentials.{has_part, is_fit, is_fit_from, is_fit_new, is_whole}
 use Rattle.cli_options.specs.Said.{Said, is_due, is_given, nothing_said, text_of, with_words}
-use Rattle.cli_parse.specs.Words.{access_from, access_new, access_of, access_sealed, access_source, add_at, asked_of, asked_with, command_at, command_by, command_in, command_saying, create_at, create_with, edit_at, edit_by, edit_file_at, edit_file_with, edit_of, export_as, export_at, format_asked, has_change, history_at, import_as, import_at, import_format_asked, import_from, info_at, is_fit_create, is_fit_edit, is_fit_show, is_mergeable, list_at, make_group_at, merge_at, merge_of, move_at, profile_at, profile_by, profile_of, profile_saying, remove_at, remove_group_at, search_at, show_at, show_by, show_of, version_asked, version_numbered}
+use Rattle.cli_parse.specs.Fields.{further_of}
+use Rattle.cli_parse.specs.Words.{access_from, access_new, access_of, access_sealed, access_source, add_at, asked_of, asked_with, command_at, command_by, command_in, command_saying, create_at, create_with, edit_at, edit_by, edit_file_at, edit_file_with, edit_of, edit_with, export_as, export_at, export_attachment_at, format_asked, has_change, history_at, import_as, import_at, import_attachment_at, import_format_asked, import_from, info_at, is_fit_create, is_fit_edit, is_fit_show, is_mergeable, list_at, make_group_at, merge_at, merge_of, move_at, profile_at, profile_by, profile_of, profile_saying, remove_at, remove_attachment_at, remove_group_at, search_at, show_at, show_by, show_of, version_asked, version_numbered}
 
 -- What a command opens has keys, and so has what it shows or writes; and a password that it
 -- generates can be chosen.
@@ -277,9 +279,32 @@ add_key said h file entry =
     (λ asked generated. (opened (access_of said) h.target file asked.password, h.target, generated, tt)) said
 
 edit_key : (said : Said) → AreKeys said → (file entry : List ℕ) → IfKey (edit_of said file entry)
-edit_key said h file entry =
-    asked_key (Edit (access_of said) file entry)
-    (λ asked generated. (record { target = h.target; sources = h.target; same = λ e. refl }, h.target, generated, tt)) said
+edit_key said h file entry = by (generated_in said) (generated_profile said) (further_of said)
+  where
+    by : (generated : Option (Option PasswordProfile)) → IfSome generated (λ profile. IfSome profile IsProfile) → (further : Option FurtherAsked)
+        → IfKey (edit_with said file entry (option_map (asked_with said) generated) further)
+    by None g further = tt
+    by (Some generated) g None = tt
+    by (Some generated) g (Some further) = (record { target = h.target; sources = h.target; same = λ e. refl }, h.target, g, tt)
+
+-- An attachment that is taken out, printed or not.
+export_attachment_key : (said : Said) → AreKeys said → (positions : List (List ℕ)) → IfKey (export_attachment_at said positions)
+export_attachment_key said h (file ∷ entry ∷ name ∷ []) = if_key (is_given option.Stdout said) _ (alone said h file false)
+export_attachment_key said h (file ∷ entry ∷ name ∷ to ∷ []) = unless_key (is_given option.Stdout said) _ (alone said h file false)
+export_attachment_key said h [] = tt
+export_attachment_key said h (a ∷ []) = tt
+export_attachment_key said h (a ∷ b ∷ []) = tt
+export_attachment_key said h (a ∷ b ∷ c ∷ d ∷ e ∷ rest) = tt
+
+-- One that is put in, if it has a name.
+import_attachment_key : (said : Said) → AreKeys said → (a b c : List ℕ) (rest : List (List ℕ)) → IfKey (import_attachment_at said (a ∷ b ∷ c ∷ rest))
+import_attachment_key said h a b c [] = tt
+import_attachment_key said h a b c (d ∷ []) = if_key (is_filled c) _ (alone said h a false)
+import_attachment_key said h a b c (d ∷ e ∷ rest) = tt
+
+remove_attachment_key : (said : Said) → AreKeys said → (a b c : List ℕ) (rest : List (List ℕ)) → IfKey (remove_attachment_at said (a ∷ b ∷ c ∷ rest))
+remove_attachment_key said h a b c [] = alone said h a false
+remove_attachment_key said h a b c (d ∷ rest) = tt
 
 -- A version that is shown, if its number is one.
 show_key : (said : Said) → AreKeys said → (file entry : List ℕ) (at : Option ℕ) → IfKey (option_map (show_of said file entry) at)
@@ -320,6 +345,11 @@ command_key name.Create said h = by_positions (create_at said) tt (create_key sa
 command_key name.EditFile said h =
     by_positions (edit_file_at said) tt (edit_file_key said h) (λ a b. tt) (λ a b c r. tt)
 command_key name.Info said h = by_positions (info_at said) tt (λ a. alone said h a false) (λ a b. tt) (λ a b c r. tt)
+command_key name.ExportAttachment said h = export_attachment_key said h
+command_key name.ImportAttachment said h =
+    by_positions (import_attachment_at said) tt (λ a. tt) (λ a b. tt) (import_attachment_key said h)
+command_key name.RemoveAttachment said h =
+    by_positions (remove_attachment_at said) tt (λ a. tt) (λ a b. tt) (remove_attachment_key said h)
 command_key name.Generate said h = λ positions. tt
 
 saying_key : (command : CommandName) (said : Said) → IfKey (command_saying command said)

@@ -1,2 +1,4 @@
+pub mod Beginning
 pub mod Examples
+pub mod IsoTimes
 pub mod Keys

@@ -1,4 +1,3 @@
-pub mod Needs
-pub mod SeenNeeds
+pub mod Fields
 pub mod Settings
 pub mod Words

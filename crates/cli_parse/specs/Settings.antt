@@ -5,14 +5,14 @@ use Rattle.std.specs.Str.{bytes_eq}
 use Rattle.cli_options.specs.declared.forms.CommandOption.TheVariants as option
 use Rattle.cli_options.specs.Numbers.{number_of}
 use Rattle.cli_options.specs.Said.{Said, is_given, text_of}
-use Rattle.cli_parse.specs.declared.command.FileChange.{FileChange}
-use Rattle.cli_parse.specs.declared.command.KdfAsked.{KdfAsked}
-use Rattle.cli_parse.specs.declared.command.KdfKind.{KdfKind}
-use Rattle.cli_parse.specs.declared.command.KdfKind.TheVariants.{Aes, Argon2d, Argon2id}
-use Rattle.cli_parse.specs.declared.command.KeyFileChange.{KeyFileChange}
-use Rattle.cli_parse.specs.declared.command.KeyFileChange.TheVariants as key_file
-use Rattle.cli_parse.specs.declared.command.PasswordChange.{PasswordChange}
-use Rattle.cli_parse.specs.declared.command.PasswordChange.TheVariants as password
+use Rattle.cli_needs.specs.declared.command.FileChange.{FileChange}
+use Rattle.cli_needs.specs.declared.command.KdfAsked.{KdfAsked}
+use Rattle.cli_needs.specs.declared.command.KdfKind.{KdfKind}
+use Rattle.cli_needs.specs.declared.command.KdfKind.TheVariants.{Aes, Argon2d, Argon2id}
+use Rattle.cli_needs.specs.declared.command.KeyFileChange.{KeyFileChange}
+use Rattle.cli_needs.specs.declared.command.KeyFileChange.TheVariants as key_file
+use Rattle.cli_needs.specs.declared.command.PasswordChange.{PasswordChange}
+use Rattle.cli_needs.specs.declared.command.PasswordChange.TheVariants as password
 use Rattle.kdbx_frame.specs.declared.settings.Cipher.{Cipher}
 use Rattle.kdbx_frame.specs.declared.settings.Cipher.TheVariants as cipher
 use Rattle.vault_model.specs.declared.forms.FileVersion.{FileVersion}

@@ -7,23 +7,26 @@ use Rattle.cli_messages.specs.Messages.{refusal_of}
 use Rattle.cli_profiles.specs.Generating.{generated_in, has_profile_option}
 use Rattle.cli_profiles.specs.Profiles.{profile_in}
 use Rattle.cli_profiles.specs.declared.profiles.PasswordProfile.{PasswordProfile}
-use Rattle.cli_parse.specs.declared.command.Access.{Access}
-use Rattle.cli_parse.specs.declared.command.Asked.{Asked}
-use Rattle.cli_parse.specs.declared.command.Command.{Command}
-use Rattle.cli_parse.specs.declared.command.Command.TheVariants.{Ls, Show, History, Search, Add, Edit, Restore, Move, Remove, MakeGroup, RemoveGroup, Merge, Import, Create, Export, EditFile, Info}
-use Rattle.cli_parse.specs.declared.command.ExportFormat.{ExportFormat}
-use Rattle.cli_parse.specs.declared.command.ExportFormat.TheVariants as format
-use Rattle.cli_parse.specs.declared.command.ImportFormat.{ImportFormat}
-use Rattle.cli_parse.specs.declared.command.ImportFormat.TheVariants.{Xml, Psafe, Csv, Bitwarden}
+use Rattle.cli_needs.specs.declared.command.Access.{Access}
+use Rattle.cli_needs.specs.declared.command.Asked.{Asked}
+use Rattle.cli_needs.specs.declared.command.Command.{Command}
+use Rattle.cli_needs.specs.declared.command.Command.TheVariants.{Ls, Show, History, Search, Add, Edit, Restore, ExportAttachment, ImportAttachment, RemoveAttachment, Move, Remove, MakeGroup, RemoveGroup, Merge, Import, Create, Export, EditFile, Info}
+use Rattle.cli_needs.specs.Needs.{is_filled}
+use Rattle.cli_needs.specs.declared.command.ExportFormat.{ExportFormat}
+use Rattle.cli_needs.specs.declared.command.FurtherAsked.{FurtherAsked}
+use Rattle.cli_needs.specs.declared.command.ExportFormat.TheVariants as format
+use Rattle.cli_needs.specs.declared.command.ImportFormat.{ImportFormat}
+use Rattle.cli_needs.specs.declared.command.ImportFormat.TheVariants.{Xml, Psafe, Csv, Bitwarden}
 use Rattle.cli_options.specs.declared.names.CommandName.{CommandName}
 use Rattle.cli_options.specs.declared.names.CommandName.TheVariants as name
 use Rattle.cli_options.specs.declared.forms.CommandOption.TheVariants as option
 use Rattle.cli_options.specs.Numbers.{number_of}
 use Rattle.cli_options.specs.Options.{command_named}
 use Rattle.cli_options.specs.Credentials.{is_fit_change, is_fit_new, is_whole}
-use Rattle.cli_options.specs.Said.{Said, is_given, nothing_said, text_of, with_words}
+use Rattle.cli_options.specs.Said.{Said, is_given, nothing_said, text_of, texts_of, with_words}
+use Rattle.cli_parse.specs.Fields.{further_of}
 use Rattle.cli_parse.specs.Settings.{change_in, cipher_in, has_file_change, kdf_in}
-use Rattle.cli_parse.specs.declared.command.KdfAsked.{KdfAsked}
+use Rattle.cli_needs.specs.declared.command.KdfAsked.{KdfAsked}
 use Rattle.kdbx_frame.specs.declared.settings.Cipher.{Cipher}
 
 -- How a database is opened.
@@ -71,12 +74,18 @@ asked_with said generated = record {
 abbrev pub asked_of : Said → Option Asked
 asked_of said = option_map (asked_with said) (generated_in said)
 
--- At least one value of an entry is given.
+-- Something is said of a field of one's own, of a tag, or of when an entry expires.
+abbrev pub has_further : Said → Bool
+has_further said =
+    is_given option.Set said || is_given option.Protect said || is_given option.Unset said
+    || is_given option.Tag said || is_given option.Untag said || is_given option.Expires said
+
+-- At least one value of an entry is given, or something is said of what else it says.
 abbrev pub has_change : Said → Bool
 has_change said =
     is_given option.Title said || is_given option.User said || is_given option.Url said
     || is_given option.Notes said || is_given option.EntryPassword said
-    || is_given option.Generate said || is_given option.Otp said
+    || is_given option.Generate said || is_given option.Otp said || has_further said
 
 -- The format of a name.
 abbrev pub format_named : List ℕ → Option ExportFormat
@@ -150,7 +159,8 @@ version_asked (Some text) = version_numbered text
 abbrev pub show_of : Said → List ℕ → List ℕ → (at : ℕ) → Command
 show_of said file entry at =
     Show (access_of said) file entry (is_given option.Clear said) (is_given option.All said)
-    (is_given option.Attachments said) said.names (is_given option.Totp said) at
+    (is_given option.Attachments said) (texts_of option.Attribute said)
+    (is_given option.Totp said) at
 
 -- The same, if what is asked for is the number of a version.
 abbrev pub show_by : Said → List ℕ → List ℕ → Option Command
@@ -177,9 +187,16 @@ abbrev pub add_at : Said → List (List ℕ) → Option Command
 add_at said (file ∷ entry ∷ []) = option_map (Add (access_of said) file entry) (asked_of said)
 add_at said positions = None
 
+-- The change of a file's entry, if both parts of what is asked for fit together.
+abbrev pub edit_with : Said → (file entry : List ℕ) → Option Asked → Option FurtherAsked
+    → Option Command
+edit_with said file entry None further = None
+edit_with said file entry (Some asked) further =
+    option_map (Edit (access_of said) file entry asked) further
+
 -- The change of a file's entry.
 abbrev pub edit_of : Said → List ℕ → List ℕ → Option Command
-edit_of said file entry = option_map (Edit (access_of said) file entry) (asked_of said)
+edit_of said file entry = edit_with said file entry (asked_of said) (further_of said)
 
 -- A version of a file's entry becomes the current one: that of the number that a text is,
 -- if no value is given too, and nothing is said of a generated password.
@@ -197,6 +214,28 @@ edit_by said file entry None = if has_change said then edit_of said file entry e
 abbrev pub edit_at : Said → List (List ℕ) → Option Command
 edit_at said (file ∷ entry ∷ []) = edit_by said file entry (text_of option.Restore said)
 edit_at said positions = None
+
+-- An attachment of a file's entry is taken out: it is printed where `--stdout` is given, and else
+-- there is a name for its new file.
+abbrev pub export_attachment_at : Said → List (List ℕ) → Option Command
+export_attachment_at said (file ∷ entry ∷ name ∷ []) = if is_given option.Stdout said
+    then Some (ExportAttachment (access_of said) file entry name None) else None
+export_attachment_at said (file ∷ entry ∷ name ∷ to ∷ []) = if is_given option.Stdout said
+    then None else Some (ExportAttachment (access_of said) file entry name (Some to))
+export_attachment_at said positions = None
+
+-- `attachment-import DATABASE ENTRY NAME FILE`; the name is not empty.
+abbrev pub import_attachment_at : Said → List (List ℕ) → Option Command
+import_attachment_at said (file ∷ entry ∷ name ∷ source ∷ []) = if is_filled name
+    then Some (ImportAttachment (access_of said) file entry name source
+    (is_given option.Force said)) else None
+import_attachment_at said positions = None
+
+-- `attachment-rm DATABASE ENTRY NAME`
+abbrev pub remove_attachment_at : Said → List (List ℕ) → Option Command
+remove_attachment_at said (file ∷ entry ∷ name ∷ []) =
+    Some (RemoveAttachment (access_of said) file entry name)
+remove_attachment_at said positions = None
 
 -- `mv DATABASE NODE GROUP`
 abbrev pub move_at : Said → List (List ℕ) → Option Command
@@ -324,6 +363,9 @@ command_at name.Export = export_at
 command_at name.EditFile = edit_file_at
 command_at name.Info = info_at
 command_at name.Generate = no_command_at
+command_at name.ExportAttachment = export_attachment_at
+command_at name.ImportAttachment = import_attachment_at
+command_at name.RemoveAttachment = remove_attachment_at
 
 -- The command of this name whose other words say this.
 abbrev pub command_saying : CommandName → Said → Option Command

@@ -3,7 +3,7 @@ ghost use Rattle.std.specs.Prelude.{◌≡◌, IfOk};
 ghost use Rattle.cli_options.specs.SaidWords.{said_seen};
 ghost use Rattle.cli_parse.specs.Words as spec;
 
-use crate::command::{Access, ImportFormat};
+use cli_needs::{Access, ImportFormat};
 use cli_options::{CommandOption, SaidWords, copy_of, is_given, text_of};
 use outside_core::{NoMemory, Text};
 use std::alloc::Global;

@@ -2,16 +2,17 @@
 ghost use Rattle.std.specs.Prelude.{◌≡◌, IfErr, IfOk, IfSome, map, string_bytes};
 ghost use Rattle.cli_messages.specs.Phases.{IsWordsStop, Returns};
 ghost use Rattle.cli_profiles.specs.Profiles.{IsProfile};
-ghost use Rattle.cli_parse.specs.Needs.{HasKeyAfter, HasKey, HasKeys, generated_by, needs_of, target_access};
+ghost use Rattle.cli_needs.specs.Needs.{HasKeyAfter, HasKey, HasKeys, generated_by, needs_of, target_access};
 ghost use Rattle.cli_options.specs.SaidWords.{Gives, said_seen, text_seen};
 ghost use Rattle.cli_parse.specs.Words as spec;
 ghost use Rattle.cli_parse.specs.Words.{command_of};
 
+use crate::attachments::{export_attachment_at, import_attachment_at, remove_attachment_at};
 use crate::bases::{access_from, access_new, access_source, base_and_path, base_of, base_with};
-use crate::command::{Command, ExportFormat, ImportFormat};
 use crate::entries::{add_at, edit_at, history_at, show_at};
 use crate::files::{create_at, edit_file_at};
 use cli_messages::{Reason, Stop, refused};
+use cli_needs::{Command, ExportFormat, ImportFormat};
 use cli_options::{
     CommandName, CommandOption, SaidWords, WordsFail, add_words, command_named, copies_of, copy_of,
     empty_state, is_fit_new, is_given, is_whole, no_texts, text_of,
@@ -346,6 +347,9 @@ fn command_at(
         CommandName::EditFile => edit_file_at(alloc, said),
         CommandName::Info => info_at(alloc, said),
         CommandName::Generate => Err(WordsFail::Wrong),
+        CommandName::ExportAttachment => export_attachment_at(alloc, said),
+        CommandName::ImportAttachment => import_attachment_at(alloc, said),
+        CommandName::RemoveAttachment => remove_attachment_at(alloc, said),
     }
 }
 
@@ -378,7 +382,7 @@ fn command_by(alloc: Global, words: &[String], command: CommandName) -> Result<C
     }
     let said = SaidWords {
         given: given.texts,
-        names: state.names.as_slice(),
+        repeated: state.repeated.as_slice(),
         due: state.due,
         ended: state.ended,
         positions: state.positions.as_slice(),

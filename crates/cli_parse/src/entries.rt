@@ -6,15 +6,29 @@ ghost use Rattle.cli_options.specs.SaidWords.{Gives, said_seen, text_seen};
 ghost use Rattle.cli_parse.specs.Words as spec;
 
 use crate::bases::base_and_path;
-use crate::command::{Asked, Command};
+use crate::fields::further_of;
+use cli_needs::{Asked, Command};
 use cli_options::{
-    CommandOption, SaidWords, WordsFail, copies_of, copy_of, is_given, number_of, text_of,
+    CommandOption, SaidWords, WordsFail, copy_of, is_given, number_of, text_of, texts_of,
 };
 use cli_profiles::{generated_in, has_profile_option};
 use outside_core::{NoMemory, Text};
 use std::alloc::Global;
 
-/// Reports whether at least one value of an entry is given.
+// Reports whether something is said of a field of one's own, of a tag, or of when an entry expires.
+fn has_further(said: &SaidWords<'_, '_>) -> bool
+    ensures { result ≡ spec.has_further (said_seen said.now) }
+{
+    is_given(said, CommandOption::Set)
+        || is_given(said, CommandOption::Protect)
+        || is_given(said, CommandOption::Unset)
+        || is_given(said, CommandOption::Tag)
+        || is_given(said, CommandOption::Untag)
+        || is_given(said, CommandOption::Expires)
+}
+
+/// Reports whether at least one value of an entry is given, or something is said of what else it
+/// says.
 pub fn has_change(said: &SaidWords<'_, '_>) -> bool
     ensures { result ≡ spec.has_change (said_seen said.now) }
 {
@@ -25,6 +39,7 @@ pub fn has_change(said: &SaidWords<'_, '_>) -> bool
         || is_given(said, CommandOption::EntryPassword)
         || is_given(said, CommandOption::Generate)
         || is_given(said, CommandOption::Otp)
+        || has_further(said)
 }
 
 // The texts that an entry is to have.
@@ -134,7 +149,7 @@ fn show_of(
         ≡ spec.show_of (said_seen said.now) file.now entry.now at) }
 {
     let both = base_and_path(alloc, said, file, entry)?;
-    match copies_of(alloc, said.names) {
+    match texts_of(alloc, said, CommandOption::Attribute) {
         Ok(names) => Ok(Command::Show {
             access: both.access,
             file: both.file,
@@ -229,17 +244,26 @@ fn edit_of(
     ensures { Gives (λ command. command) result
         (spec.edit_of (said_seen said.now) file.now entry.now) }
 {
-    let both = base_and_path(alloc, said, file, entry)?;
-    match asked_of(alloc, said) {
-        Ok(asked) => Ok(Command::Edit {
+    let asked = asked_of(alloc, said)?;
+    let further = match further_of(alloc, said) {
+        Ok(further) => further,
+        Err(fail) => {
+            drop(asked);
+            return Err(fail);
+        }
+    };
+    match base_and_path(alloc, said, file, entry) {
+        Ok(both) => Ok(Command::Edit {
             access: both.access,
             file: both.file,
             entry: both.path,
             asked,
+            further,
         }),
         Err(fail) => {
-            drop(both);
-            Err(fail)
+            drop(asked);
+            drop(further);
+            Err(WordsFail::from(fail))
         }
     }
 }

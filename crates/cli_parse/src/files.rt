@@ -4,8 +4,8 @@ ghost use Rattle.cli_options.specs.SaidWords.{Gives, said_seen};
 ghost use Rattle.cli_parse.specs.Words as spec;
 
 use crate::bases::{access_new, base_of, base_with};
-use crate::command::{Access, Command, KdfAsked};
 use crate::settings::{change_in, cipher_in, has_file_change, kdf_in};
+use cli_needs::{Access, Command, KdfAsked};
 use cli_options::{
     CommandOption, SaidWords, WordsFail, copy_of, is_fit_change, is_fit_new, is_given, text_of,
 };

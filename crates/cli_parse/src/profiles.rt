@@ -59,7 +59,7 @@ fn profile_by(
     }
     let said = SaidWords {
         given: given.texts,
-        names: state.names.as_slice(),
+        repeated: state.repeated.as_slice(),
         due: state.due,
         ended: state.ended,
         positions: state.positions.as_slice(),

@@ -2,8 +2,8 @@
 use Rattle.std.specs.Prelude.{ℕ, List, None, Result, Ok, Err}
 use Rattle.cli_messages.specs.Messages.{refusal_of}
 use Rattle.cli_messages.specs.declared.answers.Refusal.{Refusal}
-use Rattle.cli_parse.specs.declared.command.ExportFormat.{ExportFormat}
-use Rattle.cli_parse.specs.declared.command.ExportFormat.TheVariants.{Csv, Xml}
+use Rattle.cli_needs.specs.declared.command.ExportFormat.{ExportFormat}
+use Rattle.cli_needs.specs.declared.command.ExportFormat.TheVariants.{Csv, Xml}
 use Rattle.cli_writing.specs.Writing.{write_answer}
 use Rattle.doc_write.specs.Written.{write_outcome}
 use Rattle.doc_write.specs.declared.writing.WriteFail.{WriteFail}

@@ -8,7 +8,7 @@ ghost use Rattle.vault_model.specs.SeenDoc.{doc_seen};
 ghost use Rattle.vault_model.specs.declared.forms.DocForm.TheVariants.{Plain};
 
 use cli_messages::Stop;
-use cli_parse::ExportFormat;
+use cli_needs::ExportFormat;
 use cli_writing::{plain_text, unwritten};
 use secret_core::Secret;
 use std::alloc::Global;

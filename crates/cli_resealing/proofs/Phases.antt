@@ -9,8 +9,8 @@ use Rattle.vault_model.specs.Tree.{BareDoc}
 use Rattle.cli_messages.specs.Phases.{Returns, Stops}
 use Rattle.cli_messages.specs.declared.answers.Refusal.{Refusal}
 use Rattle.cli_messages.specs.declared.answers.Stop.{Stop}
-use Rattle.cli_parse.specs.Needs.{CreateNeeds, Needs}
-use Rattle.cli_parse.specs.declared.command.FileChange.{FileChange}
+use Rattle.cli_needs.specs.Needs.{CreateNeeds, Needs}
+use Rattle.cli_needs.specs.declared.command.FileChange.{FileChange}
 use Rattle.cli_lines.specs.Lines.{Lines}
 use Rattle.cli_files.specs.Files.{Opened, key_of}
 use Rattle.cli_files.specs.SeenOpened.{opened_seen}

@@ -7,8 +7,8 @@ use Rattle.kdbx_frame.specs.declared.sealings.Sealing.{Sealing}
 use Rattle.kdbx_frame.specs.declared.settings.Settings.{Settings}
 use Rattle.kdbx_settings.specs.declared.changing.SettingsChange.{SettingsChange}
 use Rattle.cli_messages.specs.declared.answers.Refusal.{Refusal}
-use Rattle.cli_parse.specs.Needs.{CreateNeeds, Needs}
-use Rattle.cli_parse.specs.declared.command.FileChange.{FileChange}
+use Rattle.cli_needs.specs.Needs.{CreateNeeds, Needs}
+use Rattle.cli_needs.specs.declared.command.FileChange.{FileChange}
 use Rattle.cli_lines.specs.Lines.{Lines}
 use Rattle.cli_files.specs.Files.{Opened}
 use Rattle.cli_importing.proofs.Sealings.{sealed_anew}

@@ -8,9 +8,9 @@ use Rattle.kdbx_frame.specs.declared.settings.Cipher.{Cipher}
 use Rattle.kdbx_settings.specs.declared.changing.SettingsChange.{SettingsChange}
 use Rattle.cli_messages.specs.Phases.{Returns}
 use Rattle.cli_messages.specs.declared.answers.Stop.{Stop}
-use Rattle.cli_parse.specs.Needs.{CreateNeeds, Needs}
-use Rattle.cli_parse.specs.declared.command.FileChange.{FileChange}
-use Rattle.cli_parse.specs.declared.command.KdfAsked.{KdfAsked}
+use Rattle.cli_needs.specs.Needs.{CreateNeeds, Needs}
+use Rattle.cli_needs.specs.declared.command.FileChange.{FileChange}
+use Rattle.cli_needs.specs.declared.command.KdfAsked.{KdfAsked}
 use Rattle.cli_lines.specs.Lines.{Lines}
 use Rattle.cli_files.specs.Files.{Opened}
 use Rattle.cli_files.specs.SeenOpened.{opened_seen}

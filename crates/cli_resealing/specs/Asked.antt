@@ -24,9 +24,9 @@ use Rattle.cli_messages.specs.declared.answers.Reason.{Reason}
 use Rattle.cli_messages.specs.declared.answers.Reason.TheVariants as answer
 use Rattle.cli_messages.specs.declared.answers.Refusal.{Refusal}
 use Rattle.cli_files.specs.Files.{Opened}
-use Rattle.cli_parse.specs.declared.command.KdfAsked.{KdfAsked}
-use Rattle.cli_parse.specs.declared.command.KdfKind.{KdfKind}
-use Rattle.cli_parse.specs.declared.command.KdfKind.TheVariants as kind
+use Rattle.cli_needs.specs.declared.command.KdfAsked.{KdfAsked}
+use Rattle.cli_needs.specs.declared.command.KdfKind.{KdfKind}
+use Rattle.cli_needs.specs.declared.command.KdfKind.TheVariants as kind
 
 -- Argon2 of this kind with these costs, the memory being in KiB; its salt is drawn as the file is
 -- written.

@@ -7,7 +7,7 @@ use Rattle.vault_model.specs.Db.{NodeId}
 use Rattle.vault_model.specs.Empty.{empty_bare, new_group, new_meta}
 use Rattle.vault_model.specs.Tree.{BareDoc, node, none}
 use Rattle.cli_messages.specs.declared.answers.Refusal.{Refusal}
-use Rattle.cli_parse.specs.Needs.{CreateNeeds}
+use Rattle.cli_needs.specs.Needs.{CreateNeeds}
 use Rattle.cli_lines.specs.Lines.{Lines}
 use Rattle.cli_files.specs.Files.{Opened}
 use Rattle.cli_importing.specs.Imports.{at_stamp, refuse_file, sealing_of}

@@ -5,12 +5,12 @@ use Rattle.outside_core.specs.Results.{◌>>=◌}
 use Rattle.key_core.specs.Keys.{composite_key}
 use Rattle.kdbx_settings.specs.declared.changing.SettingsChange.{SettingsChange}
 use Rattle.cli_messages.specs.declared.answers.Refusal.{Refusal}
-use Rattle.cli_parse.specs.Needs.{Needs}
-use Rattle.cli_parse.specs.declared.command.FileChange.{FileChange}
-use Rattle.cli_parse.specs.declared.command.KeyFileChange.{KeyFileChange}
-use Rattle.cli_parse.specs.declared.command.KeyFileChange.TheVariants as key_file
-use Rattle.cli_parse.specs.declared.command.PasswordChange.{PasswordChange}
-use Rattle.cli_parse.specs.declared.command.PasswordChange.TheVariants as password
+use Rattle.cli_needs.specs.Needs.{Needs}
+use Rattle.cli_needs.specs.declared.command.FileChange.{FileChange}
+use Rattle.cli_needs.specs.declared.command.KeyFileChange.{KeyFileChange}
+use Rattle.cli_needs.specs.declared.command.KeyFileChange.TheVariants as key_file
+use Rattle.cli_needs.specs.declared.command.PasswordChange.{PasswordChange}
+use Rattle.cli_needs.specs.declared.command.PasswordChange.TheVariants as password
 use Rattle.cli_lines.specs.Lines.{Lines}
 use Rattle.cli_files.specs.Files.{Opened, key_of}
 use Rattle.cli_databases.specs.Databases.{sealed_in}

@@ -4,10 +4,10 @@ use Rattle.std.specs.FinMap as map
 use Rattle.outside_core.specs.Files.{FileMap}
 use Rattle.time_core.specs.Times.{last_stamp}
 use Rattle.kdbx_frame.specs.declared.sealings.Sealing.{Sealing}
-use Rattle.cli_parse.specs.Needs.{CreateNeeds, Needs}
-use Rattle.cli_parse.specs.declared.command.FileChange.{FileChange}
-use Rattle.cli_parse.specs.declared.command.KeyFileChange.{KeyFileChange}
-use Rattle.cli_parse.specs.declared.command.KeyFileChange.TheVariants as key_file
+use Rattle.cli_needs.specs.Needs.{CreateNeeds, Needs}
+use Rattle.cli_needs.specs.declared.command.FileChange.{FileChange}
+use Rattle.cli_needs.specs.declared.command.KeyFileChange.{KeyFileChange}
+use Rattle.cli_needs.specs.declared.command.KeyFileChange.TheVariants as key_file
 use Rattle.cli_lines.specs.Lines.{Lines}
 use Rattle.cli_files.specs.Files.{Opened}
 use Rattle.cli_files.specs.Held.{GivesKey}

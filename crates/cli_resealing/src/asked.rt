@@ -10,7 +10,7 @@ ghost use Rattle.cli_resealing.specs.Asked.{AsksFor, IsOrPasses, StandsFor, aske
 use argon_core::ArgonKind;
 use cli_files::Opened;
 use cli_messages::{NeededVersion, Reason, Stop, refused};
-use cli_parse::{KdfAsked, KdfKind};
+use cli_needs::{KdfAsked, KdfKind};
 use kdbx_frame::{Cipher, FileVersion, Sealing, release_key};
 use kdbx_settings::{SettingsChange, SettingsFail, change_settings};
 use key_core::Kdf;

@@ -13,9 +13,11 @@ use Rattle.merge_core.proofs.SoundDoc.{below_node, distinct_from, document_sound
 use Rattle.tree_core.specs.Finding.{group_at_path, group_found, has_entry_path, without_slashes}
 use Rattle.tree_core.specs.declared.fails.Removed.TheVariants.{Deleted, Recycled}
 use Rattle.tree_core.specs.declared.fails.TreeFail.TheVariants.{AlreadyThere, IdTaken, NameTaken, TooDeep}
-use Rattle.tree_core.specs.After.{AfterRemoval, Holding, changed_content, entry_deleted, entry_moved_to, entry_named, entry_recycled, is_group_taken, is_recycled, named_or_refusal, needs_bin, refuse_if, time_after, version_or_refusal, with_bin_made}
+use Rattle.tree_core.specs.After.{AfterRemoval, Holding, changed_content, edited_so, entry_deleted, entry_moved_to, entry_named, entry_recycled, is_group_taken, is_recycled, named_or_refusal, needs_bin, refuse_if, time_after, version_or_refusal, with_bin_made}
+use Rattle.tree_core.specs.Attachments.{has_attachment, is_attachable, with_attachment, without_attachment}
 use Rattle.tree_core.specs.Changes.{changed_at, changed_entry, entry_moved, group_with, has_group, is_free, level_of, moved_entry, with_entry, with_group, without, without_entry}
-use Rattle.tree_core.specs.NewNodes.{edited_content, empty_bin, new_entry, new_fields}
+use Rattle.tree_core.specs.FurtherChanges.{has_unset}
+use Rattle.tree_core.specs.NewNodes.{empty_bin, new_entry, new_fields}
 use Rattle.vault_model.specs.Empty.{new_group}
 use Rattle.tree_core.specs.NewPaths.{after_last, before_last, new_path}
 use Rattle.tree_core.proofs.Around.{found_group, found_id}
@@ -26,7 +28,7 @@ use Rattle.growth_laws.proofs.Carries.{Carries, Entry, carries_at, change_entry_
 use Rattle.growth_laws.proofs.Commands.{Found, bin_made, bin_there, found, held_with_bin}
 use Rattle.growth_laws.proofs.Outcomes.{bind_ok, named_ok, same_ok}
 use Rattle.growth_laws.proofs.Steps.{carries_then, change_root, own_row, put_group_keeps, root_same, take_root}
-use Rattle.command_laws.specs.Adding.{AddAdds, AddingIsFree, AddsOnly, EditAdds, MakeGroupAdds, MoveEntryAdds, RecyclingAdds, RestoreAdds}
+use Rattle.command_laws.specs.Adding.{AddAdds, AddingIsFree, AddsOnly, AttachAdds, ChangeAdds, DetachAdds, EditAdds, MakeGroupAdds, MoveEntryAdds, RecyclingAdds, RestoreAdds}
 use Rattle.command_laws.proofs.Additions.{adds_then, change_new, group_new, nodes_new, put_new, rows_add, take_new, tree_new}
 
 -- ---- one step
@@ -132,11 +134,21 @@ said_adds path d e isd ise held named says time is =
     subst (λ (w : BareDoc). AddsOnly None d w) is
     (change_entry_adds d held (changed_content d.meta says time) isd (subst (λ (w : BareDoc). IsDoc w) (sym is) ise) (found path d held named))
 
-pub edit_adds : EditAdds
-edit_adds path values now d e isd ise h =
+pub change_adds : ChangeAdds
+change_adds path allows says now d e isd ise h =
     let held = bind_ok (entry_named path d) _ e h in
-    let time = bind_ok (time_after now (entry_time held.0.entry.1)) _ e held.1.1 in
-    said_adds path d e isd ise held.0 held.1.0 (edited_content d.meta.settings.value.protect values) time.0 (same_ok _ e time.1.1)
+    let allowed = bind_ok (allows held.0.entry.1.current.mark.content) _ e held.1.1 in
+    let time = bind_ok (time_after now (entry_time held.0.entry.1)) _ e allowed.1.1 in
+    said_adds path d e isd ise held.0 held.1.0 (says d.meta) time.0 (same_ok _ e time.1.1)
+
+pub edit_adds : EditAdds
+edit_adds path values further = change_adds path (has_unset further) (edited_so values further)
+
+pub attach_adds : AttachAdds
+attach_adds path name bytes replaces = change_adds path (is_attachable name replaces) (λ _. with_attachment name bytes)
+
+pub detach_adds : DetachAdds
+detach_adds path name = change_adds path (has_attachment name) (λ _. without_attachment name)
 
 pub restore_adds : RestoreAdds
 restore_adds path number now d e isd ise h =

@@ -1,4 +1,4 @@
--- An edit and a restored version grow in what is current, whatever versions are dropped.
+-- Entries that come to say something else grow in what is current, whatever versions are dropped.
 use Rattle.std.proofs.Common.{◌≡◌, ◌<◌, ◌&&◌, ◌⊎◌, ℕ, Bool, true, false, not, cond, inl, inr, List, [], ◌∷◌, Option, Some, None, Ok, is_some, map, length, refl, sym, ap, subst, ◌∙◌, arith}
 use Rattle.std.specs.Prelude.{ℤ}
 use Rattle.outside_core.specs.Results.{◌>>=◌}
@@ -25,17 +25,19 @@ use Rattle.merge_core.proofs.SoundDoc.{all_in, as_map, version_marks}
 use Rattle.merge_core.proofs.Tables.{entry_get, get_single}
 use Rattle.merge_core.proofs.Unite.{get-unite_all, tie, ties}
 use Rattle.merge_core.proofs.Versions.{mark_newest}
-use Rattle.tree_core.specs.After.{Holding, after_edit, after_restore, changed_content, edited_entry, entry_named, time_after, version_or_refusal}
+use Rattle.tree_core.specs.After.{Holding, after_restore, changed_content, edited_so, entry_named, time_after, version_or_refusal}
 use Rattle.tree_core.specs.declared.fails.TreeFail.TheVariants.{NoVersion}
+use Rattle.tree_core.specs.Attachments.{has_attachment, is_attachable, with_attachment, without_attachment}
 use Rattle.tree_core.specs.Changes.{changed_at, changed_entry}
+use Rattle.tree_core.specs.FurtherChanges.{has_unset}
 use Rattle.tree_core.specs.Histories.{is_within, rising_versions, settled_history, versions_size, with_version, within_limits}
-use Rattle.tree_core.specs.NewNodes.{edited_content, new_version}
+use Rattle.tree_core.specs.NewNodes.{new_version}
 use Rattle.tree_core.proofs.Edited.{changed_same, entry_is_proper, set_is_doc}
 use Rattle.growth_laws.specs.Growth.{GrowsTo}
 use Rattle.growth_laws.proofs.Carries.{change_entry_row, entry_in}
 use Rattle.growth_laws.proofs.Commands.{Found, found, found_in, versions_grow}
 use Rattle.growth_laws.proofs.LostSteps.{edit_stays}
-use Rattle.growth_laws.proofs.Outcomes.{bind_ok, same_ok, time_ok}
+use Rattle.growth_laws.proofs.Outcomes.{bind_ok, rest_ok, same_ok, time_ok}
 use Rattle.growth_laws.proofs.Stays.{entry_is, versions_time}
 use Rattle.growth_laws.proofs.StaysGrow.{stays_grow}
 use Rattle.growth_laws.proofs.Steps.{change_root}
@@ -43,7 +45,7 @@ use Rattle.history_laws.specs.Current.{current_view, current, is_past}
 use Rattle.history_laws.specs.TwoEdits.{IsNow}
 use Rattle.history_laws.proofs.CurrentJoin.{view_alike}
 use Rattle.history_laws.proofs.Newest.{current_stays, get_current, is_not_itself, later_mark, past_by, past_found}
-use Rattle.command_laws.specs.Growing.{EditGrowsInCurrent, EditIsNow, GrowsInCurrent, IsAlike, RestoreGrowsInCurrent, RestoreIsNow}
+use Rattle.command_laws.specs.Growing.{AttachGrowsInCurrent, ChangeGrowsInCurrent, ChangeIsNow, DetachGrowsInCurrent, EditGrowsInCurrent, EditIsNow, GrowsInCurrent, IsAlike, RestoreGrowsInCurrent, RestoreIsNow}
 use Rattle.command_laws.proofs.ShownTrees.{relabel_shows}
 
 -- ---- an entry whose current version is the latest
@@ -239,11 +241,21 @@ module _ (d e : BareDoc) (isd : IsDoc d) (ise : IsDoc e) (held : Holding) (f : F
       subst (λ (w : BareDoc). IsNow (db_in w) held.entry.0 said.mark) same
       (cut_now d isd held f said d.meta.settings.value.history_items d.meta.settings.value.history_size (time_ok now (entry_time held.entry.1) time timed) (subst IsDoc (sym same) ise))
 
-pub edit_grows_in_current : EditGrowsInCurrent
-edit_grows_in_current path values now d e isd ise h =
+pub change_grows_in_current : ChangeGrowsInCurrent
+change_grows_in_current path allows says now d e isd ise h =
     let held = bind_ok (entry_named path d) _ e h in
-    let time = bind_ok (time_after now (entry_time held.0.entry.1)) _ e held.1.1 in
-    said_grows_in_current d e isd ise held.0 (found path d held.0 held.1.0) (edited_content d.meta.settings.value.protect values) now time.0 time.1.0 (same_ok _ e time.1.1)
+    let allowed = bind_ok (allows held.0.entry.1.current.mark.content) _ e held.1.1 in
+    let time = bind_ok (time_after now (entry_time held.0.entry.1)) _ e allowed.1.1 in
+    said_grows_in_current d e isd ise held.0 (found path d held.0 held.1.0) (says d.meta) now time.0 time.1.0 (same_ok _ e time.1.1)
+
+pub edit_grows_in_current : EditGrowsInCurrent
+edit_grows_in_current path values further = change_grows_in_current path (has_unset further) (edited_so values further)
+
+pub attach_grows_in_current : AttachGrowsInCurrent
+attach_grows_in_current path name bytes replaces = change_grows_in_current path (is_attachable name replaces) (λ _. with_attachment name bytes)
+
+pub detach_grows_in_current : DetachGrowsInCurrent
+detach_grows_in_current path name = change_grows_in_current path (has_attachment name) (λ _. without_attachment name)
 
 pub restore_grows_in_current : RestoreGrowsInCurrent
 restore_grows_in_current path number now d e isd ise h =
@@ -252,13 +264,14 @@ restore_grows_in_current path number now d e isd ise h =
     let time = bind_ok (time_after now (entry_time held.0.entry.1)) _ e version.1.1 in
     said_grows_in_current d e isd ise held.0 (found path d held.0 held.1.0) (λ _. version.0.mark.content) now time.0 time.1.0 (same_ok _ e time.1.1)
 
+pub change_is_now : ChangeIsNow
+change_is_now path allows says now time held d e isd ise named timed h =
+    let allowed = bind_ok (allows held.entry.1.current.mark.content) _ e (rest_ok (entry_named path d) _ held e named h) in
+    said_is_now d e isd ise held (found path d held named) (says d.meta) now time timed
+    (same_ok _ e (rest_ok (time_after now (entry_time held.entry.1)) _ time e timed allowed.1.1))
+
 pub edit_is_now : EditIsNow
-edit_is_now path values now time held d e isd ise named timed h =
-    let f = found path d held named in
-    let made : after_edit path values now d ≡ Ok (record d { tree = changed_at held.group (changed_entry held.entry.0 (edited_entry d.meta values time)) d.tree }) =
-    ap (λ r. r >>= (λ x. time_after now (entry_time x.entry.1) >>= (λ t. Ok (record d { tree = changed_at x.group (changed_entry x.entry.0 (edited_entry d.meta values t)) d.tree })))) named
-    ∙ ap (λ r. r >>= (λ t. Ok (record d { tree = changed_at held.group (changed_entry held.entry.0 (edited_entry d.meta values t)) d.tree }))) timed in
-    said_is_now d e isd ise held f (edited_content d.meta.settings.value.protect values) now time timed (same_ok _ e (sym made ∙ h))
+edit_is_now path values further = change_is_now path (has_unset further) (edited_so values further)
 
 pub restore_is_now : RestoreIsNow
 restore_is_now path number now time held version d e isd ise named old timed h =

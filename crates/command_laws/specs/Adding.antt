@@ -1,12 +1,16 @@
 -- Commands only add. Each statement speaks of all documents and arguments.
-use Rattle.std.specs.Prelude.{◌≡◌, ℕ, true, false, List, Option, None, Some, Ok, is_some}
+use Rattle.std.specs.Prelude.{◌≡◌, ℕ, Bool, true, false, List, Option, None, Some, Result, Ok, is_some}
 use Rattle.std.specs.FinMap.{get}
+use Rattle.vault_model.specs.declared.metas.Meta.{Meta}
+use Rattle.vault_model.specs.Bare.{BareContent}
 use Rattle.vault_model.specs.Db.{Db, NodeId, holds}
 use Rattle.vault_model.specs.Join.{IsIn}
 use Rattle.vault_model.specs.Plans.{World, change}
 use Rattle.vault_model.specs.Tree.{BareDoc, IsDoc, db_in}
-use Rattle.tree_core.specs.After.{AfterRemoval, after_add, after_edit, after_make_group, after_move_entry, after_remove_entry, after_restore, needs_bin}
+use Rattle.tree_core.specs.After.{AfterRemoval, after_add, after_attach, after_change, after_detach, after_edit, after_make_group, after_move_entry, after_remove_entry, after_restore, needs_bin}
 use Rattle.tree_core.specs.declared.fails.Removed.TheVariants.{Recycled}
+use Rattle.tree_core.specs.declared.fails.TreeFail.{TreeFail}
+use Rattle.tree_core.specs.FurtherChanges.{FurtherChange}
 use Rattle.tree_core.specs.NewNodes.{GivenValues}
 use Rattle.history_laws.specs.FreeHistories.{IsFree, OnlyAdds}
 use Rattle.history_laws.specs.Histories.{schedule_step}
@@ -21,10 +25,27 @@ abbrev pub AddAdds : Type 0
 AddAdds = (path : List ℕ) (id : NodeId) (values : GivenValues) (now : ℕ) (d e : BareDoc)
     → IsDoc d → IsDoc e → after_add path id values now d ≡ Ok e → AddsOnly (Some id) d e
 
+-- an entry comes to say something else, by what it said, whatever versions are dropped
+abbrev pub ChangeAdds : Type 0
+ChangeAdds = (path : List ℕ) (allows : BareContent → Result (Unit {0}) TreeFail)
+    (says : Meta → BareContent → BareContent) (now : ℕ) (d e : BareDoc) → IsDoc d → IsDoc e
+    → after_change path allows says now d ≡ Ok e → AddsOnly None d e
+
 -- an entry is edited, whatever versions are dropped
 abbrev pub EditAdds : Type 0
-EditAdds = (path : List ℕ) (values : GivenValues) (now : ℕ) (d e : BareDoc) → IsDoc d → IsDoc e
-    → after_edit path values now d ≡ Ok e → AddsOnly None d e
+EditAdds = (path : List ℕ) (values : GivenValues) (further : FurtherChange) (now : ℕ)
+    (d e : BareDoc) → IsDoc d → IsDoc e → after_edit path values further now d ≡ Ok e
+    → AddsOnly None d e
+
+-- something is attached to an entry, whatever versions are dropped
+abbrev pub AttachAdds : Type 0
+AttachAdds = (path name bytes : List ℕ) (replaces : Bool) (now : ℕ) (d e : BareDoc) → IsDoc d
+    → IsDoc e → after_attach path name bytes replaces now d ≡ Ok e → AddsOnly None d e
+
+-- an attachment of an entry is taken away, whatever versions are dropped
+abbrev pub DetachAdds : Type 0
+DetachAdds = (path name : List ℕ) (now : ℕ) (d e : BareDoc) → IsDoc d → IsDoc e
+    → after_detach path name now d ≡ Ok e → AddsOnly None d e
 
 -- a version of an entry is restored, whatever versions are dropped
 abbrev pub RestoreAdds : Type 0

@@ -1,13 +1,15 @@
 -- Conditions of a small database, computed.
-use Rattle.std.proofs.Common.{◌≡◌, [], ◌∷◌, Some, codes, refl, sym, ap, arith, inl, inr}
+use Rattle.std.proofs.Common.{◌≡◌, true, [], ◌∷◌, Some, codes, refl, sym, ap, arith, inl, inr}
 use Rattle.std.proofs.lemmas.Option.{same_Some}
 use Rattle.vault_model.specs.Db.{nil_id}
 use Rattle.vault_model.specs.Shape.{EntryRecord}
 use Rattle.vault_model.specs.Tree.{node, none}
 use Rattle.merge_core.specs.Example.{as_it_was, bank, edited, entry, group, home, mail, root, version, work}
-use Rattle.frame_laws.specs.Example.{without_bin}
+use Rattle.frame_laws.specs.Example.{with_key, without_bin}
 use Rattle.tree_core.specs.Finding.{entry_found, group_at_path, group_found, has_entry_path, has_group_path}
+use Rattle.tree_core.specs.Attachments.{with_attachment}
 use Rattle.tree_core.specs.Changes.{is_free}
+use Rattle.tree_core.specs.FurtherChanges.{has_field}
 use Rattle.frame_laws.specs.Frame.{entry_of}
 use Rattle.frame_laws.proofs.Examples.{example_changes}
 use Rattle.growth_laws.proofs.Stays.{entry_is}
@@ -18,6 +20,20 @@ bank_is = entry_is as_it_was example_changes.doc bank (entry 10 nil_id (version 
 
 abbrev twice : EntryRecord
 twice = entry 10 nil_id (version 20 (codes "Bank") (codes "b")) (version 10 (codes "Bank") (codes "a") ∷ [])
+
+abbrev first : EntryRecord
+first = entry 10 nil_id (version 10 (codes "Bank") (codes "a")) []
+
+-- the entry with something attached to it
+abbrev with_file : EntryRecord
+with_file = record first {
+  current = record first.current {
+    mark = record first.current.mark { content = with_attachment (codes "key") (codes "k") first.current.mark.content };
+  };
+}
+
+keyed_is : entry_of with_key bank ≡ Some with_file
+keyed_is = entry_is with_key example_changes.keyed bank with_file (inl refl)
 
 edited_is : entry_of edited bank ≡ Some twice
 edited_is = entry_is edited example_changes.wide bank twice (inl refl)
@@ -33,6 +49,21 @@ unfolding entry_found group_found group_at_path has_entry_path has_group_path
 example_conditions = record {
   edit = record {
     entry = record { entry = bank; group = root; before = entry 10 nil_id (version 10 (codes "Bank") (codes "a")) []; named = refl; held = refl; is = bank_is };
+    fields = λ name h. elim h [
+      | inl p ↦ ap (λ n. has_field n (version 10 (codes "Bank") (codes "a")).mark.content.fields) (sym p)
+      | inr z ↦ absurd z
+    ];
+    time = omega arith;
+  };
+  attach = record {
+    entry = record { entry = bank; group = root; before = entry 10 nil_id (version 10 (codes "Bank") (codes "a")) []; named = refl; held = refl; is = bank_is };
+    free = λ e. refl;
+    time = omega arith;
+  };
+  detach = record {
+    entry = record { entry = bank; group = root; before = with_file; named = refl; held = refl; is = keyed_is };
+    attachment = record { name = codes "key"; bytes = codes "k"; hidden = true };
+    there = refl;
     time = omega arith;
   };
   restore = record {

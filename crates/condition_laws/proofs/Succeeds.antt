@@ -1,37 +1,34 @@
 -- Commands are carried out under their conditions.
-use Rattle.std.proofs.Common.{◌≡◌, ◌≤◌, ◌||◌, ◌+◌, ℕ, true, false, not, max, inl, inr, nat_lt, Option, Some, None, Result, Ok, Err, is_some, refl, sym, ap, subst, ◌∙◌, arith}
+use Rattle.std.proofs.Common.{◌≡◌, ◌≤◌, ◌||◌, ◌+◌, ℕ, Bool, true, false, cond, not, max, inl, inr, nat_lt, Option, Some, None, Result, Ok, Err, is_some, refl, sym, ap, subst, ◌∙◌, arith}
 use Rattle.std.proofs.lemmas.Bool.{ltb-true}
-use Rattle.std.proofs.lemmas.Option.{same_Some}
 use Rattle.std.specs.Option.{ok_or, option_and_then}
-use Rattle.std.specs.Prelude.{List, if◌then◌else◌}
+use Rattle.std.specs.Prelude.{List, [], ◌∷◌, if◌then◌else◌}
 use Rattle.outside_core.specs.Results.{◌>>=◌}
 use Rattle.time_core.specs.Times.{last_stamp}
+use Rattle.vault_model.specs.declared.metas.Meta.{Meta}
+use Rattle.vault_model.specs.Bare.{BareAttachment, BareContent, BareField}
 use Rattle.vault_model.specs.Db.{NodeId}
-use Rattle.vault_model.specs.Join.{is_id}
+use Rattle.vault_model.specs.Join.{IsIn, is_id}
 use Rattle.vault_model.specs.SeenNodes.{entry_time}
 use Rattle.vault_model.specs.Shape.{EntryRecord}
-use Rattle.vault_model.specs.Tree.{BareDoc, IsDoc, LEVELS, Tree, entry_rows, entry_rows_all, height, id_of, node_ids}
-use Rattle.vault_model.proofs.Tests.{and_true, decide, is_false, not_true, some_of}
+use Rattle.vault_model.specs.Tree.{BareDoc, IsDoc, LEVELS, Tree, height, id_of}
+use Rattle.vault_model.proofs.Tests.{and_true, decide, is_false, not_true}
 use Rattle.tree_core.specs.declared.fails.TreeFail.{TreeFail}
-use Rattle.tree_core.specs.declared.fails.TreeFail.TheVariants.{AlreadyThere, IdTaken, IntoItself, NameTaken, NoVersion, RootFixed, StampLimit, TooDeep}
-use Rattle.tree_core.specs.After.{Holding, after_recycling, bin_level, entry_deleted, entry_moved_to, entry_named, entry_recycled, group_deleted, group_moved_to, group_named, group_recycled, held_in, is_group_taken, is_parent, is_recycled, named_or_refusal, needs_bin, refuse_if, time_after, version_or_refusal, with_bin, with_bin_made}
-use Rattle.tree_core.specs.Changes.{changed_at, entry_at, group_with, has_group, holder, is_free, level_of, own_entry, parent_of, placed_of, with_group, without_entry}
-use Rattle.tree_core.specs.Finding.{entry_found, group_at_path, group_found, has_entry_path, without_slashes}
+use Rattle.tree_core.specs.declared.fails.TreeFail.TheVariants.{AlreadyThere, IdTaken, IntoItself, NameTaken, NoAttachment, NoField, NoVersion, RootFixed, StampLimit, TooDeep}
+use Rattle.tree_core.specs.After.{Holding, after_change, after_recycling, bin_level, edited_so, entry_deleted, entry_moved_to, entry_named, entry_recycled, group_deleted, group_moved_to, group_named, group_recycled, is_group_taken, is_parent, is_recycled, named_or_refusal, needs_bin, refuse_if, time_after, version_or_refusal, with_bin, with_bin_made}
+use Rattle.tree_core.specs.Attachments.{attachment_of, has_attachment, is_attachable, with_attachment, without_attachment}
+use Rattle.tree_core.specs.FurtherChanges.{has_field, has_unset, missing_from}
+use Rattle.tree_core.specs.Changes.{changed_at, group_with, has_group, is_free, level_of, parent_of, placed_of, with_group}
+use Rattle.tree_core.specs.Finding.{group_at_path, group_found, has_entry_path, without_slashes}
 use Rattle.tree_core.specs.NewNodes.{empty_bin}
 use Rattle.tree_core.specs.NewPaths.{before_last, new_path}
-use Rattle.tree_core.proofs.Around.{entries_rows, found_id}
-use Rattle.tree_core.proofs.Binds.{names, passes}
-use Rattle.tree_core.proofs.Counted.{once}
-use Rattle.tree_core.proofs.EntriesRemoved.{found_at, own_id}
-use Rattle.tree_core.proofs.Holders.{held_at}
+use Rattle.tree_core.proofs.Around.{found_id}
+use Rattle.tree_core.proofs.Binds.{passes}
 use Rattle.tree_removals.proofs.GroupBins.{absent_inside, level_of_last}
 use Rattle.tree_removals.proofs.NewBins.{free_absent}
 use Rattle.growth_laws.proofs.Commands.{bin_there}
-use Rattle.growth_laws.proofs.Stays.{entry_is}
-use Rattle.growth_laws.proofs.Steps.{own_row, take_root}
-use Rattle.frame_laws.specs.Frame.{entry_of}
-use Rattle.frame_laws.proofs.Finds.{row_was}
-use Rattle.condition_laws.specs.Conditions.{AddSucceeds, CanMakeBin, CanPut, EditSucceeds, HasTimeAfter, MakeGroupSucceeds, MoveEntrySucceeds, MoveGroupSucceeds, NamesEntry, NamesGroup, RemoveEntrySucceeds, RemoveGroupSucceeds, RestoreSucceeds}
+use Rattle.frame_laws.proofs.FoundAgain.{Held, held_entry}
+use Rattle.condition_laws.specs.Conditions.{AddSucceeds, AttachSucceeds, CanMakeBin, CanPut, DetachSucceeds, EditSucceeds, HasTimeAfter, MakeGroupSucceeds, MoveEntrySucceeds, MoveGroupSucceeds, NamesEntry, NamesGroup, RemoveEntrySucceeds, RemoveGroupSucceeds, RestoreSucceeds}
 
 -- ---- steps that are not refused
 
@@ -58,48 +55,54 @@ fits_levels n most = is_false (nat_lt LEVELS n) (λ p. let less = ltb-true LEVEL
 
 -- ---- the entry that a path names
 
--- An entry that a path names is held, with the record that the document has of it.
-record Held (path : List ℕ) (d : BareDoc) (n : NamesEntry path d) : Type 0 where
-  held : Holding
-  is : entry_named path d ≡ Ok held
-  group : held.group ≡ n.group
-  record_is : held.entry.1 ≡ n.before
-
-held_entry : (path : List ℕ) (d : BareDoc) → IsDoc d → (n : NamesEntry path d) → Held path d n
-held_entry path d isd n =
-    let some = some_of (entry_at n.group n.entry d.tree) (held_at n.entry n.group d.tree (once (node_ids d.tree) isd.distinct) n.held) in
-    let at = found_at n.group n.entry d.tree some.0 some.1 in
-    let key = own_id n.entry at.0 some.0 at.1.1 in
-    let own = ap (λ v. own_entry v at.0) key ∙ at.1.1 in
-    let row = row_was n.group (without_entry some.0.0) d.tree at.0 at.1.0 (take_root some.0.0 at.0) entry_rows entry_rows_all entries_rows some.0 (own_row some.0.0 some.0 at.0 own) in
-    let there : entry_of d n.entry ≡ Some some.0.1 = ap (entry_of d) (sym key) ∙ entry_is d isd some.0.0 some.0.1 row in
-    record {
-      held = record { group = n.group; entry = some.0 };
-      is = names (λ id. named_or_refusal (holder id d.tree) >>= held_in id d.tree) (entry_found d path) n.entry n.named
-          ∙ names (held_in n.entry d.tree) (holder n.entry d.tree) n.group n.held
-          ∙ names (λ entry. Ok (record { group = n.group; entry = entry })) (entry_at n.group n.entry d.tree) some.0 some.1;
-      group = refl;
-      record_is = same_Some some.0.1 n.before (sym there ∙ n.is);
-    }
+held_so : (path : List ℕ) (d : BareDoc) → IsDoc d → (n : NamesEntry path d) → Held path d n.group n.before
+held_so path d isd n = held_entry path d isd n.entry n.group n.before n.named n.held n.is
 
 -- an entry is moved where its time has one after it
 moved : (d : BareDoc) (held : Holding) (to : NodeId) (now : ℕ) → HasTimeAfter held.entry.1.placed now → Succeeds (entry_moved_to to held now d)
 moved d held to now time = step (time_after now held.entry.1.placed) _ (max now (held.entry.1.placed + 1)) (in_time now held.entry.1.placed time) (done _)
 
--- ---- edit
+-- ---- an entry that says something else
+
+-- what an entry said allows that it says something else
+change_succeeds : (path : List ℕ) (allows : BareContent → Result (Unit {0}) TreeFail) (says : Meta → BareContent → BareContent) (now : ℕ) (d : BareDoc) → IsDoc d → (n : NamesEntry path d)
+    → allows n.before.current.mark.content ≡ Ok tt → HasTimeAfter (entry_time n.before) now → Succeeds (after_change path allows says now d)
+change_succeeds path allows says now d isd n allowed time =
+    let h = held_so path d isd n in
+    step (entry_named path d) _ h.held h.is
+    (step (allows h.held.entry.1.current.mark.content) _ tt (ap (λ (x : EntryRecord). allows x.current.mark.content) h.record_is ∙ allowed)
+    (step (time_after now (entry_time h.held.entry.1)) _ (max now (entry_time h.held.entry.1 + 1))
+    (in_time now (entry_time h.held.entry.1) (subst (λ x. HasTimeAfter (entry_time x) now) (sym h.record_is) time)) (done _)))
+
+-- none of the fields is missing
+none_missing : (place : ℕ) (unset : List (List ℕ)) (fields : List BareField) → ((name : List ℕ) → IsIn name unset → has_field name fields ≡ true) → missing_from place unset fields ≡ Ok tt
+none_missing place [] fields there = refl
+none_missing place (name ∷ more) fields there =
+    ap (λ b. if b then missing_from (place + 1) more fields else Err (NoField place)) (there name (inl refl))
+    ∙ none_missing (place + 1) more fields (λ other i. there other (inr i))
 
 pub edit_succeeds : EditSucceeds
-edit_succeeds path values now d isd can =
-    let h = held_entry path d isd can.entry in
-    step (entry_named path d) _ h.held h.is
-    (step (time_after now (entry_time h.held.entry.1)) _ (max now (entry_time h.held.entry.1 + 1))
-    (in_time now (entry_time h.held.entry.1) (subst (λ x. HasTimeAfter (entry_time x) now) (sym h.record_is) can.time)) (done _))
+edit_succeeds path values further now d isd can =
+    change_succeeds path (has_unset further) (edited_so values further) now d isd can.entry (none_missing 0 further.unset can.entry.before.current.mark.content.fields can.fields) can.time
+
+pub attach_succeeds : AttachSucceeds
+attach_succeeds path name bytes replaces now d isd can =
+    change_succeeds path (is_attachable name replaces) (λ _. with_attachment name bytes) now d isd can.entry (may replaces can.free) can.time
+  where
+    may : (b : Bool) → (b ≡ false → attachment_of name can.entry.before.current.mark.content ≡ None) → is_attachable name b can.entry.before.current.mark.content ≡ Ok tt
+    may true h = refl
+    may false h = ap (λ (o : Option BareAttachment). cond {A = Result (Unit {0}) TreeFail} (is_some o) (Err NameTaken) (Ok tt)) (h refl)
+
+pub detach_succeeds : DetachSucceeds
+detach_succeeds path name now d isd can =
+    change_succeeds path (has_attachment name) (λ _. without_attachment name) now d isd can.entry
+    (ap (λ (o : Option BareAttachment). cond {A = Result (Unit {0}) TreeFail} (is_some o) (Ok tt) (Err NoAttachment)) can.there) can.time
 
 -- ---- restore
 
 pub restore_succeeds : RestoreSucceeds
 restore_succeeds path number now d isd can =
-    let h = held_entry path d isd can.entry in
+    let h = held_so path d isd can.entry in
     step (entry_named path d) _ h.held h.is
     (step (version_or_refusal number h.held.entry.1) _ can.version (ap (λ (x : EntryRecord). version_or_refusal number x) h.record_is ∙ ap (λ o. ok_or o (NoVersion number)) can.numbered)
     (step (time_after now (entry_time h.held.entry.1)) _ (max now (entry_time h.held.entry.1 + 1))
@@ -109,7 +112,7 @@ restore_succeeds path number now d isd can =
 
 pub move_entry_succeeds : MoveEntrySucceeds
 move_entry_succeeds path goal now d isd can =
-    let h = held_entry path d isd can.entry in
+    let h = held_so path d isd can.entry in
     step (entry_named path d) _ h.held h.is
     (step (named_or_refusal (group_found d goal)) _ can.to (ap named_or_refusal can.aimed)
     (step (refuse_if (is_id h.held.group can.to) AlreadyThere) _ tt (ap (λ b. refuse_if b AlreadyThere) (ap (λ v. is_id v can.to) h.group ∙ can.apart))
@@ -174,7 +177,7 @@ recycled_entry (Some id) held now d made time =
 
 pub remove_entry_succeeds : RemoveEntrySucceeds
 remove_entry_succeeds path bin now d isd can =
-    let h = held_entry path d isd can.entry in
+    let h = held_so path d isd can.entry in
     step (entry_named path d) _ h.held h.is
     (elim (decide (is_recycled h.held.group d)) [
       | inl p ↦

@@ -1,14 +1,17 @@
 -- Under which conditions a command is carried out on a document.
-use Rattle.std.specs.Prelude.{◌≡◌, ◌≤◌, ℕ, ◌+◌, true, false, max, List, Option, Some, Ok, is_some}
+use Rattle.std.specs.Prelude.{◌≡◌, ◌≤◌, ℕ, ◌+◌, Bool, true, false, max, List, Option, None, Some, Ok, is_some}
 use Rattle.time_core.specs.Times.{last_stamp}
+use Rattle.vault_model.specs.Bare.{BareAttachment}
 use Rattle.vault_model.specs.Db.{NodeId}
-use Rattle.vault_model.specs.Join.{is_id}
+use Rattle.vault_model.specs.Join.{IsIn, is_id}
 use Rattle.vault_model.specs.SeenNodes.{entry_time}
 use Rattle.vault_model.specs.Shape.{BareVersion, EntryRecord}
 use Rattle.vault_model.specs.Tree.{BareDoc, IsDoc, LEVELS, Tree, height, id_of}
-use Rattle.tree_core.specs.After.{AfterRemoval, after_add, after_edit, after_make_group, after_move_entry, after_move_group, after_remove_entry, after_remove_group, after_restore, bin_level, is_parent, is_recycled, needs_bin}
+use Rattle.tree_core.specs.After.{AfterRemoval, after_add, after_attach, after_detach, after_edit, after_make_group, after_move_entry, after_move_group, after_remove_entry, after_remove_group, after_restore, bin_level, is_parent, is_recycled, needs_bin}
+use Rattle.tree_core.specs.Attachments.{attachment_of}
 use Rattle.tree_core.specs.Changes.{group_with, has_group, holder, is_free, level_of, parent_of, placed_of}
 use Rattle.tree_core.specs.Finding.{entry_found, group_at_path, group_found, has_entry_path, has_group_path, without_slashes}
+use Rattle.tree_core.specs.FurtherChanges.{FurtherChange, has_field}
 use Rattle.tree_core.specs.Histories.{version_numbered}
 use Rattle.tree_core.specs.NewNodes.{GivenValues}
 use Rattle.tree_core.specs.NewPaths.{before_last, names_root, new_path}
@@ -38,15 +41,47 @@ pub record NamesGroup (path : List ℕ) (d : BareDoc) : Type 0 where
 
 -- ---- edit
 
--- The path names an entry, whose last time has one after it.
-pub record CanEdit (path : List ℕ) (now : ℕ) (d : BareDoc) : Type 0 where
+-- The path names an entry, which has the fields that are to be taken away, and whose last time has
+-- one after it.
+pub record CanEdit (path : List ℕ) (further : FurtherChange) (now : ℕ) (d : BareDoc) : Type 0 where
   pub entry : NamesEntry path d
+  pub fields : (name : List ℕ) → IsIn name further.unset
+      → has_field name entry.before.current.mark.content.fields ≡ true
   pub time : HasTimeAfter (entry_time entry.before) now
 
 -- Where an entry can be edited, `edit` gives a document.
 abbrev pub EditSucceeds : Type 0
-EditSucceeds = (path : List ℕ) (values : GivenValues) (now : ℕ) (d : BareDoc) → IsDoc d
-    → CanEdit path now d → (e : BareDoc) × (after_edit path values now d ≡ Ok e)
+EditSucceeds = (path : List ℕ) (values : GivenValues) (further : FurtherChange) (now : ℕ)
+    (d : BareDoc) → IsDoc d → CanEdit path further now d
+    → (e : BareDoc) × (after_edit path values further now d ≡ Ok e)
+
+-- ---- attach and detach
+
+-- The path names an entry, which has no attachment of this name unless that is to be replaced, and
+-- whose last time has one after it.
+pub record CanAttach (path name : List ℕ) (replaces : Bool) (now : ℕ) (d : BareDoc) : Type 0 where
+  pub entry : NamesEntry path d
+  pub free : replaces ≡ false → attachment_of name entry.before.current.mark.content ≡ None
+  pub time : HasTimeAfter (entry_time entry.before) now
+
+-- Where something can be attached, `attach` gives a document.
+abbrev pub AttachSucceeds : Type 0
+AttachSucceeds = (path name bytes : List ℕ) (replaces : Bool) (now : ℕ) (d : BareDoc) → IsDoc d
+    → CanAttach path name replaces now d
+    → (e : BareDoc) × (after_attach path name bytes replaces now d ≡ Ok e)
+
+-- The path names an entry that has an attachment of this name, and whose last time has one after
+-- it.
+pub record CanDetach (path name : List ℕ) (now : ℕ) (d : BareDoc) : Type 0 where
+  pub entry : NamesEntry path d
+  pub attachment : BareAttachment
+  pub there : attachment_of name entry.before.current.mark.content ≡ Some attachment
+  pub time : HasTimeAfter (entry_time entry.before) now
+
+-- Where an attachment can be taken away, `detach` gives a document.
+abbrev pub DetachSucceeds : Type 0
+DetachSucceeds = (path name : List ℕ) (now : ℕ) (d : BareDoc) → IsDoc d
+    → CanDetach path name now d → (e : BareDoc) × (after_detach path name now d ≡ Ok e)
 
 -- ---- restore
 

@@ -1,13 +1,21 @@
 //! The laws that commands are carried out under the conditions that the pages name. Each function
 //! has laws as its contract; it does nothing, and takes no memory.
 
-ghost use Rattle.condition_laws.specs.Conditions.{AddSucceeds, EditSucceeds, MakeGroupSucceeds, MoveEntrySucceeds, MoveGroupSucceeds, RemoveEntrySucceeds, RemoveGroupSucceeds, RestoreSucceeds};
+ghost use Rattle.condition_laws.specs.Conditions.{AddSucceeds, AttachSucceeds, DetachSucceeds, EditSucceeds, MakeGroupSucceeds, MoveEntrySucceeds, MoveGroupSucceeds, RemoveEntrySucceeds, RemoveGroupSucceeds, RestoreSucceeds};
 ghost use Rattle.condition_laws.specs.Example.{ExampleConditions};
 
-/// An edit is carried out where its path names an entry, and the entry's last time is before the
-/// last second of the year 9999.
+/// An edit is carried out where its path names an entry that has the fields that are to be taken
+/// away, and the entry's last time is before the last second of the year 9999.
 pub fn edits_succeed()
     ensures { EditSucceeds }
+{}
+
+/// Something is attached where the path names an entry that has nothing of this name, or where that
+/// is to be replaced; and it is taken away where the entry has it. The entry's last time is under
+/// the same condition.
+pub fn attachments_succeed()
+    ensures attach { AttachSucceeds }
+    ensures detach { DetachSucceeds }
 {}
 
 /// A version is restored where the path names an entry that has it, under the same condition on its

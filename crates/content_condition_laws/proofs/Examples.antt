@@ -28,7 +28,7 @@ use Rattle.find_references.specs.References.{reference_at}
 use Rattle.find_references.specs.Terms.{PlacedTerm, term_before}
 use Rattle.content_condition_laws.specs.Conditions.{CanBeMerged, CanExport, CanResolve, CanSearch, CanShow, CanShowHistory, HaveOwnRoots, terms_in}
 use Rattle.content_condition_laws.specs.Example.{ExampleConditions}
-use Rattle.cli_parse.specs.declared.command.ExportFormat.TheVariants.{Xml}
+use Rattle.cli_needs.specs.declared.command.ExportFormat.TheVariants.{Xml}
 
 -- ---- show
 

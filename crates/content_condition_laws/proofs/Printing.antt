@@ -27,7 +27,7 @@ use Rattle.find_references.specs.declared.fail.FindFail.TheVariants.{EmptyTerm}
 use Rattle.find_references.specs.declared.terms.Term.{Term}
 use Rattle.find_references.proofs.Limits.{within_limits}
 use Rattle.find_core.specs.Search.{entries_found}
-use Rattle.cli_parse.specs.declared.command.ExportFormat.TheVariants.{Csv, Xml}
+use Rattle.cli_needs.specs.declared.command.ExportFormat.TheVariants.{Csv, Xml}
 use Rattle.cli_printing.specs.Exporting.{text_or_refusal}
 use Rattle.otp_core.specs.declared.fails.OtpFail.TheVariants.{OtpLimit}
 use Rattle.otp_core.specs.Reading.{BareOtp, otp_of_entry}

@@ -21,8 +21,8 @@ use Rattle.find_references.specs.Laws.{copied_in, sought_in, steps_over}
 use Rattle.find_references.specs.Resolved.{MOST_BYTES, MOST_REFERENCES}
 use Rattle.find_references.specs.Terms.{PlacedTerm, terms_from}
 use Rattle.find_core.specs.Search.{entries_found}
-use Rattle.cli_parse.specs.declared.command.ExportFormat.{ExportFormat}
-use Rattle.cli_parse.specs.declared.command.ExportFormat.TheVariants.{Csv, Xml}
+use Rattle.cli_needs.specs.declared.command.ExportFormat.{ExportFormat}
+use Rattle.cli_needs.specs.declared.command.ExportFormat.TheVariants.{Csv, Xml}
 use Rattle.cli_printing.specs.Exporting.{exported}
 use Rattle.otp_core.specs.Reading.{BareOtp, otp_of_entry}
 use Rattle.cli_codes.specs.Codes.{EPOCH}

@@ -2,7 +2,7 @@
 use Rattle.std.specs.Prelude.{[], ◌∷◌, codes, false, true}
 use Rattle.merge_core.specs.Example.{as_it_was, edited, moved}
 use Rattle.agreed_laws.specs.Merges.{AreDocs}
-use Rattle.cli_parse.specs.declared.command.ExportFormat.TheVariants.{Csv, Xml}
+use Rattle.cli_needs.specs.declared.command.ExportFormat.TheVariants.{Csv, Xml}
 use Rattle.content_condition_laws.specs.Conditions.{CanBeMerged, CanExport, CanSearch, CanShow, CanShowHistory}
 
 -- An entry can be shown with all its fields, and found by its title in letters of another case; the

@@ -19,6 +19,7 @@ use Rattle.merge_core.proofs.SoundDoc.{db_tomb, document_sound, shape_entry, sha
 use Rattle.merge_core.proofs.Versions.{mark_newest}
 use Rattle.tree_core.specs.After.{Holding}
 use Rattle.tree_core.specs.Finding.{entry_found}
+use Rattle.tree_core.specs.FurtherChanges.{no_further_change}
 use Rattle.growth_laws.proofs.Stays.{versions_time}
 use Rattle.history_laws.specs.Histories.{Event, after_event, schedule_step}
 use Rattle.history_laws.proofs.CurrentJoin.{view_stamp}
@@ -46,15 +47,15 @@ all_agree =
       sound = document_sound unedited doc_before;
       copies = λ i. refl;
       events = (
-        edit_grows_in_current (codes "Bank") new_notes 20 unedited edited doc_before doc_after edit_made,
-        (edit_grows_in_current (codes "Bank") other_notes 15 unedited earlier doc_before doc_earlier earlier_made, tt),
+        edit_grows_in_current (codes "Bank") new_notes no_further_change 20 unedited edited doc_before doc_after edit_made,
+        (edit_grows_in_current (codes "Bank") other_notes no_further_change 15 unedited earlier doc_before doc_earlier earlier_made, tt),
       );
       free = (
         adding_is_free w (db_in unedited ∷ []) 0 None edited doc_after
-            (edit_adds (codes "Bank") new_notes 20 unedited edited doc_before doc_after edit_made) (nothing_drawn (db_in unedited ∷ [])),
+            (edit_adds (codes "Bank") new_notes no_further_change 20 unedited edited doc_before doc_after edit_made) (nothing_drawn (db_in unedited ∷ [])),
         (
           adding_is_free (after_event 128 w (schedule_step (change 0 edited))) (db_in edited ∷ db_in unedited ∷ []) 1 None earlier doc_earlier
-              (edit_adds (codes "Bank") other_notes 15 unedited earlier doc_before doc_earlier earlier_made) (nothing_drawn (db_in edited ∷ db_in unedited ∷ [])),
+              (edit_adds (codes "Bank") other_notes no_further_change 15 unedited earlier doc_before doc_earlier earlier_made) (nothing_drawn (db_in edited ∷ db_in unedited ∷ [])),
           tt,
         ),
       );
@@ -96,7 +97,7 @@ module _ (e : BareDoc) (isd : IsDoc e) (member : IsIn (db_in e) (db_in earlier �
   is_kept : kept both bank ≡ true
   unfolding entry_found
   is_kept =
-      let now = edit_is_now (codes "Bank") new_notes 20 20 held unedited edited doc_before doc_after refl refl edit_made in
+      let now = edit_is_now (codes "Bank") new_notes no_further_change 20 20 held unedited edited doc_before doc_after refl refl edit_made in
       let there : holds (db_in edited) bank ≡ true = or_left (contains_key (db_in edited).entries bank) (contains_key (db_in edited).groups bank) (some_is (get (db_in edited).entries bank) now.versions now.entry) in
       part_kept (db_in earlier ∷ db_in edited ∷ db_in unedited ∷ []) both all_agree part bank
       ∙ own_from_alive all_agree.compatible both part bank (held_by both (db_in edited) bank (inl refl) there) (λ n h. no_tomb n (part.1 n h))
@@ -105,8 +106,8 @@ module _ (e : BareDoc) (isd : IsDoc e) (member : IsIn (db_in e) (db_in earlier �
   newer : 20 ≤ stamp_in (join both) bank
   unfolding stamp_in entry_found
   newer =
-      let now = edit_is_now (codes "Bank") new_notes 20 20 held unedited edited doc_before doc_after refl refl edit_made in
-      let k = edited_mark unedited new_notes 20 old in
+      let now = edit_is_now (codes "Bank") new_notes no_further_change 20 20 held unedited edited doc_before doc_after refl refl edit_made in
+      let k = edited_mark unedited new_notes no_further_change 20 old in
       let s = some_of (get now.versions k) now.there in
       let there = kept_version both (db_in edited) bank now.versions k s.0 (inl refl) is_kept now.entry s.1 in
       let last = mark_newest there.versions k there.stats there.version in

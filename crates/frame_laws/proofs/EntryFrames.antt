@@ -1,12 +1,13 @@
 -- What commands on entries leave as it is.
-use Rattle.std.proofs.Common.{◌≡◌, ◌≤◌, ◌<◌, ◌||◌, ◌&&◌, ℕ, Bool, true, false, inl, inr, List, Option, None, Some, Ok, refl, sym, ap, subst, ◌∙◌, max, nat_lt, ◌+◌, arith}
+use Rattle.std.proofs.Common.{◌≡◌, ◌≤◌, ◌<◌, ◌||◌, ◌&&◌, ℕ, Bool, true, false, inl, inr, List, Option, None, Some, Result, Ok, refl, sym, ap, subst, ◌∙◌, max, nat_lt, ◌+◌, arith}
 use Rattle.std.specs.FinMap.{find}
 use Rattle.std.specs.List.{list_all}
 use Rattle.std.specs.Option.{ok_or, option_and_then}
-use Rattle.std.specs.Prelude.{if◌then◌else◌, Err}
+use Rattle.std.specs.Prelude.{if◌then◌else◌, ℤ, Err}
 use Rattle.time_core.specs.Times.{last_stamp}
 use Rattle.vault_model.specs.declared.contents.Item.{Item}
-use Rattle.vault_model.specs.Bare.{BareAttachment, BareField}
+use Rattle.vault_model.specs.declared.metas.Meta.{Meta}
+use Rattle.vault_model.specs.Bare.{BareAttachment, BareContent, BareField}
 use Rattle.vault_model.specs.Db.{NodeId, id_cmp}
 use Rattle.vault_model.specs.Join.{IsIn, is_id}
 use Rattle.vault_model.specs.SeenNodes.{entry_time}
@@ -17,10 +18,17 @@ use Rattle.vault_model.proofs.Ids.{id_itself, same_id}
 use Rattle.vault_model.proofs.Tests.{and_true, apart, decide, is_false, or_false}
 use Rattle.merge_core.proofs.SoundDoc.{all_in, shape_kids}
 use Rattle.tree_core.specs.Finding.{entry_found, group_found}
+use Rattle.tree_core.specs.declared.fails.TreeFail.{TreeFail}
+use Rattle.tree_core.specs.declared.values.Expiry.{Expiry}
+use Rattle.tree_core.specs.declared.values.Expiry.TheVariants.{At, Never}
 use Rattle.tree_core.specs.declared.fails.TreeFail.TheVariants.{AlreadyThere, NoVersion, StampLimit}
-use Rattle.tree_core.specs.After.{Holding, changed_content, edited_entry, entry_moved_to, entry_named, named_or_refusal, refuse_if, time_after, version_or_refusal}
+use Rattle.tree_core.specs.After.{Holding, after_change, changed_content, edited_so, entry_moved_to, entry_named, named_or_refusal, refuse_if, time_after, version_or_refusal}
 use Rattle.tree_core.specs.Changes.{changed_at, changed_entry, entry_at, group_with, has_group, holder, moved_entry, own_entry, with_entry, without, without_entry}
+use Rattle.tree_core.specs.Attachments.{attachment_of, has_attachment, is_attachable, with_attachment, without_attachment}
+use Rattle.tree_core.specs.FurtherChanges.{has_unset, with_expiry, with_own_values, without_fields}
 use Rattle.tree_core.specs.Histories.{rising_versions, version_numbered}
+use Rattle.tree_core.specs.NewNodes.{edited_fields}
+use Rattle.tree_core.specs.Tags.{changed_tags}
 use Rattle.tree_core.proofs.Around.{children_rows, entries_rows, found_group, found_id}
 use Rattle.tree_core.proofs.EntriesMoved.{same_there}
 use Rattle.tree_core.proofs.EntriesRemoved.{deleted_is_doc, found_at, own_id}
@@ -31,8 +39,10 @@ use Rattle.growth_laws.proofs.Outcomes.{bind_ok, named_ok, refuse_ok, same_ok, t
 use Rattle.growth_laws.proofs.Stays.{entry_is}
 use Rattle.growth_laws.proofs.Steps.{change_root, own_row, root_same, take_root}
 use Rattle.frame_laws.specs.Frame.{AreSameBut, either, entry_of, no_node, only}
-use Rattle.frame_laws.specs.Entries.{EditFrames, EditsEntry, EntryMoves, MoveEntryFrames, RestoreFrames, RestoresEntry}
-use Rattle.frame_laws.proofs.Fields.{fields_flags, fields_given, fields_gone, fields_hidden, fields_others, trimmed}
+use Rattle.frame_laws.specs.Entries.{AreEditedFields, AttachFrames, ChangesEntry, DetachFrames, EditFrames, EntryMoves, HasNewVersion, IsAttachedEntry, IsDetachedEntry, IsEditedEntry, IsRestoredEntry, MoveEntryFrames, RestoreFrames}
+use Rattle.frame_laws.proofs.AttachedFiles.{attachable, attachment_gone, attachment_kept, attachment_now, attachment_others, detachable}
+use Rattle.frame_laws.proofs.Fields.{trimmed}
+use Rattle.frame_laws.proofs.OwnFields.{fields_edited, unset_there}
 use Rattle.frame_laws.proofs.Finds.{SameRows, change_same, lists_found, own_lists, own_lists_row, put_lists, put_same, row_now, row_was, same_at, same_but, same_more, same_then, take_lists, take_same}
 
 -- ---- an entry that a path names
@@ -61,18 +71,7 @@ time_now now time t h =
           omega (arith, is)
     ]
 
--- ---- edit
-
--- the fields of an entry of a document rise by their keys
-rising : (u : NodeId) (x : EntryRecord) (e : BareDoc) → IsDoc e → IsIn (u, x) (entry_rows e.tree) → rises (λ (f : BareField). f.key) x.current.mark.content.fields ≡ true
-unfolding is_proper_content
-rising u x e ise row =
-    let c = x.current.mark.content in
-    let all = all_in (λ (r : NodeId × EntryRecord). is_proper_entry r.1) (entry_rows e.tree) (u, x) ise.entries_proper row in
-    let one = and_true (is_proper_content c) (list_all (λ (v : BareVersion). is_proper_content v.mark.content) x.history) all in
-    let texts = and_true (rises (λ (f : BareField). f.key) c.fields && rises (λ (a : BareAttachment). a.name) c.attachments && rises (λ (i : Item). i.key) c.items) (is_text_content c) one.0 in
-    let items = and_true (rises (λ (f : BareField). f.key) c.fields && rises (λ (a : BareAttachment). a.name) c.attachments) (rises (λ (i : Item). i.key) c.items) texts.0 in
-    (and_true (rises (λ (f : BareField). f.key) c.fields) (rises (λ (a : BareAttachment). a.name) c.attachments) items.0).0
+-- ---- an entry that says something else
 
 -- one entry is changed, and all else is as before
 module _ (d : BareDoc) (isd : IsDoc d) (held : Holding) (f : Found d held) (k : EntryRecord → EntryRecord)
@@ -104,47 +103,132 @@ module _ (d : BareDoc) (isd : IsDoc d) (held : Holding) (f : Found d held) (k : 
       (same_at held.group (changed_entry u k) d.tree f.group f.there (change_root u k f.group) (only u) no_node no_node
       (sym (root_same held.group (changed_entry u k) d.tree f.group f.there (change_root u k f.group))) (change_same u k f.group))
 
-pub edit_frames : EditFrames
-edit_frames path values now d e isd ise h =
+-- What a command makes of an entry, by what histories may hold and by its record before and after.
+abbrev Becomes : Type 1
+Becomes = (items size : ℤ) → (before after : EntryRecord) → Type 0
+
+-- what holds of each entry that says this anew holds of one that a path names
+abbrev Follows : Becomes → (says : BareContent → BareContent) → ℕ → EntryRecord → Type 0
+Follows becomes says now x =
+    (items size : ℤ) (after : EntryRecord) → HasNewVersion now items size x after → after.current.mark.content ≡ says x.current.mark.content → becomes items size x after
+
+module _ (path : List ℕ) (d : BareDoc) (isd : IsDoc d) (held : Holding) (named : entry_named path d ≡ Ok held) (becomes : Becomes) (says : BareContent → BareContent) (now : ℕ)
+    (follows : is_proper_entry held.entry.1 ≡ true → Follows becomes says now held.entry.1) where
+  abbrev becoming : ℕ → EntryRecord → EntryRecord
+  becoming time = changed_content d.meta says time
+
+  abbrev said : ℕ → BareDoc
+  said time = record d { tree = changed_at held.group (changed_entry held.entry.0 (becoming time)) d.tree }
+
+  pub said_frames : (time : ℕ) → time_after now (entry_time held.entry.1) ≡ Ok time → IsDoc (said time) → ChangesEntry path becomes d (said time)
+  said_frames time timed ise =
+      let x = held.entry.1 in
+      let f = found path d held named in
+      let proper = all_in (λ (r : NodeId × EntryRecord). is_proper_entry r.1) (entry_rows d.tree) held.entry isd.entries_proper (old d isd held f (becoming time) ise) in
+      record {
+        entry = held.entry.0;
+        named = found_named path d held named;
+        before = x;
+        after = becoming time x;
+        was = was_entry d isd held f (becoming time) ise;
+        is = is_entry d isd held f (becoming time) ise;
+        changed = follows proper d.meta.settings.value.history_items d.meta.settings.value.history_size (becoming time x) (record {
+          placed = refl;
+          previous = refl;
+          modified = time_now now (entry_time x) time timed;
+          later = time_ok now (entry_time x) time timed;
+          accessed = refl;
+          usage = refl;
+          history = trimmed d.meta.settings.value.history_items d.meta.settings.value.history_size (rising_versions x);
+        }) refl;
+        rest = all_else d isd held f (becoming time) ise;
+        tombs = refl;
+        meta = refl;
+      }
+
+-- an entry that a path names comes to say something else
+pub change_frames : (path : List ℕ) (allows : BareContent → Result (Unit {0}) TreeFail) (says : Meta → BareContent → BareContent) (now : ℕ) (d e : BareDoc) → IsDoc d → IsDoc e → (becomes : Becomes)
+    → ((x : EntryRecord) (u : Unit {0}) → is_proper_entry x ≡ true → allows x.current.mark.content ≡ Ok u → Follows becomes (says d.meta) now x)
+    → after_change path allows says now d ≡ Ok e → ChangesEntry path becomes d e
+change_frames path allows says now d e isd ise becomes follows h =
     let held = bind_ok (entry_named path d) _ e h in
-    let time = bind_ok (time_after now (entry_time held.0.entry.1)) _ e held.1.1 in
+    let allowed = bind_ok (allows held.0.entry.1.current.mark.content) _ e held.1.1 in
+    let time = bind_ok (time_after now (entry_time held.0.entry.1)) _ e allowed.1.1 in
     let is = same_ok _ e time.1.1 in
-    let f = found path d held.0 held.1.0 in
-    subst (λ (w : BareDoc). EditsEntry path values now d w) is (edited held.0 (found_named path d held.0 held.1.0) f time.0 time.1.0 (subst IsDoc (sym is) ise))
+    subst (λ (w : BareDoc). ChangesEntry path becomes d w) is
+    (said_frames path d isd held.0 held.1.0 becomes (says d.meta) now (λ proper. follows held.0.entry.1 allowed.0 proper allowed.1.0) time.0 time.1.0 (subst IsDoc (sym is) ise))
+
+-- ---- edit
+
+-- what an entry says is in order
+proper_parts : (x : EntryRecord) → is_proper_entry x ≡ true
+    → (rises (λ (f : BareField). f.key) x.current.mark.content.fields ≡ true) × (rises (λ (a : BareAttachment). a.name) x.current.mark.content.attachments ≡ true)
+unfolding is_proper_content
+proper_parts x all =
+    let c = x.current.mark.content in
+    let one = and_true (is_proper_content c) (list_all (λ (v : BareVersion). is_proper_content v.mark.content) x.history) all in
+    let texts = and_true (rises (λ (f : BareField). f.key) c.fields && rises (λ (a : BareAttachment). a.name) c.attachments && rises (λ (i : Item). i.key) c.items) (is_text_content c) one.0 in
+    let items = and_true (rises (λ (f : BareField). f.key) c.fields && rises (λ (a : BareAttachment). a.name) c.attachments) (rises (λ (i : Item). i.key) c.items) texts.0 in
+    and_true (rises (λ (f : BareField). f.key) c.fields) (rises (λ (a : BareAttachment). a.name) c.attachments) items.0
+
+expiry_fields : (o : Option Expiry) (c : BareContent) → (with_expiry o c).fields ≡ c.fields
+expiry_fields None c = refl
+expiry_fields (Some Never) c = refl
+expiry_fields (Some (At time)) c = refl
+
+pub edit_frames : EditFrames
+edit_frames path values further now d e isd ise =
+    change_frames path (has_unset further) (edited_so values further) now d e isd ise (IsEditedEntry values further now) edited
   where
-    edited : (held : Holding) → entry_found d path ≡ Some held.entry.0 → Found d held → (time : ℕ) → time_after now (entry_time held.entry.1) ≡ Ok time
-        → IsDoc (record d { tree = changed_at held.group (changed_entry held.entry.0 (edited_entry d.meta values time)) d.tree })
-        → EditsEntry path values now d (record d { tree = changed_at held.group (changed_entry held.entry.0 (edited_entry d.meta values time)) d.tree })
-    edited held named f time timed ise =
-        let y = held.entry.1 in
-        let k = edited_entry d.meta values time in
-        let rises_before = rising held.entry.0 y d isd (old d isd held f k ise) in
-        let rises_after = rising held.entry.0 (k y) (record d { tree = changed_at held.group (changed_entry held.entry.0 k) d.tree }) ise (row d isd held f k ise) in
+    edited : (x : EntryRecord) (u : Unit {0}) → is_proper_entry x ≡ true → has_unset further x.current.mark.content ≡ Ok u → Follows (IsEditedEntry values further now) (edited_so values further d.meta) now x
+    edited x u proper allowed items size after version says =
+        let c = x.current.mark.content in
+        let p = d.meta.settings.value.protect in
+        let fields = without_fields further.unset (with_own_values further.protect further.set (edited_fields p values c.fields)) in
+        let tags = changed_tags further.tags further.untags c.tags in
+        let is : after.current.mark.content.fields ≡ fields = ap (λ (z : BareContent). z.fields) says ∙ expiry_fields further.expiry (record c { fields = fields; tags = tags }) in
         record {
-          entry = held.entry.0;
-          named = named;
-          before = y;
-          after = k y;
-          was = was_entry d isd held f k ise;
-          is = is_entry d isd held f k ise;
-          edited = record {
-            placed = refl;
-            previous = refl;
-            modified = time_now now (entry_time y) time timed;
-            later = time_ok now (entry_time y) time timed;
-            accessed = refl;
-            usage = refl;
-            content = refl;
-            given = fields_given d.meta.settings.value.protect values y.current.mark.content.fields;
-            others = fields_others d.meta.settings.value.protect values y.current.mark.content.fields;
-            gone = fields_gone d.meta.settings.value.protect values y.current.mark.content.fields rises_before rises_after;
-            flags = fields_flags d.meta.settings.value.protect values y.current.mark.content.fields rises_before rises_after;
-            hidden = fields_hidden d.meta.settings.value.protect values y.current.mark.content.fields rises_before rises_after;
-            history = trimmed d.meta.settings.value.history_items d.meta.settings.value.history_size (rising_versions y);
+          version = version;
+          had = unset_there 0 further.unset c.fields u allowed;
+          fields = subst (AreEditedFields values further c.fields) (sym is) (fields_edited p values further c.fields (proper_parts x proper).0);
+          content = says ∙ sym (ap (λ fs. with_expiry further.expiry (record c { fields = fs; tags = tags })) is);
+        }
+
+-- ---- attach and detach
+
+pub attach_frames : AttachFrames
+attach_frames path name bytes replaces now d e isd ise =
+    change_frames path (is_attachable name replaces) (λ _. with_attachment name bytes) now d e isd ise (IsAttachedEntry name bytes replaces now) attached
+  where
+    attached : (x : EntryRecord) (u : Unit {0}) → is_proper_entry x ≡ true → is_attachable name replaces x.current.mark.content ≡ Ok u
+        → Follows (IsAttachedEntry name bytes replaces now) (with_attachment name bytes) now x
+    attached x u proper allowed items size after version says =
+        let c = x.current.mark.content in
+        record {
+          version = version;
+          free = attachable name replaces c u allowed;
+          attached = ap (attachment_of name) says ∙ attachment_now name bytes c (proper_parts x proper).1;
+          rest = record {
+            others = λ other off. ap (attachment_of other) says ∙ attachment_others name bytes other c off;
+            content = says ∙ sym (ap (λ (z : BareContent). record c { attachments = z.attachments }) says);
           };
-          rest = all_else d isd held f k ise;
-          tombs = refl;
-          meta = refl;
+        }
+
+pub detach_frames : DetachFrames
+detach_frames path name now d e isd ise =
+    change_frames path (has_attachment name) (λ _. without_attachment name) now d e isd ise (IsDetachedEntry name now) detached
+  where
+    detached : (x : EntryRecord) (u : Unit {0}) → is_proper_entry x ≡ true → has_attachment name x.current.mark.content ≡ Ok u → Follows (IsDetachedEntry name now) (without_attachment name) now x
+    detached x u proper allowed items size after version says =
+        let c = x.current.mark.content in
+        record {
+          version = version;
+          there = detachable name c u allowed;
+          gone = ap (attachment_of name) says ∙ attachment_gone name c (proper_parts x proper).1;
+          rest = record {
+            others = λ other off. ap (attachment_of other) says ∙ attachment_kept name other c off;
+            content = says ∙ sym (ap (λ (z : BareContent). record c { attachments = z.attachments }) says);
+          };
         }
 
 -- ---- restore
@@ -155,44 +239,18 @@ restore_frames path number now d e isd ise h =
     let version = bind_ok (version_or_refusal number held.0.entry.1) _ e held.1.1 in
     let time = bind_ok (time_after now (entry_time held.0.entry.1)) _ e version.1.1 in
     let is = same_ok _ e time.1.1 in
-    let f = found path d held.0 held.1.0 in
-    subst (λ (w : BareDoc). RestoresEntry path number now d w) is
-    (restored held.0 (found_named path d held.0 held.1.0) f version.0 (there (version_numbered number held.0.entry.1) version.0 version.1.0) time.0 time.1.0 (subst IsDoc (sym is) ise))
+    subst (λ (w : BareDoc). ChangesEntry path (IsRestoredEntry number now) d w) is
+    (said_frames path d isd held.0 held.1.0 (IsRestoredEntry number now) (λ _. version.0.mark.content) now
+    (λ proper items size after new says. record {
+      version = new;
+      old = version.0;
+      numbered = there (version_numbered number held.0.entry.1) version.0 version.1.0;
+      content = says;
+    }) time.0 time.1.0 (subst IsDoc (sym is) ise))
   where
     there : (o : Option BareVersion) (v : BareVersion) → ok_or o (NoVersion number) ≡ Ok v → o ≡ Some v
     there None v e = cc e
     there (Some w) v e = ap Some (same_ok w v e)
-
-    restored : (held : Holding) → entry_found d path ≡ Some held.entry.0 → Found d held → (version : BareVersion) → version_numbered number held.entry.1 ≡ Some version
-        → (time : ℕ) → time_after now (entry_time held.entry.1) ≡ Ok time
-        → IsDoc (record d { tree = changed_at held.group (changed_entry held.entry.0 (changed_content d.meta (λ _. version.mark.content) time)) d.tree })
-        → RestoresEntry path number now d (record d { tree = changed_at held.group (changed_entry held.entry.0 (changed_content d.meta (λ _. version.mark.content) time)) d.tree })
-    restored held named f version numbered time timed ise =
-        let y = held.entry.1 in
-        let k = changed_content d.meta (λ _. version.mark.content) time in
-        record {
-          entry = held.entry.0;
-          named = named;
-          before = y;
-          after = k y;
-          was = was_entry d isd held f k ise;
-          is = is_entry d isd held f k ise;
-          restored = record {
-            placed = refl;
-            previous = refl;
-            modified = time_now now (entry_time y) time timed;
-            later = time_ok now (entry_time y) time timed;
-            accessed = refl;
-            usage = refl;
-            version = version;
-            numbered = numbered;
-            content = refl;
-            history = trimmed d.meta.settings.value.history_items d.meta.settings.value.history_size (rising_versions y);
-          };
-          rest = all_else d isd held f k ise;
-          tombs = refl;
-          meta = refl;
-        }
 
 -- ---- an entry put in and taken out
 

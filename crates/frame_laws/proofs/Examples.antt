@@ -2,6 +2,7 @@
 use Rattle.std.proofs.Common.{◌≡◌, List, [], ◌∷◌, codes, None, Some, Ok, Err, Result, refl, sym, ap, arith}
 use Rattle.std.specs.Str.{chars, is_utf8}
 use Rattle.vault_model.specs.Proper.{is_proper_content, is_proper_group_content}
+use Rattle.vault_model.specs.Bare.{BareContent}
 use Rattle.vault_model.specs.Db.{mark_cmp, nil_id}
 use Rattle.vault_model.specs.Shape.{BareVersion, EntryRecord}
 use Rattle.vault_model.specs.Tree.{BareDoc}
@@ -9,6 +10,7 @@ use Rattle.merge_core.specs.Example.{as_it_was, bank, edited, entry, home, root,
 use Rattle.tree_core.specs.declared.fails.Removed.TheVariants.{Deleted}
 use Rattle.tree_core.specs.declared.fails.TreeFail.{TreeFail}
 use Rattle.tree_core.specs.After.{AfterRemoval, after_add, after_make_group, after_move_entry, after_move_group, after_remove_entry, after_remove_group}
+use Rattle.tree_core.specs.Attachments.{with_attachment, without_attachment}
 use Rattle.tree_core.specs.Changes.{changed_at, changed_entry}
 use Rattle.tree_core.specs.Histories.{rising_versions, within_limits}
 use Rattle.tree_core.specs.NewNodes.{edited_version, new_version}
@@ -33,12 +35,29 @@ old = entry 10 nil_id (version 10 (codes "Bank") (codes "a")) []
 abbrev new : BareVersion
 new = edited_version as_it_was.meta.settings.value.protect new_notes 50 old.current
 
--- the database with that version as the current one, and this history
-abbrev with_history : List BareVersion → BareDoc
-with_history vs = record as_it_was { tree = changed_at root (changed_entry bank (λ (x : EntryRecord). record x { current = new; history = vs })) as_it_was.tree }
+-- the database with a version as the current one, and this history
+abbrev with_history : BareVersion → List BareVersion → BareDoc
+with_history v vs = record as_it_was { tree = changed_at root (changed_entry bank (λ (x : EntryRecord). record x { current = v; history = vs })) as_it_was.tree }
 
 one_version : rising_versions old ≡ old.current ∷ []
 one_version = sym (all_rising old [] (old.current ∷ []) (rises_first [] [] refl) refl)
+
+-- ---- something attached, and taken away
+
+abbrev key : BareContent
+key = with_attachment (codes "key") (codes "k") old.current.mark.content
+
+abbrev keyed : BareVersion
+keyed = new_version key 50 old.current
+
+abbrev old_key : EntryRecord
+old_key = record old { current = record old.current { mark = record old.current.mark { content = key } } }
+
+abbrev keyless : BareVersion
+keyless = new_version (without_attachment (codes "key") key) 50 old.current
+
+one_key : rising_versions old_key ≡ old_key.current ∷ []
+one_key = sym (all_rising old_key [] (old_key.current ∷ []) (rises_first [] [] refl) refl)
 
 -- ---- a version restored
 
@@ -101,8 +120,20 @@ example_changes = record {
     items_rise = refl;
     meta_texts = refl;
   };
+  keyed = record {
+    distinct = refl;
+    no_nil = refl;
+    levels = omega arith;
+    tombs_rise = refl;
+    tombs_apart = refl;
+    entries_proper = refl;
+    groups_proper = refl;
+    icons_rise = refl;
+    items_rise = refl;
+    meta_texts = refl;
+  };
   edit = (
-    with_history (old.current ∷ []),
+    with_history new (old.current ∷ []),
     (
       record {
         distinct = refl;
@@ -116,7 +147,43 @@ example_changes = record {
         items_rise = refl;
         meta_texts = refl;
       },
-      ap (λ vs. Ok (with_history (within_limits as_it_was.meta.settings.value.history_items as_it_was.meta.settings.value.history_size vs))) one_version,
+      ap (λ vs. Ok (with_history new (within_limits as_it_was.meta.settings.value.history_items as_it_was.meta.settings.value.history_size vs))) one_version,
+    ),
+  );
+  attach = (
+    with_history keyed (old.current ∷ []),
+    (
+      record {
+        distinct = refl;
+        no_nil = refl;
+        levels = omega arith;
+        tombs_rise = refl;
+        tombs_apart = refl;
+        entries_proper = refl;
+        groups_proper = refl;
+        icons_rise = refl;
+        items_rise = refl;
+        meta_texts = refl;
+      },
+      ap (λ vs. Ok (with_history keyed (within_limits as_it_was.meta.settings.value.history_items as_it_was.meta.settings.value.history_size vs))) one_version,
+    ),
+  );
+  detach = (
+    with_history keyless (old_key.current ∷ []),
+    (
+      record {
+        distinct = refl;
+        no_nil = refl;
+        levels = omega arith;
+        tombs_rise = refl;
+        tombs_apart = refl;
+        entries_proper = refl;
+        groups_proper = refl;
+        icons_rise = refl;
+        items_rise = refl;
+        meta_texts = refl;
+      },
+      ap (λ vs. Ok (with_history keyless (within_limits as_it_was.meta.settings.value.history_items as_it_was.meta.settings.value.history_size vs))) one_key,
     ),
   );
   restore = (

@@ -1,8 +1,12 @@
+pub mod AttachedFiles
 pub mod EntryFrames
 pub mod EntryRemovals
 pub mod Examples
 pub mod Fields
 pub mod Finds
+pub mod FoundAgain
 pub mod NewFrames
+pub mod Ordered
+pub mod OwnFields
 pub mod Tombs
 pub mod Undoing

@@ -22,7 +22,8 @@ use Rattle.merge_core.proofs.Semilattice.{some-gather}
 use Rattle.merge_core.proofs.SoundDoc.{as_map, version_marks}
 use Rattle.merge_core.proofs.Tables.{entry_get, get_single}
 use Rattle.merge_core.proofs.Unite.{get-unite_all, tie, ties}
-use Rattle.tree_core.specs.After.{edited_entry, entry_named, time_after}
+use Rattle.tree_core.specs.After.{changed_content, edited_so, entry_named, time_after}
+use Rattle.tree_core.specs.FurtherChanges.{has_unset}
 use Rattle.tree_core.specs.Histories.{rising_versions, version_numbered}
 use Rattle.tree_core.proofs.Numbered.{from_end}
 use Rattle.tree_edits.proofs.RisingVersions.{first, less, second}
@@ -120,13 +121,14 @@ module _ (x : EntryRecord) (newest : IsNewest x) where
 -- ---- the law
 
 pub restore_undoes : RestoreUndoes
-restore_undoes path again values now later entry d e r isd ise isr named found_again newest drops h g =
+restore_undoes path again values further now later entry d e r isd ise isr named found_again newest drops h g =
     let held = bind_ok (entry_named path d) _ e h in
-    let time = bind_ok (time_after now (entry_time held.0.entry.1)) _ e held.1.1 in
+    let allowed = bind_ok (has_unset further held.0.entry.1.current.mark.content) _ e held.1.1 in
+    let time = bind_ok (time_after now (entry_time held.0.entry.1)) _ e allowed.1.1 in
     let is = same_ok _ e time.1.1 in
     let f = found path d held.0 held.1.0 in
     let x = held.0.entry.1 in
-    let k = edited_entry d.meta values time.0 in
+    let k = changed_content d.meta (edited_so values further d.meta) time.0 in
     let isk = subst IsDoc (sym is) ise in
     let key = same_Some held.0.entry.0 entry (sym (found_named path d held.0 held.1.0) ∙ named) in
     let was = ap (entry_of d) (sym key) ∙ was_entry d isd held.0 f k isk in
@@ -134,9 +136,9 @@ restore_undoes path again values now later entry d e r isd ise isr named found_a
     let same = same_Some R.entry entry (sym R.named ∙ found_again) in
     let before = same_Some R.before (k x) (sym R.was ∙ ap (entry_of e) (same ∙ sym key) ∙ ap (λ (w : BareDoc). entry_of w held.0.entry.0) (sym is) ∙ is_entry d isd held.0 f k isk) in
     let last = last_rising x (newest x was) in
-    let version = same_Some R.restored.version last.0
-    (sym R.restored.numbered ∙ ap (version_numbered 1) before ∙ ap (λ (vs : List BareVersion). slice_get (reverse vs) 0) (drops held.0 held.1.0) ∙ last.1.0) in
+    let version = same_Some R.changed.old last.0
+    (sym R.changed.numbered ∙ ap (version_numbered 1) before ∙ ap (λ (vs : List BareVersion). slice_get (reverse vs) 0) (drops held.0 held.1.0) ∙ last.1.0) in
     let content = λ (x : EntryRecord). x.current.mark.content in
     ap (said_of r) (sym same) ∙ ap (option_map content) R.is
-    ∙ ap Some (R.restored.content ∙ ap (λ (w : BareVersion). w.mark.content) version ∙ ap (λ (m : Mark). m.content) last.1.1)
+    ∙ ap Some (R.changed.content ∙ ap (λ (w : BareVersion). w.mark.content) version ∙ ap (λ (m : Mark). m.content) last.1.1)
     ∙ sym (ap (option_map content) was)

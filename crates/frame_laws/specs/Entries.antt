@@ -1,7 +1,9 @@
 -- What each command changes, and that all else is as before.
-use Rattle.std.specs.Prelude.{◌≡◌, ◌≤◌, ◌<◌, ◌&&◌, ℕ, ℤ, Bool, true, false, cond, List, [], ◌∷◌, ◌++◌, length, Option, None, Some, Ok, codes, find, is_some}
+use Rattle.std.specs.Prelude.{◌≡◌, ◌≤◌, ◌<◌, ◌&&◌, ◌||◌, ℕ, ℤ, Bool, true, false, cond, List, [], ◌∷◌, ◌++◌, length, Option, None, Some, Ok, codes, find, is_some}
+use Rattle.std.specs.List.{list_any}
 use Rattle.std.specs.Ordering.{eq_by_cmp}
-use Rattle.vault_model.specs.Bare.{BareField}
+use Rattle.std.specs.Str.{bytes_eq}
+use Rattle.vault_model.specs.Bare.{BareAttachment, BareContent, BareField}
 use Rattle.vault_model.specs.Db.{NodeId}
 use Rattle.vault_model.specs.Empty.{new_group}
 use Rattle.vault_model.specs.Join.{is_id}
@@ -9,11 +11,14 @@ use Rattle.vault_model.specs.Orders.{bytes_cmp}
 use Rattle.vault_model.specs.SeenNodes.{entry_time}
 use Rattle.vault_model.specs.Shape.{BareVersion, EntryRecord, no_children}
 use Rattle.vault_model.specs.Tree.{BareDoc, IsDoc}
-use Rattle.tree_core.specs.After.{after_add, after_edit, after_make_group, after_move_entry, after_restore}
-use Rattle.tree_core.specs.Finding.{entry_found, group_at_path, group_found, without_slashes}
+use Rattle.tree_core.specs.After.{after_add, after_attach, after_detach, after_edit, after_make_group, after_move_entry, after_restore, attachment_in}
+use Rattle.tree_core.specs.Attachments.{attachment_of}
+use Rattle.tree_core.specs.Finding.{entry_found, group_at_path, group_found, or_else, without_slashes}
+use Rattle.tree_core.specs.FurtherChanges.{FurtherChange, with_expiry}
 use Rattle.tree_core.specs.Histories.{is_within, rising_versions, version_numbered, versions_size}
 use Rattle.tree_core.specs.NewNodes.{GivenValues, new_entry, new_fields}
 use Rattle.tree_core.specs.NewPaths.{after_last, before_last}
+use Rattle.tree_core.specs.Tags.{changed_tags}
 use Rattle.frame_laws.specs.Frame.{HasLostEntry, HasNewEntry, HasNewGroup, AreSameBut, children_of, entry_of, group_of, no_node, only, either}
 
 -- ---- fields by their keys
@@ -57,7 +62,7 @@ pub record HasFlag (key : List ℕ) (hidden : Bool) (fields : List BareField) : 
   pub found : field_of key fields ≡ Some field
   pub is : field.hidden ≡ hidden
 
--- ---- edit
+-- ---- what an entry says anew
 
 -- Versions are within the limits of a history: so many versions, and bytes.
 abbrev pub is_within_limits : (items size : ℤ) → List BareVersion → Bool
@@ -71,9 +76,8 @@ pub record IsTrimmed (items size : ℤ) (versions kept : List BareVersion) : Typ
   pub needed : (front : List BareVersion) (v : BareVersion) (back : List BareVersion)
       → dropped ≡ front ++ v ∷ back → is_within_limits items size (v ∷ back ++ kept) ≡ false
 
--- What an edit makes of an entry, where histories have these limits.
-pub record IsEditedEntry (values : GivenValues) (items size : ℤ) (now : ℕ)
-    (before after : EntryRecord) : Type 0 where
+-- An entry has a new current version, where histories have these limits.
+pub record HasNewVersion (now : ℕ) (items size : ℤ) (before after : EntryRecord) : Type 0 where
   -- it is where it was, and its previous parent is as before
   pub placed : after.placed ≡ before.placed
   pub previous : after.previous ≡ before.previous
@@ -82,33 +86,12 @@ pub record IsEditedEntry (values : GivenValues) (items size : ℤ) (now : ℕ)
   pub later : entry_time before < after.current.mark.modified
   pub accessed : after.current.stats.accessed ≡ after.current.mark.modified
   pub usage : after.current.stats.usage ≡ before.current.stats.usage
-  -- what it says is as before but for its fields: times of creation and expiry, icons, attachments,
-  -- tags, colours, typing, custom items
-  pub content : after.current.mark.content ≡ record before.current.mark.content {
-    fields = after.current.mark.content.fields;
-  }
-  -- each field that is given has its value, but for `otp` where it is taken away, which is gone,
-  -- and the others are as before
-  pub given : (key value : List ℕ) → given_value values key ≡ Some value
-      → is_taken_away key value ≡ false → HasValue key value after.current.mark.content.fields
-  pub gone : (key value : List ℕ) → given_value values key ≡ Some value
-      → is_taken_away key value ≡ true → field_of key after.current.mark.content.fields ≡ None
-  pub others : (key : List ℕ) → given_value values key ≡ None
-      → field_of key after.current.mark.content.fields
-      ≡ field_of key before.current.mark.content.fields
-  -- a field that was there is marked hidden or not as it was, but for `otp` where it is given,
-  -- which is hidden
-  pub flags : (key : List ℕ) (old : BareField)
-      → field_of key before.current.mark.content.fields ≡ Some old
-      → is_given_otp values key ≡ false
-      → HasFlag key old.hidden after.current.mark.content.fields
-  pub hidden : (text : List ℕ) → values.otp ≡ Some text → is_taken_away (codes "otp") text ≡ false
-      → HasFlag (codes "otp") true after.current.mark.content.fields
   -- its history are the versions that it had, but for the oldest ones that its limits drop
   pub history : IsTrimmed items size (rising_versions before) after.history
 
--- An edit changes the one entry that the path names.
-pub record EditsEntry (path : List ℕ) (values : GivenValues) (now : ℕ) (d e : BareDoc) : Type 0
+-- A command changes the one entry that the path names, so that it becomes this of what it was.
+pub record ChangesEntry (path : List ℕ)
+    (becomes : (items size : ℤ) → (before after : EntryRecord) → Type 0) (d e : BareDoc) : Type 0
   where
     pub entry : NodeId
     pub named : entry_found d path ≡ Some entry
@@ -116,56 +99,158 @@ pub record EditsEntry (path : List ℕ) (values : GivenValues) (now : ℕ) (d e 
     pub after : EntryRecord
     pub was : entry_of d entry ≡ Some before
     pub is : entry_of e entry ≡ Some after
-    pub edited : IsEditedEntry values d.meta.settings.value.history_items
-        d.meta.settings.value.history_size now before after
+    pub changed : becomes d.meta.settings.value.history_items d.meta.settings.value.history_size
+        before after
     pub rest : AreSameBut (only entry) no_node no_node d e
     pub tombs : e.tombs ≡ d.tombs
     pub meta : e.meta ≡ d.meta
 
+-- ---- edit
+
+-- Whether a field of this key is taken away.
+abbrev pub is_unset : FurtherChange → List ℕ → Bool
+is_unset further key = list_any (is_key key) further.unset
+
+-- the last value that is given for a key
+abbrev pub last_value : List (List ℕ × List ℕ) → List ℕ → Option (List ℕ)
+last_value [] key = None
+last_value (own ∷ more) key =
+    or_else (last_value more key) (cond (is_key key own.0) (Some own.1) None)
+
+-- Whether a field of this key gets a value and is hidden from now on.
+abbrev pub is_protected : FurtherChange → List ℕ → Bool
+is_protected further key = further.protect && is_some (last_value further.set key)
+
+-- A field of this key neither is taken away nor gets a value.
+abbrev pub IsUntouched : FurtherChange → List ℕ → Type 0
+IsUntouched further key =
+    (is_unset further key ≡ false) × (last_value further.set key ≡ None)
+
+-- What an edit makes of fields.
+pub record AreEditedFields (values : GivenValues) (further : FurtherChange)
+    (before after : List BareField) : Type 0 where
+  -- a field that is to be taken away is gone
+  pub unset : (key : List ℕ) → is_unset further key ≡ true → field_of key after ≡ None
+  -- else one that gets a value of its own has the last that is given for its name
+  pub set : (key value : List ℕ) → is_unset further key ≡ false
+      → last_value further.set key ≡ Some value → HasValue key value after
+  -- else one for which something is given has that, but for `otp` where it is taken away, which
+  -- is gone, and the others are as before
+  pub given : (key value : List ℕ) → IsUntouched further key
+      → given_value values key ≡ Some value → is_taken_away key value ≡ false
+      → HasValue key value after
+  pub gone : (key value : List ℕ) → IsUntouched further key
+      → given_value values key ≡ Some value → is_taken_away key value ≡ true
+      → field_of key after ≡ None
+  pub others : (key : List ℕ) → IsUntouched further key → given_value values key ≡ None
+      → field_of key after ≡ field_of key before
+  -- a field that was there is hidden where it was, or where that is asked for with its value; but
+  -- for `otp` where it is given, which is hidden
+  pub flags : (key : List ℕ) (old : BareField) → field_of key before ≡ Some old
+      → is_unset further key ≡ false → is_given_otp values key ≡ false
+      → HasFlag key (old.hidden || is_protected further key) after
+  pub hidden : (text : List ℕ) → values.otp ≡ Some text
+      → is_taken_away (codes "otp") text ≡ false → is_unset further (codes "otp") ≡ false
+      → HasFlag (codes "otp") true after
+  -- one that was not there is hidden where that is asked for
+  pub new_flags : (key value : List ℕ) → field_of key before ≡ None
+      → given_value values key ≡ None → is_unset further key ≡ false
+      → last_value further.set key ≡ Some value → HasFlag key further.protect after
+
+-- What an edit makes of an entry, where histories have these limits.
+pub record IsEditedEntry (values : GivenValues) (further : FurtherChange) (now : ℕ)
+    (items size : ℤ) (before after : EntryRecord) : Type 0 where
+  pub version : HasNewVersion now items size before after
+  -- the fields that are to be taken away were there
+  pub had : (key : List ℕ) → is_unset further key ≡ true
+      → is_some (field_of key before.current.mark.content.fields) ≡ true
+  pub fields : AreEditedFields values further before.current.mark.content.fields
+      after.current.mark.content.fields
+  -- its tags are changed, and it expires as it is said; all else that it says is as before: its
+  -- time of creation, icons, attachments, colours, typing, custom items
+  pub content : after.current.mark.content
+      ≡ with_expiry further.expiry (record before.current.mark.content {
+        fields = after.current.mark.content.fields;
+        tags = changed_tags further.tags further.untags before.current.mark.content.tags;
+      })
+
 -- `edit` of a document that gives one edits the entry that the path names, and nothing else.
 abbrev pub EditFrames : Type 0
-EditFrames = (path : List ℕ) (values : GivenValues) (now : ℕ) (d e : BareDoc) → IsDoc d → IsDoc e
-    → after_edit path values now d ≡ Ok e → EditsEntry path values now d e
+EditFrames = (path : List ℕ) (values : GivenValues) (further : FurtherChange) (now : ℕ)
+    (d e : BareDoc) → IsDoc d → IsDoc e → after_edit path values further now d ≡ Ok e
+    → ChangesEntry path (IsEditedEntry values further now) d e
+
+-- ---- attach and detach
+
+-- Whether an attachment is hidden under whose name there was this one: one that is new is.
+abbrev pub is_hidden_after : Option BareAttachment → Bool
+is_hidden_after None = true
+is_hidden_after (Some a) = a.hidden
+
+-- The attachments of other names, and all else that an entry says, are as before.
+pub record HasOtherAttachment (name : List ℕ) (before after : BareContent) : Type 0 where
+  pub others : (other : List ℕ) → bytes_eq other name ≡ false
+      → attachment_of other after ≡ attachment_of other before
+  pub content : after ≡ record before { attachments = after.attachments }
+
+-- What these bytes under a name make of an entry, where histories have these limits.
+pub record IsAttachedEntry (name bytes : List ℕ) (replaces : Bool) (now : ℕ) (items size : ℤ)
+    (before after : EntryRecord) : Type 0 where
+  pub version : HasNewVersion now items size before after
+  -- it had no attachment of the name, but where that was to be replaced
+  pub free : replaces ≡ false → attachment_of name before.current.mark.content ≡ None
+  -- it has one, with these bytes, which is hidden as it was, or where it is new
+  pub attached : attachment_of name after.current.mark.content ≡ Some (record {
+    name = name;
+    bytes = bytes;
+    hidden = is_hidden_after (attachment_of name before.current.mark.content);
+  })
+  pub rest : HasOtherAttachment name before.current.mark.content after.current.mark.content
+
+-- `attach` to a document that gives one changes the attachment of a name of the entry that the path
+-- names, and nothing else.
+abbrev pub AttachFrames : Type 0
+AttachFrames = (path name bytes : List ℕ) (replaces : Bool) (now : ℕ) (d e : BareDoc) → IsDoc d
+    → IsDoc e → after_attach path name bytes replaces now d ≡ Ok e
+    → ChangesEntry path (IsAttachedEntry name bytes replaces now) d e
+
+-- What becomes of an entry without its attachment of a name, where histories have these limits.
+pub record IsDetachedEntry (name : List ℕ) (now : ℕ) (items size : ℤ)
+    (before after : EntryRecord) : Type 0 where
+  pub version : HasNewVersion now items size before after
+  -- it had an attachment of the name, and has none
+  pub there : is_some (attachment_of name before.current.mark.content) ≡ true
+  pub gone : attachment_of name after.current.mark.content ≡ None
+  pub rest : HasOtherAttachment name before.current.mark.content after.current.mark.content
+
+-- `detach` from a document that gives one takes the attachment of a name from the entry that the
+-- path names, and changes nothing else.
+abbrev pub DetachFrames : Type 0
+DetachFrames = (path name : List ℕ) (now : ℕ) (d e : BareDoc) → IsDoc d → IsDoc e
+    → after_detach path name now d ≡ Ok e → ChangesEntry path (IsDetachedEntry name now) d e
+
+-- What is attached is what is taken out.
+abbrev pub ExportGivesImported : Type 0
+ExportGivesImported = (path name bytes : List ℕ) (replaces : Bool) (now : ℕ) (d e : BareDoc)
+    → IsDoc d → IsDoc e → after_attach path name bytes replaces now d ≡ Ok e
+    → (a : BareAttachment) × ((attachment_in path name e ≡ Ok a) × (a.bytes ≡ bytes))
 
 -- ---- restore
 
 -- What restoring its version of a number makes of an entry, where histories have these limits.
-pub record IsRestoredEntry (number : ℕ) (items size : ℤ) (now : ℕ) (before after : EntryRecord)
-    : Type 0 where
-  -- it is where it was, and its previous parent is as before
-  pub placed : after.placed ≡ before.placed
-  pub previous : after.previous ≡ before.previous
-  -- it was changed and looked at now, or a second after its last time where that is later
-  pub modified : now ≤ after.current.mark.modified
-  pub later : entry_time before < after.current.mark.modified
-  pub accessed : after.current.stats.accessed ≡ after.current.mark.modified
-  pub usage : after.current.stats.usage ≡ before.current.stats.usage
-  -- what it says is what its version of this number said
-  pub version : BareVersion
-  pub numbered : version_numbered number before ≡ Some version
-  pub content : after.current.mark.content ≡ version.mark.content
-  -- its history are the versions that it had, but for the oldest ones that its limits drop
-  pub history : IsTrimmed items size (rising_versions before) after.history
-
--- Restoring a version changes the one entry that the path names.
-pub record RestoresEntry (path : List ℕ) (number now : ℕ) (d e : BareDoc) : Type 0 where
-  pub entry : NodeId
-  pub named : entry_found d path ≡ Some entry
-  pub before : EntryRecord
-  pub after : EntryRecord
-  pub was : entry_of d entry ≡ Some before
-  pub is : entry_of e entry ≡ Some after
-  pub restored : IsRestoredEntry number d.meta.settings.value.history_items
-      d.meta.settings.value.history_size now before after
-  pub rest : AreSameBut (only entry) no_node no_node d e
-  pub tombs : e.tombs ≡ d.tombs
-  pub meta : e.meta ≡ d.meta
+pub record IsRestoredEntry (number now : ℕ) (items size : ℤ) (before after : EntryRecord) : Type 0
+  where
+    pub version : HasNewVersion now items size before after
+    -- what it says is what its version of this number said
+    pub old : BareVersion
+    pub numbered : version_numbered number before ≡ Some old
+    pub content : after.current.mark.content ≡ old.mark.content
 
 -- `restore` of a document that gives one restores the entry that the path names, and changes
 -- nothing else.
 abbrev pub RestoreFrames : Type 0
 RestoreFrames = (path : List ℕ) (number now : ℕ) (d e : BareDoc) → IsDoc d → IsDoc e
-    → after_restore path number now d ≡ Ok e → RestoresEntry path number now d e
+    → after_restore path number now d ≡ Ok e → ChangesEntry path (IsRestoredEntry number now) d e
 
 -- ---- move
 

@@ -1,12 +1,16 @@
 -- Commands on a small database of two entries and a group, so that each law speaks of something.
 use Rattle.std.specs.Prelude.{◌≡◌, true, false, codes, None, Some, Result, Ok}
+use Rattle.vault_model.specs.Shape.{EntryRecord}
 use Rattle.vault_model.specs.Tree.{BareDoc, IsDoc}
 use Rattle.tree_core.specs.declared.fails.Removed.{Removed}
 use Rattle.tree_core.specs.declared.fails.Removed.TheVariants.{Deleted, Recycled}
 use Rattle.tree_core.specs.declared.fails.TreeFail.{TreeFail}
-use Rattle.tree_core.specs.After.{AfterRemoval, after_add, after_edit, after_make_group, after_move_entry, after_move_group, after_remove_entry, after_remove_group, after_restore, needs_bin}
+use Rattle.tree_core.specs.After.{AfterRemoval, after_add, after_attach, after_detach, after_edit, after_make_group, after_move_entry, after_move_group, after_remove_entry, after_remove_group, after_restore, needs_bin}
+use Rattle.tree_core.specs.Attachments.{with_attachment}
+use Rattle.tree_core.specs.Changes.{changed_at, changed_entry}
+use Rattle.tree_core.specs.FurtherChanges.{no_further_change}
 use Rattle.tree_core.specs.NewNodes.{GivenValues}
-use Rattle.merge_core.specs.Example.{as_it_was, edited, home}
+use Rattle.merge_core.specs.Example.{as_it_was, bank, edited, home, root}
 
 -- no value is given
 abbrev pub no_values : GivenValues
@@ -33,6 +37,18 @@ without_bin = record as_it_was {
   };
 }
 
+-- the database with something attached to an entry
+abbrev pub with_key : BareDoc
+with_key = record as_it_was {
+  tree = changed_at root (changed_entry bank (λ (x : EntryRecord). record x {
+    current = record x.current {
+      mark = record x.current.mark {
+        content = with_attachment (codes "key") (codes "k") x.current.mark.content;
+      };
+    };
+  })) as_it_was.tree;
+}
+
 -- A command makes a document of one.
 abbrev pub Happens : Result BareDoc TreeFail → Type 0
 Happens made = (e : BareDoc) × (IsDoc e × (made ≡ Ok e))
@@ -42,13 +58,16 @@ abbrev pub HappensSo : Removed → Result AfterRemoval TreeFail → Type 0
 HappensSo removed made = (a : AfterRemoval) × (IsDoc a.doc × (made ≡ Ok a)
     × (a.removed ≡ removed))
 
--- Entries and groups are added, edited, moved, deleted and put into a bin that is made, and a version
--- of an entry is restored.
+-- Entries and groups are added, edited, moved, deleted and put into a bin that is made, something is
+-- attached to an entry and taken away, and a version of an entry is restored.
 pub record ExampleChanges : Type 0 where
   pub doc : IsDoc as_it_was
   pub wide : IsDoc edited
   pub bare : IsDoc without_bin
-  pub edit : Happens (after_edit (codes "Bank") new_notes 50 as_it_was)
+  pub keyed : IsDoc with_key
+  pub edit : Happens (after_edit (codes "Bank") new_notes no_further_change 50 as_it_was)
+  pub attach : Happens (after_attach (codes "Bank") (codes "key") (codes "k") false 50 as_it_was)
+  pub detach : Happens (after_detach (codes "Bank") (codes "key") 50 with_key)
   pub restore : Happens (after_restore (codes "Bank") 1 50 edited)
   pub add : Happens (after_add (codes "Work/Chat") home no_values 50 as_it_was)
   pub make_group : Happens (after_make_group (codes "Home") home 50 as_it_was)

@@ -8,6 +8,7 @@ use Rattle.vault_model.specs.Shape.{BareVersion, EntryRecord}
 use Rattle.vault_model.specs.Tree.{BareDoc, IsDoc}
 use Rattle.tree_core.specs.After.{after_edit, after_restore}
 use Rattle.tree_core.specs.Finding.{entry_found}
+use Rattle.tree_core.specs.FurtherChanges.{FurtherChange}
 use Rattle.tree_core.specs.NewNodes.{GivenValues}
 use Rattle.growth_laws.specs.Growth.{DropsNothing}
 use Rattle.frame_laws.specs.Frame.{entry_of}
@@ -28,8 +29,8 @@ IsNewestIn d u = (x : EntryRecord) → entry_of d u ≡ Some x → IsNewest x
 -- the limits of histories drop nothing: the entry says again what it said before the edit. The path
 -- that names it after the edit may be another one, since the edit may have changed its title.
 abbrev pub RestoreUndoes : Type 0
-RestoreUndoes = (path again : List ℕ) (values : GivenValues) (now later : ℕ) (entry : NodeId)
-    (d e r : BareDoc) → IsDoc d → IsDoc e → IsDoc r → entry_found d path ≡ Some entry
-    → entry_found e again ≡ Some entry → IsNewestIn d entry → DropsNothing path d
-    → after_edit path values now d ≡ Ok e → after_restore again 1 later e ≡ Ok r
-    → said_of r entry ≡ said_of d entry
+RestoreUndoes = (path again : List ℕ) (values : GivenValues) (further : FurtherChange)
+    (now later : ℕ) (entry : NodeId) (d e r : BareDoc) → IsDoc d → IsDoc e → IsDoc r
+    → entry_found d path ≡ Some entry → entry_found e again ≡ Some entry → IsNewestIn d entry
+    → DropsNothing path d → after_edit path values further now d ≡ Ok e
+    → after_restore again 1 later e ≡ Ok r → said_of r entry ≡ said_of d entry

@@ -27,10 +27,12 @@ use Rattle.merge_core.proofs.Tables.{gathered_singles}
 use Rattle.merge_core.proofs.Unite.{get-unite_all}
 use Rattle.tree_core.specs.Finding.{entry_found, group_at_path, group_found, has_entry_path}
 use Rattle.tree_core.specs.declared.fails.TreeFail.TheVariants.{AlreadyThere, IdTaken, NameTaken}
-use Rattle.tree_core.specs.After.{AfterRemoval, Holding, changed_content, entry_deleted, entry_moved_to, entry_named, entry_recycled, is_recycled, named_or_refusal, needs_bin, refuse_if, time_after, version_or_refusal, with_bin, with_bin_made}
+use Rattle.tree_core.specs.After.{AfterRemoval, Holding, changed_content, edited_so, entry_deleted, entry_moved_to, entry_named, entry_recycled, is_recycled, named_or_refusal, needs_bin, refuse_if, time_after, version_or_refusal, with_bin, with_bin_made}
+use Rattle.tree_core.specs.Attachments.{has_attachment, is_attachable, with_attachment, without_attachment}
 use Rattle.tree_core.specs.Changes.{changed_at, changed_entry, entry_at, group_with, has_group, holder, is_free, own_entry, without, without_entry}
+use Rattle.tree_core.specs.FurtherChanges.{has_unset}
 use Rattle.tree_core.specs.Histories.{rising_versions, with_version, within_limits}
-use Rattle.tree_core.specs.NewNodes.{edited_content, empty_bin, new_entry, new_fields, new_version}
+use Rattle.tree_core.specs.NewNodes.{empty_bin, new_entry, new_fields, new_version}
 use Rattle.tree_core.specs.NewPaths.{after_last, before_last, new_path}
 use Rattle.tree_core.proofs.Around.{found_group}
 use Rattle.tree_core.proofs.EntriesMoved.{same_there}
@@ -39,7 +41,7 @@ use Rattle.tree_core.proofs.Named.{group_there, named_group}
 use Rattle.tree_removals.specs.Removes.{with_bin_in}
 use Rattle.tree_removals.proofs.LastGroups.{entry_with_last, has_root, holds_there, last_there}
 use Rattle.tree_removals.proofs.NewBins.{bin_is_doc, free_absent}
-use Rattle.growth_laws.specs.Growth.{AddGrows, EditGrows, GrowsTo, MoveEntryGrows, RemoveEntryGrows, RestoreGrows}
+use Rattle.growth_laws.specs.Growth.{AddGrows, AttachGrows, ChangeGrows, DetachGrows, EditGrows, GrowsTo, MoveEntryGrows, RemoveEntryGrows, RestoreGrows}
 use Rattle.growth_laws.proofs.LostSteps.{delete_entry_stays, edit_stays}
 use Rattle.growth_laws.proofs.Outcomes.{bind_ok, named_ok, refuse_ok, same_ok, time_ok}
 use Rattle.growth_laws.proofs.Stays.{Stays, stays_then}
@@ -127,11 +129,21 @@ said_grows d e isd ise held f keeps says now time when is =
     (ap (λ (y : EntryRecord). unite stats_join (versions_of x) (versions_of y)) whole ∙ versions_grow v x ∙ sym (ap versions_of whole)) (omega (arith, late)) in
     subst (λ (w : BareDoc). GrowsTo d w) is (stays_grow d _ isd (subst (λ (w : BareDoc). IsDoc w) (sym is) ise) step)
 
-pub edit_grows : EditGrows
-edit_grows path values now d e isd ise keeps h =
+pub change_grows : ChangeGrows
+change_grows path allows says now d e isd ise keeps h =
     let held = bind_ok (entry_named path d) _ e h in
-    let time = bind_ok (time_after now (entry_time held.0.entry.1)) _ e held.1.1 in
-    said_grows d e isd ise held.0 (found path d held.0 held.1.0) (keeps held.0 held.1.0) (edited_content d.meta.settings.value.protect values) now time.0 time.1.0 (same_ok _ e time.1.1)
+    let allowed = bind_ok (allows held.0.entry.1.current.mark.content) _ e held.1.1 in
+    let time = bind_ok (time_after now (entry_time held.0.entry.1)) _ e allowed.1.1 in
+    said_grows d e isd ise held.0 (found path d held.0 held.1.0) (keeps held.0 held.1.0) (says d.meta) now time.0 time.1.0 (same_ok _ e time.1.1)
+
+pub edit_grows : EditGrows
+edit_grows path values further = change_grows path (has_unset further) (edited_so values further)
+
+pub attach_grows : AttachGrows
+attach_grows path name bytes replaces = change_grows path (is_attachable name replaces) (λ _. with_attachment name bytes)
+
+pub detach_grows : DetachGrows
+detach_grows path name = change_grows path (has_attachment name) (λ _. without_attachment name)
 
 pub restore_grows : RestoreGrows
 restore_grows path number now d e isd ise keeps h =

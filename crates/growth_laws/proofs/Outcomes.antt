@@ -22,6 +22,10 @@ pub bind_ok : {A B E : Type 0} (r : Result A E) (next : A → Result B E) (y : B
 bind_ok (Ok x) next y h = (x, (refl, h))
 bind_ok (Err e) next y h = cc h
 
+-- the rest of a definition whose first step gives this
+pub rest_ok : {A B E : Type 0} (r : Result A E) (next : A → Result B E) (x : A) (y : B) → r ≡ Ok x → (r >>= next) ≡ Ok y → next x ≡ Ok y
+rest_ok r next x y is h = sym (ap (λ t. t >>= next) is) ∙ h
+
 pub named_ok : {A : Type 0} (o : Option A) (x : A) → named_or_refusal o ≡ Ok x → o ≡ Some x
 named_ok None x h = cc h
 named_ok (Some y) x h = ap Some (same_ok y x h)

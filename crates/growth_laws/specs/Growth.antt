@@ -1,11 +1,15 @@
 -- Commands only grow: the join of the databases before and after a command is the one after it, which
 -- is what a change in a schedule has to be. Each statement speaks of all documents and arguments.
-use Rattle.std.specs.Prelude.{◌≡◌, ℕ, List, [], ◌∷◌, Option, Ok, is_some}
+use Rattle.std.specs.Prelude.{◌≡◌, ℕ, Bool, List, [], ◌∷◌, Option, Result, Ok, is_some}
+use Rattle.vault_model.specs.declared.metas.Meta.{Meta}
+use Rattle.vault_model.specs.Bare.{BareContent}
 use Rattle.vault_model.specs.Db.{NodeId}
 use Rattle.vault_model.specs.Join.{join}
 use Rattle.vault_model.specs.Plans.{IsStep, World, change}
 use Rattle.vault_model.specs.Tree.{BareDoc, IsDoc, db_in}
-use Rattle.tree_core.specs.After.{AfterRemoval, Holding, after_add, after_edit, after_make_group, after_move_entry, after_move_group, after_remove_entry, after_remove_group, after_restore, entry_named, needs_bin}
+use Rattle.tree_core.specs.declared.fails.TreeFail.{TreeFail}
+use Rattle.tree_core.specs.After.{AfterRemoval, Holding, after_add, after_attach, after_change, after_detach, after_edit, after_make_group, after_move_entry, after_move_group, after_remove_entry, after_remove_group, after_restore, entry_named, needs_bin}
+use Rattle.tree_core.specs.FurtherChanges.{FurtherChange}
 use Rattle.tree_core.specs.Histories.{rising_versions, within_limits}
 use Rattle.tree_core.specs.NewNodes.{GivenValues}
 
@@ -29,10 +33,28 @@ DropsNothing path d = (held : Holding) → entry_named path d ≡ Ok held
     → within_limits d.meta.settings.value.history_items d.meta.settings.value.history_size
     (rising_versions held.entry.1) ≡ rising_versions held.entry.1
 
+-- an entry comes to say something else, by what it said, and the limits drop nothing
+abbrev pub ChangeGrows : Type 0
+ChangeGrows = (path : List ℕ) (allows : BareContent → Result (Unit {0}) TreeFail)
+    (says : Meta → BareContent → BareContent) (now : ℕ) (d e : BareDoc) → IsDoc d → IsDoc e
+    → DropsNothing path d → after_change path allows says now d ≡ Ok e → GrowsTo d e
+
 -- an entry is edited, and the limits drop nothing
 abbrev pub EditGrows : Type 0
-EditGrows = (path : List ℕ) (values : GivenValues) (now : ℕ) (d e : BareDoc) → IsDoc d → IsDoc e
-    → DropsNothing path d → after_edit path values now d ≡ Ok e → GrowsTo d e
+EditGrows = (path : List ℕ) (values : GivenValues) (further : FurtherChange) (now : ℕ)
+    (d e : BareDoc) → IsDoc d → IsDoc e → DropsNothing path d
+    → after_edit path values further now d ≡ Ok e → GrowsTo d e
+
+-- something is attached to an entry, and the limits drop nothing
+abbrev pub AttachGrows : Type 0
+AttachGrows = (path name bytes : List ℕ) (replaces : Bool) (now : ℕ) (d e : BareDoc) → IsDoc d
+    → IsDoc e → DropsNothing path d → after_attach path name bytes replaces now d ≡ Ok e
+    → GrowsTo d e
+
+-- an attachment of an entry is taken away, and the limits drop nothing
+abbrev pub DetachGrows : Type 0
+DetachGrows = (path name : List ℕ) (now : ℕ) (d e : BareDoc) → IsDoc d → IsDoc e
+    → DropsNothing path d → after_detach path name now d ≡ Ok e → GrowsTo d e
 
 -- a version of an entry is restored, and the limits drop nothing
 abbrev pub RestoreGrows : Type 0

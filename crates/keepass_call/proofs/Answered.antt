@@ -1,5 +1,5 @@
 -- What a call answers, from its task.
-use Rattle.std.proofs.Common.{◌≡◌, ◌≤◌, ℕ, List, [], ◌∷◌, ◌++◌, refl, inl, inr, sym, ◌∙◌, ap, subst, arith, Bool, false, Option, None, Result, Ok, Err}
+use Rattle.std.proofs.Common.{◌≡◌, ◌≤◌, ℕ, List, [], ◌∷◌, ◌++◌, refl, inl, inr, sym, ◌∙◌, ap, subst, arith, Bool, false, Option, Some, None, Result, Ok, Err}
 use Rattle.std.specs.Prelude.{Contains, IfErr, IfOk, OnErr, OnOk}
 use Rattle.std.proofs.lemmas.List.Elements.{Contains-append_left, Contains-append_right}
 use Rattle.outside_core.specs.Counts.{Increased}
@@ -9,21 +9,21 @@ use Rattle.cli_messages.specs.declared.answers.Stop.TheVariants.{Refused, FileFa
 use Rattle.cli_messages.specs.Phases.{IsCaused, IsCommandStop, IsEarlyStop, IsLeft, Leaves, Stops, StreamAnswer, TellsStream, then_left, with_left}
 use Rattle.cli_files.proofs.FileStops.{rose_before}
 use Rattle.cli_lines.proofs.Inputs.{left_alone}
-use Rattle.cli_parse.specs.Needs.{Needs, database_files, files_named, files_of, key_files, needs_of, new_key_files, source_files, target_of}
-use Rattle.cli_parse.specs.declared.command.Access.{Access}
-use Rattle.cli_parse.specs.declared.command.FileChange.{FileChange}
-use Rattle.cli_parse.specs.declared.command.Command.TheVariants.{Ls, Show, History, Search, Add, Edit, Restore, Move, Remove, MakeGroup, RemoveGroup, Merge, Import, Create, Export, EditFile, Info}
+use Rattle.cli_needs.specs.Needs.{Needs, database_files, file_written, files_named, files_of, key_files, needs_of, new_key_files, source_files}
+use Rattle.cli_needs.specs.declared.command.Access.{Access}
+use Rattle.cli_needs.specs.declared.command.FileChange.{FileChange}
+use Rattle.cli_needs.specs.declared.command.Command.TheVariants.{Ls, Show, History, Search, Add, Edit, Restore, ExportAttachment, ImportAttachment, RemoveAttachment, Move, Remove, MakeGroup, RemoveGroup, Merge, Import, Create, Export, EditFile, Info}
 use Rattle.cli_profiles.specs.declared.profiles.PasswordProfile.{PasswordProfile}
 use Rattle.cli_parse.specs.Words.{command_of, profile_of}
-use Rattle.cli_parse.specs.declared.command.Command.{Command}
+use Rattle.cli_needs.specs.declared.command.Command.{Command}
 use Rattle.cli_writing.specs.Writing.{IsSame, KeepsDraft, KeepsFiles, Store}
 use Rattle.cli_commands.specs.declared.output.Output.{Output}
 use Rattle.cli_files.specs.declared.task.Task as memory
-use Rattle.cli_commands.specs.Commands.{may_write}
+use Rattle.cli_commands.specs.Commands.{may_store}
 use Rattle.cli_files.proofs.HeldKeys.{in_turn}
 use Rattle.call_run.specs.Endings.{Ending, Ends, EndsRefused, IsOfDice, IsOfSomeDice, carried_out}
 use Rattle.cli_pages.specs.Pages.{page_of}
-use Rattle.keepass_call.specs.Outcome.{AsksCommand, IsOfSomeFile, IsOfTask, World, answer_of, command_answer, draws_with, may_write_by, page_or_answer, password_or_command, truth}
+use Rattle.keepass_call.specs.Outcome.{AsksCommand, IsOfSomeFile, IsOfTask, World, answer_of, command_answer, draws_with, may_store_by, page_or_answer, password_or_command, truth}
 use Rattle.keepass_call.proofs.Pages.{asks_command}
 use Rattle.cli_commands.specs.SeenChange.{output_text}
 use Rattle.cli_files.specs.Tasks.{Task, draws, draws_by}
@@ -113,9 +113,9 @@ pub draws_so : (words : Result Command Refusal) (command : Command) (dice : Opti
 draws_so words command dice d is t = subst (λ (w : Result Command Refusal). TellsStream (draws_by w) dice d) is t
 
 pub unwritten_after : (words : Result Command Refusal) (command : Command) (before mid now : Store) → words ≡ Ok command
-    → IsSame before mid → (may_write command ≡ false → IsSame mid now) → may_write_by words ≡ false → IsSame before now
+    → IsSame before mid → (may_store command ≡ false → IsSame mid now) → may_store_by words ≡ false → IsSame before now
 unwritten_after words command before mid now is s h e =
-    subst (λ (m : Store). IsSame m now) (same_store before mid s) (h (sym (ap may_write_by is) ∙ e))
+    subst (λ (m : Store). IsSame m now) (same_store before mid s) (h (sym (ap may_store_by is) ∙ e))
 
 pub undrawn_after : (words : Result Command Refusal) (command : Command) (dice dice' : Option (List ℕ)) → words ≡ Ok command
     → (draws command ≡ false → dice' ≡ dice) → draws_by words ≡ false → dice' ≡ dice
@@ -187,25 +187,31 @@ changed_named access file change name is =
     Contains-append_left (database_files access file) (new_key_files change.key_file) name
     (Contains-append_right (key_files access.key_file) (file ∷ []) name (0, omega arith, is))
 
--- So is the file that a command shows or writes.
-target_named : (command : Command) (name : List ℕ) → target_of command ≡ name → Contains (files_named (Ok command)) name
-target_named (Ls access file group recursive flat ids) name is = opened_named (needs_of (Ls access file group recursive flat ids)) name is
-target_named (Show access file entry clear all attachments names totp at) name is = opened_named (needs_of (Show access file entry clear all attachments names totp at)) name is
-target_named (History access file entry) name is = opened_named (needs_of (History access file entry)) name is
-target_named (Search access file term) name is = opened_named (needs_of (Search access file term)) name is
-target_named (Add access file entry asked) name is = opened_named (needs_of (Add access file entry asked)) name is
-target_named (Edit access file entry asked) name is = opened_named (needs_of (Edit access file entry asked)) name is
-target_named (Restore access file entry version) name is = opened_named (needs_of (Restore access file entry version)) name is
-target_named (Move access file node group) name is = opened_named (needs_of (Move access file node group)) name is
-target_named (Remove access file entry) name is = opened_named (needs_of (Remove access file entry)) name is
-target_named (MakeGroup access file group) name is = opened_named (needs_of (MakeGroup access file group)) name is
-target_named (RemoveGroup access file group) name is = opened_named (needs_of (RemoveGroup access file group)) name is
-target_named (Merge access file names from same dry details) name is = opened_named (needs_of (Merge access file names from same dry details)) name is
-target_named (Import access format source from file) name is = (1, omega arith, is)
-target_named (Create access file called cipher kdf) name is = (0, omega arith, is)
-target_named (Export access format file) name is = opened_named (needs_of (Export access format file)) name is
-target_named (EditFile access file change) name is = changed_named access file change name is
-target_named (Info access file) name is = opened_named (needs_of (Info access file)) name is
+-- So is the file that a command shows or writes, or that it takes an attachment out into.
+written_named : (command : Command) (name : List ℕ) → file_written command ≡ name → Contains (files_named (Ok command)) name
+written_named (Ls access file group recursive flat ids) name is = opened_named (needs_of (Ls access file group recursive flat ids)) name is
+written_named (Show access file entry clear all attachments names totp at) name is = opened_named (needs_of (Show access file entry clear all attachments names totp at)) name is
+written_named (History access file entry) name is = opened_named (needs_of (History access file entry)) name is
+written_named (Search access file term) name is = opened_named (needs_of (Search access file term)) name is
+written_named (Add access file entry asked) name is = opened_named (needs_of (Add access file entry asked)) name is
+written_named (Edit access file entry asked further) name is = opened_named (needs_of (Edit access file entry asked further)) name is
+written_named (Restore access file entry version) name is = opened_named (needs_of (Restore access file entry version)) name is
+written_named (ExportAttachment access file entry called None) name is = opened_named (needs_of (ExportAttachment access file entry called None)) name is
+written_named (ExportAttachment access file entry called (Some to)) name is = (0, omega arith, is)
+written_named (ImportAttachment access file entry called source replaces) name is =
+    Contains-append_left (files_of (needs_of (ImportAttachment access file entry called source replaces))) (source ∷ []) name
+    (opened_named (needs_of (ImportAttachment access file entry called source replaces)) name is)
+written_named (RemoveAttachment access file entry called) name is = opened_named (needs_of (RemoveAttachment access file entry called)) name is
+written_named (Move access file node group) name is = opened_named (needs_of (Move access file node group)) name is
+written_named (Remove access file entry) name is = opened_named (needs_of (Remove access file entry)) name is
+written_named (MakeGroup access file group) name is = opened_named (needs_of (MakeGroup access file group)) name is
+written_named (RemoveGroup access file group) name is = opened_named (needs_of (RemoveGroup access file group)) name is
+written_named (Merge access file names from same dry details) name is = opened_named (needs_of (Merge access file names from same dry details)) name is
+written_named (Import access format source from file) name is = (1, omega arith, is)
+written_named (Create access file called cipher kdf) name is = (0, omega arith, is)
+written_named (Export access format file) name is = opened_named (needs_of (Export access format file)) name is
+written_named (EditFile access file change) name is = changed_named access file change name is
+written_named (Info access file) name is = opened_named (needs_of (Info access file)) name is
 
 -- Where reading what to do went well, and so did what follows, no count of faults rose.
 pub faultless_after : (result : Result Output Stop) (f f' f'' i i' d d' : ℕ) → (f' ≡ f) × (i' ≡ i) → OnOk result ((f'' ≡ f') × (d' ≡ d))
@@ -220,11 +226,11 @@ faultless_dice (Err stop) f i d d' done = tt
 
 -- A stop of the command that the words are, as a stop of the call.
 pub command_caused : (result : Result Output Stop) (command : Command) (words : Result Command Refusal) (f f' f'' a a' i i' d d' : ℕ) → words ≡ Ok command
-    → f ≤ f' → IfErr result (IsCommandStop (target_of command) f' f'' d d') → IfErr result (IsCaused (files_named words) f f'' a a' i i' d d')
+    → f ≤ f' → IfErr result (IsCommandStop (file_written command) f' f'' d d') → IfErr result (IsCaused (files_named words) f f'' a a' i i' d d')
 command_caused (Ok x) command words f f' f'' a a' i i' d d' is p h = tt
 command_caused (Err (Refused refusal)) command words f f' f'' a a' i i' d d' is p h = λ e. absurd (h e)
 command_caused (Err (FileFault name)) command words f f' f'' a a' i i' d d' is p h =
     subst (λ (w : Result Command Refusal). Increased f f'' × Contains (files_named w) name) (sym is)
-    (rose_before f f' f'' p h.1, target_named command name (sym h.0))
+    (rose_before f f' f'' p h.1, written_named command name (sym h.0))
 command_caused (Err InputFault) command words f f' f'' a a' i i' d d' is p h = inr h
 command_caused (Err NoMemory) command words f f' f'' a a' i i' d d' is p h = tt

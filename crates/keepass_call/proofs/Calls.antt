@@ -10,17 +10,17 @@ use Rattle.cli_messages.specs.declared.answers.Stop.TheVariants.{Refused, FileFa
 use Rattle.cli_messages.proofs.Statuses.{own, seven_missing}
 use Rattle.cli_messages.specs.Messages.{error_line, reason_text, status_of}
 use Rattle.cli_messages.specs.Phases.{IsCaused, IsLeft, IsWordsStop, Leaves, StreamAnswer, TellsStream, with_left}
-use Rattle.cli_parse.specs.Needs.{files_named}
+use Rattle.cli_needs.specs.Needs.{files_named}
 use Rattle.cli_writing.specs.Writing.{IsSame, KeepsDraft, KeepsFiles, Store}
 use Rattle.cli_commands.specs.declared.output.Output.{Output}
 use Rattle.keepass_call.specs.Call.{IsCall}
 use Rattle.cli_commands.proofs.Changes.{loses_none}
 use Rattle.cli_lines.proofs.Inputs.{left_alone}
-use Rattle.cli_parse.specs.declared.command.Command.{Command}
+use Rattle.cli_needs.specs.declared.command.Command.{Command}
 use Rattle.call_run.specs.Endings.{Ending, Ends, EndsSo, ending_without}
 use Rattle.keepass_call.specs.Held.{IsAuthentic, IsComplete, WritesTask}
 use Rattle.cli_pages.specs.Pages.{page_of}
-use Rattle.keepass_call.specs.Outcome.{AsksCommand, Counts, ForEachWorld, Gains, IsAsSaid, IsCut, IsOfSomeFile, IsOfTask, IsRefused, IsSafe, IsUsage, IsWorldOf, KeepsFaults, NoFaults, Outcome, Seen, Truth, World, answer_of, draws_with, draws_words, ended, may_write_by, outcome, page_or_answer}
+use Rattle.keepass_call.specs.Outcome.{AsksCommand, Counts, ForEachWorld, Gains, IsAsSaid, IsCut, IsOfSomeFile, IsOfTask, IsRefused, IsSafe, IsUsage, IsWorldOf, KeepsFaults, NoFaults, Outcome, Seen, Truth, World, answer_of, draws_with, draws_words, ended, may_store_by, outcome, page_or_answer}
 use Rattle.cli_profiles.specs.declared.profiles.PasswordProfile.{PasswordProfile}
 use Rattle.cli_parse.specs.Words.{command_of, profile_of}
 use Rattle.cli_files.specs.Tasks.{draws_by}
@@ -59,7 +59,7 @@ pub record Printed (words : List (List ℕ)) (time : ℕ) (printed : List ℕ) (
   pub faultless : result ≡ 0 → KeepsFaults counts counts'
   pub draft : KeepsDraft before.store now.store
   pub held : AsksCommand words → ForEachWorld words before now (λ w. IsOfTask words time w printed before.store now.store)
-  pub unwritten : may_write_by (command_of words) ≡ false → IsSame before.store now.store
+  pub unwritten : may_store_by (command_of words) ≡ false → IsSame before.store now.store
   pub undrawn : draws_words words ≡ false → now.stream ≡ before.stream
   pub stream : LosesPrefix before.stream now.stream
   pub some_file : AsksCommand words → IsOfSomeFile words time printed before.store now.store
@@ -281,7 +281,7 @@ pub record Stopped (words : List (List ℕ)) (time : ℕ) (stop : Stop) (result 
   pub kept : KeepsFiles before.store now.store
   pub written : now.written ≡ before.written
   pub draft : KeepsDraft before.store now.store
-  pub unwritten : may_write_by (command_of words) ≡ false → IsSame before.store now.store
+  pub unwritten : may_store_by (command_of words) ≡ false → IsSame before.store now.store
   pub undrawn : draws_words words ≡ false → now.stream ≡ before.stream
   pub stream : LosesPrefix before.stream now.stream
   pub caused : IsCaused (files_named (command_of words)) counts.files counts'.files counts.absences counts'.absences counts.input counts'.input
@@ -450,7 +450,7 @@ module _ (words : List (List ℕ)) (time result : ℕ) (before now : Seen) (coun
       → IsUsage result before now
   stopped_usage stop s refusal wrong none = record {
     status = usage_status stop s (s.wrong refusal wrong none);
-    untouched = untouched before now s.written (same_store before.store now.store (s.unwritten (ap may_write_by wrong))) (s.unread refusal wrong)
+    untouched = untouched before now s.written (same_store before.store now.store (s.unwritten (ap may_store_by wrong))) (s.unread refusal wrong)
         (s.undrawn (ap (λ (p : Option PasswordProfile). draws_with p (command_of words)) none ∙ ap draws_by wrong))
         (s.unasked refusal wrong none);
   }

@@ -34,10 +34,10 @@ use Rattle.kdbx_seal.specs.declared.fail.SealFail.TheVariants as seal
 use Rattle.cli_messages.specs.Messages.{status_of}
 use Rattle.cli_messages.specs.Phases.{IsLeft, StreamAnswer, TellsStream, after_left, with_left}
 use Rattle.cli_messages.specs.declared.answers.Refusal.{Refusal}
-use Rattle.cli_parse.specs.declared.command.Access.{Access}
-use Rattle.cli_parse.specs.declared.command.Command.{Command}
-use Rattle.cli_parse.specs.declared.command.Command.TheVariants.{Ls, Show, History, Search, Add, Edit, Restore, Move, Remove, MakeGroup, RemoveGroup, Merge, Import, Create, Export, EditFile, Info}
-use Rattle.cli_parse.specs.Needs.{files_named, target_of}
+use Rattle.cli_needs.specs.declared.command.Access.{Access}
+use Rattle.cli_needs.specs.declared.command.Command.{Command}
+use Rattle.cli_needs.specs.declared.command.Command.TheVariants.{Ls, Show, History, Search, Add, Edit, Restore, ExportAttachment, ImportAttachment, RemoveAttachment, Move, Remove, MakeGroup, RemoveGroup, Merge, Import, Create, Export, EditFile, Info}
+use Rattle.cli_needs.specs.Needs.{files_named}
 use Rattle.cli_parse.specs.Words.{command_of}
 use Rattle.cli_lines.specs.Lines.{Lines}
 use Rattle.cli_files.specs.Files.{Opened, plain_document}
@@ -49,7 +49,7 @@ use Rattle.cli_sealing.specs.Sealing.{file_by, file_unless, seal_answer, setting
 use Rattle.cli_merging.specs.Merging.{AfterMerge, after_merge, after_merged, changes_between, merged_or_refusal}
 use Rattle.cli_merging.specs.Details.{merge_report}
 use Rattle.cli_commands.specs.Commands.{Change, merged_change}
-use Rattle.call_run.specs.Endings.{Ending, HoldsNew, ReadsBack, carried_out, change_of_task, ended_with, ending_with, new_file}
+use Rattle.call_run.specs.Endings.{Ending, HoldsNew, ReadsBack, ReadsBackSo, Targets, carried_out, change_of_task, ended_so, ended_with, ending_with, new_file, targets_of}
 use Rattle.keepass_call.specs.Held.{IsAuthentic, IsTask}
 use Rattle.keepass_call.specs.Merges.{HoldsDatabase, HoldsUnder, IsUntouched, MergesAgreed, MergesNothing, MergesParts, TargetHolds, merges, unmodified_text}
 use Rattle.keepass_call.specs.Outcome.{AsksCommand, Counts, Gains, IsAsSaid, IsRefused, IsWorldOf, Seen, World, answer_of, draws_words, ended, outcome}
@@ -98,11 +98,12 @@ file_not_six : (name : List ℕ) (sealing : Option Sealing) (doc : BareDoc) (dic
 file_not_six name None doc dice = plain_not_six name (write_outcome Plain NoKeystream None doc)
 file_not_six name (Some sealing) doc dice = sealed_not_six name (settings_for sealing.settings doc) sealing.composite doc dice
 
-ended_not_six : (name : List ℕ) (sealing : Option Sealing) (text : List ℕ) (doc : Option BareDoc) (dice : List ℕ) → NotSix (ended_with name sealing text doc dice).answer
-ended_not_six name sealing text None dice = tt
-ended_not_six name sealing text (Some doc) dice =
-    after_not_six (new_file name sealing doc dice).answer (new_file name sealing doc dice).left (λ file left. with_left (Ok (ending_with text file)) left)
-    (file_not_six name sealing doc dice) (λ file left. tt)
+ended_not_six : (targets : Targets) (sealing : Option Sealing) (text : List ℕ) (doc : Option BareDoc) (attachment : Option (List ℕ)) (dice : List ℕ)
+    → NotSix (ended_so targets sealing text doc attachment dice).answer
+ended_not_six targets sealing text None attachment dice = tt
+ended_not_six targets sealing text (Some doc) attachment dice =
+    after_not_six (new_file targets.database sealing doc dice).answer (new_file targets.database sealing doc dice).left (λ file left. with_left (Ok (ending_with text file)) left)
+    (file_not_six targets.database sealing doc dice) (λ file left. tt)
 
 status_not_six : (left : List ℕ) (r : Result Ending Refusal) (dice : List ℕ) → NotSix r → (ended left r dice).status ≢ 6
 status_not_six left (Ok ending) dice h = λ e. omega arith
@@ -169,9 +170,14 @@ holds_new None doc bytes h = ((doc, None), (h, refl))
 holds_new (Some sealing) doc bytes h = (contents_with (settings_for sealing.settings doc) h.0 doc, (h.1, refl))
 
 module _ (name : List ℕ) (sealing : Option Sealing) (t new : BareDoc) (files : FileMap) (before now : Store) (are : before.files ≡ Some files) (held : HoldsAt name files sealing t) where
-  target_holds : (same : Bool) → same_doc t new ≡ same → ReadsBack name sealing (if not same && true then Some new else None) before now
+  -- A merge takes nothing out into a file.
+  abbrev targets : Targets
+  targets = record { database = name; attachment = None }
+
+  target_holds : (same : Bool) (attachment : Option (List ℕ)) → same_doc t new ≡ same
+      → ReadsBackSo targets sealing (if not same && true then Some new else None) attachment before now
       → TargetHolds name sealing new files now
-  target_holds true e h = record {
+  target_holds true attachment e h = record {
     files = files;
     are = h.files ∙ are;
     bytes = held.0;
@@ -179,7 +185,7 @@ module _ (name : List ℕ) (sealing : Option Sealing) (t new : BareDoc) (files :
     holds = subst (λ (d : BareDoc). HoldsUnder sealing d held.0) (doc_decides.says t new e) held.1.1;
     others = λ other off. refl;
   }
-  target_holds false e h = record {
+  target_holds false attachment e h = record {
     files = map.insert files name h.bytes;
     are = h.alone.files ∙ ap (option_map (λ (m : FileMap). map.insert m name h.bytes)) are;
     bytes = h.bytes;
@@ -205,7 +211,7 @@ record Carried (time : ℕ) (world : World) (before now : Seen) (task : Task) : 
   change : Change
   makes : (change_of_task time task world.dice).answer ≡ Ok change
   text : Gains before.written now.written change.text
-  reads_back : ReadsBack (target_of task.command) task.opened.sealing change.doc before.store now.store
+  reads_back : ReadsBack (targets_of task.command) task.opened.sealing change before.store now.store
 
 -- The words of a merge that is no dry run.
 record MergeWords (command : Command) : Type 0 where
@@ -223,8 +229,11 @@ merge_words (Show access file entry clear all attachments names totp at) e = abs
 merge_words (History access file entry) e = absurd (true≢false (sym e))
 merge_words (Search access file term) e = absurd (true≢false (sym e))
 merge_words (Add access file entry asked) e = absurd (true≢false (sym e))
-merge_words (Edit access file entry asked) e = absurd (true≢false (sym e))
+merge_words (Edit access file entry asked further) e = absurd (true≢false (sym e))
 merge_words (Restore access file entry version) e = absurd (true≢false (sym e))
+merge_words (ExportAttachment access file entry name to) e = absurd (true≢false (sym e))
+merge_words (ImportAttachment access file entry name source replaces) e = absurd (true≢false (sym e))
+merge_words (RemoveAttachment access file entry name) e = absurd (true≢false (sym e))
 merge_words (Move access file node group) e = absurd (true≢false (sym e))
 merge_words (Remove access file entry) e = absurd (true≢false (sym e))
 merge_words (MakeGroup access file group) e = absurd (true≢false (sym e))
@@ -268,9 +277,9 @@ module _ (words : List (List ℕ)) (time result : ℕ) (before now : Seen) (coun
       let same = ok_is a.task task (sym (task_given words time world a.task a.is_task) ∙ task_given words time world task is) in
       subst (Carried time world before now) same (record { change = a.change; makes = a.makes; text = a.text; reads_back = a.reads_back })
 
-  module _ (access : Access) (file : List ℕ) (names : List (List ℕ)) (from : Access) (same details : Bool) (lines : Lines) (opened : Opened) (sources : List BareDoc) where
+  module _ (access : Access) (file : List ℕ) (names : List (List ℕ)) (from : Access) (same details : Bool) (lines : Lines) (opened : Opened) (sources : List BareDoc) (attached : Option (List ℕ)) where
     abbrev task : Task
-    task = record { command = Merge access file names from same false details; lines = lines; opened = opened; sources = sources }
+    task = record { command = Merge access file names from same false details; lines = lines; opened = opened; sources = sources; attached = attached }
 
     abbrev t : BareDoc
     t = opened.doc
@@ -279,7 +288,7 @@ module _ (words : List (List ℕ)) (time result : ℕ) (before now : Seen) (coun
     change_is = merged_change (after_merge file access.quiet false details names t sources)
 
     abbrev next : Change → List ℕ → StreamAnswer Ending
-    next change left = ended_with file opened.sealing change.text change.doc left
+    next change left = ended_with (targets_of task.command) opened.sealing change left
 
     carried_is : carried_out time task world.dice ≡ after_left change_is world.dice next
     unfolding carried_out
@@ -299,7 +308,7 @@ module _ (words : List (List ℕ)) (time result : ℕ) (before now : Seen) (coun
       answer_not_six =
           subst (λ (s : StreamAnswer Ending). NotSix s.answer) (sym (answer_so a.is_task))
           (after_not_six change_is world.dice next (change_not_six file access.quiet details names t sources (join (end_to_end parts)) into)
-          (λ change left. ended_not_six file opened.sealing change.text change.doc left))
+          (λ change left. ended_not_six (targets_of task.command) opened.sealing change.text change.doc change.attachment left))
 
       not_refused : result ≢ 6
       not_refused six =
@@ -317,8 +326,8 @@ module _ (words : List (List ℕ)) (time result : ℕ) (before now : Seen) (coun
             is = subst (MergesInto (join (end_to_end parts))) m.merged into;
             target = target_holds file opened.sealing t m.new world.files before.store now.store told.files
                 (held_at file world.files access.plain access.key_file lines.password opened a.is_task.holds.target)
-                (same_doc t m.new) refl
-                (subst (λ (d : Option BareDoc). ReadsBack file opened.sealing d before.store now.store) (sym m.doc) c.reads_back);
+                (same_doc t m.new) c.change.attachment refl
+                (subst (λ (d : Option BareDoc). ReadsBackSo (targets_of task.command) opened.sealing d c.change.attachment before.store now.store) (sym m.doc) c.reads_back);
           }
 
       merges_parts : MergesParts task parts world result now
@@ -335,10 +344,10 @@ module _ (words : List (List ℕ)) (time result : ℕ) (before now : Seen) (coun
           let left : (answer_of words time world).left ≡ world.dice =
           ap (λ (s : StreamAnswer Ending). s.left) (answer_so is_task)
           ∙ ap (λ (r : Result Change Refusal). (after_left r world.dice next).left) c.makes
-          ∙ ap (λ (d : Option BareDoc). (ended_with file opened.sealing c.change.text d world.dice).left) no_doc in
+          ∙ ap (λ (d : Option BareDoc). (ended_so (targets_of task.command) opened.sealing c.change.text d c.change.attachment world.dice).left) no_doc in
           record {
             text = subst (Gains before.written now.written) (sym m.text ∙ report_same access.quiet details (same_doc t m.new) file names t sources m.new (changes_between t sources m.new) equal) c.text;
-            store = subst (λ (d : Option BareDoc). ReadsBack file opened.sealing d before.store now.store) no_doc c.reads_back;
+            store = subst (λ (d : Option BareDoc). ReadsBackSo (targets_of task.command) opened.sealing d c.change.attachment before.store now.store) no_doc c.reads_back;
             dice = none_gone (draws_words words) world.dice before.stream now.stream told.dice
                 (subst (IsLeft before.stream now.stream) (ended_dice _ (answer_of words time world).answer _ ∙ left) (said zero).stream);
           }
@@ -349,12 +358,12 @@ module _ (words : List (List ℕ)) (time result : ℕ) (before now : Seen) (coun
   merges_agreed parts m =
       let w = merge_words m.task.command m.is_merge in
       subst (λ (c : Command). AgreedTask words time world parts (record m.task { command = c }) → MergesParts (record m.task { command = c }) parts world result now) w.is
-      (merges_parts w.access w.file w.names w.from w.same w.details m.task.lines m.task.opened m.task.sources parts)
+      (merges_parts w.access w.file w.names w.from w.same w.details m.task.lines m.task.opened m.task.sources m.task.attached parts)
       (record { is_task = m.is_task; set = m.set; agreed = m.agreed; are_parts = m.are_parts; joins = m.joins })
 
   pub merges_nothing : MergesNothing words time world result before now
   merges_nothing g zero =
       let w = merge_words g.task.command g.is_merge in
       subst (λ (c : Command). IsTask words time world (record g.task { command = c }) → IsUntouched (record g.task { command = c }) before now) w.is
-      (λ k. untouched w.access w.file w.names w.from w.same w.details g.task.lines g.task.opened g.task.sources k g.settled g.joined zero)
+      (λ k. untouched w.access w.file w.names w.from w.same w.details g.task.lines g.task.opened g.task.sources g.task.attached k g.settled g.joined zero)
       g.is_task

@@ -15,7 +15,7 @@ use Rattle.cli_options.specs.Said.{Said, nothing_said, with_words}
 use Rattle.cli_options.specs.declared.names.CommandName.{CommandName}
 use Rattle.cli_options.specs.declared.names.CommandName.TheVariants as n
 use Rattle.cli_parse.specs.Words.{command_at, command_by, command_in, command_of, command_saying, or_wrong_words, profile_at, profile_by, profile_of, profile_saying}
-use Rattle.cli_parse.specs.declared.command.Command.{Command}
+use Rattle.cli_needs.specs.declared.command.Command.{Command}
 use Rattle.keepass_call.specs.Outcome.{AsksCommand}
 
 one_of : (first second : Bool) (one other page : List ℕ) → (if first then Some one else (if second then Some other else None)) ≡ Some page
@@ -81,6 +81,9 @@ no_profile name words profile command h c = by (with_words name words nothing_sa
     at said true n.Search positions h c = cc h
     at said true n.Add positions h c = cc h
     at said true n.Edit positions h c = cc h
+    at said true n.ExportAttachment positions h c = cc h
+    at said true n.ImportAttachment positions h c = cc h
+    at said true n.RemoveAttachment positions h c = cc h
     at said true n.Move positions h c = cc h
     at said true n.Remove positions h c = cc h
     at said true n.MakeGroup positions h c = cc h

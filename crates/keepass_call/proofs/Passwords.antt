@@ -8,7 +8,7 @@ use Rattle.cli_messages.specs.Phases.{IsCaused, IsLeft, IsMemoryStop, IsStreamSt
 use Rattle.cli_profiles.specs.declared.profiles.PasswordProfile.{PasswordProfile}
 use Rattle.cli_generating.specs.Generated.{generated}
 use Rattle.cli_parse.specs.Words.{command_of, profile_of}
-use Rattle.cli_parse.specs.declared.command.Command.{Command}
+use Rattle.cli_needs.specs.declared.command.Command.{Command}
 use Rattle.cli_writing.specs.Writing.{IsSame, KeepsFiles, Store}
 use Rattle.cli_commands.specs.declared.output.Output.{Output}
 use Rattle.cli_commands.specs.SeenChange.{output_text}

@@ -13,14 +13,15 @@ use Rattle.kdbx_open.specs.Documents.{attachment, document_or_refusal}
 use Rattle.kdbx_open.specs.Opening.{FileContents}
 use Rattle.kdbx_open.specs.Sealed.{Sealed}
 use Rattle.kdbx_open.specs.declared.fail.OpenFail.{OpenFail}
-use Rattle.cli_parse.specs.declared.command.Access.{Access}
-use Rattle.cli_files.specs.Files.{Opened, plain_document}
+use Rattle.cli_needs.specs.declared.command.Access.{Access}
+use Rattle.cli_files.specs.Files.{Databases, Opened, plain_document}
 use Rattle.cli_databases.specs.Databases.{password_from}
 use Rattle.cli_databases.specs.Held.{HoldAll, HoldDatabases, HoldsBy}
 use Rattle.call_input.specs.Opening.{HoldByOrigin}
 use Rattle.agreed_laws.specs.Merges.{AreDocs}
-use Rattle.cli_parse.specs.Needs as from
-use Rattle.cli_parse.specs.Needs.{Origin, needs_of, origin_of}
+use Rattle.cli_needs.specs.Needs as from
+use Rattle.cli_needs.specs.Needs.{Needs, Origin, needs_of, origin_of}
+use Rattle.cli_lines.specs.Lines.{Lines}
 use Rattle.keepass_call.specs.Held.{IsTask}
 use Rattle.keepass_call.specs.Outcome.{World}
 use Rattle.cli_files.specs.Tasks.{Task, databases_in}
@@ -59,19 +60,16 @@ all_are_docs from same target (name ∷ names) (line ∷ lines) files (doc ∷ d
     subst IsDoc p (subst IsDoc h.0.is (held_is_doc from.plain from.key_file name (password_from same target line) files h.0.opened h.0.holds))
 all_are_docs from same target (name ∷ names) (line ∷ lines) files (doc ∷ docs) h d (inr i) = all_are_docs from same target names lines files docs h.1 d i
 
--- So it is with a task whose database is opened as it is.
-task_holds : (words : List (List ℕ)) (time : ℕ) (world : World) (task : Task) → origin_of task.command ≡ from.Opened → IsTask words time world task
-    → HoldDatabases (needs_of task.command) task.lines world.files (databases_in task)
-task_holds words time world task none is =
-    subst (λ (o : Origin). HoldByOrigin o (needs_of task.command) task.lines time world.files (databases_in task)) none is.holds
+-- The documents of databases that files hold.
+pub database_docs : (needs : Needs) (lines : Lines) (files : FileMap) (databases : Databases) → HoldDatabases needs lines files databases → AreDocs (databases.target.doc ∷ databases.sources)
+database_docs needs lines files databases holds d (inl p) =
+    subst IsDoc p (held_is_doc needs.access.plain needs.access.key_file needs.file lines.password files databases.target holds.target)
+database_docs needs lines files databases holds d (inr i) =
+    all_are_docs needs.from needs.same lines.password needs.sources lines.sources files databases.sources holds.sources d i
 
+-- So it is with a task whose database is opened as it is.
 pub task_docs : (words : List (List ℕ)) (time : ℕ) (world : World) (task : Task) → origin_of task.command ≡ from.Opened → IsTask words time world task
     → AreDocs (task.opened.doc ∷ task.sources)
-task_docs words time world task none is d (inl p) =
-    let needs = needs_of task.command in
-    let holds = task_holds words time world task none is in
-    subst IsDoc p (held_is_doc needs.access.plain needs.access.key_file needs.file task.lines.password world.files task.opened holds.target)
-task_docs words time world task none is d (inr i) =
-    let needs = needs_of task.command in
-    let holds = task_holds words time world task none is in
-    all_are_docs needs.from needs.same task.lines.password needs.sources task.lines.sources world.files task.sources holds.sources d i
+task_docs words time world task none is =
+    database_docs (needs_of task.command) task.lines world.files (databases_in task)
+    (subst (λ (o : Origin). HoldByOrigin o (needs_of task.command) task.lines time world.files (databases_in task)) none is.holds)

@@ -1,10 +1,10 @@
 -- What the program promises of each call.
 use Rattle.std.specs.Prelude.{◌≡◌, ◌≢◌, ◌≤◌, ◌⊎◌, ℕ, List, Some, Err, false}
 use Rattle.cli_messages.specs.declared.answers.Refusal.{Refusal}
-use Rattle.cli_parse.specs.Needs.{files_named}
+use Rattle.cli_needs.specs.Needs.{files_named}
 use Rattle.keepass_call.specs.Held.{IsAuthentic, IsComplete, WritesTask}
 use Rattle.keepass_call.specs.Merges.{MergesAgreed, MergesNothing}
-use Rattle.keepass_call.specs.Outcome.{AsksCommand, Counts, ForEachWorld, IsAsSaid, IsCut, IsRefused, IsSafe, IsUsage, KeepsFaults, NoFaults, PrintsOfSomeFile, Seen, draws_words, may_write_by, outcome}
+use Rattle.keepass_call.specs.Outcome.{AsksCommand, Counts, ForEachWorld, IsAsSaid, IsCut, IsRefused, IsSafe, IsUsage, KeepsFaults, NoFaults, PrintsOfSomeFile, Seen, draws_words, may_store_by, outcome}
 use Rattle.keepass_call.specs.Telling.{PrintsPage, TellsOneLine}
 use Rattle.cli_pages.specs.Pages.{page_of}
 use Rattle.cli_parse.specs.Words.{command_of}
@@ -23,7 +23,7 @@ pub record IsCall (words : List (List ℕ)) (time result : ℕ) (before now : Se
   pub faultless : result ≡ 0 → KeepsFaults counts counts'
   -- Always: words that are no command that may write change no file, and words that ask for no
   -- password and are no command that draws draw nothing.
-  pub reads_only : may_write_by (command_of words) ≡ false → IsSame before.store now.store
+  pub reads_only : may_store_by (command_of words) ≡ false → IsSame before.store now.store
   pub draws_nothing : draws_words words ≡ false → now.stream ≡ before.stream
   -- Always: words that ask for a page print it, and touch nothing else.
   pub page : (text : List ℕ) → page_of words ≡ Some text
@@ -45,8 +45,8 @@ pub record IsCall (words : List (List ℕ)) (time result : ℕ) (before now : Se
   pub cut : ForEachWorld words before now (λ world. (result ≡ 9) ⊎ (result ≡ 10)
       → IsCut (outcome words time world) before now)
   -- Where memory ran out or output failed, and the words are to be a command, no file changed, or
-  -- the file that was to be written holds the document that was made of those that the files hold,
-  -- and every other file is as it was.
+  -- the file that was to be written holds the document that was made of those that the files hold, or
+  -- the attachment that is taken out, and every other file is as it was.
   pub cut_writes : AsksCommand words → ForEachWorld words before now (λ world.
       (result ≡ 9) ⊎ (result ≡ 10)
       → KeepsFiles before.store now.store ⊎ WritesTask words time world before now)
@@ -56,7 +56,7 @@ pub record IsCall (words : List (List ℕ)) (time result : ℕ) (before now : Se
   -- Where the words are to be a command, what is printed at status 0 is made of documents that the
   -- files hold under the lines and the key files that were given, and a file that was written holds
   -- the document that was made of them, under the key that the command leaves: the one of before, or
-  -- one that its words ask for.
+  -- one that its words ask for; or it holds the attachment that is taken out, byte for byte.
   pub authentic : AsksCommand words → ForEachWorld words before now (λ world. result ≡ 0
       → IsAuthentic words time world before now)
   -- A merge of copies that are parts of an agreed set is never refused because ids clash or moves
@@ -71,5 +71,6 @@ pub record IsCall (words : List (List ℕ)) (time result : ℕ) (before now : Se
   pub complete : ForEachWorld words before now (λ world. IsComplete words time world result counts
       counts')
   -- Always: where the words are to be a command, what is printed at status 0 is made of documents that
-  -- some files hold, and a file that was written holds the document that was made of them.
+  -- some files hold, and a file that was written holds the document that was made of them, or the
+  -- attachment that is taken out.
   pub some_file : AsksCommand words → result ≡ 0 → PrintsOfSomeFile words time before now

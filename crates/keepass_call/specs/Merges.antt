@@ -12,9 +12,9 @@ use Rattle.doc_forms.specs.Documents.{DocumentAndHash}
 use Rattle.kdbx_open.specs.Opening.{FileContents}
 use Rattle.kdbx_open.specs.Sealed.{Sealed}
 use Rattle.kdbx_frame.specs.declared.sealings.Sealing.{Sealing}
-use Rattle.cli_parse.specs.declared.command.Command.{Command}
-use Rattle.cli_parse.specs.declared.command.Command.TheVariants.{Ls, Show, History, Search, Add, Edit, Restore, Move, Remove, MakeGroup, RemoveGroup, Merge, Import, Create, Export, EditFile, Info}
-use Rattle.cli_parse.specs.Needs.{needs_of}
+use Rattle.cli_needs.specs.declared.command.Command.{Command}
+use Rattle.cli_needs.specs.declared.command.Command.TheVariants.{Ls, Show, History, Search, Add, Edit, Restore, ExportAttachment, ImportAttachment, RemoveAttachment, Move, Remove, MakeGroup, RemoveGroup, Merge, Import, Create, Export, EditFile, Info}
+use Rattle.cli_needs.specs.Needs.{needs_of}
 use Rattle.cli_files.specs.Files.{plain_document}
 use Rattle.cli_writing.specs.Writing.{IsSame, Store}
 use Rattle.keepass_call.specs.Held.{IsTask}
@@ -28,8 +28,11 @@ merges (Show access file entry clear all attachments names totp at) = false
 merges (History access file entry) = false
 merges (Search access file term) = false
 merges (Add access file entry asked) = false
-merges (Edit access file entry asked) = false
+merges (Edit access file entry asked further) = false
 merges (Restore access file entry version) = false
+merges (ExportAttachment access file entry name to) = false
+merges (ImportAttachment access file entry name source replaces) = false
+merges (RemoveAttachment access file entry name) = false
 merges (Move access file node group) = false
 merges (Remove access file entry) = false
 merges (MakeGroup access file group) = false

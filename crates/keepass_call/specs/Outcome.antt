@@ -7,13 +7,13 @@ use Rattle.cli_messages.specs.declared.answers.Refusal.{Refusal}
 use Rattle.cli_messages.specs.Messages.{status_of, reason_text, error_line}
 use Rattle.cli_messages.specs.Phases.{IsLeft, StreamAnswer, TellsStream, then_left, with_left}
 use Rattle.cli_writing.specs.Writing.{KeepsDraft, KeepsFiles, NewFile, Store, store}
-use Rattle.cli_commands.specs.Commands.{may_write}
+use Rattle.cli_commands.specs.Commands.{may_store, may_write}
 use Rattle.cli_pages.specs.Pages.{page_of}
-use Rattle.cli_parse.specs.Needs.{target_of}
+use Rattle.cli_needs.specs.Needs.{file_written}
 use Rattle.cli_parse.specs.Words.{command_of, profile_of}
 use Rattle.cli_profiles.specs.declared.profiles.PasswordProfile.{PasswordProfile}
 use Rattle.cli_generating.specs.Generated.{generated}
-use Rattle.cli_parse.specs.declared.command.Command.{Command}
+use Rattle.cli_needs.specs.declared.command.Command.{Command}
 use Rattle.cli_files.specs.Tasks.{Task, draws_by}
 use Rattle.call_input.specs.Reading.{HasSomeFile, asked_by, left_of, task_of}
 use Rattle.call_run.specs.Endings.{Ending, IsOfDice, IsOfSomeDice, Stores, carried_out, ending_without}
@@ -199,14 +199,20 @@ pub record IsWorldOf (words : List (List ℕ)) (before now : Seen) (world : Worl
 abbrev pub ForEachWorld : List (List ℕ) → Seen → Seen → (World → Type 0) → Type 0
 ForEachWorld words before now P = (world : World) → IsWorldOf words before now world → P world
 
--- Whether words are a command that may write a file.
+-- Whether words are a command that may write its database, or one that it makes.
 abbrev pub may_write_by : Result Command Refusal → Bool
 may_write_by (Ok command) = may_write command
 may_write_by (Err refusal) = false
 
--- The file that a command may write: the one that it shows or makes, where it may write one.
+-- Whether words are a command that may write a file.
+abbrev pub may_store_by : Result Command Refusal → Bool
+may_store_by (Ok command) = may_store command
+may_store_by (Err refusal) = false
+
+-- The file that a command may write: that of the database that it shows or makes, or the new one that
+-- it takes an attachment out into, where it may write one.
 abbrev pub written_with : Command → Option (List ℕ)
-written_with command = if may_write command then Some (target_of command) else None
+written_with command = if may_store command then Some (file_written command) else None
 
 -- The file that words may write, where they are a command that may write one.
 abbrev pub written_by : Result Command Refusal → Option (List ℕ)

@@ -4,11 +4,11 @@ ghost use Rattle.outside_core.specs.Streams.{GainsPrefix, LosesPrefix};
 ghost use Rattle.cli_messages.specs.Messages.{error_line, reason_text, status_of};
 ghost use Rattle.cli_messages.specs.Phases.{IsCaused, IsMemoryStop, IsStreamStop, IsWordsStop, Leaves, TellsStream};
 ghost use Rattle.cli_messages.specs.declared.answers.Refusal.{Refusal};
-ghost use Rattle.cli_parse.specs.Needs.{files_named};
+ghost use Rattle.cli_needs.specs.Needs.{files_named};
 ghost use Rattle.cli_writing.specs.Writing.{IsSame, KeepsDraft, KeepsFiles, Store, store};
 ghost use Rattle.keepass_call.specs.Call.{IsCall};
 ghost use Rattle.call_run.specs.Endings.{Ends};
-ghost use Rattle.keepass_call.specs.Outcome.{AreTruthful, IsOfSomeFile, IsOfTask, World, command_answer, counts, draws_words, may_write_by, password_answer, password_or_command, seen, truth};
+ghost use Rattle.keepass_call.specs.Outcome.{AreTruthful, IsOfSomeFile, IsOfTask, World, command_answer, counts, draws_words, may_store_by, password_answer, password_or_command, seen, truth};
 ghost use Rattle.cli_commands.specs.SeenChange.{output_text};
 ghost use Rattle.cli_parse.specs.Words.{command_of, profile_of};
 ghost use Rattle.cli_profiles.specs.Profiles.{IsProfile};
@@ -92,7 +92,7 @@ fn answer<F: FileStore, S: Source, D: Dice>(
     ensures draft { KeepsDraft
         (store (F.files files.old) (F.draft_name files.old) (F.draft_bytes files.old))
         (store (F.files files.new) (F.draft_name files.new) (F.draft_bytes files.new)) }
-    ensures unwritten { may_write_by (command_of (map string_bytes words.now)) ≡ false → IsSame
+    ensures unwritten { may_store_by (command_of (map string_bytes words.now)) ≡ false → IsSame
         (store (F.files files.old) (F.draft_name files.old) (F.draft_bytes files.old))
         (store (F.files files.new) (F.draft_name files.new) (F.draft_bytes files.new)) }
     ensures undrawn { draws_by (command_of (map string_bytes words.now)) ≡ false
@@ -202,7 +202,7 @@ fn answer_words<F: FileStore, S: Source, D: Dice>(
     ensures draft { KeepsDraft
         (store (F.files files.old) (F.draft_name files.old) (F.draft_bytes files.old))
         (store (F.files files.new) (F.draft_name files.new) (F.draft_bytes files.new)) }
-    ensures unwritten { may_write_by (command_of (map string_bytes words.now)) ≡ false → IsSame
+    ensures unwritten { may_store_by (command_of (map string_bytes words.now)) ≡ false → IsSame
         (store (F.files files.old) (F.draft_name files.old) (F.draft_bytes files.old))
         (store (F.files files.new) (F.draft_name files.new) (F.draft_bytes files.new)) }
     ensures undrawn { draws_words (map string_bytes words.now) ≡ false

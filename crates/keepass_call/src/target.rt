@@ -4,9 +4,10 @@ ghost use Rattle.std.specs.Prelude.{◌≡◌, IfOk, map, string_bytes};
 ghost use Rattle.cli_parse.specs.Words.{command_of};
 ghost use Rattle.keepass_call.specs.Outcome.{written_by, written_with};
 
-use cli_commands::may_write;
+use cli_commands::may_store;
 use cli_messages::Stop;
-use cli_parse::{Command, read_words, target_of};
+use cli_needs::{Command, file_written};
+use cli_parse::read_words;
 use outside_core::{NoMemory, Text};
 use std::alloc::Global;
 
@@ -14,8 +15,8 @@ use std::alloc::Global;
 fn name_with(alloc: Global, command: &Command) -> Result<Option<Text>, NoMemory>
     ensures { IfOk result (λ name. name ≡ written_with command.now) }
 {
-    if may_write(command) {
-        match Text::of(alloc, target_of(command).as_str()) {
+    if may_store(command) {
+        match Text::of(alloc, file_written(command).as_str()) {
             Ok(name) => Ok(Some(name)),
             Err(fail) => Err(fail),
         }

@@ -24,11 +24,11 @@ use Rattle.cli_messages.specs.Phases.{StreamAnswer, then_left, with_left}
 use Rattle.cli_messages.specs.Texts.{version}
 use Rattle.cli_messages.specs.declared.answers.Refusal.{Refusal}
 use Rattle.cli_codes.specs.Codes.{EPOCH}
-use Rattle.cli_parse.specs.declared.command.Command.TheVariants.{Ls, Show}
+use Rattle.cli_needs.specs.declared.command.Command.TheVariants.{Ls, Show}
 use Rattle.cli_writing.specs.Drawing.{next_bytes}
 use Rattle.cli_writing.specs.Writing.{NewFile, file_or_refusal}
 use Rattle.cli_changes.specs.Entries.{after_add_command}
-use Rattle.cli_commands.specs.Commands.{Change, printed_text}
+use Rattle.cli_commands.specs.Commands.{Change, printed_text, printing}
 use Rattle.cli_showing.specs.Showing.{code_shown}
 use Rattle.cli_printing.specs.Listing.{group_lines}
 use Rattle.cli_lines.specs.Lines.{Lines}
@@ -49,14 +49,14 @@ use Rattle.law_examples.proofs.Commands.{coded_doc, example_code}
 
 -- the lines of a call that asks for none
 abbrev no_lines : Lines
-no_lines = record { password = None; sources = []; more = None; otp = None }
+no_lines = record { password = None; sources = []; more = None; otp = None; fields = [] }
 
 ok_is : (a b : Change) → ◌≡◌ {A = Result Change Refusal} (Ok a) (Ok b) → a ≡ b
 ok_is a b h = cc h
 
 -- what a command prints that writes nothing
 nothing_written : (r : Result (List ℕ) Refusal) (change : Change) → printed_text r ≡ Ok change → change.doc ≡ None
-nothing_written (Ok text) change is = ap (λ (c : Change). c.doc) (sym (ok_is (record { text = text; doc = None }) change is))
+nothing_written (Ok text) change is = ap (λ (c : Change). c.doc) (sym (ok_is (printing text) change is))
 nothing_written (Err refusal) change is = cc is
 
 never : {A : Type 0} (o : Option BareDoc) (d : BareDoc) → o ≡ None → o ≡ Some d → A
@@ -70,12 +70,13 @@ list_task = record {
   lines = no_lines;
   opened = opened_as as_it_was;
   sources = [];
+  attached = None;
 }
 
 list_carried : CanBeCarried list_first 50 (world_of three_files)
 list_carried = record {
   task = list_task;
-  is_task = record { is_command = refl; are_lines = refl; holds = record { target = plain_first; sources = tt } };
+  is_task = record { is_command = refl; are_lines = refl; holds = record { target = plain_first; sources = tt }; attaches = refl };
   in_calendar = omega arith;
   can_generate = tt;
   can = (as_it_was.tree, refl);
@@ -98,6 +99,7 @@ code_task = record {
   lines = no_lines;
   opened = opened_as coded;
   sources = [];
+  attached = None;
 }
 
 code_carried : CanBeCarried show_code EPOCH (world_of coded_file)
@@ -110,6 +112,7 @@ code_carried = record {
       target = is_plain coded_file (codes "a.xml") coded coded_doc write_coded short_coded (put_last empty (codes "a.xml") (plain_bytes coded) (codes "a.xml"));
       sources = tt;
     };
+    attaches = refl;
   };
   in_calendar = omega arith;
   can_generate = tt;
@@ -157,7 +160,7 @@ task = adding two_characters
 -- the change, and the document that is written
 abbrev change_in : Result Change Refusal → Change
 change_in (Ok change) = change
-change_in (Err refusal) = record { text = []; doc = None }
+change_in (Err refusal) = printing []
 
 abbrev pub change : Change
 change = change_in (change_of_task 50 task dice).answer
@@ -191,7 +194,7 @@ fits new d is has =
     (same_Some doc d (sym writes ∙ ap (λ (c : Change). c.doc) same ∙ has)) (plain_bytes doc, written)
 
 pub is_adding : IsTask add_generated 50 with_dice task
-is_adding = record { is_command = refl; are_lines = refl; holds = record { target = plain_first; sources = tt } }
+is_adding = record { is_command = refl; are_lines = refl; holds = record { target = plain_first; sources = tt }; attaches = refl }
 
 add_carried : CanBeCarried add_generated 50 with_dice
 unfolding group_at_path group_found has_entry_path next_bytes choose next

@@ -9,7 +9,7 @@ use Rattle.vault_model.specs.Tree.{BareDoc, IsDoc, node, none}
 use Rattle.merge_core.specs.Example.{as_it_was, bank, edited, entry, group, home, root, work}
 use Rattle.merge_examples.proofs.Merged.{doc_first, doc_second}
 use Rattle.tree_core.specs.Finding.{entry_found, group_at_path, group_found}
-use Rattle.frame_laws.specs.Example.{without_bin}
+use Rattle.frame_laws.specs.Example.{with_key, without_bin}
 use Rattle.frame_laws.proofs.Examples.{example_changes}
 use Rattle.condition_laws.proofs.Examples as tree
 use Rattle.agreed_laws.specs.Merges.{AreDocs}
@@ -80,6 +80,9 @@ first_doc = one_doc as_it_was doc_first
 bare_doc : AreDocs (without_bin ∷ [])
 bare_doc = one_doc without_bin example_changes.bare
 
+keyed_doc : AreDocs (with_key ∷ [])
+keyed_doc = one_doc with_key example_changes.keyed
+
 pub example_commands : ExampleCommands
 unfolding group_at_path group_found code_refusal
 example_commands =
@@ -92,8 +95,15 @@ example_commands =
       history = record { in_calendar = omega arith; docs = first_doc; can = on_content.history };
       search = record { in_calendar = omega arith; docs = first_doc; can = on_content.search };
       add = record { in_calendar = omega arith; docs = first_doc; can = on_tree.add };
-      edit = record { in_calendar = omega arith; docs = first_doc; can = record { code = refl; entry = on_tree.edit } };
+      edit = record { in_calendar = omega arith; docs = first_doc; can = record { code = refl; entry = record { entry = on_tree.edit.entry; fields = λ name i. absurd i; time = on_tree.edit.time } } };
       restore = record { in_calendar = omega arith; docs = one_doc edited doc_second; can = on_tree.restore };
+      export_attachment = record {
+        in_calendar = omega arith;
+        docs = keyed_doc;
+        can = record { entry = on_tree.detach.entry; attachment = on_tree.detach.attachment; there = on_tree.detach.there };
+      };
+      import_attachment = record { in_calendar = omega arith; docs = first_doc; can = on_tree.attach };
+      remove_attachment = record { in_calendar = omega arith; docs = keyed_doc; can = on_tree.detach };
       move_entry = record { in_calendar = omega arith; docs = first_doc; can = on_tree.move_entry };
       move_group = record {
         in_calendar = omega arith;

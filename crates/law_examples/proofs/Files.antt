@@ -28,8 +28,8 @@ use Rattle.doc_spelling.proofs.ReadsBack.{says_document}
 use Rattle.merge_examples.specs.Cases.{bare}
 use Rattle.merge_examples.proofs.Merged.{doc_first, doc_second, doc_third}
 use Rattle.merge_examples.proofs.Settled.{bare_doc, bare_settled}
-use Rattle.cli_parse.specs.declared.command.Access.{Access}
-use Rattle.cli_parse.specs.declared.command.Command.TheVariants.{Merge}
+use Rattle.cli_needs.specs.declared.command.Access.{Access}
+use Rattle.cli_needs.specs.declared.command.Command.TheVariants.{Merge}
 use Rattle.cli_lines.specs.Lines.{Lines}
 use Rattle.cli_files.specs.Files.{Opened, plain_document}
 use Rattle.cli_files.specs.Tasks.{Task}
@@ -122,7 +122,7 @@ abbrev plainly : Access
 plainly = record { plain = true; quiet = false; key_file = None; no_password = false }
 
 abbrev no_lines : List (Option (List ℕ)) → Lines
-no_lines sources = record { password = None; sources = sources; more = None; otp = None }
+no_lines sources = record { password = None; sources = sources; more = None; otp = None; fields = [] }
 
 abbrev pub three_task : Task
 three_task = record {
@@ -130,6 +130,7 @@ three_task = record {
   lines = no_lines (None ∷ None ∷ []);
   opened = opened_as as_it_was;
   sources = edited ∷ moved ∷ [];
+  attached = None;
 }
 
 source_is : (files : FileMap) (name : List ℕ) (d : BareDoc) → IsPlain name files (opened_as d) → HoldsSource plainly false None None name files d
@@ -152,6 +153,7 @@ three_is_task time = record {
     target = plain_first;
     sources = (source_is three_files (codes "b.xml") edited plain_second, (source_is three_files (codes "c.xml") moved plain_third, tt));
   };
+  attaches = refl;
 }
 
 member : (m : Db) → IsIn m copies → (n : Db) → IsIn n (m ∷ []) → IsIn n copies
@@ -182,6 +184,7 @@ two_task = record {
   lines = no_lines (None ∷ []);
   opened = opened_as bare;
   sources = bare ∷ [];
+  attached = None;
 }
 
 found_target : get two_files (codes "a.xml") ≡ Some (plain_bytes bare)
@@ -219,6 +222,7 @@ two_files_are_merged time = record {
       target = is_plain two_files (codes "a.xml") bare bare_doc write_bare short_bare found_target;
       sources = (source_is two_files (codes "b.xml") bare (is_plain two_files (codes "b.xml") bare bare_doc write_bare short_bare found_source), tt);
     };
+    attaches = refl;
   };
   is_merge = refl;
   settled = bare_settled;

@@ -21,7 +21,7 @@ use Rattle.cli_writing.specs.Held.{HoldsPlain, IsWritten}
 use Rattle.cli_commands.specs.Commands.{may_write}
 use Rattle.cli_files.specs.Tasks.{Task}
 use Rattle.cli_pages.specs.Pages.{page_of}
-use Rattle.call_run.specs.Endings.{EndsSo, HoldsNew, IsOfDice, ReadsBack}
+use Rattle.call_run.specs.Endings.{EndsSo, HoldsNew, IsOfDice, ReadsBack, ReadsBackSo, targets_of}
 use Rattle.keepass_call.specs.Call.{IsCall}
 use Rattle.keepass_call.specs.Held.{IsTask}
 use Rattle.keepass_call.specs.Outcome.{IsOfTask, IsWorldOf, Seen, World, answer_of}
@@ -72,8 +72,8 @@ now = after_adding change.text new_file
 written_there : IsWritten (HoldsNew None doc) (codes "a.xml") before_adding.store now.store
 written_there = record { bytes = plain_bytes doc; alone = record { files = refl; draft_name = refl }; holds = text_says }
 
-reads_back : ReadsBack (codes "a.xml") None change.doc before_adding.store now.store
-reads_back = subst (λ (d : Option BareDoc). ReadsBack (codes "a.xml") None d before_adding.store now.store) (sym writes) written_there
+reads_back : ReadsBack (targets_of task.command) None change before_adding.store now.store
+reads_back = subst (λ (d : Option BareDoc). ReadsBackSo (targets_of task.command) None d change.attachment before_adding.store now.store) (sym writes) written_there
 
 of_dice : IsOfDice 50 task dice change.text before_adding.store now.store
 of_dice = record { change = change; makes = makes; text = refl; reads_back = reads_back }
@@ -116,11 +116,12 @@ printed = record {
     task = task;
     has_file = record {
       is_command = refl;
-      has_lines = record { has_password = refl; have_passwords = refl; has_more = refl; has_otp = refl };
+      has_lines = record { has_password = refl; have_passwords = refl; has_more = refl; has_otp = refl; has_fields = refl };
       holds = record {
         target = record { bytes = plain_bytes as_it_was; read = (as_it_was, None); says = says as_it_was doc_first write_first; is = refl };
         sources = tt;
       };
+      attaches = refl;
     };
     of_dice = (dice, of_dice);
   };

@@ -6,9 +6,9 @@ use Rattle.merge_core.specs.Example.{as_it_was, edited}
 use Rattle.cli_codes.specs.Codes.{EPOCH}
 use Rattle.cli_pages.specs.Pages.{page_of}
 use Rattle.cli_profiles.specs.declared.profiles.PasswordProfile.{PasswordProfile}
-use Rattle.cli_parse.specs.Needs.{files_named, generated_by}
+use Rattle.cli_needs.specs.Needs.{files_named, generated_by}
 use Rattle.cli_parse.specs.Words.{command_of}
-use Rattle.cli_parse.specs.declared.command.Command.TheVariants.{Add}
+use Rattle.cli_needs.specs.declared.command.Command.TheVariants.{Add}
 use Rattle.cli_writing.specs.Writing.{NewFile}
 use Rattle.cli_commands.specs.Commands.{Change}
 use Rattle.cli_files.specs.Tasks.{Task}
@@ -84,9 +84,10 @@ abbrev pub adding : PasswordProfile → Task
 adding profile = record {
   command = Add plainly (codes "a.xml") (codes "Chat")
       (record nothing_asked { generated = Some profile });
-  lines = record { password = None; sources = []; more = None; otp = None };
+  lines = record { password = None; sources = []; more = None; otp = None; fields = [] };
   opened = record { doc = as_it_was; sealing = None; passed_over = [] };
   sources = [];
+  attached = None;
 }
 
 -- two letters or digits

@@ -1,19 +1,21 @@
 -- Conditions of commands that hold of small databases.
-use Rattle.std.specs.Prelude.{◌≤◌, ℕ, true, false, List, [], ◌∷◌, None, codes}
+use Rattle.std.specs.Prelude.{◌≤◌, ℕ, true, false, List, [], ◌∷◌, None, Some, codes}
 use Rattle.time_core.specs.Times.{last_stamp}
 use Rattle.vault_model.specs.Db.{NodeId, nil_id}
 use Rattle.vault_model.specs.Shape.{BareVersion}
 use Rattle.vault_model.specs.Tree.{BareDoc, node, none}
 use Rattle.merge_core.specs.Example.{as_it_was, bank, edited, entry, group, home, meta, moved, root, version}
-use Rattle.frame_laws.specs.Example.{without_bin}
+use Rattle.frame_laws.specs.Example.{with_key, without_bin}
 use Rattle.agreed_laws.specs.Merges.{AreDocs}
 use Rattle.cli_codes.specs.Codes.{EPOCH}
-use Rattle.cli_parse.specs.declared.command.Access.{Access}
-use Rattle.cli_parse.specs.declared.command.Asked.{Asked}
-use Rattle.cli_parse.specs.declared.command.Command.{Command}
-use Rattle.cli_parse.specs.declared.command.Command.TheVariants.{Ls, Show, History, Search, Add, Edit, Restore, Move, Remove, MakeGroup, RemoveGroup, Merge, Import, Export, Info}
-use Rattle.cli_parse.specs.declared.command.ExportFormat.TheVariants as format
-use Rattle.cli_parse.specs.declared.command.ImportFormat.TheVariants as import_format
+use Rattle.cli_needs.specs.declared.command.Access.{Access}
+use Rattle.cli_needs.specs.declared.command.Asked.{Asked}
+use Rattle.cli_needs.specs.declared.command.Command.{Command}
+use Rattle.cli_needs.specs.declared.command.Command.TheVariants.{Ls, Show, History, Search, Add, Edit, Restore, ExportAttachment, ImportAttachment, RemoveAttachment, Move, Remove, MakeGroup, RemoveGroup, Merge, Import, Export, Info}
+use Rattle.cli_needs.specs.declared.command.ExportFormat.TheVariants as format
+use Rattle.cli_needs.specs.declared.command.FurtherAsked.{FurtherAsked}
+use Rattle.cli_needs.specs.declared.command.ImportFormat.TheVariants as import_format
+use Rattle.cli_commands.specs.Commands.{Inputs}
 use Rattle.content_condition_laws.specs.Conditions.{CanShowCode}
 use Rattle.call_conditions.specs.Conditions.{CanChange}
 
@@ -63,12 +65,36 @@ nothing_asked = record {
   otp = false;
 }
 
--- The premises of the law of a command, which is given no line of the input, on a plain file.
+-- a tag is put to an entry
+abbrev pub one_tag : FurtherAsked
+one_tag = record {
+  set = [];
+  protect = false;
+  unset = [];
+  tags = codes "home" ∷ [];
+  untags = [];
+  expiry = None;
+}
+
+-- A command is given no line of the input on a plain file, a file of one byte where it puts one into
+-- its database, and these sources.
+abbrev pub given_only : List BareDoc → Inputs
+given_only sources = record {
+  line = None;
+  otp = None;
+  fields = [];
+  attached = Some (codes "k");
+  sources = sources;
+  settings = None;
+  passed_over = [];
+}
+
+-- The premises of the law of a command that is given no more than that.
 pub record MeetsConditions (time : ℕ) (command : Command) (sources : List BareDoc) (id : NodeId)
     (d : BareDoc) : Type 0 where
   pub in_calendar : time ≤ last_stamp
   pub docs : AreDocs (d ∷ sources)
-  pub can : CanChange time command None sources None id d
+  pub can : CanChange time command (given_only sources) id d
 
 -- Each command meets them on some database.
 pub record ExampleCommands : Type 0 where
@@ -85,10 +111,18 @@ pub record ExampleCommands : Type 0 where
       as_it_was
   pub add : MeetsConditions 50 (Add plainly (codes "a.xml") (codes "Work/Chat") nothing_asked) []
       home as_it_was
-  pub edit : MeetsConditions 50 (Edit plainly (codes "a.xml") (codes "Bank") nothing_asked) []
-      nil_id as_it_was
+  pub edit : MeetsConditions 50
+      (Edit plainly (codes "a.xml") (codes "Bank") nothing_asked one_tag) [] nil_id as_it_was
   pub restore : MeetsConditions 50 (Restore plainly (codes "a.xml") (codes "Bank") 1) [] nil_id
       edited
+  pub export_attachment : MeetsConditions 50
+      (ExportAttachment plainly (codes "a.xml") (codes "Bank") (codes "key")
+      (Some (codes "key.bin"))) [] nil_id with_key
+  pub import_attachment : MeetsConditions 50
+      (ImportAttachment plainly (codes "a.xml") (codes "Bank") (codes "key") (codes "key.bin")
+      false) [] nil_id as_it_was
+  pub remove_attachment : MeetsConditions 50
+      (RemoveAttachment plainly (codes "a.xml") (codes "Bank") (codes "key")) [] nil_id with_key
   pub move_entry : MeetsConditions 50 (Move plainly (codes "a.xml") (codes "Bank") (codes "Work"))
       [] nil_id as_it_was
   pub move_group : MeetsConditions 50 (Move plainly (codes "a.xml") (codes "Work/") (codes "Home"))

@@ -4,7 +4,6 @@ use Rattle.std.specs.Option.{option_and_then, option_map, unwrap_or}
 use Rattle.std.specs.Prelude.{if◌then◌else◌}
 use Rattle.std.specs.Str.{bytes_eq}
 use Rattle.outside_core.specs.Results.{◌>>=◌}
-use Rattle.kdbx_frame.specs.declared.settings.Settings.{Settings}
 use Rattle.vault_model.specs.Bare.{BareField}
 use Rattle.vault_model.specs.Db.{NodeId}
 use Rattle.vault_model.specs.Join.{is_id}
@@ -18,14 +17,14 @@ use Rattle.tree_core.specs.Finding.{entry_by_id, entry_found, entry_id, group_at
 use Rattle.tree_core.specs.NewNodes.{empty_bin, empty_group}
 use Rattle.tree_core.specs.NewPaths.{after_last, before_last, names_root, new_path}
 use Rattle.cli_messages.specs.declared.answers.Refusal.{Refusal}
-use Rattle.cli_parse.specs.declared.command.Command.{Command}
-use Rattle.cli_parse.specs.declared.command.Command.TheVariants.{Ls, Show, History, Search, Add, Edit, Restore, Move, Remove, MakeGroup, RemoveGroup, Merge, Import, Create, Export, EditFile, Info}
+use Rattle.cli_needs.specs.declared.command.Command.{Command}
+use Rattle.cli_needs.specs.declared.command.Command.TheVariants.{Ls, Show, History, Search, Add, Edit, Restore, ExportAttachment, ImportAttachment, RemoveAttachment, Move, Remove, MakeGroup, RemoveGroup, Merge, Import, Create, Export, EditFile, Info}
 use Rattle.cli_printing.specs.Listing.{tree_listed}
 use Rattle.cli_changes.specs.Entries.{AfterCommand, entry_title, held_title, time_of}
 use Rattle.cli_changes.specs.Fails.{change_or_refusal}
 use Rattle.cli_changes.specs.Nodes.{after_entry_move, after_group_move, after_mkdir, after_mv, after_rm, after_rmdir, found_name, group_name, names_group, with_entry_moved_at, with_group_at, with_group_moved_at, without_entry_at, without_group_at}
 use Rattle.cli_changes.specs.Reports.{removal_report, report}
-use Rattle.cli_commands.specs.Commands.{bin_id, change_with, listing_of, makes_node, new_document, printed_text}
+use Rattle.cli_commands.specs.Commands.{Inputs, bin_id, change_with, listing_of, makes_node, new_document, printed_text, printing}
 use Rattle.noninterference_laws.specs.Masks.{CommandsAreBlind, DrawsAreBlind, ShowsTitles, is_secret, mask, mask_change, mask_row, mask_tree, reads_no_value}
 use Rattle.noninterference_laws.proofs.MaskedTrees.{entry_buried_mask, entry_mask, entry_moved_mask, entry_taken_mask, free_mask, group_mask, group_moved_mask, group_put_mask, group_taken_mask, has_mask, height_mask, holder_mask, id_mask, level_mask, parent_mask, placed_mask, tree_buried_mask}
 use Rattle.noninterference_laws.proofs.Screens.{group_path_same, group_same, info_same, lines_same, listed_same, mask_node, mask_walked, name_same, named_same, secret_titles, title_same, walk_same}
@@ -307,31 +306,34 @@ module _ (p : BareField → Bool) (titles : ShowsTitles p) where
 
   listing_mask_of : (file : List ℕ) (recursive flat ids : Bool) (o : Option Tree) → listing_of file recursive flat ids (option_map (mask_tree p) o) ≡ mask_change p (listing_of file recursive flat ids o)
   listing_mask_of file recursive flat ids None = refl
-  listing_mask_of file recursive flat ids (Some t) = ap (λ text. Ok (record { text = text; doc = None })) (lines_same p titles recursive flat ids [] t)
+  listing_mask_of file recursive flat ids (Some t) = ap (λ text. Ok (printing text)) (lines_same p titles recursive flat ids [] t)
 
-  pub change_mask : (command : Command) → reads_no_value command ≡ true → (time : ℕ) (line otp : Option (List ℕ)) (sources : List BareDoc) (settings : Option Settings) (passed : List (List ℕ)) (id : NodeId) (d : BareDoc)
-      → change_with time command line otp sources settings passed id (mask p d) ≡ mask_change p (change_with time command line otp sources settings passed id d)
-  change_mask (Ls access file group recursive flat ids) is time line otp sources settings passed id d = ap (listing_of file recursive flat ids) (listed_same p titles group d) ∙ listing_mask_of file recursive flat ids (tree_listed group d)
-  change_mask (Move access file node group) is time line otp sources settings passed id d = ap new_document (mv_mask file access.quiet node group time d) ∙ new_mask (after_mv file access.quiet node group time d)
-  change_mask (Remove access file entry) is time line otp sources settings passed id d =
+  pub change_mask : (command : Command) → reads_no_value command ≡ true → (time : ℕ) (input : Inputs) (id : NodeId) (d : BareDoc)
+      → change_with time command input id (mask p d) ≡ mask_change p (change_with time command input id d)
+  change_mask (Ls access file group recursive flat ids) is time input id d = ap (listing_of file recursive flat ids) (listed_same p titles group d) ∙ listing_mask_of file recursive flat ids (tree_listed group d)
+  change_mask (Move access file node group) is time input id d = ap new_document (mv_mask file access.quiet node group time d) ∙ new_mask (after_mv file access.quiet node group time d)
+  change_mask (Remove access file entry) is time input id d =
       ap (λ b. new_document (after_rm file access.quiet entry (if b then Some id else None) time (mask p d))) (needs_mask d)
       ∙ ap new_document (rm_mask file access.quiet entry (bin_id id d) time d) ∙ new_mask (after_rm file access.quiet entry (bin_id id d) time d)
-  change_mask (MakeGroup access file group) is time line otp sources settings passed id d = ap new_document (mkdir_mask file access.quiet group id time d) ∙ new_mask (after_mkdir file access.quiet group id time d)
-  change_mask (RemoveGroup access file group) is time line otp sources settings passed id d =
+  change_mask (MakeGroup access file group) is time input id d = ap new_document (mkdir_mask file access.quiet group id time d) ∙ new_mask (after_mkdir file access.quiet group id time d)
+  change_mask (RemoveGroup access file group) is time input id d =
       ap (λ b. new_document (after_rmdir file access.quiet group (if b then Some id else None) time (mask p d))) (needs_mask d)
       ∙ ap new_document (rmdir_mask file access.quiet group (bin_id id d) time d) ∙ new_mask (after_rmdir file access.quiet group (bin_id id d) time d)
-  change_mask (Info access file) is time line otp sources settings passed id d = ap (λ text. printed_text (Ok text)) (info_same p titles settings d)
-  change_mask (Show access file entry clear all attachments names totp at) is time line otp sources settings passed id d = cc is
-  change_mask (History access file entry) is time line otp sources settings passed id d = cc is
-  change_mask (Search access file term) is time line otp sources settings passed id d = cc is
-  change_mask (Add access file entry asked) is time line otp sources settings passed id d = cc is
-  change_mask (Edit access file entry asked) is time line otp sources settings passed id d = cc is
-  change_mask (Restore access file entry version) is time line otp sources settings passed id d = cc is
-  change_mask (Merge access file names from same dry details) is time line otp sources settings passed id d = cc is
-  change_mask (Import access format source from file) is time line otp sources settings passed id d = cc is
-  change_mask (Create access file name cipher kdf) is time line otp sources settings passed id d = cc is
-  change_mask (Export access format file) is time line otp sources settings passed id d = cc is
-  change_mask (EditFile access file change) is time line otp sources settings passed id d = cc is
+  change_mask (Info access file) is time input id d = ap (λ text. printed_text (Ok text)) (info_same p titles input.settings d)
+  change_mask (Show access file entry clear all attachments names totp at) is time input id d = cc is
+  change_mask (History access file entry) is time input id d = cc is
+  change_mask (Search access file term) is time input id d = cc is
+  change_mask (Add access file entry asked) is time input id d = cc is
+  change_mask (Edit access file entry asked further) is time input id d = cc is
+  change_mask (Restore access file entry version) is time input id d = cc is
+  change_mask (ExportAttachment access file entry name to) is time input id d = cc is
+  change_mask (ImportAttachment access file entry name source replaces) is time input id d = cc is
+  change_mask (RemoveAttachment access file entry name) is time input id d = cc is
+  change_mask (Merge access file names from same dry details) is time input id d = cc is
+  change_mask (Import access format source from file) is time input id d = cc is
+  change_mask (Create access file name cipher kdf) is time input id d = cc is
+  change_mask (Export access format file) is time input id d = cc is
+  change_mask (EditFile access file change) is time input id d = cc is
 
   pub makes_mask : (command : Command) (d : BareDoc) → makes_node command (mask p d) ≡ makes_node command d
   makes_mask (Ls access file group recursive flat ids) d = refl
@@ -344,8 +346,11 @@ module _ (p : BareField → Bool) (titles : ShowsTitles p) where
   makes_mask (History access file entry) d = refl
   makes_mask (Search access file term) d = refl
   makes_mask (Add access file entry asked) d = refl
-  makes_mask (Edit access file entry asked) d = refl
+  makes_mask (Edit access file entry asked further) d = refl
   makes_mask (Restore access file entry version) d = refl
+  makes_mask (ExportAttachment access file entry name to) d = refl
+  makes_mask (ImportAttachment access file entry name source replaces) d = refl
+  makes_mask (RemoveAttachment access file entry name) d = refl
   makes_mask (Merge access file names from same dry details) d = refl
   makes_mask (Import access format source from file) d = refl
   makes_mask (Create access file name cipher kdf) d = refl
@@ -353,8 +358,8 @@ module _ (p : BareField → Bool) (titles : ShowsTitles p) where
   makes_mask (EditFile access file change) d = refl
 
 pub commands_are_blind : CommandsAreBlind
-commands_are_blind d e alike command is time line otp sources settings passed id =
-    sym (change_mask is_secret secret_titles command is time line otp sources settings passed id d) ∙ ap (change_with time command line otp sources settings passed id) alike ∙ change_mask is_secret secret_titles command is time line otp sources settings passed id e
+commands_are_blind d e alike command is time input id =
+    sym (change_mask is_secret secret_titles command is time input id d) ∙ ap (change_with time command input id) alike ∙ change_mask is_secret secret_titles command is time input id e
 
 pub draws_are_blind : DrawsAreBlind
 draws_are_blind d e alike command = sym (makes_mask is_secret secret_titles command d) ∙ ap (makes_node command) alike ∙ makes_mask is_secret secret_titles command e

@@ -16,12 +16,12 @@ use Rattle.find_references.specs.declared.terms.SearchField.TheVariants as field
 use Rattle.find_references.specs.declared.terms.Term.{Term}
 use Rattle.find_core.specs.Search.{found_in}
 use Rattle.cli_messages.specs.declared.answers.Refusal.{Refusal}
-use Rattle.cli_parse.specs.declared.command.Command.{Command}
-use Rattle.cli_parse.specs.declared.command.Command.TheVariants.{Ls, Show, History, Search, Add, Edit, Restore, Move, Remove, MakeGroup, RemoveGroup, Merge, Import, Create, Export, EditFile, Info}
+use Rattle.cli_needs.specs.declared.command.Command.{Command}
+use Rattle.cli_needs.specs.declared.command.Command.TheVariants.{Ls, Show, History, Search, Add, Edit, Restore, ExportAttachment, ImportAttachment, RemoveAttachment, Move, Remove, MakeGroup, RemoveGroup, Merge, Import, Create, Export, EditFile, Info}
 use Rattle.cli_printing.specs.Info.{info_shown}
 use Rattle.cli_printing.specs.Listing.{group_lines, tree_listed}
 use Rattle.cli_showing.specs.Showing.{entries_shown, entry_shown, version_shown}
-use Rattle.cli_commands.specs.Commands.{Change, change_with, makes_node}
+use Rattle.cli_commands.specs.Commands.{Change, Inputs, change_with, makes_node}
 
 -- ---- documents without what is hidden
 
@@ -125,8 +125,11 @@ reads_no_value (Show access file entry clear all attachments names totp at) = fa
 reads_no_value (History access file entry) = false
 reads_no_value (Search access file term) = false
 reads_no_value (Add access file entry asked) = false
-reads_no_value (Edit access file entry asked) = false
+reads_no_value (Edit access file entry asked further) = false
 reads_no_value (Restore access file entry version) = false
+reads_no_value (ExportAttachment access file entry name to) = false
+reads_no_value (ImportAttachment access file entry name source replaces) = false
+reads_no_value (RemoveAttachment access file entry name) = false
 reads_no_value (Move access file word group) = true
 reads_no_value (Remove access file entry) = true
 reads_no_value (MakeGroup access file group) = true
@@ -142,10 +145,9 @@ reads_no_value (Info access file) = true
 -- what is hidden.
 abbrev pub CommandsAreBlind : Type 0
 CommandsAreBlind = (d e : BareDoc) → LookAlike is_secret d e → (command : Command)
-    → reads_no_value command ≡ true → (time : ℕ) (line otp : Option (List ℕ))
-    (sources : List BareDoc) (settings : Option Settings) (passed : List (List ℕ)) (id : NodeId)
-    → mask_change is_secret (change_with time command line otp sources settings passed id d)
-    ≡ mask_change is_secret (change_with time command line otp sources settings passed id e)
+    → reads_no_value command ≡ true → (time : ℕ) (input : Inputs) (id : NodeId)
+    → mask_change is_secret (change_with time command input id d)
+    ≡ mask_change is_secret (change_with time command input id e)
 
 -- Such a command makes a node, whose id is drawn, of the one document where it does of the other.
 abbrev pub DrawsAreBlind : Type 0

@@ -1,5 +1,6 @@
 -- What a call results in over files that agree on those that its words name.
-use Rattle.std.proofs.Common.{◌≡◌, ℕ, Bool, true, false, inl, inr, List, [], ◌∷◌, ◌++◌, Option, None, Some, Result, Ok, Err, refl, sym, ap, subst, ◌∙◌}
+use Rattle.std.proofs.Common.{◌≡◌, ◌⊎◌, ℕ, Bool, true, false, inl, inr, List, [], ◌∷◌, ◌++◌, Option, None, Some, Result, Ok, Err, refl, sym, ap, subst, ◌∙◌}
+use Rattle.std.proofs.lemmas.Option.{same_Some}
 use Rattle.std.specs.FinMap as map
 use Rattle.outside_core.specs.Files.{FileMap}
 use Rattle.outside_core.specs.Results.{◌>>=◌}
@@ -13,14 +14,14 @@ use Rattle.tree_core.proofs.Options.{never}
 use Rattle.cli_messages.specs.declared.answers.Refusal.{Refusal}
 use Rattle.cli_pages.specs.Pages.{page_of}
 use Rattle.cli_messages.specs.Phases.{StreamAnswer, after_left, then_left, with_left}
-use Rattle.cli_parse.specs.declared.command.Access.{Access}
-use Rattle.cli_parse.specs.declared.command.Command.{Command}
-use Rattle.cli_parse.specs.declared.command.FileChange.{FileChange}
-use Rattle.cli_parse.specs.declared.command.KeyFileChange.{KeyFileChange}
-use Rattle.cli_parse.specs.declared.command.KeyFileChange.TheVariants as key_file
-use Rattle.cli_parse.specs.declared.command.Command.TheVariants.{Ls, Show, History, Search, Add, Edit, Restore, Move, Remove, MakeGroup, RemoveGroup, Merge, Import, Create, Export, EditFile, Info}
-use Rattle.cli_parse.specs.Needs as from
-use Rattle.cli_parse.specs.Needs.{CreateNeeds, ImportNeeds, Needs, Origin, database_files, files_by, files_named, files_of, key_files, needs_of, new_key_files, origin_of, source_files, target_of}
+use Rattle.cli_needs.specs.declared.command.Access.{Access}
+use Rattle.cli_needs.specs.declared.command.Command.{Command}
+use Rattle.cli_needs.specs.declared.command.FileChange.{FileChange}
+use Rattle.cli_needs.specs.declared.command.KeyFileChange.{KeyFileChange}
+use Rattle.cli_needs.specs.declared.command.KeyFileChange.TheVariants as key_file
+use Rattle.cli_needs.specs.declared.command.Command.TheVariants.{Ls, Show, History, Search, Add, Edit, Restore, ExportAttachment, ImportAttachment, RemoveAttachment, Move, Remove, MakeGroup, RemoveGroup, Merge, Import, Create, Export, EditFile, Info}
+use Rattle.cli_needs.specs.Needs as from
+use Rattle.cli_needs.specs.Needs.{CreateNeeds, ImportNeeds, Needs, Origin, database_files, exported_to, files_by, files_named, files_of, key_files, needs_of, new_key_files, origin_of, source_files, target_of}
 use Rattle.cli_parse.specs.Words.{command_of, profile_of}
 use Rattle.cli_profiles.specs.declared.profiles.PasswordProfile.{PasswordProfile}
 use Rattle.cli_generating.specs.Generated.{generated}
@@ -34,9 +35,10 @@ use Rattle.cli_resealing.specs.Asked.{asked_settings, with_resealed}
 use Rattle.cli_resealing.specs.Created.{created_of, empty_document, undrawn_id}
 use Rattle.cli_resealing.specs.Edited.{changed_of, edited_of, key_after, key_made, settings_in, under_key}
 use Rattle.cli_commands.specs.Commands.{Change}
+use Rattle.call_input.specs.Attaching.{attached_by, attached_for}
 use Rattle.call_input.specs.Opening.{alone, databases_by, databases_for}
-use Rattle.call_input.specs.Reading.{task_of}
-use Rattle.call_run.specs.Endings.{Ending, carried_out, change_of_task, ended_with, ending_with}
+use Rattle.call_input.specs.Reading.{opened_task, task_of}
+use Rattle.call_run.specs.Endings.{Ending, Targets, attachment_file, carried_out, change_of_task, ended_so, ended_with, ending_with, targets_of}
 use Rattle.stream_core.specs.InnerStream.{NoKeystream}
 use Rattle.vault_model.specs.declared.forms.DocForm.TheVariants.{Plain}
 use Rattle.doc_write.specs.Written.{write_outcome}
@@ -157,19 +159,40 @@ module _ (F G : FileMap) where
 
   by_same : (origin : Origin) (needs : Needs) (lines : Lines) (time : ℕ) → AgreeOn (files_by origin needs) F G → databases_by origin needs lines time F ≡ databases_by origin needs lines time G
   by_same from.Opened needs lines time agree = databases_same needs lines agree
+  by_same (from.Exported to) needs lines time agree =
+      bind_same (refuse_file to (map.get F to)) (refuse_file to (map.get G to)) (λ absent. databases_of needs lines F) (λ absent. databases_of needs lines G)
+      (ap (refuse_file to) (agree to (inl refl))) (λ absent. databases_same needs lines (λ n i. agree n (inr i)))
+  by_same (from.Attached source) needs lines time agree = databases_same needs lines (λ n i. agree n (in_front (files_of needs) (source ∷ []) n i))
   by_same (from.Imported import) needs lines time agree = ap alone (import_same import lines time agree)
   by_same (from.Created create) needs lines time agree = ap alone (created_same create lines time agree)
   by_same (from.Changed change) needs lines time agree = ap alone (edited_same needs change lines agree)
 
+  -- the file that is put into a database
+  attached_same : (origin : Origin) (needs : Needs) → AgreeOn (files_by origin needs) F G → attached_by origin F ≡ attached_by origin G
+  attached_same from.Opened needs agree = refl
+  attached_same (from.Exported to) needs agree = refl
+  attached_same (from.Attached source) needs agree =
+      ap (λ bytes. of_file source (λ read. Ok read) bytes >>= λ read. Ok (Some read)) (agree source (in_back (files_of needs) (source ∷ []) source (inl refl)))
+  attached_same (from.Imported import) needs agree = refl
+  attached_same (from.Created create) needs agree = refl
+  attached_same (from.Changed change) needs agree = refl
+
+  opened_same : (command : Command) (lines : Lines) (time : ℕ) → AgreeOn (files_named (Ok command)) F G → opened_task command lines time F ≡ opened_task command lines time G
+  opened_same command lines time agree =
+      bind_same (databases_for command lines time F) (databases_for command lines time G)
+      (λ databases. attached_for command F >>= λ attached. Ok (task_with command lines databases attached))
+      (λ databases. attached_for command G >>= λ attached. Ok (task_with command lines databases attached))
+      (by_same (origin_of command) (needs_of command) lines time agree)
+      (λ databases. ap (λ r. r >>= λ attached. Ok (task_with command lines databases attached)) (attached_same (origin_of command) (needs_of command) agree))
+
   command_same : (time : ℕ) (input : List ℕ) (c : Result Command Refusal) → AgreeOn (files_named c) F G
-      → (c >>= λ command. ((lines_of (needs_of command) input).answer >>= λ lines. (databases_for command lines time F >>= λ databases. Ok (task_with command lines databases))))
-      ≡ (c >>= λ command. ((lines_of (needs_of command) input).answer >>= λ lines. (databases_for command lines time G >>= λ databases. Ok (task_with command lines databases))))
+      → (c >>= λ command. ((lines_of (needs_of command) input).answer >>= λ lines. opened_task command lines time F))
+      ≡ (c >>= λ command. ((lines_of (needs_of command) input).answer >>= λ lines. opened_task command lines time G))
   command_same time input (Err refusal) agree = refl
   command_same time input (Ok command) agree =
       bind_same (lines_of (needs_of command) input).answer (lines_of (needs_of command) input).answer
-      (λ lines. databases_for command lines time F >>= λ databases. Ok (task_with command lines databases))
-      (λ lines. databases_for command lines time G >>= λ databases. Ok (task_with command lines databases))
-      refl (λ lines. ap (λ r. r >>= λ databases. Ok (task_with command lines databases)) (by_same (origin_of command) (needs_of command) lines time agree))
+      (λ lines. opened_task command lines time F) (λ lines. opened_task command lines time G)
+      refl (λ lines. opened_same command lines time agree)
 
   task_same : (words : List (List ℕ)) (time : ℕ) (input : List ℕ) → AgreeOn (files_named (command_of words)) F G → task_of words time input F ≡ task_of words time input G
   unfolding task_of
@@ -207,37 +230,50 @@ abbrev name_made : List ℕ → Result NewFile Refusal → List ℕ
 name_made name (Ok file) = file.name
 name_made name (Err refusal) = name
 
-abbrev name_in : List ℕ → Option NewFile → List ℕ
-name_in name None = name
-name_in name (Some file) = file.name
+-- The file is that of the database, or the one that a command makes of an attachment.
+abbrev IsTarget : Targets → Option NewFile → Type 0
+IsTarget targets None = Unit {0}
+IsTarget targets (Some file) = (file.name ≡ targets.database) ⊎ (targets.attachment ≡ Some file.name)
 
-written_name : (name text : List ℕ) (made : Result NewFile Refusal) (left : List ℕ) → ((file : NewFile) → made ≡ Ok file → file.name ≡ name)
-    → name_in name (file_in (after_left made left (λ file rest. with_left (Ok (ending_with text file)) rest)).answer) ≡ name
-written_name name text (Ok file) left is = is file refl
-written_name name text (Err refusal) left is = refl
+attachment_name : (targets : Targets) (to bytes : Option (List ℕ)) → targets.attachment ≡ to → IsTarget targets (attachment_file to bytes)
+attachment_name targets None None is = tt
+attachment_name targets None (Some bytes) is = tt
+attachment_name targets (Some to) None is = tt
+attachment_name targets (Some to) (Some bytes) is = inr is
 
-ended_name : (name text : List ℕ) (sealing : Option Sealing) (doc : Option BareDoc) (dice : List ℕ) → name_in name (file_in (ended_with name sealing text doc dice).answer) ≡ name
+written_name : (targets : Targets) (text : List ℕ) (made : Result NewFile Refusal) (left : List ℕ) → ((file : NewFile) → made ≡ Ok file → file.name ≡ targets.database)
+    → IsTarget targets (file_in (after_left made left (λ file rest. with_left (Ok (ending_with text file)) rest)).answer)
+written_name targets text (Ok file) left is = inl (is file refl)
+written_name targets text (Err refusal) left is = tt
+
+ended_name : (targets : Targets) (text : List ℕ) (sealing : Option Sealing) (doc : Option BareDoc) (attachment : Option (List ℕ)) (dice : List ℕ)
+    → IsTarget targets (file_in (ended_so targets sealing text doc attachment dice).answer)
 unfolding file_by
-ended_name name text sealing None dice = refl
-ended_name name text None (Some doc) dice = written_name name text (plain_file name doc) dice (λ file is. plain_name name (write_outcome Plain NoKeystream None doc) file is)
+ended_name targets text sealing None attachment dice = attachment_name targets targets.attachment attachment refl
+ended_name targets text None (Some doc) attachment dice =
+    written_name targets text (plain_file targets.database doc) dice (λ file is. plain_name targets.database (write_outcome Plain NoKeystream None doc) file is)
   where
     plain_name : (name : List ℕ) (r : Result (List ℕ) WriteFail) (file : NewFile) → file_or_refusal name r ≡ Ok file → file.name ≡ name
     plain_name name (Ok text) file is = ap (name_made name) (sym is)
     plain_name name (Err why) file is = cc is
-ended_name name text (Some sealing) (Some doc) dice = let s = settings_for sealing.settings doc in written_name name text (sealed_file name sealing.settings sealing.composite doc dice).answer (sealed_file name sealing.settings sealing.composite doc dice).left (λ file is. sealed_name name (size_refusal s (draws_of s dice) doc) (made_file s (draws_of s dice) sealing.composite doc) file is)
+ended_name targets text (Some sealing) (Some doc) attachment dice =
+    let s = settings_for sealing.settings doc in
+    let name = targets.database in
+    written_name targets text (sealed_file name sealing.settings sealing.composite doc dice).answer (sealed_file name sealing.settings sealing.composite doc dice).left
+    (λ file is. sealed_name name (size_refusal s (draws_of s dice) doc) (made_file s (draws_of s dice) sealing.composite doc) file is)
   where
     sealed_name : (name : List ℕ) (why : Option SealFail) (bytes : List ℕ) (file : NewFile) → file_unless name why bytes ≡ Ok file → file.name ≡ name
     sealed_name name None bytes file is = ap (name_made name) (sym is)
     sealed_name name (Some why) bytes file is = cc is
 
-after_name : (name : List ℕ) (sealing : Option Sealing) (answer : Result Change Refusal) (dice : List ℕ)
-    → name_in name (file_in (after_left answer dice (λ change left. ended_with name sealing change.text change.doc left)).answer) ≡ name
-after_name name sealing (Ok change) dice = ended_name name change.text sealing change.doc dice
-after_name name sealing (Err refusal) dice = refl
+after_name : (targets : Targets) (sealing : Option Sealing) (answer : Result Change Refusal) (dice : List ℕ)
+    → IsTarget targets (file_in (after_left answer dice (λ change left. ended_with targets sealing change left)).answer)
+after_name targets sealing (Ok change) dice = ended_name targets change.text sealing change.doc change.attachment dice
+after_name targets sealing (Err refusal) dice = tt
 
-carried_name : (time : ℕ) (task : Task) (dice : List ℕ) → name_in (target_of task.command) (file_in (carried_out time task dice).answer) ≡ target_of task.command
+carried_name : (time : ℕ) (task : Task) (dice : List ℕ) → IsTarget (targets_of task.command) (file_in (carried_out time task dice).answer)
 unfolding carried_out
-carried_name time task dice = after_name (target_of task.command) task.opened.sealing (change_of_task time task dice).answer (change_of_task time task dice).left
+carried_name time task dice = after_name (targets_of task.command) task.opened.sealing (change_of_task time task dice).answer (change_of_task time task dice).left
 
 opened_target : (needs : Needs) → IsIn needs.file (files_of needs)
 opened_target needs =
@@ -249,8 +285,14 @@ target_named (Show access file entry clear all attachments names totp at) = open
 target_named (History access file entry) = opened_target (needs_of (History access file entry))
 target_named (Search access file term) = opened_target (needs_of (Search access file term))
 target_named (Add access file entry asked) = opened_target (needs_of (Add access file entry asked))
-target_named (Edit access file entry asked) = opened_target (needs_of (Edit access file entry asked))
+target_named (Edit access file entry asked further) = opened_target (needs_of (Edit access file entry asked further))
 target_named (Restore access file entry version) = opened_target (needs_of (Restore access file entry version))
+target_named (ExportAttachment access file entry name None) = opened_target (needs_of (ExportAttachment access file entry name None))
+target_named (ExportAttachment access file entry name (Some to)) = inr (opened_target (needs_of (ExportAttachment access file entry name (Some to))))
+target_named (ImportAttachment access file entry name source replaces) =
+    let needs = needs_of (ImportAttachment access file entry name source replaces) in
+    in_front (files_of needs) (source ∷ []) file (opened_target needs)
+target_named (RemoveAttachment access file entry name) = opened_target (needs_of (RemoveAttachment access file entry name))
 target_named (Move access file node group) = opened_target (needs_of (Move access file node group))
 target_named (Remove access file entry) = opened_target (needs_of (Remove access file entry))
 target_named (MakeGroup access file group) = opened_target (needs_of (MakeGroup access file group))
@@ -261,6 +303,33 @@ target_named (Create access file name cipher kdf) = inl refl
 target_named (Export access format file) = opened_target (needs_of (Export access format file))
 target_named (EditFile access file change) = in_front (database_files access file) (new_key_files change.key_file) file (in_back (key_files access.key_file) (file ∷ []) file (inl refl))
 target_named (Info access file) = opened_target (needs_of (Info access file))
+
+exported_named : (command : Command) (other : List ℕ) → exported_to command ≡ Some other → IsIn other (files_named (Ok command))
+exported_named (Ls access file group recursive flat ids) other is = never other is
+exported_named (Show access file entry clear all attachments names totp at) other is = never other is
+exported_named (History access file entry) other is = never other is
+exported_named (Search access file term) other is = never other is
+exported_named (Add access file entry asked) other is = never other is
+exported_named (Edit access file entry asked further) other is = never other is
+exported_named (Restore access file entry version) other is = never other is
+exported_named (ExportAttachment access file entry name None) other is = never other is
+exported_named (ExportAttachment access file entry name (Some to)) other is = inl (same_Some to other is)
+exported_named (ImportAttachment access file entry name source replaces) other is = never other is
+exported_named (RemoveAttachment access file entry name) other is = never other is
+exported_named (Move access file node group) other is = never other is
+exported_named (Remove access file entry) other is = never other is
+exported_named (MakeGroup access file group) other is = never other is
+exported_named (RemoveGroup access file group) other is = never other is
+exported_named (Merge access file names from same dry details) other is = never other is
+exported_named (Import access format source from file) other is = never other is
+exported_named (Create access file name cipher kdf) other is = never other is
+exported_named (Export access format file) other is = never other is
+exported_named (EditFile access file change) other is = never other is
+exported_named (Info access file) other is = never other is
+
+target_in : (command : Command) (file : NewFile) → IsTarget (targets_of command) (Some file) → IsIn file.name (files_named (Ok command))
+target_in command file (inl is) = subst (λ (n : List ℕ). IsIn n (files_named (Ok command))) (sym is) (target_named command)
+target_in command file (inr is) = exported_named command file.name is
 
 ended_file : (left : List ℕ) (answer : Result Ending Refusal) (dice : List ℕ) → (ended left answer dice).file ≡ file_in answer
 ended_file left (Ok ending) dice = refl
@@ -285,9 +354,8 @@ named_by words time world file None has = of (task_of words time world.input wor
     of (Err refusal) is h = never file h
     of (Ok task) is h =
         let command = (is_task words time world task is).is_command in
-        let name : file.name ≡ target_of task.command = ap (name_in (target_of task.command)) (sym h) ∙ carried_name time task world.dice in
-        subst (λ (c : Result Command Refusal). IsIn file.name (files_named c)) (sym command)
-        (subst (λ (n : List ℕ). IsIn n (files_named (Ok task.command))) (sym name) (target_named task.command))
+        let target : IsTarget (targets_of task.command) (Some file) = subst (λ (f : Option NewFile). IsTarget (targets_of task.command) f) h (carried_name time task world.dice) in
+        subst (λ (c : Result Command Refusal). IsIn file.name (files_named c)) (sym command) (target_in task.command file target)
 
 named_in : (words : List (List ℕ)) (time : ℕ) (world : World) (file : NewFile) → (page : Option (List ℕ)) → file_in (page_or_answer page words time world).answer ≡ Some file
     → IsIn file.name (files_named (command_of words))

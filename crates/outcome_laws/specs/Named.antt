@@ -3,7 +3,7 @@ use Rattle.std.specs.Prelude.{◌≡◌, ℕ, List, Some}
 use Rattle.outside_core.specs.Files.{FileMap}
 use Rattle.vault_model.specs.Join.{IsIn}
 use Rattle.cli_pages.specs.Pages.{page_of}
-use Rattle.cli_parse.specs.Needs.{files_named}
+use Rattle.cli_needs.specs.Needs.{files_named}
 use Rattle.cli_parse.specs.Words.{command_of}
 use Rattle.cli_writing.specs.Writing.{NewFile}
 use Rattle.keepass_call.specs.Outcome.{World, outcome}

@@ -14,14 +14,14 @@ use Rattle.cli_changes.specs.Ids.{new_id}
 use Rattle.cli_generating.specs.Generated.{generated}
 use Rattle.gen_core.specs.Chosen.{chosen}
 use Rattle.cli_profiles.specs.declared.profiles.PasswordProfile.{PasswordProfile}
-use Rattle.cli_parse.specs.Needs.{generated_by, target_of}
+use Rattle.cli_needs.specs.Needs.{generated_by, target_of}
 use Rattle.cli_writing.specs.Drawing.{next_bytes}
 use Rattle.cli_writing.specs.Writing.{NewFile, plain_file}
 use Rattle.cli_sealing.specs.Draws.{after_draws, draws_of}
 use Rattle.cli_sealing.specs.Sealing.{file_by, file_unless, sealed_file, settings_for}
-use Rattle.cli_commands.specs.Commands.{Change, change_by, change_with, drawn_id, makes_node, password_of, some_password}
+use Rattle.cli_commands.specs.Commands.{Change, change_by, change_with, drawn_id, makes_node, password_of, some_password, with_password}
 use Rattle.cli_files.specs.Tasks.{Task}
-use Rattle.call_run.specs.Endings.{Ending, carried_out, change_of_task, ended_with, ending_with, settings_in}
+use Rattle.call_run.specs.Endings.{Ending, Targets, carried_out, change_of_task, ended_so, ended_with, ending_with, inputs_of, targets_of}
 use Rattle.randomness_laws.specs.Pieces.{Call, CallsDrawOnce, DrawsFewBytes, FilesAreOfPieces, IdsAreOfPieces, PasswordsAreOfPieces, PrintedAreOfPieces, TasksDrawOnce, after_id, all_left, all_pieces, call_left, call_pieces, task_call, change_pieces, password_call, id_pieces, password_most, password_pieces, sealing_pieces, task_pieces, written_pieces}
 use Rattle.randomness_laws.proofs.Choices.{made_with, password_cut, password_left, password_len}
 use Rattle.randomness_laws.proofs.Cuts.{concat_append, cut_is, cut_len, lens, lens_most, next_is, next_len, pieces_cut}
@@ -64,11 +64,12 @@ sealed_left : (name : List ℕ) (s : Settings) (composite : List ℕ) (doc : Bar
 unfolding file_by
 sealed_left name s composite doc dice = refl
 
-written_cut : (name text : List ℕ) (sealing : Option Sealing) (doc : Option BareDoc) (dice : List ℕ) → length (concat (written_pieces sealing doc dice)) ≤ length dice
-    → dice ≡ concat (written_pieces sealing doc dice) ++ (ended_with name sealing text doc dice).left
-written_cut name text sealing None dice most = refl
-written_cut name text None (Some doc) dice most = sym (file_left text (with_left (plain_file name doc) dice))
-written_cut name text (Some sealing) (Some doc) dice most =
+written_cut : (targets : Targets) (text : List ℕ) (sealing : Option Sealing) (doc : Option BareDoc) (attachment : Option (List ℕ)) (dice : List ℕ) → length (concat (written_pieces sealing doc dice)) ≤ length dice
+    → dice ≡ concat (written_pieces sealing doc dice) ++ (ended_so targets sealing text doc attachment dice).left
+written_cut targets text sealing None attachment dice most = refl
+written_cut targets text None (Some doc) attachment dice most = sym (file_left text (with_left (plain_file targets.database doc) dice))
+written_cut targets text (Some sealing) (Some doc) attachment dice most =
+    let name = targets.database in
     let s = settings_for sealing.settings doc in
     let same = ap concat (pieces_cut s dice) in
     let len = ap length same in
@@ -76,10 +77,10 @@ written_cut name text (Some sealing) (Some doc) dice most =
     cut_is (lens s) dice (omega (arith, len, sums, most)) ∙ ap (λ xs. xs ++ after_draws s dice) (sym same)
     ∙ ap (λ xs. concat (sealing_pieces s dice) ++ xs) (sym (file_left text (sealed_file name sealing.settings sealing.composite doc dice) ∙ sealed_left name s sealing.composite doc dice))
 
-change_cut : (name : List ℕ) (sealing : Option Sealing) (answer : Result Change Refusal) (dice : List ℕ) → length (concat (change_pieces sealing answer dice)) ≤ length dice
-    → dice ≡ concat (change_pieces sealing answer dice) ++ (after_left answer dice (λ change left. ended_with name sealing change.text change.doc left)).left
-change_cut name sealing (Ok change) dice most = written_cut name change.text sealing change.doc dice most
-change_cut name sealing (Err refusal) dice most = refl
+change_cut : (targets : Targets) (sealing : Option Sealing) (answer : Result Change Refusal) (dice : List ℕ) → length (concat (change_pieces sealing answer dice)) ≤ length dice
+    → dice ≡ concat (change_pieces sealing answer dice) ++ (after_left answer dice (λ change left. ended_with targets sealing change left)).left
+change_cut targets sealing (Ok change) dice most = written_cut targets change.text sealing change.doc change.attachment dice most
+change_cut targets sealing (Err refusal) dice most = refl
 
 change_len : (sealing : Option Sealing) (answer : Result Change Refusal) (dice : List ℕ) → length (concat (change_pieces sealing answer dice)) ≤ 176
 change_len sealing (Err refusal) dice = omega arith
@@ -121,10 +122,10 @@ module _ (time : ℕ) (task : Task) (dice : List ℕ) where
 
   -- what the command makes with the id that is drawn
   abbrev made : Option (List ℕ) → Result Change Refusal
-  made password = change_with time task.command password task.lines.otp task.sources (settings_in task.opened.sealing) task.opened.passed_over (id_in makes dice) task.opened.doc
+  made password = change_with time task.command (with_password password (inputs_of task)) (id_in makes dice) task.opened.doc
 
   pub taken_is : taken ≡ then_left (password_of profile task.lines.more after) (λ password left. with_left (made password) left)
-  taken_is = id_is makes (λ id. change_by time task.command task.lines.more task.lines.otp task.sources (settings_in task.opened.sealing) task.opened.passed_over id task.opened.doc) dice
+  taken_is = id_is makes (λ id. change_by time task.command (inputs_of task) id task.opened.doc) dice
 
   taken_left : taken.left ≡ (password_of profile task.lines.more after).left
   taken_left = ap (λ (t : StreamAnswer Change). t.left) taken_is ∙ password_left profile task.lines.more made after
@@ -142,7 +143,7 @@ module _ (time : ℕ) (task : Task) (dice : List ℕ) where
   later_cut : length (concat rest) ≤ length taken.left → after ≡ concat (passwords ++ rest) ++ (carried_out time task dice).left
   unfolding carried_out
   later_cut most =
-      password_is ∙ ap (λ xs. concat passwords ++ xs) (change_cut (target_of task.command) task.opened.sealing taken.answer taken.left most)
+      password_is ∙ ap (λ xs. concat passwords ++ xs) (change_cut (targets_of task.command) task.opened.sealing taken.answer taken.left most)
       ∙ sym (append_assoc (concat passwords) (concat rest) (carried_out time task dice).left) ∙ ap (λ xs. xs ++ (carried_out time task dice).left) (sym (concat_append passwords rest))
 
   task_cut : length (concat (task_pieces time task dice)) ≤ length dice → dice ≡ concat (task_pieces time task dice) ++ (carried_out time task dice).left
@@ -191,7 +192,7 @@ calls_draw_once (c ∷ cs) dice most =
 
 pub ids_are_of_pieces : IdsAreOfPieces
 ids_are_of_pieces time task dice makes =
-    ap (λ b. then_left (drawn_id b dice) (λ id. change_by time task.command task.lines.more task.lines.otp task.sources (settings_in task.opened.sealing) task.opened.passed_over id task.opened.doc)) makes
+    ap (λ b. then_left (drawn_id b dice) (λ id. change_by time task.command (inputs_of task) id task.opened.doc)) makes
 
 pub passwords_are_of_pieces : PasswordsAreOfPieces
 passwords_are_of_pieces time task profile dice change is h =
@@ -238,10 +239,11 @@ files_are_of_pieces time task dice sealing change doc ending bytes sealed makes 
     let left = (change_of_task time task dice).left in
     let s = settings_for sealing.settings doc in
     let name = target_of task.command in
-    let so : (after_left (change_of_task time task dice).answer left (λ change left. ended_with name task.opened.sealing change.text change.doc left)).answer
-    ≡ (ended_with name (Some sealing) change.text (Some doc) left).answer =
-    ap (λ a. (after_left a left (λ change left. ended_with name task.opened.sealing change.text change.doc left)).answer) makes
-    ∙ (λ i. (ended_with name (sealed i) change.text (writes i) left).answer) in
+    let targets = targets_of task.command in
+    let so : (after_left (change_of_task time task dice).answer left (λ change left. ended_with targets task.opened.sealing change left)).answer
+    ≡ (ended_so targets (Some sealing) change.text (Some doc) change.attachment left).answer =
+    ap (λ a. (after_left a left (λ change left. ended_with targets task.opened.sealing change left)).answer) makes
+    ∙ (λ i. (ended_so targets (sealed i) change.text (writes i) change.attachment left).answer) in
     record {
       draws = draws_of s left;
       made = made_so name change.text (size_refusal s (draws_of s left) doc) (made_file s (draws_of s left) sealing.composite doc) bytes (after_draws s left) ending (sym so ∙ ends) has;

@@ -31,7 +31,7 @@ use Rattle.cli_writing.specs.Drawing.{next_bytes}
 use Rattle.cli_sealing.specs.Draws.{after_draws, draws_of}
 use Rattle.cli_sealing.specs.Sealing.{file_by, file_unless, settings_for}
 use Rattle.cli_changes.specs.Nodes.{after_mkdir}
-use Rattle.cli_commands.specs.Commands.{Change}
+use Rattle.cli_commands.specs.Commands.{Change, printing}
 use Rattle.call_run.specs.Endings.{Ending, carried_out, change_of_task, ending_with}
 use Rattle.file_limits.specs.Example.{settings}
 use Rattle.file_limits.proofs.Example.{fits_so}
@@ -44,7 +44,7 @@ dice = rising 180 0
 -- the change, and the document that is written
 abbrev change_in : Result Change Refusal → Change
 change_in (Ok change) = change
-change_in (Err refusal) = record { text = []; doc = None }
+change_in (Err refusal) = printing []
 
 abbrev change : Change
 change = change_in (change_of_task 50 sealed_making dice).answer

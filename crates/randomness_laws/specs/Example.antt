@@ -7,8 +7,8 @@ use Rattle.merge_core.specs.Example.{as_it_was}
 use Rattle.kdbx_frame.specs.declared.sealings.Sealing.{Sealing}
 use Rattle.cli_generating.specs.Generated.{generated}
 use Rattle.cli_profiles.specs.declared.profiles.PasswordProfile.{PasswordProfile}
-use Rattle.cli_parse.specs.declared.command.Command.TheVariants.{MakeGroup}
-use Rattle.cli_parse.specs.Needs.{target_of}
+use Rattle.cli_needs.specs.declared.command.Command.TheVariants.{MakeGroup}
+use Rattle.cli_needs.specs.Needs.{target_of}
 use Rattle.cli_commands.specs.Commands.{Change, makes_node}
 use Rattle.cli_files.specs.Tasks.{Task}
 use Rattle.call_run.specs.Endings.{Ending, carried_out, change_of_task}
@@ -25,9 +25,10 @@ making plain sealing = record {
   command = MakeGroup
       (record { plain = plain; quiet = false; key_file = None; no_password = false })
       (codes "family.kdbx") (codes "Home");
-  lines = record { password = None; sources = []; more = None; otp = None };
+  lines = record { password = None; sources = []; more = None; otp = None; fields = [] };
   opened = record { doc = as_it_was; sealing = sealing; passed_over = [] };
   sources = [];
+  attached = None;
 }
 
 -- the same in a sealed one

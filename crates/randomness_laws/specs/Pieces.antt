@@ -13,14 +13,14 @@ use Rattle.kdbx_seal.specs.Made.{made_file}
 use Rattle.cli_messages.specs.declared.answers.Refusal.{Refusal}
 use Rattle.cli_generating.specs.Generated.{generated}
 use Rattle.cli_profiles.specs.declared.profiles.PasswordProfile.{PasswordProfile}
-use Rattle.cli_parse.specs.Needs.{generated_by, target_of}
+use Rattle.cli_needs.specs.Needs.{generated_by, target_of}
 use Rattle.cli_writing.specs.Drawing.{next_bytes}
 use Rattle.cli_sealing.specs.Draws.{draws_of}
 use Rattle.cli_sealing.specs.Sealing.{settings_for}
 use Rattle.cli_changes.specs.Ids.{new_id}
-use Rattle.cli_commands.specs.Commands.{Change, change_by, change_with, drawn_id, makes_node}
+use Rattle.cli_commands.specs.Commands.{Change, change_by, change_with, drawn_id, makes_node, with_password}
 use Rattle.cli_files.specs.Tasks.{Task}
-use Rattle.call_run.specs.Endings.{Ending, carried_out, change_of_task, settings_in}
+use Rattle.call_run.specs.Endings.{Ending, carried_out, change_of_task, inputs_of}
 
 -- ---- pieces
 
@@ -129,8 +129,7 @@ abbrev pub IdsAreOfPieces : Type 0
 IdsAreOfPieces = (time : ℕ) (task : Task) (dice : List ℕ)
     → makes_node task.command task.opened.doc ≡ true
     → change_of_task time task dice
-    ≡ change_by time task.command task.lines.more task.lines.otp task.sources
-    (settings_in task.opened.sealing) task.opened.passed_over (new_id (next_bytes 16 dice))
+    ≡ change_by time task.command (inputs_of task) (new_id (next_bytes 16 dice))
     task.opened.doc (drop 16 dice)
 
 -- A change is made with a password that its piece chooses, to its last byte.
@@ -142,8 +141,8 @@ pub record IsOfPassword (time : ℕ) (task : Task) (profile : PasswordProfile) (
   pub chooses : choose profile.alphabet profile.length []
       (password_piece profile (after_id (makes_node task.command task.opened.doc) dice))
       ≡ chosen password []
-  pub makes : change_with time task.command (Some password) task.lines.otp task.sources
-      (settings_in task.opened.sealing) task.opened.passed_over id task.opened.doc ≡ Ok change
+  pub makes : change_with time task.command (with_password (Some password) (inputs_of task)) id
+      task.opened.doc ≡ Ok change
 
 -- So is that of each command that generates a password.
 abbrev pub PasswordsAreOfPieces : Type 0

@@ -19,3 +19,6 @@ pub mod Named
 pub mod Options
 pub mod Rows
 pub mod Ways
+pub mod TagTexts
+pub mod TagsJoined
+pub mod TagLengths

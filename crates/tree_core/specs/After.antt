@@ -4,7 +4,7 @@ use Rattle.std.specs.Option.{ok_or, option_and_then, unwrap_or}
 use Rattle.outside_core.specs.Results.{◌>>=◌}
 use Rattle.time_core.specs.Times.{last_stamp}
 use Rattle.vault_model.specs.declared.metas.Meta.{Meta}
-use Rattle.vault_model.specs.Bare.{BareContent}
+use Rattle.vault_model.specs.Bare.{BareAttachment, BareContent}
 use Rattle.vault_model.specs.Db.{NodeId}
 use Rattle.vault_model.specs.Join.{is_id}
 use Rattle.vault_model.specs.SeenNodes.{entry_time}
@@ -16,6 +16,8 @@ use Rattle.tree_core.specs.declared.fails.Removed.TheVariants.{Deleted, Recycled
 use Rattle.tree_core.specs.declared.fails.TreeFail.{TreeFail}
 use Rattle.tree_core.specs.declared.fails.TreeFail.TheVariants.{AlreadyThere, IdTaken, IntoItself, NameTaken, NoMemory, NoSuchPath, NoVersion, RootFixed, StampLimit, TooDeep}
 use Rattle.tree_core.specs.Changes.{changed_at, changed_entry, entries_buried, entry_at, entry_moved, group_moved, group_with, has_group, holder, is_free, level_of, parent_of, placed_of, tree_buried, with_entry, with_group, without_entry, without_group}
+use Rattle.tree_core.specs.Attachments.{attachment_named, has_attachment, is_attachable, with_attachment, without_attachment}
+use Rattle.tree_core.specs.FurtherChanges.{FurtherChange, further_changed, has_unset}
 use Rattle.tree_core.specs.Histories.{settled_history, version_numbered, with_version}
 use Rattle.tree_core.specs.NewNodes.{GivenValues, edited_content, empty_bin, empty_group, new_entry, new_fields, new_version}
 use Rattle.tree_core.specs.NewPaths.{after_last, before_last, names_root, new_path}
@@ -108,19 +110,44 @@ changed_content meta says time e =
     settled_history meta.settings.value.history_items meta.settings.value.history_size
     (with_version (new_version (says e.current.mark.content) time e.current) e)
 
--- an entry with the values that are given
-abbrev pub edited_entry : Meta → GivenValues → ℕ → EntryRecord → EntryRecord
-edited_entry meta values = changed_content meta (edited_content meta.settings.value.protect values)
-
--- `edit`: other values, and the versions before them as the history
-abbrev pub after_edit : List ℕ → GivenValues → ℕ → BareDoc → Result BareDoc TreeFail
-after_edit path values now d = do
+-- An entry that a path names comes to say something else, by what it said and by what the database
+-- says of itself, unless what it said is refused; the versions before are its history.
+abbrev pub after_change : List ℕ → (BareContent → Result (Unit {0}) TreeFail)
+    → (Meta → BareContent → BareContent) → ℕ → BareDoc → Result BareDoc TreeFail
+after_change path allows says now d = do
   held ← entry_named path d
+  _ ← allows held.entry.1.current.mark.content
   time ← time_after now (entry_time held.entry.1)
   Ok (record d {
     tree = changed_at held.group
-        (changed_entry held.entry.0 (edited_entry d.meta values time)) d.tree;
+        (changed_entry held.entry.0 (changed_content d.meta (says d.meta) time)) d.tree;
   })
+
+-- what an entry says with the values that are given, and with what else is changed
+abbrev pub edited_so : GivenValues → FurtherChange → Meta → BareContent → BareContent
+edited_so values further meta content =
+    further_changed further (edited_content meta.settings.value.protect values content)
+
+-- `edit`: other values, fields, tags or another expiry; fields that are taken away are there
+abbrev pub after_edit : List ℕ → GivenValues → FurtherChange → ℕ → BareDoc
+    → Result BareDoc TreeFail
+after_edit path values further = after_change path (has_unset further) (edited_so values further)
+
+-- `attach`: these bytes under a name among the attachments
+abbrev pub after_attach : (path name bytes : List ℕ) → (replaces : Bool) → ℕ → BareDoc
+    → Result BareDoc TreeFail
+after_attach path name bytes replaces =
+    after_change path (is_attachable name replaces) (λ meta. with_attachment name bytes)
+
+-- `detach`: no attachment of a name
+abbrev pub after_detach : (path name : List ℕ) → ℕ → BareDoc → Result BareDoc TreeFail
+after_detach path name = after_change path (has_attachment name) (λ meta. without_attachment name)
+
+-- the attachment of a name that the entry that a path names has
+abbrev pub attachment_in : (path name : List ℕ) → BareDoc → Result BareAttachment TreeFail
+attachment_in path name d = do
+  held ← entry_named path d
+  attachment_named name held.entry.1.current.mark.content
 
 -- the version of an entry that has this number, or the refusal
 abbrev pub version_or_refusal : ℕ → EntryRecord → Result BareVersion TreeFail

@@ -2,8 +2,11 @@ pub mod ById
 pub mod Finding
 pub mod Path
 pub mod After
+pub mod Attachments
 pub mod Changes
+pub mod FurtherChanges
 pub mod Histories
 pub mod InOrder
 pub mod NewNodes
 pub mod NewPaths
+pub mod Tags

@@ -14,7 +14,12 @@ pub enum TreeFail {
     NoSuchPath,
     /// The entry has no version of this number.
     NoVersion(u64),
-    /// The path of the new node is another's already.
+    /// The entry has no field of the name that is to be taken away: of several such names the one
+    /// at this place is the first.
+    NoField(u64),
+    /// The entry has no attachment of this name.
+    NoAttachment,
+    /// The path of the new node is another's already, or the entry has an attachment of this name.
     NameTaken,
     /// The node is in that group already.
     AlreadyThere,

@@ -1,28 +1,35 @@
 //! Finding nodes by their ids and by their paths.
 
-ghost use Rattle.std.specs.Prelude.{◌≡◌, Some, map, option_map};
+ghost use Rattle.std.specs.Prelude.{◌≡◌, Some, codes, map, option_map};
 ghost use Rattle.vault_model.specs.SeenDoc.{doc_seen};
-ghost use Rattle.vault_model.specs.SeenNodes.{entry_record, entry_row, tree_seen};
-ghost use Rattle.vault_model.specs.Walk.{title_of};
+ghost use Rattle.vault_model.specs.SeenNodes.{bare_version, entry_record, entry_row, tree_seen};
+ghost use Rattle.vault_model.specs.Walk.{title_of, value_of};
 ghost use Rattle.tree_core.specs.Finding.{entry_found, group_at_path, group_found, has_entry_path, has_group_path};
 ghost use Rattle.tree_core.specs.Path as spec;
 
 use crate::by_id::{entry_with_name, group_with_name};
 use crate::path::{is_exactly, strip_component, strip_prefix, without_slashes};
 use uuid_core::Uuid;
-use vault_model::{Doc, Entry, Group};
+use vault_model::{Doc, Entry, Group, Version};
 
-/// An entry's title: the value of the field `Title` of its current version, and empty where there
-/// is none.
-pub fn title(entry: &Entry) -> &[u8]
-    ensures { result.now ≡ title_of (entry_record entry.now) }
+/// The title that a version has: the value of its field `Title`, and empty where there is none.
+pub fn title_of_version(version: &Version) -> &[u8]
+    ensures { result.now
+        ≡ value_of (codes "Title") (bare_version version.now).mark.content.fields }
 {
-    for field in entry.current.content.fields.as_slice() {
+    for field in version.content.fields.as_slice() {
         if "Title" == field.key.as_str() {
             return field.value.lend(0, field.value.len());
         }
     }
     &[]
+}
+
+/// An entry's title: that of its current version.
+pub fn title(entry: &Entry) -> &[u8]
+    ensures { result.now ≡ title_of (entry_record entry.now) }
+{
+    title_of_version(&entry.current)
 }
 
 // Of entries the first of which one of two rests is the title.

@@ -7,11 +7,15 @@ mod by_id;
 pub mod fails;
 mod finding;
 mod path;
+mod tags;
 pub mod values;
 mod versions;
 
 pub use fails::{Removed, TreeFail};
-pub use finding::{find_entry, find_group, find_group_at, is_entry_path, is_group_path, title};
+pub use finding::{
+    find_entry, find_group, find_group_at, is_entry_path, is_group_path, title, title_of_version,
+};
 pub use path::without_slashes;
-pub use values::Values;
+pub use tags::{changed_tags, is_tag};
+pub use values::{Attached, Expiry, FurtherChange, Values};
 pub use versions::version_numbered;

@@ -10,7 +10,7 @@ use Rattle.tree_core.specs.NewNodes.{GivenValues, new_entry, new_fields}
 use Rattle.tree_core.specs.NewPaths.{after_last, before_last}
 use Rattle.tree_core.proofs.Added.{put_is_doc}
 use Rattle.tree_core.proofs.Named.{group_there}
-use Rattle.tree_edits.specs.Texts.{AreTexts}
+use Rattle.tree_contents.specs.Texts.{AreTexts}
 use Rattle.tree_edits.proofs.Proper.{new_entry_proper}
 
 pub add_is_doc : {E : Type 0} (d : BareDoc) → IsDoc d → (path : List ℕ) (g id : NodeId) (v : GivenValues) (now : ℕ) (e : NodeId × EntryRecord)

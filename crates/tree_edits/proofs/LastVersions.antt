@@ -14,7 +14,7 @@ use Rattle.vault_model.specs.SeenNodes.{bare_version}
 use Rattle.vault_model.specs.Shape.{BareVersion, version_of}
 use Rattle.vault_model.specs.Unite.{by_order}
 use Rattle.vault_model.proofs.Orders.{mark_order}
-use Rattle.tree_edits.specs.Spots.{further, spot}
+use Rattle.tree_contents.specs.Spots.{further, spot}
 use Rattle.tree_edits.specs.Versions.{AreRising, is_above}
 use Rattle.tree_edits.proofs.RisingVersions.{first, less, second}
 

@@ -1,14 +1,10 @@
 pub mod AddedDoc
 pub mod AfterAdd
-pub mod AfterEdit
-pub mod AfterRestore
-pub mod EditedDoc
+pub mod AfterChange
 pub mod LastVersions
-pub mod NamedEntries
 pub mod MovedUp
+pub mod NamedEntries
 pub mod Suffixes
-pub mod Taken
-pub mod Places
 pub mod Proper
 pub mod RisingVersions
 pub mod Rooms

@@ -1,4 +1,2 @@
 pub mod Rooms
-pub mod Spots
-pub mod Texts
 pub mod Versions

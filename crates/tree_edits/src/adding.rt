@@ -7,8 +7,8 @@ ghost use Rattle.tree_core.specs.After.{Changes, after_add};
 ghost use Rattle.tree_core.specs.NewNodes.{given_values};
 
 use crate::new_entries::{new_entry, new_fields};
-use crate::texts::values_are_utf8;
 use std::alloc::Global;
+use tree_contents::values_are_utf8;
 use tree_core::{TreeFail, Values, find_group_at, is_entry_path};
 use tree_steps::{before_last, is_free, name_after, path_of_new, put_entry};
 use uuid_core::Uuid;

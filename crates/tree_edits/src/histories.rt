@@ -8,12 +8,12 @@ ghost use Rattle.vault_model.specs.Shape.{BareVersion};
 ghost use Rattle.tree_core.specs.Histories as spec;
 ghost use Rattle.tree_edits.specs.Versions as order;
 ghost use Rattle.tree_edits.specs.Versions.{AreRising, put_version};
-ghost use Rattle.tree_edits.specs.Spots.{changed_nth, spot};
+ghost use Rattle.tree_contents.specs.Spots.{changed_nth, spot};
 
-use crate::fields::insert_at;
 use outside_core::{List, NoMemory};
 use std::alloc::Global;
 use std::cmp::Ordering;
+use tree_contents::insert_at;
 use vault_making::copy_version;
 use vault_model::{Entry, Stats, Version, compare_content};
 

@@ -7,9 +7,9 @@ ghost use Rattle.vault_model.specs.Seen.{bare_content, bare_field};
 ghost use Rattle.vault_model.specs.SeenNodes.{entry_row};
 ghost use Rattle.tree_core.specs.NewNodes as spec;
 
-use crate::fields::new_field;
 use outside_core::{List, NoMemory, Text};
 use std::alloc::Global;
+use tree_contents::new_field;
 use tree_core::Values;
 use tree_steps::put_last;
 use uuid_core::Uuid;

@@ -1,43 +1,23 @@
 //! Entries restored.
 
-ghost use Rattle.std.specs.Prelude.{◌≡◌, IfOk, map};
+ghost use Rattle.std.specs.Prelude.{◌≡◌, IfOk, map, true};
 ghost use Rattle.vault_model.specs.Bare.{BareContent};
+ghost use Rattle.vault_model.specs.Proper.{is_proper_content};
 ghost use Rattle.vault_model.specs.Seen.{bare_content};
 ghost use Rattle.vault_model.specs.SeenDoc.{doc_seen};
 ghost use Rattle.vault_model.specs.SeenNodes.{bare_version, entry_record};
+ghost use Rattle.vault_model.specs.Tree.{is_proper_entry};
 ghost use Rattle.tree_core.specs.After.{Changes, after_restore, changed_content};
-ghost use Rattle.tree_core.specs.NewNodes as spec;
 
-use crate::changing::{Versions, past_versions};
+use crate::changing::{Versions, change_versions, versions_saying};
 use outside_core::NoMemory;
 use std::alloc::Global;
-use tree_core::{TreeFail, find_entry, version_numbered};
-use tree_steps::{entry_of, holder, set_versions, time_after};
+use tree_core::{TreeFail, version_numbered};
+use tree_steps::{entry_named, time_after};
 use vault_making::copies::copy_content;
-use vault_model::{Content, Doc, Entry, Meta, Stamp, Stats, Version, entry_stamp};
+use vault_model::{Content, Doc, Entry, Meta, Stamp, entry_stamp};
 
-// A version that says this, made and looked at at this time, and used as often as another.
-fn new_version(
-    alloc: Global,
-    content: &Content,
-    time: Stamp,
-    old: &Version,
-) -> Result<Version, NoMemory>
-    ensures { IfOk result (λ version. bare_version version
-        ≡ spec.new_version (bare_content content.now) time (bare_version old.now)) }
-{
-    let stats = Stats {
-        accessed: time,
-        usage: old.stats.usage,
-    };
-    Ok(Version {
-        modified: time,
-        content: copy_content(alloc, content)?,
-        stats,
-    })
-}
-
-// The versions of an entry that says this from this time on.
+// The versions of an entry that says the same as another version from this time on.
 fn restored_versions(
     alloc: Global,
     entry: &Entry,
@@ -45,20 +25,20 @@ fn restored_versions(
     content: &Content,
     time: Stamp,
 ) -> Result<Versions, NoMemory>
-    ensures { IfOk result (λ versions. record (entry_record entry.now) {
+    ensures is { IfOk result (λ versions. record (entry_record entry.now) {
       current = bare_version versions.current;
       history = map bare_version versions.history;
     } ≡ changed_content meta.now (λ (_ : BareContent). bare_content content.now) time
         (entry_record entry.now)) }
+    ensures proper { IfOk result (λ versions. is_proper_content (bare_content content.now) ≡ true
+        → is_proper_entry (entry_record entry.now) ≡ true
+        → is_proper_entry (record (entry_record entry.now) {
+          current = bare_version versions.current;
+          history = map bare_version versions.history;
+        }) ≡ true) }
 {
-    let history = past_versions(alloc, entry, meta)?;
-    match new_version(alloc, content, time, &entry.current) {
-        Ok(current) => Ok(Versions { current, history }),
-        Err(fail) => {
-            drop(history);
-            Err(fail)
-        }
-    }
+    let content = copy_content(alloc, content)?;
+    versions_saying(alloc, entry, meta, content, time)
 }
 
 /// Makes the entry that a path names say again what its version of this number says: the current one
@@ -76,22 +56,18 @@ pub fn restore(
     ensures { Changes (after_restore path.now number now (doc_seen doc.old))
         result (doc_seen doc.old) (doc_seen doc.new) }
 {
-    let Some(id) = find_entry(doc, path) else {
-        return Err(TreeFail::NoSuchPath);
+    let held = match entry_named(doc, path) {
+        Ok(held) => held,
+        Err(fail) => return Err(fail),
     };
-    let Some(group) = holder(&doc.root, id) else {
-        return Err(TreeFail::NoSuchPath);
-    };
-    let Some(entry) = entry_of(&doc.root, group, id) else {
-        return Err(TreeFail::NoSuchPath);
-    };
-    let Some(version) = version_numbered(entry, number) else {
+    let Some(version) = version_numbered(held.entry, number) else {
         return Err(TreeFail::NoVersion(number));
     };
-    let time = time_after(now, entry_stamp(entry))?;
-    match restored_versions(alloc, entry, &doc.meta, &version.content, time) {
-        Ok(restored) => {
-            set_versions(&mut doc.root, group, id, restored.current, restored.history);
+    let time = time_after(now, entry_stamp(held.entry))?;
+    let (group, id) = (held.group, held.entry.id);
+    match restored_versions(alloc, held.entry, &doc.meta, &version.content, time) {
+        Ok(versions) => {
+            change_versions(doc, group, id, versions);
             Ok(())
         }
         Err(_) => Err(TreeFail::NoMemory),

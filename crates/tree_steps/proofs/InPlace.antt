@@ -1,24 +1,23 @@
 -- Groups in memory: the way to one of an id, and what is seen of the tree where it was changed.
-use Rattle.std.proofs.Common.{◌≡◌, ◌<◌, ◌≤◌, ℕ, suc, zero, Bool, true, false, true≢false, not, ◌||◌, ◌+◌, cond, length, MatchOption, MatchResult, OnErr, OnOk, Result, Ok, Err, ◌++◌, find, nat_lt, remove, option_and_then, inl, inr, List, [], ◌∷◌, Option, Some, None, map, get_or, refl, sym, ap, ◌∙◌, arith}
+use Rattle.std.proofs.Common.{◌≡◌, ◌<◌, ◌≤◌, ℕ, suc, zero, true, false, true≢false, not, ◌||◌, ◌+◌, cond, length, MatchOption, MatchResult, OnErr, OnOk, Result, Ok, Err, ◌++◌, inl, inr, List, [], ◌∷◌, Option, Some, None, map, get_or, sym, ap, ◌∙◌, arith}
 use Rattle.std.proofs.lemmas.List.Quantifiers.{position-Some}
 use Rattle.std.proofs.lemmas.Option.{get_or_from_slice_get, same_Some, slice_get-get_or}
 use Rattle.std.proofs.lemmas.Bool.{lt-ltb}
-use borrow.Author.Tests.{ltb-false}
 use Rattle.std.specs.List.{position, position_or_len, slice_get, slice_set}
-use Rattle.vault_model.specs.Db.{NodeId, nil_id}
+use Rattle.vault_model.specs.Db.{NodeId}
 use Rattle.vault_model.specs.Join.{is_id}
-use Rattle.vault_model.specs.Shape.{EntryRecord, GroupRecord}
+use Rattle.vault_model.specs.Shape.{GroupRecord}
 use Rattle.vault_model.specs.SeenNodes.{entry_row, tree_seen, tree_step}
-use Rattle.vault_model.specs.Tree.{Tree, Trees, all_trees, beside, height, height_all, node, none}
+use Rattle.vault_model.specs.Tree.{Tree, Trees, all_trees, beside, height, height_all, node}
 use Rattle.vault_model.specs.declared.nodes.Entry.{Entry}
 use Rattle.vault_model.specs.declared.nodes.Group.{Group, out-Group, roll-Group}
-use Rattle.vault_model.specs.declared.nodes.Group.TheFolds.{fold_out-Group, fold-roll-Group}
-use Rattle.vault_model.proofs.Tests.{apart, decide, is_false, map_append, or_false}
+use Rattle.vault_model.specs.declared.nodes.Group.TheFolds.{fold-roll-Group}
+use Rattle.vault_model.proofs.Tests.{apart, decide, is_false, map_append}
 use Rattle.tree_core.proofs.Options.{never}
 use Rattle.tree_core.proofs.Changed.{absent_group, changed_by, changed_not, changed_off}
 use Rattle.vault_model.proofs.SeenGroups.{seen_group}
 use Rattle.tree_steps.specs.ChangedAt.{ChangedAt}
-use Rattle.tree_core.specs.Changes.{changed_at, changed_in, group_among, group_with, has_group, have_group, own_entry, entry_at, with_entry, without, without_entry}
+use Rattle.tree_core.specs.Changes.{changed_at, changed_in, group_among, group_with, has_group, have_group, with_entry}
 
 abbrev pub trees : List Group → Trees
 trees gs = all_trees (map tree_seen gs)

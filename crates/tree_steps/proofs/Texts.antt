@@ -1,5 +1,5 @@
 -- The parts of a path before and after its last slash.
-use Rattle.std.proofs.Common.{◌≡◌, ◌≢◌, ◌<◌, ◌≤◌, ◌+◌, ◌-◌, ◌==◌, ◌||◌, ℕ, suc, zero, Bool, true, false, cond, inl, inr, List, [], ◌∷◌, ◌++◌, length, get_or, take, drop, MatchOption, Option, None, Some, refl, subst, sym, ap, ◌∙◌, arith}
+use Rattle.std.proofs.Common.{◌≡◌, ◌≢◌, ◌<◌, ◌≤◌, ◌+◌, ◌-◌, ◌==◌, ◌||◌, ℕ, suc, zero, Bool, true, false, cond, List, [], ◌∷◌, ◌++◌, length, get_or, take, drop, MatchOption, Option, None, Some, refl, subst, sym, ap, ◌∙◌, arith}
 use Rattle.std.proofs.Math.Seq.{drop-cons}
 use Rattle.std.proofs.lemmas.List.{take-append-drop}
 use Rattle.std.proofs.Common.{length-drop}
@@ -8,7 +8,7 @@ use Rattle.std.proofs.lemmas.Option.{same_Some}
 use Rattle.std.specs.Str.{IsCharBoundary}
 use Rattle.std.specs.Str.Pattern.{RFindsChar}
 use Rattle.tree_core.proofs.Options.{never}
-use Rattle.vault_model.proofs.Tests.{decide, is_false, or_right}
+use Rattle.vault_model.proofs.Tests.{is_false, or_right}
 use Rattle.tree_core.specs.NewPaths.{after_last, before_last, has_slash}
 
 slash_there : (xs ys : List ℕ) → has_slash (xs ++ 47 ∷ ys) ≡ true

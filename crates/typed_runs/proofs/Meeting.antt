@@ -1,10 +1,9 @@
 -- Two copies of a document in which one entry was edited meet in one.
 use Rattle.std.proofs.Common.{◌≡◌, inl, inr, List, [], ◌∷◌, Some, None, Ok, refl, sym, ap, subst, ◌∙◌}
 use Rattle.vault_model.specs.Db.{Db, Mark}
-use Rattle.vault_model.specs.Join.{Agreed, IsPart, join}
+use Rattle.vault_model.specs.Join.{Agreed, join}
 use Rattle.vault_model.specs.Plans.{Replica}
 use Rattle.vault_model.specs.Tree.{BareDoc, IsDoc, db_in}
-use Rattle.merge_core.proofs.Facts.{part_roots}
 use Rattle.merge_core.proofs.PlanLaws.{join_one}
 use Rattle.merge_core.proofs.SoundDoc.{document_sound}
 use Rattle.document_merge.specs.Merging.{merge_result}
@@ -69,19 +68,19 @@ merged_db e f g ise isf a h =
     (settled_as e (f ∷ []) all g (merged_so e (f ∷ []) all g h)).database ∙ ap join (members_are e (f ∷ []) all a)
 
 pub two_edits_meet : TwoEditsMeet
-two_edits_meet d e f path other values others now later one two held isd ise isf named also timed timed_too h i =
-    let adds_e = edit_adds path values now d e isd ise h in
-    let adds_f = edit_adds other others later d f isd isf i in
+two_edits_meet d e f path other values others further more now later one two held isd ise isf named also timed timed_too h i =
+    let adds_e = edit_adds path values further now d e isd ise h in
+    let adds_f = edit_adds other others more later d f isd isf i in
     let a = copies_agree d isd e f ise isf adds_e adds_f in
     let b = copies_agree d isd f e isf ise adds_f adds_e in
-    let x = edit_is_now path values now one held d e isd ise named timed h in
-    let y = edit_is_now other others later two held d f isd isf also timed_too i in
+    let x = edit_is_now path values further now one held d e isd ise named timed h in
+    let y = edit_is_now other others more later two held d f isd isf also timed_too i in
     let all : AreDocs (e ∷ f ∷ []) = λ z j. elim j [
       | inl p ↦ subst IsDoc p ise
       | inr k ↦ elim k [ inl p ↦ subst IsDoc p isf | inr w ↦ absurd w ]
     ] in
-    let k : Mark = edited_mark d values one held.entry.1 in
-    let l : Mark = edited_mark d others two held.entry.1 in
+    let k : Mark = edited_mark d values further one held.entry.1 in
+    let l : Mark = edited_mark d others more two held.entry.1 in
     record {
       result = merges_into e (f ∷ []) all a;
       both = λ g m. subst (λ (z : Db). HasBoth z held.entry.0 k l) (sym (merged_db e f g ise isf a m)) (both_are_kept (db_in e) (db_in f) held.entry.0 k l a x y);

@@ -4,24 +4,26 @@ use Rattle.vault_model.specs.Db.{Db}
 use Rattle.vault_model.specs.Plans.{World, begin}
 use Rattle.vault_model.specs.Tree.{BareDoc, IsDoc, db_in}
 use Rattle.tree_core.specs.declared.fails.Removed.TheVariants.{Recycled}
-use Rattle.growth_laws.proofs.Commands.{add_grows, edit_grows, move_entry_grows, remove_entry_grows, restore_grows}
+use Rattle.growth_laws.proofs.Commands.{add_grows, attach_grows, detach_grows, edit_grows, move_entry_grows, remove_entry_grows, restore_grows}
 use Rattle.growth_laws.specs.Growth.{GrowsTo}
 use Rattle.growth_laws.proofs.GroupCommands.{make_group_grows}
 use Rattle.history_laws.specs.Current.{current_view}
 use Rattle.command_laws.specs.Growing.{GrowsInCurrent}
-use Rattle.command_laws.proofs.Edits.{edit_grows_in_current, restore_grows_in_current}
+use Rattle.command_laws.proofs.Edits.{attach_grows_in_current, detach_grows_in_current, edit_grows_in_current, restore_grows_in_current}
 use Rattle.command_laws.specs.Adding.{AddsOnly}
-use Rattle.command_laws.proofs.Commands.{add_adds, edit_adds, make_group_adds, move_entry_adds, recycling_adds, restore_adds}
+use Rattle.command_laws.proofs.Commands.{add_adds, attach_adds, detach_adds, edit_adds, make_group_adds, move_entry_adds, recycling_adds, restore_adds}
 use Rattle.run_laws.specs.FreeRuns.{AreFreeDocEvents, IsFreeDocEvent, IsFreeRun, known_by}
 use Rattle.run_laws.specs.TrimmedRuns.{AreDocEvents, IsDocEvent, after_doc_event}
 use Rattle.run_laws.specs.WholeRuns.{AreWholeDocEvents}
 use Rattle.run_laws.proofs.WholeLaws.{whole_same}
 use Rattle.run_laws.proofs.RunLaws.{doc_after, free_runs_agree, free_runs_merge, free_runs_same}
-use Rattle.typed_runs.specs.TypedRuns.{TypedEvent, AreTypedEvents, AreWithinLimits, Command, IsTypedEvent, IsTypedRun, IsWithinLimits, Makes, TypedRunsAgree, TypedRunsMerge, TypedRunsSame, TypedRunsSameDb, add, copied, doc_event_of, drawn, edit, made_in, make_group, merged, move_entry, recycle, restore, typed}
+use Rattle.typed_runs.specs.TypedRuns.{TypedEvent, AreTypedEvents, AreWithinLimits, Command, IsTypedEvent, IsTypedRun, IsWithinLimits, Makes, TypedRunsAgree, TypedRunsMerge, TypedRunsSame, TypedRunsSameDb, add, attach, copied, detach, doc_event_of, drawn, edit, made_in, make_group, merged, move_entry, recycle, restore, typed}
 
 command_adds : (c : Command) (d e : BareDoc) → IsDoc d → IsDoc e → Makes c d e → AddsOnly (drawn c) d e
 command_adds (add path id values now) d e isd ise h = add_adds path id values now d e isd ise h
-command_adds (edit path values now) d e isd ise h = edit_adds path values now d e isd ise h
+command_adds (edit path values further now) d e isd ise h = edit_adds path values further now d e isd ise h
+command_adds (attach path name bytes replaces now) d e isd ise h = attach_adds path name bytes replaces now d e isd ise h
+command_adds (detach path name now) d e isd ise h = detach_adds path name now d e isd ise h
 command_adds (restore path number now) d e isd ise h = restore_adds path number now d e isd ise h
 command_adds (move_entry path goal now) d e isd ise h = move_entry_adds path goal now d e isd ise h
 command_adds (make_group path id now) d e isd ise h = make_group_adds path id now d e isd ise h
@@ -29,7 +31,9 @@ command_adds (recycle path bin now) d e isd ise h = recycling_adds path bin now 
 
 command_grows : (c : Command) (d e : BareDoc) → IsDoc d → IsDoc e → Makes c d e → GrowsInCurrent d e
 command_grows (add path id values now) d e isd ise h = ap current_view (add_grows path id values now d e isd ise h)
-command_grows (edit path values now) d e isd ise h = edit_grows_in_current path values now d e isd ise h
+command_grows (edit path values further now) d e isd ise h = edit_grows_in_current path values further now d e isd ise h
+command_grows (attach path name bytes replaces now) d e isd ise h = attach_grows_in_current path name bytes replaces now d e isd ise h
+command_grows (detach path name now) d e isd ise h = detach_grows_in_current path name now d e isd ise h
 command_grows (restore path number now) d e isd ise h = restore_grows_in_current path number now d e isd ise h
 command_grows (move_entry path goal now) d e isd ise h = ap current_view (move_entry_grows path goal now d e isd ise h)
 command_grows (make_group path id now) d e isd ise h = ap current_view (make_group_grows path id now d e isd ise h)
@@ -71,7 +75,9 @@ typed_runs_same d xs h = free_runs_same (db_in d) (λ _. d) (map doc_event_of xs
 
 whole_grows : (c : Command) (d e : BareDoc) → IsDoc d → IsDoc e → Makes c d e → IsWithinLimits c d → GrowsTo d e
 whole_grows (add path id values now) d e isd ise h k = add_grows path id values now d e isd ise h
-whole_grows (edit path values now) d e isd ise h k = edit_grows path values now d e isd ise k h
+whole_grows (edit path values further now) d e isd ise h k = edit_grows path values further now d e isd ise k h
+whole_grows (attach path name bytes replaces now) d e isd ise h k = attach_grows path name bytes replaces now d e isd ise k h
+whole_grows (detach path name now) d e isd ise h k = detach_grows path name now d e isd ise k h
 whole_grows (restore path number now) d e isd ise h k = restore_grows path number now d e isd ise k h
 whole_grows (move_entry path goal now) d e isd ise h k = move_entry_grows path goal now d e isd ise h
 whole_grows (make_group path id now) d e isd ise h k = make_group_grows path id now d e isd ise h

@@ -1,11 +1,12 @@
 -- Runs of commands on copies of one document.
-use Rattle.std.specs.Prelude.{◌≡◌, ℕ, List, [], ◌∷◌, Option, None, Some, Ok, is_some, map}
+use Rattle.std.specs.Prelude.{◌≡◌, ℕ, Bool, List, [], ◌∷◌, Option, None, Some, Ok, is_some, map}
 use Rattle.vault_model.specs.Db.{Db, NodeId}
 use Rattle.vault_model.specs.Join.{join, IsWithin, Agreed}
 use Rattle.vault_model.specs.Plans.{World, begin}
 use Rattle.vault_model.specs.Tree.{BareDoc, IsDoc, db_in}
-use Rattle.tree_core.specs.After.{after_add, after_edit, after_make_group, after_move_entry, after_remove_entry, after_restore, needs_bin}
+use Rattle.tree_core.specs.After.{after_add, after_attach, after_detach, after_edit, after_make_group, after_move_entry, after_remove_entry, after_restore, needs_bin}
 use Rattle.tree_core.specs.declared.fails.Removed.TheVariants.{Recycled}
+use Rattle.tree_core.specs.FurtherChanges.{FurtherChange}
 use Rattle.tree_core.specs.NewNodes.{GivenValues}
 use Rattle.document_merge.specs.Merging.{merge_result}
 use Rattle.agreed_laws.specs.Merges.{MergesInto}
@@ -19,7 +20,9 @@ use Rattle.run_laws.specs.TrimmedRuns.{DocEvent, after_doc_event, after_doc_even
 -- A command that deletes nothing for good and moves no group, with the id that it draws, if any.
 pub data Command : Type 0 where
   add : List ℕ → NodeId → GivenValues → ℕ → Command
-  edit : List ℕ → GivenValues → ℕ → Command
+  edit : List ℕ → GivenValues → FurtherChange → ℕ → Command
+  attach : (path name bytes : List ℕ) → (replaces : Bool) → ℕ → Command
+  detach : (path name : List ℕ) → ℕ → Command
   restore : List ℕ → (number : ℕ) → ℕ → Command
   move_entry : List ℕ → List ℕ → ℕ → Command
   make_group : List ℕ → NodeId → ℕ → Command
@@ -28,7 +31,10 @@ pub data Command : Type 0 where
 -- the command makes one document of another; to recycle is to remove an entry that goes into the bin
 abbrev pub Makes : Command → BareDoc → BareDoc → Type 0
 Makes (add path id values now) d e = after_add path id values now d ≡ Ok e
-Makes (edit path values now) d e = after_edit path values now d ≡ Ok e
+Makes (edit path values further now) d e = after_edit path values further now d ≡ Ok e
+Makes (attach path name bytes replaces now) d e =
+    after_attach path name bytes replaces now d ≡ Ok e
+Makes (detach path name now) d e = after_detach path name now d ≡ Ok e
 Makes (restore path number now) d e = after_restore path number now d ≡ Ok e
 Makes (move_entry path goal now) d e = after_move_entry path goal now d ≡ Ok e
 Makes (make_group path id now) d e = after_make_group path id now d ≡ Ok e
@@ -38,7 +44,9 @@ Makes (recycle path bin now) d e = (is_some bin ≡ needs_bin d)
 -- the id that it draws
 abbrev pub drawn : Command → Option NodeId
 drawn (add path id values now) = Some id
-drawn (edit path values now) = None
+drawn (edit path values further now) = None
+drawn (attach path name bytes replaces now) = None
+drawn (detach path name now) = None
 drawn (restore path number now) = None
 drawn (move_entry path goal now) = None
 drawn (make_group path id now) = Some id
@@ -100,10 +108,13 @@ TypedRunsSame = (d : BareDoc) (xs : List TypedEvent) → IsTypedRun d xs → (i 
     → IsWithin (after_run d xs j).learned (after_run d xs i).learned
     → current_view (db_in (after_run d xs i).doc) ≡ current_view (db_in (after_run d xs j).doc)
 
--- a command drops no version: an edit, or a version restored, within the limits of histories
+-- a command drops no version: an edit, something attached or taken away, or a version restored,
+-- within the limits of histories
 abbrev pub IsWithinLimits : Command → BareDoc → Type 0
 IsWithinLimits (add path id values now) d = Unit {0}
-IsWithinLimits (edit path values now) d = DropsNothing path d
+IsWithinLimits (edit path values further now) d = DropsNothing path d
+IsWithinLimits (attach path name bytes replaces now) d = DropsNothing path d
+IsWithinLimits (detach path name now) d = DropsNothing path d
 IsWithinLimits (restore path number now) d = DropsNothing path d
 IsWithinLimits (move_entry path goal now) d = Unit {0}
 IsWithinLimits (make_group path id now) d = Unit {0}

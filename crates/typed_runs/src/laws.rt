@@ -6,11 +6,11 @@ ghost use Rattle.typed_runs.specs.Example.{example_run};
 ghost use Rattle.typed_runs.specs.Meeting.{TwoEditsMeet};
 ghost use Rattle.typed_runs.specs.TypedRuns.{IsTypedRun, TypedRunsAgree, TypedRunsMerge, TypedRunsSame, TypedRunsSameDb};
 
-/// On copies of one document entries are added, edited, restored, moved and put into the bin, groups
-/// are made, and copies are merged and copied over, in any order. Then, where no id is drawn twice,
-/// all that is learned agrees; no merge is refused but where a node is too deep; and copies that have
-/// learned the same are alike in what is current, and have the same database where no command dropped
-/// a version.
+/// On copies of one document entries are added, edited, restored, moved and put into the bin, things
+/// are attached to them and taken away, groups are made, and copies are merged and copied over, in
+/// any order. Then, where no id is drawn twice, all that is learned agrees; no merge is refused but
+/// where a node is too deep; and copies that have learned the same are alike in what is current, and
+/// have the same database where no command dropped a version.
 pub fn typed_runs()
     ensures agree { TypedRunsAgree }
     ensures merge { TypedRunsMerge }

@@ -8,7 +8,8 @@ mod written;
 
 use crate::written::{written, written_profile};
 use cli_messages::Stop;
-use cli_parse::{Command, read_profile, read_words};
+use cli_needs::Command;
+use cli_parse::{read_profile, read_words};
 use std::alloc::{AllocError, Global};
 use std::io::{self, BufRead, BufReader};
 

@@ -1,9 +1,10 @@
 //! The parts of a line that is printed.
 
-use cli_parse::Access;
+use cli_needs::Access;
 use cli_profiles::PasswordProfile;
 use outside_core::{List, Text};
 use std::alloc::{AllocError, Global};
+use tree_core::Expiry;
 
 /// A line's parts, with a tab after each.
 #[derive(Drop)]
@@ -67,6 +68,14 @@ impl Parts {
     pub fn profile(&mut self, alloc: Global, profile: &PasswordProfile) -> Result<(), AllocError> {
         self.number(alloc, "length", u64::from(profile.length))?;
         self.text("alphabet", profile.alphabet.as_str())
+    }
+
+    /// When an entry expires, in seconds since the year 1.
+    pub fn expiry(&mut self, alloc: Global, expiry: Expiry) -> Result<(), AllocError> {
+        match expiry {
+            Expiry::Never => self.text("expires", "never"),
+            Expiry::At(time) => self.number(alloc, "expires", time.seconds()),
+        }
     }
 
     /// How a database is opened that has this name.

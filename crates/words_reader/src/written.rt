@@ -1,9 +1,9 @@
 //! A command as a line.
 
 use crate::parts::Parts;
-use cli_parse::{
-    Asked, Command, ExportFormat, FileChange, ImportFormat, KdfAsked, KdfKind, KeyFileChange,
-    PasswordChange, target_access, target_of,
+use cli_needs::{
+    Asked, Command, ExportFormat, FileChange, FurtherAsked, ImportFormat, KdfAsked, KdfKind,
+    KeyFileChange, PasswordChange, target_access, target_of,
 };
 use cli_profiles::PasswordProfile;
 use kdbx_frame::{Cipher, FileVersion};
@@ -73,6 +73,9 @@ fn name_of(command: &Command) -> &'static str {
         Command::Export { .. } => "export",
         Command::EditFile { .. } => "db-edit",
         Command::Info { .. } => "db-info",
+        Command::ExportAttachment { .. } => "attachment-export",
+        Command::ImportAttachment { .. } => "attachment-import",
+        Command::RemoveAttachment { .. } => "attachment-rm",
     }
 }
 
@@ -87,6 +90,19 @@ fn add_asked(parts: &mut Parts, alloc: Global, asked: &Asked) -> Result<(), Allo
         parts.profile(alloc, profile)?;
     }
     parts.flag("otp", asked.otp)
+}
+
+// What else of an entry is to change.
+fn add_further(parts: &mut Parts, alloc: Global, further: &FurtherAsked) -> Result<(), AllocError> {
+    parts.texts("set", &further.set)?;
+    parts.flag("protect", further.protect)?;
+    parts.texts("unset", &further.unset)?;
+    parts.texts("tag", &further.tags)?;
+    parts.texts("untag", &further.untags)?;
+    match further.expiry {
+        Some(expiry) => parts.expiry(alloc, expiry),
+        None => Ok(()),
+    }
 }
 
 // What a command says beside its database, of those that only read.
@@ -136,9 +152,15 @@ fn add_changing(parts: &mut Parts, alloc: Global, command: &Command) -> Result<(
             parts.text("entry", entry.as_str())?;
             add_asked(parts, alloc, asked)
         }
-        Command::Edit { entry, asked, .. } => {
+        Command::Edit {
+            entry,
+            asked,
+            further,
+            ..
+        } => {
             parts.text("entry", entry.as_str())?;
-            add_asked(parts, alloc, asked)
+            add_asked(parts, alloc, asked)?;
+            add_further(parts, alloc, further)
         }
         Command::Restore { entry, version, .. } => {
             parts.text("entry", entry.as_str())?;
@@ -241,6 +263,39 @@ fn add_files(parts: &mut Parts, alloc: Global, command: &Command) -> Result<(), 
     }
 }
 
+// The same of those of attachments.
+fn add_attachment(parts: &mut Parts, command: &Command) -> Result<(), AllocError> {
+    match command {
+        Command::ExportAttachment {
+            entry,
+            name,
+            to,
+            ..
+        } => {
+            parts.text("entry", entry.as_str())?;
+            parts.text("name", name.as_str())?;
+            parts.option("to", to)
+        }
+        Command::ImportAttachment {
+            entry,
+            name,
+            source,
+            replaces,
+            ..
+        } => {
+            parts.text("entry", entry.as_str())?;
+            parts.text("name", name.as_str())?;
+            parts.text("source", source.as_str())?;
+            parts.flag("force", *replaces)
+        }
+        Command::RemoveAttachment { entry, name, .. } => {
+            parts.text("entry", entry.as_str())?;
+            parts.text("name", name.as_str())
+        }
+        _ => Ok(()),
+    }
+}
+
 /// A command as a line: its name, the database that it shows or writes, and what else it says.
 pub(crate) fn written(alloc: Global, command: &Command) -> Result<Parts, AllocError> {
     let mut parts = Parts::new(alloc, name_of(command))?;
@@ -249,6 +304,7 @@ pub(crate) fn written(alloc: Global, command: &Command) -> Result<Parts, AllocEr
     add_changing(&mut parts, alloc, command)?;
     add_other(&mut parts, command)?;
     add_files(&mut parts, alloc, command)?;
+    add_attachment(&mut parts, command)?;
     Ok(parts)
 }
 

@@ -1,6 +1,5 @@
-use Rattle.std.proofs.Common.{◌∙◌, map}
-use Rattle.vault_model.specs.SeenDoc.{doc_seen}
-use Rattle.cli_lines.specs.SeenLines.{lines_seen}
+use Rattle.std.proofs.Common.{◌∙◌}
+use Rattle.cli_files.specs.SeenTask.{task_seen}
 use Rattle.call_run.proofs.Carried.{all_kept, ends_kept, in_order_kept, sealed_kept, some_kept}
 use Rattle.call_run.proofs.carrying.carry_out.Goals as goal
 
@@ -14,21 +13,18 @@ carry_out_on-answer-requires-clause-sealed g c =
 
 pub returns-clause-told : goal.returns-clause-told
 returns-clause-told g c = λ truthful d t.
-    ends_kept c.args.now c.args.task.command (lines_seen c.args.task.lines) (map doc_seen c.args.task.sources) (doc_seen c.args.task.opened.doc) c.args.task.opened.passed_over c.clear_unless.new.sealing c.args.task.opened.sealing d
-    c.carry_out_on-answer.result _ _ _ _
+    ends_kept c.args.now (task_seen c.args.task) c.clear_unless.new.sealing
     c.clear_unless.ensures.settings (λ w. c.clear_unless.ensures.whole (c.may_write.ensures ∙ w))
-    (c.carry_out_on-answer.ensures.told truthful d t)
+    d c.carry_out_on-answer.result _ _ _ _ (c.carry_out_on-answer.ensures.told truthful d t)
 
 pub returns-clause-of_dice : goal.returns-clause-of_dice
 returns-clause-of_dice g c = λ truthful d t.
-    all_kept c.args.now c.args.task.command (lines_seen c.args.task.lines) (map doc_seen c.args.task.sources) (doc_seen c.args.task.opened.doc) c.args.task.opened.passed_over c.clear_unless.new.sealing c.args.task.opened.sealing d
-    c.carry_out_on-answer.result _ _
+    all_kept c.args.now (task_seen c.args.task) c.clear_unless.new.sealing
     c.clear_unless.ensures.settings (λ w. c.clear_unless.ensures.whole (c.may_write.ensures ∙ w))
-    (c.carry_out_on-answer.ensures.of_dice truthful d t)
+    d c.carry_out_on-answer.result _ _ (c.carry_out_on-answer.ensures.of_dice truthful d t)
 
 pub returns-clause-some_dice : goal.returns-clause-some_dice
 returns-clause-some_dice g c =
-    some_kept c.args.now c.args.task.command (lines_seen c.args.task.lines) (map doc_seen c.args.task.sources) (doc_seen c.args.task.opened.doc) c.args.task.opened.passed_over c.clear_unless.new.sealing c.args.task.opened.sealing
-    c.carry_out_on-answer.result _ _
+    some_kept c.args.now (task_seen c.args.task) c.clear_unless.new.sealing
     c.clear_unless.ensures.settings (λ w. c.clear_unless.ensures.whole (c.may_write.ensures ∙ w))
-    c.carry_out_on-answer.ensures.some_dice
+    c.carry_out_on-answer.result _ _ c.carry_out_on-answer.ensures.some_dice

@@ -4,8 +4,8 @@ use Rattle.outside_core.proofs.Reports.{reported_before, stays_on}
 use Rattle.vault_model.specs.SeenDoc.{doc_seen}
 use Rattle.cli_files.specs.SeenOpened.{opened_seen}
 use Rattle.cli_lines.specs.SeenLines.{lines_seen}
-use Rattle.cli_parse.specs.Needs.{database_files, source_files}
-use Rattle.cli_parse.specs.SeenNeeds.{needs_seen}
+use Rattle.cli_needs.specs.Needs.{database_files, source_files}
+use Rattle.cli_needs.specs.SeenNeeds.{needs_seen}
 use Rattle.cli_databases.proofs.Openable.{can_open_sources}
 use Rattle.cli_files.proofs.FileStops.{later_at_files}
 use Rattle.cli_databases.proofs.Phases.{databases_are, sources_refused}

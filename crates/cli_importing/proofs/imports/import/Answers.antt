@@ -2,7 +2,7 @@ use Rattle.std.proofs.Common.{◌∙◌, ap, arith, option_map}
 use Rattle.outside_core.specs.Reports.{reported}
 use Rattle.outside_core.proofs.Reports.{reported_before, stays_on}
 use Rattle.cli_lines.specs.SeenLines.{lines_seen}
-use Rattle.cli_parse.specs.SeenNeeds.{import_seen}
+use Rattle.cli_needs.specs.SeenNeeds.{import_seen}
 use Rattle.cli_importing.specs.SeenSource.{source_seen}
 use Rattle.cli_importing.proofs.Imported.{at_new_file, at_new_key, existing_refused, imported_is, sealing_refused}
 use Rattle.cli_importing.proofs.imports.import.Goals as goal

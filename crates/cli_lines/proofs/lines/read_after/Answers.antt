@@ -1,6 +1,6 @@
-use Rattle.std.proofs.Common.{◌||◌, [], map}
-use Rattle.cli_parse.specs.Needs.{asks_passwords_from}
-use Rattle.cli_parse.specs.SeenNeeds.{needs_seen}
+use Rattle.std.proofs.Common.{[], map}
+use Rattle.cli_needs.specs.Needs.{asks_more, asks_passwords_from}
+use Rattle.cli_needs.specs.SeenNeeds.{needs_seen}
 use Rattle.cli_lines.specs.Lines.{after_passwords, lines_from, number_from}
 use Rattle.cli_lines.specs.SeenLines.{line_seen, lines_seen}
 use Rattle.cli_lines.proofs.Inputs.{first_stops, kept_later, later_returns, stops_later, tells_first, tells_second}
@@ -11,10 +11,10 @@ returns-in-Ok-clause-told g c = λ truthful i t.
     let needs = needs_seen c.args.needs in
     let due = asks_passwords_from needs in
     let read = rw (c.new-sources.ensures, c.requires.number) at c.in-Ok.ensures.told in
-    let first = read (c.read_more.ensures.truthful truthful) i (tells_first due (c.args.needs.has_line || c.args.needs.has_otp) _ i t) in
+    let first = read (c.read_more.ensures.truthful truthful) i (tells_first due (asks_more needs) _ i t) in
     let taken = lines_from due needs.sources (number_from needs) [] i in
     later_returns lines_seen c.read_more.result _ _ _ taken (map line_seen c.read_passwords.new.lines) (after_passwords needs (line_seen c.args.password)) first.0 first.1
-    (c.read_more.ensures.told truthful taken.left (tells_second due (c.args.needs.has_line || c.args.needs.has_otp) _ _ i taken.left t first.1))
+    (c.read_more.ensures.told truthful taken.left (tells_second due (asks_more needs) _ _ i taken.left t first.1))
 
 pub returns-in-Ok-clause-cause : goal.returns-in-Ok-clause-cause
 returns-in-Ok-clause-cause g c = stops_later c.read_more.result _ _ _ c.in-Ok.ensures.faults c.read_more.ensures.cause
@@ -28,4 +28,4 @@ returns-in-Err-clause-told g c = λ truthful i t.
     let due = asks_passwords_from needs in
     let read = rw (c.new-sources.ensures, c.requires.number) at c.in-Err.ensures.told in
     first_stops c.in-Err.stop _ _ (lines_from due needs.sources (number_from needs) [] i) (after_passwords needs (line_seen c.args.password))
-    (read truthful i (tells_first due (c.args.needs.has_line || c.args.needs.has_otp) _ i t))
+    (read truthful i (tells_first due (asks_more needs) _ i t))

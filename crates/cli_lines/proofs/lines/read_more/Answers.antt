@@ -1,5 +1,5 @@
 use Rattle.std.proofs.Common.{map}
-use Rattle.cli_parse.specs.SeenNeeds.{needs_seen}
+use Rattle.cli_needs.specs.SeenNeeds.{needs_seen}
 use Rattle.cli_lines.specs.Lines.{last_lines}
 use Rattle.cli_lines.specs.SeenLines.{last_seen, line_seen}
 use Rattle.cli_lines.proofs.Inputs.{first_stops, lines_given}

@@ -1,11 +1,11 @@
 use Rattle.std.proofs.Common.{◌∷◌, [], ◌∙◌, ap, option_map}
 use Rattle.outside_core.specs.Reports.{reported}
 use Rattle.outside_core.proofs.Reports.{reported_before}
-use Rattle.cli_parse.specs.Needs.{key_files}
+use Rattle.cli_needs.specs.Needs.{key_files}
 use Rattle.cli_files.proofs.FileStops.{later_at_files}
 use Rattle.vault_model.specs.SeenDoc.{doc_seen}
 use Rattle.cli_lines.specs.SeenLines.{lines_seen}
-use Rattle.cli_parse.specs.SeenNeeds.{create_seen}
+use Rattle.cli_needs.specs.SeenNeeds.{create_seen}
 use Rattle.cli_resealing.specs.Asked.{asked_settings}
 use Rattle.cli_resealing.proofs.Somes.{asked_same, some_created}
 use Rattle.cli_resealing.proofs.Phases.{created_returns, moment_refused, sealing_refused}

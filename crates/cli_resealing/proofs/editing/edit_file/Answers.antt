@@ -4,8 +4,8 @@ use Rattle.outside_core.proofs.Reports.{reported_before}
 use Rattle.cli_files.specs.SeenOpened.{opened_seen}
 use Rattle.cli_lines.specs.SeenLines.{lines_seen}
 use Rattle.cli_lines.proofs.Inputs.{kept_later}
-use Rattle.cli_parse.specs.Needs.{database_files, key_files, new_key_files}
-use Rattle.cli_parse.specs.SeenNeeds.{needs_seen}
+use Rattle.cli_needs.specs.Needs.{database_files, key_files, new_key_files}
+use Rattle.cli_needs.specs.SeenNeeds.{needs_seen}
 use Rattle.cli_resealing.proofs.Somes.{some_edited}
 use Rattle.cli_resealing.proofs.EditStops.{stops_changed, stops_opened}
 use Rattle.cli_resealing.proofs.Phases.{edited_returns, file_refused}

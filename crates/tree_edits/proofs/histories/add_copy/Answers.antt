@@ -4,9 +4,9 @@ use Rattle.vault_model.specs.Join.{stats_join}
 use Rattle.vault_model.specs.SeenNodes.{bare_version}
 use Rattle.vault_model.specs.Shape.{BareVersion}
 use Rattle.vault_model.specs.declared.nodes.Version.{Version}
-use Rattle.tree_edits.specs.Spots.{spot}
+use Rattle.tree_contents.specs.Spots.{spot}
 use Rattle.tree_edits.specs.Versions.{AreRising}
-use Rattle.tree_edits.proofs.Places.{joined_there, put_at_spot, spot_end, spot_seen}
+use Rattle.tree_contents.proofs.Places.{joined_there, put_at_spot, spot_end, spot_seen}
 use Rattle.tree_edits.proofs.histories.add_copy.Goals as goal
 
 pub version_spot-requires : goal.version_spot-requires

@@ -1,5 +1,5 @@
 use Rattle.vault_model.specs.SeenNodes.{bare_version}
-use Rattle.tree_edits.proofs.Places.{inserted_seen}
+use Rattle.tree_contents.proofs.Places.{inserted_seen}
 use Rattle.tree_edits.proofs.histories.insert_copy.Goals as goal
 
 pub returns : goal.returns

@@ -3,7 +3,7 @@ use Rattle.std.specs.Option.{option_copied_mut}
 use Rattle.vault_model.specs.Join.{stats_join}
 use Rattle.vault_model.specs.SeenNodes.{bare_version}
 use Rattle.vault_model.specs.Shape.{BareVersion}
-use Rattle.tree_edits.proofs.Places.{changed_nowhere, changed_there}
+use Rattle.tree_contents.proofs.Places.{changed_nowhere, changed_there}
 use Rattle.tree_edits.proofs.histories.join_stats_at.Goals as goal
 
 pub returns-in-Some : goal.returns-in-Some

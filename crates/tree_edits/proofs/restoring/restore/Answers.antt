@@ -1,71 +1,31 @@
-use Rattle.std.proofs.Common.{inl, inr, refl, sym, ap, map, ◌∙◌}
+use Rattle.std.proofs.Common.{Ok, map, sym, ap, ◌∙◌}
 use Rattle.std.specs.Prelude.{option_map}
 use Rattle.vault_model.proofs.DocumentLaws.{is_doc}
-use Rattle.vault_model.specs.Seen.{bare_content}
 use Rattle.vault_model.specs.SeenDoc.{doc_seen}
-use Rattle.vault_model.specs.SeenNodes.{bare_version, entry_record, entry_row, tree_seen}
-use Rattle.tree_core.specs.After.{time_after}
-use Rattle.tree_core.proofs.Edited.{entry_is_proper}
-use Rattle.tree_edits.proofs.AfterRestore.{restore_done, restore_no_entry, restore_no_holder, restore_no_path}
-use Rattle.tree_edits.proofs.EditedDoc.{said_is_doc, same_doc}
+use Rattle.vault_model.specs.SeenNodes.{bare_version, entry_record, entry_row}
+use Rattle.tree_core.specs.After.{Holding, time_after}
+use Rattle.tree_edits.proofs.AfterChange.{restore_done}
+use Rattle.tree_edits.proofs.NamedEntries.{named_proper, with_versions_is_doc}
 use Rattle.tree_edits.proofs.Proper.{numbered_good}
 use Rattle.tree_edits.proofs.restoring.restore.Goals as goal
 
-pub invariant_of-doc-in-Ok : goal.invariant_of-doc-in-Ok
-invariant_of-doc-in-Ok c =
+pub change_versions-requires : goal.change_versions-requires
+change_versions-requires c =
     let d = doc_seen c.args.doc.now in
-    let entry = c.in-Some-entry_of.entry.now in
-    let there = sym c.entry_of.ensures ∙ ap (option_map (λ found. entry_row found.now)) c.in-Some-entry_of.is in
-    let old = sym c.version_numbered.ensures ∙ ap (option_map (λ found. bare_version found.now)) c.in-Some-version_numbered.is in
-    let proper = numbered_good c.args.number (entry_record entry) (bare_version c.in-Some-version_numbered.version.now) old
-    (entry_is_proper d (is_doc c.args.doc.now) c.in-Some-holder.group c.in-Some.id (entry_row entry) there) in
-    let h = said_is_doc d c.in-Some-holder.group c.in-Some.id (entry_row entry) there (λ _. bare_content c.in-Some-version_numbered.version.now.content) c.in_ok-time.time
-    (bare_version c.in-Ok.restored.current) (map bare_version c.in-Ok.restored.history) c.in-Ok.ensures (is_doc c.args.doc.now) proper
-    (tree_seen c.set_versions.new.root) c.set_versions.ensures in
-    record {
-      distinct = h.distinct;
-      no_nil = h.no_nil;
-      levels = h.levels;
-      rising_tombs = h.tombs_rise;
-      tombs_apart = h.tombs_apart;
-      entries_proper = h.entries_proper;
-      groups_proper = h.groups_proper;
-      rising_icons = h.icons_rise;
-      rising_items = h.items_rise;
-      meta_texts = h.meta_texts;
-    }
+    let held : Holding = record { group = c.in-Ok.held.group; entry = entry_row c.in-Ok.held.entry.now } in
+    let old = sym c.version_numbered.ensures ∙ ap (option_map (λ found. bare_version found.now)) c.in-Some.is in
+    let good = numbered_good c.args.number (entry_record c.in-Ok.held.entry.now) (bare_version c.in-Some.version.now) old
+    (named_proper c.args.path.now d held c.in-Ok.ensures (is_doc c.args.doc.now)) in
+    let versions = c.in-Ok-restored_versions.versions in
+    with_versions_is_doc c.args.path.now d held c.in-Ok.ensures (bare_version versions.current) (map bare_version versions.history)
+    (is_doc c.args.doc.now) (c.in-Ok-restored_versions.ensures.proper good)
 
-pub returns-in-Ok : goal.returns-in-Ok
-returns-in-Ok c =
-    let d = doc_seen c.args.doc.now in
-    let entry = c.in-Some-entry_of.entry.now in
-    let version = c.in-Some-version_numbered.version.now in
-    let there = sym c.entry_of.ensures ∙ ap (option_map (λ found. entry_row found.now)) c.in-Some-entry_of.is in
-    let old = sym c.version_numbered.ensures ∙ ap (option_map (λ found. bare_version found.now)) c.in-Some-version_numbered.is in
-    restore_done c.args.path.now c.args.number c.args.now d c.in-Some.id (sym c.find_entry.ensures ∙ c.in-Some.is) c.in-Some-holder.group
-    (sym c.holder.ensures ∙ c.in-Some-holder.is) (entry_row entry) there (bare_version version) old c.in_ok-time.time
-    (sym (c.time_after.ensures ∙ ap (time_after c.args.now) c.entry_stamp.ensures) ∙ c.in_ok-time.was)
-    ∙ same_doc d c.in-Some-holder.group c.in-Some.id (entry_row entry) there (λ _. bare_content version.content) c.in_ok-time.time
-    (bare_version c.in-Ok.restored.current) (map bare_version c.in-Ok.restored.history) c.in-Ok.ensures (tree_seen c.set_versions.new.root) c.set_versions.ensures
-
-pub returns-in-Err : goal.returns-in-Err
-returns-in-Err c = (refl, inr refl)
-
-pub returns-in_default : goal.returns-in_default
-returns-in_default c =
-    (refl, inl (restore_no_path c.args.path.now c.args.number c.args.now (doc_seen c.args.doc.now) (sym c.find_entry.ensures ∙ c.in_default.is)))
-
-pub returns-in_default-holder : goal.returns-in_default-holder
-returns-in_default-holder c = (
-  refl,
-  inl (restore_no_holder c.args.path.now c.args.number c.args.now (doc_seen c.args.doc.now) c.in-Some.id (sym c.find_entry.ensures ∙ c.in-Some.is)
-      (sym c.holder.ensures ∙ c.in_default-holder.is)),
-)
-
-pub returns-in_default-entry_of : goal.returns-in_default-entry_of
-returns-in_default-entry_of c = (
-  refl,
-  inl (restore_no_entry c.args.path.now c.args.number c.args.now (doc_seen c.args.doc.now) c.in-Some.id (sym c.find_entry.ensures ∙ c.in-Some.is)
-      c.in-Some-holder.group (sym c.holder.ensures ∙ c.in-Some-holder.is)
-      (sym c.entry_of.ensures ∙ ap (option_map (λ found. entry_row found.now)) c.in_default-entry_of.is)),
-)
+pub returns-in-Ok-restored_versions : goal.returns-in-Ok-restored_versions
+returns-in-Ok-restored_versions c =
+    let held : Holding = record { group = c.in-Ok.held.group; entry = entry_row c.in-Ok.held.entry.now } in
+    let old = sym c.version_numbered.ensures ∙ ap (option_map (λ found. bare_version found.now)) c.in-Some.is in
+    let versions = c.in-Ok-restored_versions.versions in
+    let then = sym (c.time_after.ensures ∙ ap (time_after c.args.now) c.entry_stamp.ensures) ∙ c.in_ok-time.was in
+    restore_done c.args.path.now c.args.number c.args.now (doc_seen c.args.doc.now) held c.in-Ok.ensures (bare_version c.in-Some.version.now) old
+    c.in_ok-time.time then (bare_version versions.current) (map bare_version versions.history) c.in-Ok-restored_versions.ensures.is
+    ∙ ap Ok (sym c.change_versions.ensures)

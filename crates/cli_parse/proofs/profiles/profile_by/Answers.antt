@@ -1,0 +1,17 @@
+use Rattle.std.proofs.Common.{◌≡◌, ◌∙◌, ap, map, string_bytes, subst, sym, Some}
+use Rattle.std.specs.Option.{option_and_then}
+use Rattle.cli_options.specs.Said.{nothing_said, with_words}
+use Rattle.cli_options.specs.SaidWords.{Gives, reading_seen}
+use Rattle.cli_parse.specs.Words.{profile_saying}
+use Rattle.cli_parse.proofs.Beginning.{begins}
+use Rattle.cli_parse.proofs.profiles.profile_by.Goals as goal
+
+pub returns : goal.returns
+returns c =
+    let words = map string_bytes c.args.words.now in
+    let start = c.empty_state-state.ensures in
+    let none = begins c.no_texts-given.result c.empty_state-state.result c.no_texts-given.ensures start.repeated start.due start.ended start.positions in
+    let read : with_words c.args.command words nothing_said ≡ Some (reading_seen c.add_words.new.given c.add_words.new.state) =
+    ap (with_words c.args.command words) (sym none) ∙ c.in_default.ensures in
+    subst (Gives (λ profile. profile) c.profile_saying-profile.result) (sym (ap (option_and_then (profile_saying c.args.command)) read))
+    (rw (c.as_slice.ensures, c.as_slice-2.ensures) at c.profile_saying-profile.ensures)
