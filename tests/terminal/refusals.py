@@ -143,6 +143,9 @@ def files(folder, data, examples):
     os.mkfifo(NAMES["PIPE"])
     made("LARGE", "large.kdbx", b"")
     os.truncate(NAMES["LARGE"], 134217729)
+    made("HUGE", "huge", b"")
+    os.truncate(NAMES["HUGE"], 134217728)
+    made("ATTACHED", "attached.xml", xml(group(1, "Root", entry(2, "Bank", "<Binary><Key>a</Key><Value>YWJj</Value></Binary>"))))
     NAMES["FRESH"] = f"{folder}/new.kdbx"
     NAMES["NONE"] = f"{folder}/nothing-like-it"
     NAMES["NEAR"] = f"{folder}/fsat.kdbx"
@@ -205,8 +208,14 @@ ROWS = [
     ("-v", [], 1, "wrong words", ["a command comes first, before '-v'; keepass --version prints the version"]),
     ("-version", [], 1, "wrong words", ["a command comes first, before '-version'; keepass --version prints the version"]),
     ("open FAST", [], 1, "wrong words", ["unknown command 'open': each call opens the database itself, and nothing stays open"]),
-    ("attachment-export FAST Bank a b", [], 1, "wrong words",
-     ["unknown command 'attachment-export': keepass has no such command; 'export' prints attachments too"]),
+    ("analyze FAST", [], 1, "wrong words", ["unknown command 'analyze': keepass has no such command"]),
+    ("attach FAST Bank", [], 1, "wrong words", ["unknown command 'attach': 'attachment-import' attaches a file to an entry"]),
+    ("attachment-export FAST Bank a", [], 1, "wrong words", ["attachment-export needs FILE or --stdout"]),
+    ("attachment-export -f FAST Bank a FRESH", [], 1, "wrong words",
+     ["attachment-export takes no option '-f': a file that is there is never overwritten: choose another name"]),
+    ("add --set PIN FAST New", [], 1, "wrong words", ["add takes no option '--set': 'edit --set' gives an entry a field of its own"]),
+    ("edit --set Title FAST Bank", [], 1, "wrong words", ["'--set' does not take 'Title': -t gives another title"]),
+    ("edit --expires tomorrow FAST Bank", [], 1, "wrong words", ["'--expires' needs a time as 2027-01-31T00:00:00Z, or never: 'tomorrow'"]),
     ("ls --recurse FAST", [], 1, "wrong words", ["ls takes no option '--recurse'; did you mean '--recursive'?"]),
     ("ls -R -R FAST", [], 1, "wrong words", ["'--recursive' is given twice"]),
     ("ls -R=yes FAST", [], 1, "wrong words", ["'-R' takes no value"]),
@@ -226,7 +235,7 @@ ROWS = [
     ("add --notes -milk FAST Bank", [], 1, "wrong words",
      ["'--notes' needs a value; one that begins with - is joined to it: --notes=VALUE"]),
     ("add FAST Bank --username", [], 1, "wrong words", ["'--username' needs a value"]),
-    ("edit FAST Bank", [], 1, "wrong words", ["nothing to change: give -t, -u, --url, --notes, -p, -g or --otp"]),
+    ("edit FAST Bank", [], 1, "wrong words", ["nothing to change: give -t, -u, --url, --notes, -p, -g, --otp, --set, --unset, --tag, --untag or --expires"]),
     ("mv FAST Bank", [], 1, "wrong words", ["mv needs DATABASE NODE GROUP"]),
     ("merge FAST", [], 1, "wrong words", ["merge needs TARGET SOURCE..."]),
     ("merge -s FAST" + " COPY" * 17, [], 1, "wrong words", ["a merge has at most 16 sources: merge the others in a second call"]),
@@ -278,6 +287,13 @@ ROWS = [
     ("add --plain PLAIN Bank", [], 2, "already there",
      ["edit changes an entry that is there; an entry of the same title needs another group"]),
     ("mkdir --plain PLAIN Work", [], 2, "already there", ["something has this path; keepass ls -Rf --plain PLAIN lists the paths"]),
+    ("attachment-import --plain ATTACHED Bank a NOTES", [], 2, "already there",
+     ["the entry has an attachment of this name: -f replaces it, and another NAME keeps both"]),
+    ("attachment-export --plain --stdout ATTACHED Bank A", [], 2, "no attachment A",
+     ["keepass show --show-attachments --plain ATTACHED Bank lists the names; they are compared letter by letter"]),
+    ("attachment-export FAST Bank a NOTES", [], 2, "file exists", ["attachment-export makes new files alone: choose another name, or --stdout"]),
+    ("edit --plain --unset PIN PLAIN Bank", [], 2, "no attribute PIN",
+     ["--unset takes a field that the entry has before the edit; keepass show --all --plain PLAIN Bank shows the names, which are compared letter by letter"]),
     ("mv --plain PLAIN Bank /", [], 2, "already in that group", ["nothing is to be done; GROUP is the path of another group"]),
     ("mv --plain PLAIN Work/ Work", [], 2, "* into itself", ["a group cannot go into itself or into a group inside it"]),
     ("rmdir --plain PLAIN /", [], 2, "the root stays", ["the root group can be neither moved nor removed; its path is empty or /"]),
@@ -408,6 +424,11 @@ ROWS = [
     ("import --plain PLAIN FAR", [], 7, "file fault", ["there is no folder FARFOLDER: make it first"]),
     ("mkdir --plain HELD New", [], 7, "file fault", ["another call is writing it: try again when that has ended"]),
     ("ls LARGE", ["x"], 8, "limit passed", ["the file has 134217729 bytes, and at most 134217728 are read: take attachments out of it"]),
+    ("attachment-import --plain PLAIN Bank a LARGE", [], 8, "limit passed", ["the file has 134217729 bytes, and at most 134217728 are read"]),
+    ("attachment-import --plain ATTACHED Bank b HUGE", [], 8, "limit passed",
+     ["with this attachment the database would be too large: a file has at most 134217728 bytes, and the history counts too"]),
+    ("attachment-import FAST Bank a NONE", [], 7, "no such file", ["check the name, and the folder that the call was made in"]),
+    ("attachment-export --plain ATTACHED Bank a FAR", [], 7, "file fault", ["there is no folder FARFOLDER: make it first"]),
     ("ls MEMORY", ["x"], 8, "limit passed",
      ["Argon2 asks for 2048 MiB of memory, and at most 1024 are taken: lower it in the program that wrote the file"]),
     ("ls ROUNDS", ["x"], 8, "limit passed",
@@ -428,6 +449,7 @@ ROWS = [
      ["at most 128 levels of groups, 256 open elements, 262144 groups, entries and older versions, times up to 9999: shorten the histories"]),
     ("ls FAST", [None], 12, "line 1 missing", ["nothing was typed for the password of FAST"]),
     ("add -p FAST New", [PASSWORD, None], 12, "line 2 missing", ["nothing was typed for the new password of the entry"]),
+    ("edit --plain --set PIN --set PUK PLAIN Bank", ["1", None], 12, "line 2 missing", ["nothing was typed for the value of the field PUK"]),
     ("db-create -p FRESH", [None], 12, "line 1 missing", ["nothing was typed twice alike for the new password of FRESH"]),
     ("db-edit -p FAST", [PASSWORD, "new", None], 12, "line 2 missing", ["nothing was typed twice alike for the new password of FAST"]),
 ]

@@ -1,10 +1,10 @@
 """A second reader of the words of a call, written from the manual and not from the program.
 
 `read(words)` gives None where the words are wrong, and otherwise a dictionary: the command, the options that were given
-with their values (True of a flag, a list of the names of `--attributes`), the positions, how many lines of standard input
+with their values (True of a flag, a list where it may come several times), the positions, how many lines of standard input
 are read, and of a password that is generated its length and the characters that it can have. `line(words)` is the same as crates/words_reader prints it. The table of commands and options is
 docs/commands.toml."""
-import os, re, string, tomllib
+import datetime, os, re, string, tomllib
 
 top = os.path.dirname(os.path.dirname(os.path.dirname(os.path.abspath(__file__))))
 table = tomllib.load(open(f"{top}/docs/commands.toml", "rb"))
@@ -14,7 +14,11 @@ COMMANDS = {command["name"]: command for command in table["commands"]}
 FILE_CHANGES = ("other-password", "set-key-file", "unset-password", "unset-key-file", "cipher", "kdf", "file-version")
 COSTS = ("rounds", "memory", "lanes")
 VERSIONS = ("at", "restore")
-CHANGES = ("title", "username", "url", "notes", "password-prompt", "generate", "otp")
+FURTHER = ("set", "protect", "unset", "tag", "untag", "expires")
+CHANGES = ("title", "username", "url", "notes", "password-prompt", "generate", "otp") + FURTHER
+STANDARD = ("Title", "UserName", "Password", "URL", "Notes")
+# White space as Unicode has it.
+WHITE = "\t\n\v\f\r \x85\xa0\u1680\u2000\u2001\u2002\u2003\u2004\u2005\u2006\u2007\u2008\u2009\u200a\u2028\u2029\u202f\u205f\u3000"
 PROFILE = ("length", "lower", "upper", "numeric", "special", "exclude")
 CLASSES = {"lower": string.ascii_lowercase, "upper": string.ascii_uppercase, "numeric": string.digits, "special": string.punctuation}
 
@@ -141,6 +145,40 @@ def check_entry_change(given):
         raise Wrong
 
 
+def is_tag(text):
+    """A tag is a text without a semicolon, a comma, or white space around it."""
+    return text != "" and text == text.strip(WHITE) and not set(text) & set(";,")
+
+
+def seconds(text):
+    """The seconds since the year 1 of a time in ISO 8601."""
+    found = re.fullmatch("([0-9]{4})-([0-9]{2})-([0-9]{2})T([0-9]{2}):([0-9]{2}):([0-9]{2})Z", text)
+    try:
+        return int((datetime.datetime(*map(int, found.groups())) - datetime.datetime(1, 1, 1)).total_seconds())
+    except (AttributeError, ValueError):
+        raise Wrong from None
+
+
+def check_further(given):
+    """What else of an entry is changed: fields of its own, tags, and when it expires."""
+    if any(name == "" or name in STANDARD for option in ("set", "unset") for name in given.get(option, [])):
+        raise Wrong
+    if not all(is_tag(tag) for option in ("tag", "untag") for tag in given.get(option, [])):
+        raise Wrong
+    if "protect" in given and "set" not in given:
+        raise Wrong
+    if given.get("expires", "never") != "never":
+        seconds(given["expires"])
+
+
+def check_attachment(command, given, positions):
+    """One of FILE and `--stdout` says where an attachment goes, and one that is put in has a name."""
+    if command == "attachment-export" and ("stdout" in given) == (len(positions) == 4):
+        raise Wrong
+    if command == "attachment-import" and positions[2] == "":
+        raise Wrong
+
+
 def check_change(given):
     """What a file is changed to: something, no part of the key both set and unset, and one of them left."""
     if not any(name in given for name in FILE_CHANGES):
@@ -182,6 +220,8 @@ def command_of(words):
         raise Wrong
     if command == "edit":
         check_entry_change(given)
+        check_further(given)
+    check_attachment(command, given, positions)
     if "totp" in given and ("all" in given or "show-attachments" in given):
         raise Wrong
     generated = None
@@ -218,7 +258,7 @@ def command_of(words):
     lines = 0 if plain or "no-password" in given else 1
     if command == "merge" and not (plain or same or "no-password-from" in given):
         lines += len(positions) - 1
-    lines += ("password-prompt" in given) + ("otp" in given) + ("other-password" in given)
+    lines += ("password-prompt" in given) + ("otp" in given) + ("other-password" in given) + len(given.get("set", []))
     return {"command": command, "given": given, "positions": positions, "lines": lines, "generated": generated, "kdf": kdf}
 
 
@@ -231,6 +271,16 @@ def access(name, plain, quiet, key_file, no_password):
 def profile_parts(generated):
     """The parts of a line for a generated password."""
     return [] if generated is None else [f"length={generated[0]}", f"alphabet={generated[1]}"]
+
+
+def further_parts(given):
+    """The parts of a line for fields of an entry's own, its tags, and when it expires."""
+    def all_of(name):
+        return [f"{name}={text}" for text in given.get(name, [])]
+
+    expiry = given.get("expires")
+    return (all_of("set") + ["protect"] * ("protect" in given) + all_of("unset") + all_of("tag") + all_of("untag")
+            + ([] if expiry is None else [f"expires={'never' if expiry == 'never' else seconds(expiry)}"]))
 
 
 def settings_parts(given, kdf):
@@ -257,7 +307,7 @@ def own_parts(command, given, positions, generated, kdf):
         return [f"entry={positions[1]}", f"restore={int(given['restore'])}"]
     if command in ("add", "edit"):
         return ([f"entry={positions[1]}"] + texts("title", "username", "url", "notes")
-                + (["password"] if "password-prompt" in given else []) + profile_parts(generated) + flags("otp"))
+                + (["password"] if "password-prompt" in given else []) + profile_parts(generated) + flags("otp") + further_parts(given))
     if command == "merge":
         opened = given.get("key-file-from"), "no-password-from" in given
         if "same-credentials" in given:
@@ -275,7 +325,11 @@ def own_parts(command, given, positions, generated, kdf):
         version = [f"version={given['file-version']}"] if "file-version" in given else []
         password = ["set-password"] if "other-password" in given else flags("unset-password")
         return password + (texts("set-key-file") or flags("unset-key-file")) + settings_parts(given, kdf) + version
-    names = {"history": ["entry"], "search": ["term"], "mv": ["node", "group"], "rm": ["entry"], "mkdir": ["group"], "rmdir": ["group"], "db-info": []}
+    if command == "attachment-export":
+        return [f"entry={positions[1]}", f"name={positions[2]}"] + [f"to={name}" for name in positions[3:]]
+    if command == "attachment-import":
+        return [f"entry={positions[1]}", f"name={positions[2]}", f"source={positions[3]}"] + flags("force")
+    names = {"history": ["entry"], "attachment-rm": ["entry", "name"], "search": ["term"], "mv": ["node", "group"], "rm": ["entry"], "mkdir": ["group"], "rmdir": ["group"], "db-info": []}
     return [f"{name}={word}" for name, word in zip(names[command], positions[1:], strict=True)]
 
 
