@@ -30,7 +30,7 @@ _keepass() {
   if [ "$COMP_CWORD" -eq 1 ]; then
     case $word in
       -*) COMPREPLY=($(compgen -W '--help --version --why' -- "$word")) ;;
-      *) COMPREPLY=($(compgen -W 'ls show history search add edit mv rm mkdir rmdir merge import db-create export db-edit db-info generate clip' -- "$word")) ;;
+      *) COMPREPLY=($(compgen -W 'ls show history search add edit mv rm mkdir rmdir merge import db-create export db-edit db-info generate attachment-export attachment-import attachment-rm clip' -- "$word")) ;;
     esac
     return
   fi
@@ -46,7 +46,7 @@ _keepass() {
   esac
   case $before in
     --key-file | --key-file-from | --set-key-file | -k) _keepass_files "$word" all; return ;;
-    --at | --attributes | --cipher | --exclude | --kdf | --lanes | --length | --memory | --name | --notes | --restore | --rounds | --seconds | --title | --url | --username | --version | -L | -a | -u | -x) return ;;
+    --at | --attributes | --cipher | --exclude | --expires | --kdf | --lanes | --length | --memory | --name | --notes | --restore | --rounds | --seconds | --set | --tag | --title | --unset | --untag | --url | --username | --version | -L | -a | -u | -x) return ;;
   esac
   case $command in
     ls) kinds=(file group) options='-R --recursive -f --flatten --ids -k --key-file --no-password --plain -q --quiet --help' ;;
@@ -54,7 +54,7 @@ _keepass() {
     history) kinds=(file entry) options='-k --key-file --no-password --plain -q --quiet --help' ;;
     search) kinds=(file nothing) options='-k --key-file --no-password --plain -q --quiet --help' ;;
     add) kinds=(file entry) options='-u --username --url --notes -p --password-prompt -g --generate -L --length -l --lower -U --upper -n --numeric -s --special -x --exclude -k --key-file --no-password --plain -q --quiet --help' ;;
-    edit) kinds=(file entry) options='-t --title -u --username --url --notes -p --password-prompt -g --generate -L --length -l --lower -U --upper -n --numeric -s --special -x --exclude --otp --restore -k --key-file --no-password --plain -q --quiet --help' ;;
+    edit) kinds=(file entry) options='-t --title -u --username --url --notes -p --password-prompt -g --generate -L --length -l --lower -U --upper -n --numeric -s --special -x --exclude --otp --set --protect --unset --tag --untag --expires --restore -k --key-file --no-password --plain -q --quiet --help' ;;
     mv) kinds=(file node group) options='-k --key-file --no-password --plain -q --quiet --help' ;;
     rm) kinds=(file entry) options='-k --key-file --no-password --plain -q --quiet --help' ;;
     mkdir) kinds=(file group) options='-k --key-file --no-password --plain -q --quiet --help' ;;
@@ -66,6 +66,9 @@ _keepass() {
     db-edit) kinds=(file) options='-p --set-password --set-key-file --unset-password --unset-key-file --cipher --kdf --rounds --memory --lanes --version -k --key-file --no-password -q --quiet --help' ;;
     db-info) kinds=(file) options='-k --key-file --no-password --plain -q --quiet --help' ;;
     generate) kinds=() options='-L --length -l --lower -U --upper -n --numeric -s --special -x --exclude --help' ;;
+    attachment-export) kinds=(file entry nothing any) options='--stdout -k --key-file --no-password --plain -q --quiet --help' ;;
+    attachment-import) kinds=(file entry nothing any) options='-f --force -k --key-file --no-password --plain -q --quiet --help' ;;
+    attachment-rm) kinds=(file entry nothing) options='-k --key-file --no-password --plain -q --quiet --help' ;;
     clip) kinds=(file entry field) options='-t --seconds -k --key-file --no-password --plain -q --quiet --help' ;;
     *) return ;;
   esac
@@ -77,7 +80,7 @@ _keepass() {
     case $value${COMP_WORDS[number]} in
       *=) value=1 ;;
       1*) value= ;;
-      --at | --attributes | --cipher | --exclude | --format | --kdf | --key-file | --key-file-from | --lanes | --length | --memory | --name | --notes | --restore | --rounds | --seconds | --set-key-file | --title | --url | --username | --version | -L | -a | -k | -u | -x) value=1 ;;
+      --at | --attributes | --cipher | --exclude | --expires | --format | --kdf | --key-file | --key-file-from | --lanes | --length | --memory | --name | --notes | --restore | --rounds | --seconds | --set | --set-key-file | --tag | --title | --unset | --untag | --url | --username | --version | -L | -a | -k | -u | -x) value=1 ;;
       -*) case "$command ${COMP_WORDS[number]}" in 'edit -t' | 'export -f' | 'clip -t') value=1 ;; esac ;;
       *)
         place=$((place + 1))
@@ -93,6 +96,7 @@ _keepass() {
   fi
   case $kind in
     file*) _keepass_files "$word" ;;
+    any) _keepass_files "$word" all ;;
     field) COMPREPLY=($(compgen -W 'Password UserName URL Notes Title' -- "$word")) ;;
     nothing) ;;
     *) _keepass_paths "$first" "$word" "$kind" ;;

@@ -93,6 +93,8 @@ find_limit() {
   size=$(stat -Lc %s -- "$subject" 2>/dev/null || printf 0)
   if [ "$subject" = input ]; then
     text='a line has more than 4096 bytes'
+  elif [ "$size" -gt 134217728 ] && [ "$command" = attachment-import ] && [ "$subject" = "${positions[3]}" ]; then
+    text="the file has $size bytes, and at most 134217728 are read"
   elif [ "$size" -gt 134217728 ]; then
     text="the file has $size bytes, and at most 134217728 are read: take attachments out of it"
   elif number=$(kdf_number M) && [ "${number:-0}" -gt 1073741824 ]; then

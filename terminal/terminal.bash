@@ -312,6 +312,7 @@ refuse_at_once() {
 # Refuses in the program's words, and in its order, what names a file that is not there, or is to be made and is there.
 test_files() {
   local place file
+  if [ "$command" = attachment-export ]; then test_new; fi
   for place in "${!files[@]}"; do
     if [ "$place" = "${#databases[@]}" ]; then test_new; fi
     file=${files[place]}
@@ -324,9 +325,9 @@ test_files() {
   test_new
 }
 
-# Refuses a new database under the name of a file.
+# Refuses a new file under the name of one that is there.
 test_new() {
-  case $command in import | db-create) if [ -f "$target" ]; then refuse_at_once "keepass: $target: file exists" 2; fi ;; esac
+  case $command in attachment-export | import | db-create) if [ -f "$target" ]; then refuse_at_once "keepass: $target: file exists" 2; fi ;; esac
 }
 
 # Reads the words, and takes out what belongs to the script: `--tty`, and the `-` of an export to the terminal. Sets
@@ -360,7 +361,7 @@ overview() {
   local name
   printf 'keepass COMMAND [OPTION..] DATABASE ..\n\n'
   printf '    keepass ls -R family.kdbx    lists all groups and entries\n\n'
-  for name in $command_order; do printf '%-9s  %s\n' "$name" "${command_briefs[$name]}"; done
+  for name in $command_order; do printf '%-17s  %s\n' "$name" "${command_briefs[$name]}"; done
   printf '\nkeepass COMMAND --help describes one command, keepass --help all of them, and\n'
   printf 'man keepass has more, with examples.\n'
 }
@@ -410,7 +411,7 @@ help() {
 # A call where a standard stream is a terminal.
 at_terminal() {
   local signs='' hints='' is_shown='' tty='' refusal='' status=0 child=''
-  local command reason positions=() words=() files=() databases=() sizes=() target='' lines=() due_lines=()
+  local command reason positions=() repeated=() words=() files=() databases=() sizes=() target='' lines=() due_lines=()
   take_words "$@"
   if ! is_given quiet && [ -t 2 ]; then
     if [ "${KEEPASS_HINTS-1}" != 0 ]; then hints=1; fi

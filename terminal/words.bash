@@ -74,9 +74,14 @@ no_option() {
   because "$command takes no option '$1'${near:-; keepass $command --help lists its options}"
 }
 
-# Keeps the option of `row` with its value, which is empty for a flag: once, unless it may be repeated.
+# Keeps the option of `row` with its value, which is empty for a flag: once, unless it may be repeated. `repeated` has each
+# of those that may, as NAME=VALUE.
 give() {
-  if [ -n "${given[${row%%:*}]+set}" ] && [ "${row##*:}" != many ]; then because "'--${row%%:*}' is given twice"; fi
+  if [ "${row##*:}" = many ]; then
+    repeated+=("${row%%:*}=$1")
+  elif [ -n "${given[${row%%:*}]+set}" ]; then
+    because "'--${row%%:*}' is given twice"
+  fi
   given[${row%%:*}]=$1
 }
 
@@ -263,21 +268,87 @@ read_version() {
   fi
 }
 
+# White space of Unicode, which a tag has at neither end.
+white_space=($'\t' $'\n' $'\v' $'\f' $'\r' ' ' $'\xc2\x85' $'\xc2\xa0' $'\xe1\x9a\x80'
+  $'\xe2\x80\x80' $'\xe2\x80\x81' $'\xe2\x80\x82' $'\xe2\x80\x83' $'\xe2\x80\x84' $'\xe2\x80\x85' $'\xe2\x80\x86' $'\xe2\x80\x87'
+  $'\xe2\x80\x88' $'\xe2\x80\x89' $'\xe2\x80\x8a' $'\xe2\x80\xa8' $'\xe2\x80\xa9' $'\xe2\x80\xaf' $'\xe2\x81\x9f' $'\xe3\x80\x80')
+
+# Whether a text is one tag.
+is_tag() {
+  local LC_ALL=C space
+  case $1 in '' | *[\;,]*) return 1 ;; esac
+  for space in "${white_space[@]}"; do
+    case $1 in "$space"* | *"$space") return 1 ;; esac
+  done
+}
+
+# Whether a text is a time as 2027-01-31T00:00:00Z, in the years 1 to 9999.
+is_time() {
+  local LC_ALL=C year month day days
+  [[ $1 =~ ^([0-9]{4})-([0-9]{2})-([0-9]{2})T([0-9]{2}):([0-9]{2}):([0-9]{2})Z$ ]] || return
+  year=$((10#${BASH_REMATCH[1]})) month=$((10#${BASH_REMATCH[2]})) day=$((10#${BASH_REMATCH[3]}))
+  case $month in
+    1 | 3 | 5 | 7 | 8 | 10 | 12) days=31 ;;
+    4 | 6 | 9 | 11) days=30 ;;
+    2) days=$((year % 4 == 0 && (year % 100 != 0 || year % 400 == 0) ? 29 : 28)) ;;
+    *) return 1 ;;
+  esac
+  [ "$year" -ge 1 ] && [ "$day" -ge 1 ] && [ "$day" -le "$days" ] &&
+    [ "$((10#${BASH_REMATCH[4]}))" -lt 24 ] && [ "$((10#${BASH_REMATCH[5]}))" -lt 60 ] && [ "$((10#${BASH_REMATCH[6]}))" -lt 60 ]
+}
+
+# Looks at what is said of fields, of tags, and of when an entry expires.
+read_further() {
+  local pair option
+  for pair in "${repeated[@]}"; do
+    option=--${pair%%=*} pair=${pair#*=}
+    case $option:$pair in
+      --set: | --unset:) because "'$option' needs the name of a field" ;;
+      --set:Title | --unset:Title) because "'$option' does not take 'Title': -t gives another title" ;;
+      --set:UserName | --unset:UserName) because "'$option' does not take 'UserName': -u gives another one" ;;
+      --set:Password | --unset:Password) because "'$option' does not take 'Password': -p gives another one" ;;
+      --set:URL | --unset:URL) because "'$option' does not take 'URL': --url gives another one" ;;
+      --set:Notes | --unset:Notes) because "'$option' does not take 'Notes': --notes gives others" ;;
+      --tag:* | --untag:*) if ! is_tag "$pair"; then because "'$option' needs one tag, without ; and , and white space around it: '$pair'"; fi ;;
+    esac
+  done
+  if is_given protect && ! is_given set; then because "'--protect' needs '--set NAME'"; fi
+  if is_given expires && [ "${given[expires]}" != never ] && ! is_time "${given[expires]}"; then
+    because "'--expires' needs a time as 2027-01-31T00:00:00Z, or never: '${given[expires]}'"
+  fi
+}
+
 # Looks at an edit: it restores a version and changes nothing else, or it changes something.
 read_edit() {
   local word
+  local changes=(title username url notes password-prompt generate otp set protect unset tag untag expires)
   if is_given restore; then
-    for word in title username url notes password-prompt generate otp length exclude lower upper numeric special; do
+    for word in "${changes[@]}" length exclude lower upper numeric special; do
       if is_given "$word"; then because "'--restore' does not go with '--$word'"; fi
     done
     read_version restore
     return
   fi
   read_profile
-  for word in title username url notes password-prompt generate otp; do
+  read_further
+  for word in "${changes[@]}"; do
     if is_given "$word"; then return; fi
   done
-  because 'nothing to change: give -t, -u, --url, --notes, -p, -g or --otp'
+  because 'nothing to change: give -t, -u, --url, --notes, -p, -g, --otp, --set, --unset, --tag, --untag or --expires'
+}
+
+# Looks at an attachment: what is taken out goes to a file or to standard output, and what is put in has a name.
+read_attachment() {
+  case $command in
+    attachment-export)
+      if is_given stdout && [ "${#positions[@]}" -gt 3 ]; then
+        because "'--stdout' does not go with FILE: '${positions[3]}'"
+      elif ! is_given stdout && [ "${#positions[@]}" -lt 4 ]; then
+        because 'attachment-export needs FILE or --stdout'
+      fi
+      ;;
+    attachment-import) if [ -z "${positions[2]-}" ]; then because 'attachment-import needs the name of an attachment'; fi ;;
+  esac
 }
 
 # Looks for options that do not go together, formats that are unknown, and an edit of nothing.
@@ -303,14 +374,15 @@ read_options() {
     db-create) read_settings ;;
     db-edit) read_change ;;
   esac
+  read_attachment
   if [ "$command" = edit ]; then read_edit; else read_profile; fi
 }
 
-# Reads the words of a call into `command`, `given` (the options with their values) and `positions`, and sets `reason`
-# to why they are no command, by the first cause from the left, or to nothing where they are one.
+# Reads the words of a call into `command`, `given` (the options with their values), `repeated` and `positions`, and sets
+# `reason` to why they are no command, by the first cause from the left, or to nothing where they are one.
 read_words() {
   local word due='' due_word='' ended=''
-  command=${1-} reason='' positions=()
+  command=${1-} reason='' positions=() repeated=()
   declare -gA given=()
   if [ $# = 0 ]; then
     because 'no command; keepass --help lists them'
@@ -412,17 +484,19 @@ files_of() {
     if is_given set-key-file; then files+=("${given[set-key-file]}"); fi
     return
   fi
+  if [ "$command" = attachment-export ]; then target=${positions[3]-}; fi
   if [ "$command" != db-create ]; then add_database "${positions[0]}" "$key"; fi
   if is_given set-key-file; then files+=("${given[set-key-file]}"); fi
+  if [ "$command" = attachment-import ]; then files+=("${positions[3]}"); fi
   if [ "$command" != merge ]; then return; fi
   if ! is_given same-credentials; then key=${given[key-file-from]-}; fi
   for source in "${positions[@]:1}"; do add_database "$source" "$key"; done
 }
 
 # What each line of the input that the words ask for is, in order: the passwords of databases, then that of an entry or of
-# a new database, and then a one-time code.
+# a new database, a one-time code, and the values of fields.
 lines_of() {
-  local source
+  local source pair
   lines=()
   if [ "$command" = generate ]; then return; fi
   if [ "$command" = import ]; then
@@ -437,4 +511,7 @@ lines_of() {
   fi
   if is_given password-prompt; then lines+=("New password of the entry"); fi
   if is_given otp; then lines+=("One-time code of the entry, otpauth://.."); fi
+  for pair in "${repeated[@]}"; do
+    case $pair in set=*) lines+=("Value of the field ${pair#*=}") ;; esac
+  done
 }
