@@ -128,6 +128,7 @@ fn resolved_attachments(
             return Err(refusal);
         }
     }
+    resolved.fit();
     Ok(resolved)
 }
 
@@ -188,6 +189,7 @@ fn resolved_versions(
             return Err(refusal);
         }
     }
+    resolved.fit();
     Ok(resolved)
 }
 
@@ -232,6 +234,7 @@ fn resolved_entries(
             return Err(refusal);
         }
     }
+    resolved.fit();
     Ok(resolved)
 }
 
@@ -292,5 +295,6 @@ fn resolved_groups(
             return Err(refusal);
         }
     }
+    resolved.fit();
     Ok(resolved)
 }

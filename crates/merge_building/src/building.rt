@@ -35,13 +35,15 @@ fn copy_group_content(alloc: Global, content: &GroupContent) -> Result<GroupCont
     })
 }
 
-/// A version, copied.
+/// A version, copied. Its fields take no more memory than they need.
 fn made_version(alloc: Global, version: &LentVersion) -> Result<Version, NoMemory>
     ensures { IfOk result (λ v. bare_version v ≡ version.now) }
 {
+    let mut content = copy_content(alloc, version.mark().content())?;
+    content.fields.fit();
     Ok(Version {
         modified: version.mark().modified(),
-        content: copy_content(alloc, version.mark().content())?,
+        content,
         stats: version.stats(),
     })
 }
@@ -55,6 +57,7 @@ fn made_history(alloc: Global, history: &[LentVersion]) -> Result<List<Version>,
         let one = made_version(alloc, version)?;
         put_last(&mut made, one)?;
     }
+    made.fit();
     Ok(made)
 }
 
@@ -101,6 +104,7 @@ fn made_entries(alloc: Global, from: &Shape, ids: &[Uuid]) -> Result<List<Entry>
     for id in ids {
         push_entry(alloc, from, *id, &mut entries)?;
     }
+    entries.fit();
     Ok(entries)
 }
 

@@ -1,4 +1,4 @@
-use Rattle.std.proofs.Common.{arith}
+use Rattle.std.proofs.Common.{arith, map, ap, ◌∙◌}
 use Rattle.std.specs.Vec.Iter.{into_iter_items}
 use Rattle.vault_model.specs.SeenNodes.{tree_seen}
 use Rattle.doc_forms.specs.declared.drafts.GroupDraft.TheViews.{out-GroupDraft}
@@ -25,5 +25,6 @@ resolved_groups-loop-draft-preserved t c =
 
 pub resolved_groups-returns : goal.resolved_groups-returns
 resolved_groups-returns t c =
-    all_made draft_seen (spec.resolved_tree c.args.pool.now) tree_seen _ (into_iter_items c.loop-draft.draft-iterator) c.loop-draft.resolved c.loop-draft.invariant
+    ap (map tree_seen) c.fit.ensures
+    ∙ all_made draft_seen (spec.resolved_tree c.args.pool.now) tree_seen _ (into_iter_items c.loop-draft.draft-iterator) c.loop-draft.resolved c.loop-draft.invariant
     (nothing_left _ (omega (arith, c.in-None.ensures.steps.0, c.loop-draft.draft-iterator.rest.ok.0)))

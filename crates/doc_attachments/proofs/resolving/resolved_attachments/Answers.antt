@@ -1,4 +1,4 @@
-use Rattle.std.proofs.Common.{◌+◌, drop}
+use Rattle.std.proofs.Common.{◌+◌, drop, map, ap, ◌∙◌}
 use Rattle.std.proofs.lemmas.List.{drop_all}
 use Rattle.vault_model.specs.Seen.{bare_attachment}
 use Rattle.doc_forms.specs.Attachments as spec
@@ -16,5 +16,6 @@ loop-draft-preserved c =
 
 pub returns : goal.returns
 returns c =
-    all_made attachment_seen (spec.resolved_attachment c.args.pool.now) bare_attachment _
+    ap (map bare_attachment) c.fit.ensures
+    ∙ all_made attachment_seen (spec.resolved_attachment c.args.pool.now) bare_attachment _
     (drop c.loop-draft.draft-index c.args.drafts.now) c.loop-draft.resolved c.loop-draft.invariant (drop_all _ _ c.loop-draft-test.false)

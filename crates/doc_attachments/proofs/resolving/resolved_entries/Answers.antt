@@ -1,4 +1,4 @@
-use Rattle.std.proofs.Common.{arith}
+use Rattle.std.proofs.Common.{arith, map, ap, ◌∙◌}
 use Rattle.std.specs.Vec.Iter.{into_iter_items}
 use Rattle.vault_model.specs.SeenNodes.{entry_row}
 use Rattle.doc_forms.specs.Attachments as spec
@@ -14,5 +14,6 @@ loop-draft-preserved c =
 
 pub returns : goal.returns
 returns c =
-    all_made entry_seen (spec.resolved_entry c.args.pool.now) entry_row _ (into_iter_items c.loop-draft.draft-iterator) c.loop-draft.resolved c.loop-draft.invariant
+    ap (map entry_row) c.fit.ensures
+    ∙ all_made entry_seen (spec.resolved_entry c.args.pool.now) entry_row _ (into_iter_items c.loop-draft.draft-iterator) c.loop-draft.resolved c.loop-draft.invariant
     (nothing_left _ (omega (arith, c.in-None.ensures.steps.0, c.loop-draft.draft-iterator.rest.ok.0)))

@@ -1,4 +1,4 @@
-use Rattle.std.proofs.Common.{arith}
+use Rattle.std.proofs.Common.{arith, map, ap, ◌∙◌}
 use Rattle.std.specs.Vec.Iter.{into_iter_items}
 use Rattle.vault_model.specs.SeenNodes.{bare_version}
 use Rattle.doc_forms.specs.Attachments as spec
@@ -14,5 +14,6 @@ loop-draft-preserved c =
 
 pub returns : goal.returns
 returns c =
-    all_made version_seen (spec.resolved_version c.args.pool.now) bare_version _ (into_iter_items c.loop-draft.draft-iterator) c.loop-draft.resolved c.loop-draft.invariant
+    ap (map bare_version) c.fit.ensures
+    ∙ all_made version_seen (spec.resolved_version c.args.pool.now) bare_version _ (into_iter_items c.loop-draft.draft-iterator) c.loop-draft.resolved c.loop-draft.invariant
     (nothing_left _ (omega (arith, c.in-None.ensures.steps.0, c.loop-draft.draft-iterator.rest.ok.0)))
