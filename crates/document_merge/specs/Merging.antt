@@ -5,17 +5,20 @@ use Rattle.vault_model.specs.declared.documents.Doc.{Doc}
 use Rattle.vault_model.specs.Db.{NodeId, Db}
 use Rattle.vault_model.specs.Join.{join}
 use Rattle.vault_model.specs.SeenDoc.{doc_seen}
+use Rattle.vault_model.specs.Shape.{lay}
+use Rattle.merge_nodes.specs.Shapes.{shape}
 use Rattle.vault_model.specs.Tree.{BareDoc, LEVELS, db_in, lay_doc, shape_of}
 use Rattle.merge_changes.specs.Equality.{same_all, same_doc, same_meta, same_tomb}
 use Rattle.merge_core.specs.Marking.{strays}
-use Rattle.merge_core.specs.Refusals.{kind_clashes, least, members, root_clashes, too_deep}
+use Rattle.merge_core.specs.Refusals.{CanMerge, kind_clashes, least, members, root_clashes, too_deep}
 use Rattle.merge_join.specs.declared.marking.JoinRefusal.{JoinRefusal}
 use Rattle.merge_join.specs.declared.marking.JoinRefusal.TheVariants.{Stray}
 use Rattle.merge_join.specs.declared.marking.JoinRefusal.TheVariants as refusal
-use Rattle.merge_changes.specs.Changes.{all_changes}
+use Rattle.merge_changes.specs.Changes.{all_changes, node_changes}
 use Rattle.merge_checks.specs.Cycles.{cycle_above}
 use Rattle.document_merge.specs.declared.merging.MergeFail.{MergeFail}
 use Rattle.document_merge.specs.declared.merging.MergeFail.TheVariants.{RootClash, KindClash, MoveCycle, TooDeep, NoMemory}
+use Rattle.document_merge.specs.declared.merging.Laid.{Laid}
 use Rattle.document_merge.specs.declared.merging.Merged.{Merged}
 use Rattle.document_merge.specs.declared.merging.Refused.{Refused}
 
@@ -55,6 +58,12 @@ pub record IsReport (t : BareDoc) (ss : List BareDoc) (m : Merged) : Type 0 wher
       (same_meta t.meta (doc_seen m.doc).meta) (same_all same_tomb t.tombs (doc_seen m.doc).tombs)
       (same_doc t (doc_seen m.doc))
 
+-- The join of documents that can be merged, laid over the target, and what changed of its nodes.
+pub record IsLaid (t : BareDoc) (ss : List BareDoc) (l : Laid) : Type 0 where
+  pub can_merge : CanMerge t ss
+  pub shape : shape l.shape ≡ lay (join (members t ss)) (shape_of t)
+  pub changes : l.changes ≡ node_changes (shape_of t).entries (db_in t) (join (members t ss))
+
 -- a call results in what is defined, with its report, unless memory runs out
 abbrev pub IsMergeResult : MergeResult → BareDoc → List BareDoc → Result Merged MergeFail → Type 0
 IsMergeResult defined t ss (Ok m) = (defined ≡ Ok (doc_seen m.doc)) × IsReport t ss m
@@ -63,6 +72,12 @@ IsMergeResult defined t ss (Err (RootClash u)) = defined ≡ Err (RootClash u)
 IsMergeResult defined t ss (Err (KindClash u)) = defined ≡ Err (KindClash u)
 IsMergeResult defined t ss (Err (MoveCycle us)) = defined ≡ Err (MoveCycle us)
 IsMergeResult defined t ss (Err (TooDeep u)) = defined ≡ Err (TooDeep u)
+
+-- a call lays what is defined, or refuses it, unless memory runs out
+abbrev pub IsLaidResult : MergeResult → BareDoc → List BareDoc → Result Laid MergeFail → Type 0
+IsLaidResult defined t ss (Ok l) =
+    (defined ≡ Ok (lay_doc LEVELS (join (members t ss)) t)) × IsLaid t ss l
+IsLaidResult defined t ss (Err why) = IsMergeResult defined t ss (Err why)
 
 -- the target is handed back as it was, and nothing where memory ran out
 abbrev pub HandsBack : BareDoc → MergeFail → Option Doc → Type 0

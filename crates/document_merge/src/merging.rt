@@ -1,12 +1,11 @@
 //! Documents merged into one.
 ghost use Rattle.std.specs.Prelude.{◌≡◌, ◌∷◌, None, Ok, Err, IfOk, map, true};
 ghost use Rattle.std.specs.FinMap.{contains_key};
-ghost use Rattle.vault_model.specs.Db.{Sound};
 ghost use Rattle.vault_model.specs.Join.{join};
 ghost use Rattle.vault_model.specs.Proper.{rises};
 ghost use Rattle.vault_model.specs.SeenDoc.{doc_seen};
-ghost use Rattle.vault_model.specs.Shape.{lay};
 ghost use Rattle.vault_model.specs.Tree.{IsDoc, LEVELS, db_in, doc_of, lay_doc, shape_of};
+ghost use Rattle.merge_changes.specs.Changes.{node_changes};
 ghost use Rattle.merge_changes.specs.Equality as spec;
 ghost use Rattle.merge_changes.specs.Equality.{same_all, same_meta, same_tomb};
 ghost use Rattle.merge_core.specs.Marking.{strays};
@@ -14,12 +13,12 @@ ghost use Rattle.merge_core.specs.Refusals.{CanMerge, kind_clashes, least, membe
 ghost use Rattle.merge_tables.specs.Databases.{database, databases};
 ghost use Rattle.merge_nodes.specs.Shapes.{shape};
 ghost use Rattle.merge_join.specs.Marks.{AreKept, AreKnown};
-ghost use Rattle.document_merge.specs.Merging.{HandsBack, IsFailOf, IsMergeCall, IsMergeResult, level_stage, kind_stage, merge_result, path_stage};
+ghost use Rattle.document_merge.specs.Merging.{HandsBack, IsFailOf, IsLaid, IsLaidResult, IsMergeCall, IsMergeResult, IsReport, level_stage, kind_stage, merge_result, path_stage};
 
 use merge_arranging::laying::lay;
 use merge_building::laid::laid_doc;
 use merge_building::metas::made_meta;
-use merge_changes::changes::{Change, Sameness, changes};
+use merge_changes::changes::{Change, Sameness, changed_nodes, push_document_changes};
 use merge_changes::equality::{same_doc, same_meta, same_tombs};
 use merge_checks::copies::members_of;
 use merge_checks::cycles::cycle_above;
@@ -71,6 +70,14 @@ pub struct Merged {
     pub changes: List<Change>,
 }
 
+/// The join of some documents laid over the target, whose parts they lend, and what changed of its
+/// nodes.
+#[derive(Drop)]
+pub struct Laid<'a> {
+    shape: Shape<'a>,
+    changes: List<Change>,
+}
+
 /// A refusal, and the target handed back as it was unless memory ran out.
 #[derive(Drop)]
 pub struct Refused {
@@ -94,136 +101,85 @@ fn sameness(target: &Doc, doc: &Doc) -> Sameness
     }
 }
 
-/// The document of a shape that is one.
-fn built(alloc: Global, from: &Shape) -> Result<Doc, NoMemory>
-    requires doc { IsDoc (doc_of LEVELS (shape from.now)) }
-    requires root { contains_key (shape from.now).groups (shape from.now).root ≡ true }
-    ensures { IfOk result (λ d. doc_seen d ≡ doc_of LEVELS (shape from.now)) }
-{
-    let meta = made_meta(alloc, &from.meta)?;
-    laid_doc(alloc, from, meta)
-}
-
-/// A database laid over an older document.
-fn laid_over<'a>(alloc: Global, joined: &Database<'a>, older: &Shape<'a>) -> Result<Doc, NoMemory>
-    requires joined { Sound (database joined.now) }
-    requires laid { IsDoc (doc_of LEVELS (lay (database joined.now) (shape older.now))) }
-    ensures { IfOk result (λ d. doc_seen d
-        ≡ doc_of LEVELS (lay (database joined.now) (shape older.now))) }
-{
-    let newer = lay(alloc, joined, older)?;
-    let doc = built(alloc, &newer);
-    drop(newer);
-    doc
-}
-
-/// The joined database laid over the target.
-fn laid<'a>(
+/// The join of the members laid over the target, which is this shape, with what changed of its
+/// nodes.
+fn lay_over<'a>(
     alloc: Global,
-    target: &'a Doc,
+    _target: &'a Doc,
     _sources: &[Doc],
-    joined: &Database<'a>,
-    older: &Shape<'a>,
-) -> Result<Doc, NoMemory>
-    requires joined { database joined.now
-        ≡ join (members (doc_seen target.now) (map doc_seen _sources.now)) }
-    requires older { shape older.now ≡ shape_of (doc_seen target.now) }
-    requires can_merge { CanMerge (doc_seen target.now) (map doc_seen _sources.now) }
-    ensures { IfOk result (λ d. doc_seen d ≡ lay_doc LEVELS
-        (join (members (doc_seen target.now) (map doc_seen _sources.now))) (doc_seen target.now)) }
-{
-    laid_over(alloc, joined, older)
-}
-
-/// The join of the members laid over the target, which is this shape, with what changed.
-fn merge_over<'a>(
-    alloc: Global,
-    target: &'a Doc,
-    sources: &[Doc],
     before: &Database<'a>,
     joined: &Database<'a>,
     older: &Shape<'a>,
-) -> Result<Merged, MergeFail>
-    requires before { database before.now ≡ db_in (doc_seen target.now) }
+) -> Result<Laid<'a>, NoMemory>
+    requires before { database before.now ≡ db_in (doc_seen _target.now) }
     requires joined { database joined.now
-        ≡ join (members (doc_seen target.now) (map doc_seen sources.now)) }
-    requires older { shape older.now ≡ shape_of (doc_seen target.now) }
-    requires entries { older.now.entries ≡ (shape_of (doc_seen target.now)).entries }
-    requires can_merge { CanMerge (doc_seen target.now) (map doc_seen sources.now) }
-    ensures { IsMergeResult (Ok (lay_doc LEVELS
-        (join (members (doc_seen target.now) (map doc_seen sources.now))) (doc_seen target.now)))
-        (doc_seen target.now) (map doc_seen sources.now) result }
+        ≡ join (members (doc_seen _target.now) (map doc_seen _sources.now)) }
+    requires older { shape older.now ≡ shape_of (doc_seen _target.now) }
+    requires entries { older.now.entries ≡ (shape_of (doc_seen _target.now)).entries }
+    requires can_merge { CanMerge (doc_seen _target.now) (map doc_seen _sources.now) }
+    ensures { IfOk result (IsLaid (doc_seen _target.now) (map doc_seen _sources.now)) }
 {
-    let doc = laid(alloc, target, sources, joined, older)?;
-    let same = sameness(target, &doc);
-    match changes(alloc, &older.entries, before, joined, same) {
-        Ok(changes) => Ok(Merged {
-            doc,
-            changed: !same.all,
-            changes,
-        }),
-        Err(_failed) => {
-            drop(doc);
-            Err(MergeFail::NoMemory)
+    let changes = changed_nodes(alloc, &older.entries, before, joined)?;
+    match lay(alloc, joined, older) {
+        Ok(shape) => Ok(Laid { shape, changes }),
+        Err(failed) => {
+            drop(changes);
+            Err(failed)
         }
     }
 }
 
 /// The join of the members laid over the target, where no kept node is too deep.
-fn merge_joined<'a>(
+fn lay_joined<'a>(
     alloc: Global,
     target: &'a Doc,
     sources: &[Doc],
     copies: &[Database<'a>],
     joined: &Database<'a>,
-) -> Result<Merged, MergeFail>
+) -> Result<Laid<'a>, NoMemory>
     requires copies { databases copies.now
         ≡ members (doc_seen target.now) (map doc_seen sources.now) }
     requires can_merge { CanMerge (doc_seen target.now) (map doc_seen sources.now) }
     requires joined { database joined.now ≡ join (databases copies.now) }
-    ensures { IsMergeResult (Ok (lay_doc LEVELS
-        (join (members (doc_seen target.now) (map doc_seen sources.now))) (doc_seen target.now)))
-        (doc_seen target.now) (map doc_seen sources.now) result }
+    ensures { IfOk result (IsLaid (doc_seen target.now) (map doc_seen sources.now)) }
 {
     let older = shape_of(alloc, target)?;
-    let merged = merge_over(alloc, target, sources, &copies[0], joined, &older);
+    let laid = lay_over(alloc, target, sources, &copies[0], joined, &older);
     drop(older);
-    merged
+    laid
 }
 
-/// Documents merged that no refusal is about; the kept nodes are marked.
-fn merge_allowed<'a>(
+/// Documents laid together that no refusal is about; the kept nodes are marked.
+fn lay_allowed<'a>(
     alloc: Global,
     target: &'a Doc,
     sources: &[Doc],
     copies: &[Database<'a>],
     known: &[Uuid],
     marked: &Table<bool>,
-) -> Result<Merged, MergeFail>
+) -> Result<Laid<'a>, NoMemory>
     requires copies { databases copies.now
         ≡ members (doc_seen target.now) (map doc_seen sources.now) }
     requires can_merge { CanMerge (doc_seen target.now) (map doc_seen sources.now) }
     requires known { AreKnown (databases copies.now) known.now }
     requires kept { AreKept (databases copies.now) marked.now }
-    ensures { IsMergeResult (Ok (lay_doc LEVELS
-        (join (members (doc_seen target.now) (map doc_seen sources.now))) (doc_seen target.now)))
-        (doc_seen target.now) (map doc_seen sources.now) result }
+    ensures { IfOk result (IsLaid (doc_seen target.now) (map doc_seen sources.now)) }
 {
     let joined = join_marked(alloc, copies, marked, known)?;
-    let merged = merge_joined(alloc, target, sources, copies, &joined);
+    let laid = lay_joined(alloc, target, sources, copies, &joined);
     drop(joined);
-    merged
+    laid
 }
 
-/// Documents merged whose own nodes all have a path to the root; the kept nodes are marked.
-fn merge_marked<'a>(
+/// Documents laid together whose own nodes all have a path to the root; the kept nodes are marked.
+fn lay_marked<'a>(
     alloc: Global,
     target: &'a Doc,
     sources: &[Doc],
     copies: &[Database<'a>],
     known: &[Uuid],
     marked: &Table<bool>,
-) -> Result<Merged, MergeFail>
+) -> Result<Laid<'a>, MergeFail>
     requires clear { least (root_clashes (doc_seen target.now ∷ map doc_seen sources.now)) ≡ None }
     requires copies { databases copies.now
         ≡ members (doc_seen target.now) (map doc_seen sources.now) }
@@ -232,14 +188,17 @@ fn merge_marked<'a>(
     requires known { AreKnown (databases copies.now) known.now }
     requires kept { AreKept (databases copies.now) marked.now }
     requires strays { least (strays (databases copies.now)) ≡ None }
-    ensures { IsMergeResult (level_stage (doc_seen target.now) (map doc_seen sources.now))
+    ensures { IsLaidResult (level_stage (doc_seen target.now) (map doc_seen sources.now))
         (doc_seen target.now) (map doc_seen sources.now) result }
 {
     let found = least_too_deep(copies, marked, known);
     if let Some(id) = found {
         return Err(MergeFail::TooDeep(id));
     }
-    merge_allowed(alloc, target, sources, copies, known, marked)
+    match lay_allowed(alloc, target, sources, copies, known, marked) {
+        Ok(laid) => Ok(laid),
+        Err(_failed) => Err(MergeFail::NoMemory),
+    }
 }
 
 /// Why documents are not merged, where their databases are not joined.
@@ -255,40 +214,40 @@ fn fail_of(alloc: Global, copies: &[Database], refusal: JoinRefusal) -> MergeFai
     }
 }
 
-/// Documents merged in which each id is of one kind.
-fn merge_kinds<'a>(
+/// Documents laid together in which each id is of one kind.
+fn lay_kinds<'a>(
     alloc: Global,
     target: &'a Doc,
     sources: &[Doc],
     copies: &[Database<'a>],
     known: &[Uuid],
-) -> Result<Merged, MergeFail>
+) -> Result<Laid<'a>, MergeFail>
     requires clear { least (root_clashes (doc_seen target.now ∷ map doc_seen sources.now)) ≡ None }
     requires copies { databases copies.now
         ≡ members (doc_seen target.now) (map doc_seen sources.now) }
     requires kinds { least (kind_clashes (databases copies.now)) ≡ None }
     requires rising { rises (λ u. u) known.now ≡ true }
     requires known { AreKnown (databases copies.now) known.now }
-    ensures { IsMergeResult (path_stage (doc_seen target.now) (map doc_seen sources.now))
+    ensures { IsLaidResult (path_stage (doc_seen target.now) (map doc_seen sources.now))
         (doc_seen target.now) (map doc_seen sources.now) result }
 {
     match kept_marks(alloc, copies, known) {
-        Ok(marked) => merge_marked(alloc, target, sources, copies, known, &marked),
+        Ok(marked) => lay_marked(alloc, target, sources, copies, known, &marked),
         Err(refusal) => Err(fail_of(alloc, copies, refusal)),
     }
 }
 
-/// Documents merged in which no node but a root has a root's id, with their databases.
-fn merge_copies<'a>(
+/// Documents laid together in which no node but a root has a root's id, with their databases.
+fn lay_copies<'a>(
     alloc: Global,
     target: &'a Doc,
     sources: &[Doc],
     copies: &[Database<'a>],
-) -> Result<Merged, MergeFail>
+) -> Result<Laid<'a>, MergeFail>
     requires clear { least (root_clashes (doc_seen target.now ∷ map doc_seen sources.now)) ≡ None }
     requires copies { databases copies.now
         ≡ members (doc_seen target.now) (map doc_seen sources.now) }
-    ensures { IsMergeResult (kind_stage (doc_seen target.now) (map doc_seen sources.now))
+    ensures { IsLaidResult (kind_stage (doc_seen target.now) (map doc_seen sources.now))
         (doc_seen target.now) (map doc_seen sources.now) result }
 {
     let known = rising_known_ids(alloc, copies)?;
@@ -296,31 +255,126 @@ fn merge_copies<'a>(
     if let Some(id) = found {
         return Err(MergeFail::KindClash(id));
     }
-    merge_kinds(alloc, target, sources, copies, known.as_slice())
+    lay_kinds(alloc, target, sources, copies, known.as_slice())
 }
 
-/// Documents merged in which no node but a root has a root's id.
-fn merge_members(alloc: Global, target: &Doc, sources: &[Doc]) -> Result<Merged, MergeFail>
+/// Documents laid together in which no node but a root has a root's id.
+fn lay_members<'a>(
+    alloc: Global,
+    target: &'a Doc,
+    sources: &'a [Doc],
+) -> Result<Laid<'a>, MergeFail>
     requires clear { least (root_clashes (doc_seen target.now ∷ map doc_seen sources.now)) ≡ None }
-    ensures { IsMergeResult (kind_stage (doc_seen target.now) (map doc_seen sources.now))
+    ensures { IsLaidResult (kind_stage (doc_seen target.now) (map doc_seen sources.now))
         (doc_seen target.now) (map doc_seen sources.now) result }
 {
     let copies = members_of(alloc, target, sources)?;
-    let merged = merge_copies(alloc, target, sources, copies.as_slice());
+    let laid = lay_copies(alloc, target, sources, copies.as_slice());
     drop(copies);
-    merged
+    laid
 }
 
-/// Documents merged, all of them lent.
-pub fn merge_lent(alloc: Global, target: &Doc, sources: &[Doc]) -> Result<Merged, MergeFail>
-    ensures { IsMergeResult (merge_result (doc_seen target.now) (map doc_seen sources.now))
+/// Documents laid together, or the first refusal.
+fn lay_docs<'a>(alloc: Global, target: &'a Doc, sources: &'a [Doc]) -> Result<Laid<'a>, MergeFail>
+    ensures { IsLaidResult (merge_result (doc_seen target.now) (map doc_seen sources.now))
         (doc_seen target.now) (map doc_seen sources.now) result }
 {
     let found = root_clash(alloc, target, sources)?;
     if let Some(id) = found {
         return Err(MergeFail::RootClash(id));
     }
-    merge_members(alloc, target, sources)
+    lay_members(alloc, target, sources)
+}
+
+/// The document of a shape that is one.
+fn built(alloc: Global, from: &Shape) -> Result<Doc, NoMemory>
+    requires doc { IsDoc (doc_of LEVELS (shape from.now)) }
+    requires root { contains_key (shape from.now).groups (shape from.now).root ≡ true }
+    ensures { IfOk result (λ d. doc_seen d ≡ doc_of LEVELS (shape from.now)) }
+{
+    let meta = made_meta(alloc, &from.meta)?;
+    laid_doc(alloc, from, meta)
+}
+
+/// The document that was laid over the target.
+fn laid_over(
+    alloc: Global,
+    _target: &Doc,
+    _sources: &[Doc],
+    laid: &Laid<'_>,
+) -> Result<Doc, NoMemory>
+    requires { IsLaid (doc_seen _target.now) (map doc_seen _sources.now) laid.now }
+    ensures { IfOk result (λ d. doc_seen d ≡ lay_doc LEVELS
+        (join (members (doc_seen _target.now) (map doc_seen _sources.now)))
+        (doc_seen _target.now)) }
+{
+    built(alloc, &laid.shape)
+}
+
+/// The merged document, with the changes of its nodes and of itself.
+fn reported(
+    target: &Doc,
+    _sources: &[Doc],
+    doc: Doc,
+    changes: List<Change>,
+) -> Result<Merged, NoMemory>
+    requires { changes ≡ node_changes (shape_of (doc_seen target.now)).entries
+        (db_in (doc_seen target.now))
+        (join (members (doc_seen target.now) (map doc_seen _sources.now))) }
+    ensures doc { IfOk result (λ m. doc_seen m.doc ≡ doc_seen doc) }
+    ensures report { IfOk result (IsReport (doc_seen target.now) (map doc_seen _sources.now)) }
+{
+    let same = sameness(target, &doc);
+    let mut changes = changes;
+    match push_document_changes(&mut changes, same) {
+        Ok(()) => Ok(Merged {
+            doc,
+            changed: !same.all,
+            changes,
+        }),
+        Err(failed) => {
+            drop(doc);
+            drop(changes);
+            Err(failed)
+        }
+    }
+}
+
+/// The document that was laid over the target, once what it is made of is lent no more.
+fn finished(
+    alloc: Global,
+    target: &Doc,
+    sources: &[Doc],
+    laid: Laid<'_>,
+) -> Result<Merged, MergeFail>
+    requires { IsLaid (doc_seen target.now) (map doc_seen sources.now) laid }
+    ensures { IsMergeResult (Ok (lay_doc LEVELS
+        (join (members (doc_seen target.now) (map doc_seen sources.now))) (doc_seen target.now)))
+        (doc_seen target.now) (map doc_seen sources.now) result }
+{
+    let made = laid_over(alloc, target, sources, &laid);
+    let Laid { shape, changes } = laid;
+    drop(shape);
+    match made {
+        Ok(doc) => Ok(reported(target, sources, doc, changes)?),
+        Err(_failed) => {
+            drop(changes);
+            Err(MergeFail::NoMemory)
+        }
+    }
+}
+
+/// Documents merged, all of them lent.
+///
+/// What the databases of the documents take is given back before the merged document is built.
+pub fn merge_lent(alloc: Global, target: &Doc, sources: &[Doc]) -> Result<Merged, MergeFail>
+    ensures { IsMergeResult (merge_result (doc_seen target.now) (map doc_seen sources.now))
+        (doc_seen target.now) (map doc_seen sources.now) result }
+{
+    match lay_docs(alloc, target, sources) {
+        Ok(laid) => finished(alloc, target, sources, laid),
+        Err(why) => Err(why),
+    }
 }
 
 /// A refusal with the target, or without it where memory ran out.

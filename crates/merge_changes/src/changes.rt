@@ -4,7 +4,8 @@ ghost use Rattle.std.specs.Option.{option_copied};
 ghost use Rattle.vault_model.specs.Unite.{tabulate};
 ghost use Rattle.merge_changes.specs.Equality.{same_all, same_state, same_stats};
 ghost use Rattle.merge_tables.specs.Databases.{database};
-ghost use Rattle.merge_changes.specs.Changes.{all_changes, changes_at, entry_changes, group_changes, is_last, node_changes, nodes_of, or_order, rising_ids, same_place, same_use, same_versions, stays_current};
+ghost use Rattle.merge_changes.specs.declared.changes.Change.TheVariants.{Metadata, Deletions};
+ghost use Rattle.merge_changes.specs.Changes.{changes_at, entry_changes, group_changes, is_last, node_changes, nodes_of, or_order, rising_ids, same_place, same_use, same_versions, stays_current};
 
 use merge_nodes::shapes::LentEntry;
 use merge_tables::databases::Database;
@@ -236,8 +237,9 @@ fn rising_nodes(alloc: Global, before: &Database, after: &Database) -> Result<Ve
     Ok(rising)
 }
 
-/// The changes of all nodes, by rising id.
-fn changed_nodes(
+/// The changes of all nodes, by rising id, from a database, whose document had these entries, to
+/// another.
+pub fn changed_nodes(
     alloc: Global,
     older: &Table<LentEntry>,
     before: &Database,
@@ -255,23 +257,15 @@ fn changed_nodes(
     Ok(changes)
 }
 
-/// The changes of a database, whose document had these entries: of its nodes by rising id, of what
-/// it says of itself, of its tombstones; and, where these are all the same and the documents are
-/// not, of its arrangement.
-pub fn changes(
-    alloc: Global,
-    older: &Table<LentEntry>,
-    before: &Database,
-    after: &Database,
-    same: Sameness,
-) -> Result<List<Change>, NoMemory>
-    ensures { IfOk result (λ cs. cs ≡ all_changes older.now (database before.now)
-        (database after.now) same.meta same.tombs same.all) }
+/// Appends to the changes of all nodes those of what the document says of itself and of its
+/// tombstones; and, where there are none of these and the documents are not the same, that of its
+/// arrangement. A refusal means that memory ran out.
+pub fn push_document_changes(changes: &mut List<Change>, same: Sameness) -> Result<(), NoMemory>
+    ensures { OnOk result (changes.new ≡ or_order same.all (changes.old
+        ++ (cond same.meta [] (Metadata ∷ []) ++ cond same.tombs [] (Deletions ∷ [])))) }
 {
-    let mut changes = changed_nodes(alloc, older, before, after)?;
-    push_unless(&mut changes, Change::Metadata, same.meta)?;
-    push_unless(&mut changes, Change::Deletions, same.tombs)?;
+    push_unless(changes, Change::Metadata, same.meta)?;
+    push_unless(changes, Change::Deletions, same.tombs)?;
     let is_listed = changes.len() > 0;
-    push_unless(&mut changes, Change::Order, is_listed || same.all)?;
-    Ok(changes)
+    push_unless(changes, Change::Order, is_listed || same.all)
 }

@@ -3,7 +3,7 @@ use Rattle.std.proofs.Common.{map}
 use Rattle.vault_model.specs.SeenDoc.{doc_seen}
 use Rattle.merge_tables.specs.Databases.{databases}
 use Rattle.document_merge.proofs.MergedDocs.{all_rooted, all_sound, path_refused, some_members}
-use Rattle.document_merge.proofs.merging.merge_kinds.Goals as goal
+use Rattle.document_merge.proofs.merging.lay_kinds.Goals as goal
 
 pub kept_marks-requires-clause-some : goal.kept_marks-requires-clause-some
 kept_marks-requires-clause-some c = some_members c.args.copies.now _ _ c.requires.copies
