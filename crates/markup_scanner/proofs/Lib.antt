@@ -1,4 +1,5 @@
 pub mod Asides
+pub mod LaneRuns
 pub mod Literals
 pub mod Numbers
 pub mod References

@@ -26,6 +26,15 @@ value_parts : (quote b : ℕ) → is_value quote b ≡ true → (is_text b ≡ t
 unfolding is_value
 value_parts quote b e = both_parts (is_text b) (eqb b quote) e
 
+no_tag_in_text : (b : ℕ) (t : Bool) → is_text b ≡ t → (t && not (eqb b 60)) ≡ t
+no_tag_in_text b true holds = ap not (differ is_text b 60 holds text_not_tag)
+no_tag_in_text b false fails = refl
+
+-- a run of text is a value between two `<`
+pub text_run : (text : List ℕ) (at : ℕ) → run_end (is_value 60) text at ≡ run_end is_text text at
+unfolding is_value
+text_run text at = ap (λ test. run_end test text at) (λ i b. no_tag_in_text b (is_text b) refl i)
+
 text_turn : (text : List ℕ) (place : ℕ) (name : List ℕ) (names : Names) (at b : ℕ) → place ≤ at → StandsAt text at b → is_text b ≡ true → step (in_words place (slice_range text place at) name names) at b ≡ on [] (in_words place (slice_range text place (at + 1)) name names)
 text_turn text place name names at b le stand holds =
     rw (differ is_text b 60 holds text_not_tag, differ is_text b 38 holds text_not_amp, holds)

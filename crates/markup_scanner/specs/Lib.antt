@@ -1,7 +1,7 @@
 pub mod Asides
+pub mod Lanes
 pub mod Left
 pub mod Numbers
-pub mod Runs
 pub mod Scans
 pub mod Spans
 pub mod Tags

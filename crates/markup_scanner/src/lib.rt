@@ -4,6 +4,7 @@
 mod aside;
 mod bytes;
 mod fronts;
+mod lanes;
 mod reference;
 mod run;
 mod tag;

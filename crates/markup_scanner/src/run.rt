@@ -1,15 +1,13 @@
 //! Where runs of bytes end in a text, names and white space among them.
 
 ghost use Rattle.std.specs.Prelude.{◌≡◌, ◌≤◌, ◌<◌, ◌+◌, ℕ, List, [], length, drop, MatchOption, MatchBool, IfSome, IsTrue};
-ghost use Rattle.std.specs.List.{prefix_len};
 ghost use Rattle.markup_grammar.specs.Bytes as bytes_of;
 ghost use Rattle.markup_grammar.specs.Machine.{State};
 ghost use Rattle.markup_scanner.specs.Left.{StandsAt, BeginsWithout};
-ghost use Rattle.markup_scanner.specs.Runs.{is_in_run};
 ghost use Rattle.markup_scanner.specs.Scans.{run_end, IsPast, EndsWithin, NameEnds, Await, Leads};
 
-use crate::bytes::{begins_name, is_in_name, is_plain, is_quoted, is_space};
-use crate::fronts::after;
+use crate::bytes::{begins_name, is_in_name, is_quoted, is_space};
+use crate::lanes::{LANES, name_lanes, quoted_lanes};
 
 /// The byte at a place.
 #[inline(always)]
@@ -50,49 +48,19 @@ pub(crate) fn past(text: &[u8], at: usize, byte: u8) -> Result<usize, usize>
     }
 }
 
-/// What a run of bytes is made of.
-#[derive(Clone, Copy)]
-enum Run {
-    /// White space.
-    Space,
-    /// What may be in a name.
-    Name,
-    /// What stands for itself in text.
-    Plain,
-    /// What stands for itself in a value between these quotes.
-    Quoted(u8),
-}
-
-/// Whether the byte may be in a run.
-#[inline(always)]
-fn is_in_run(run: Run, byte: u8) -> bool
-    ensures { result ≡ is_in_run run byte }
-{
-    match run {
-        Run::Space => is_space(byte),
-        Run::Name => is_in_name(byte),
-        Run::Plain => is_plain(byte),
-        Run::Quoted(quote) => is_quoted(quote, byte),
-    }
-}
-
-/// How many bytes of a run the bytes begin with.
-#[inline(always)]
-fn run_len(bytes: &[u8], run: Run) -> usize
-    ensures len { result ≡ prefix_len (is_in_run run) bytes.now }
-    ensures within { result ≤ length bytes.now }
-{
-    bytes.iter().take_while(|b| is_in_run(run, **b)).count()
-}
-
 /// The end of the white space that is at a place.
+#[inline(always)]
 pub(crate) fn space_end(text: &[u8], at: usize) -> usize
     requires { at ≤ length text.now }
     ensures run { result ≡ run_end bytes_of.is_space text.now at }
     ensures from { at ≤ result }
     ensures within { result ≤ length text.now }
 {
-    at + run_len(after(text, at), Run::Space)
+    let mut end = at;
+    while end < text.len() && is_space(text[end]) {
+        end += 1;
+    }
+    end
 }
 
 /// The end of the bytes at a place that may be in a name.
@@ -102,17 +70,40 @@ pub(crate) fn in_name_end(text: &[u8], at: usize) -> usize
     ensures from { at ≤ result }
     ensures within { result ≤ length text.now }
 {
-    at + run_len(after(text, at), Run::Name)
+    let mut end = at;
+    while text.len() - end >= LANES {
+        let len = name_lanes(text, end);
+        if len < LANES {
+            return end + len;
+        }
+        end += LANES;
+    }
+    in_name_end_by_bytes(text, end)
 }
 
-/// The end of the bytes at a place that stand for themselves in text.
+/// The same, byte by byte.
+fn in_name_end_by_bytes(text: &[u8], at: usize) -> usize
+    requires { at ≤ length text.now }
+    ensures run { result ≡ run_end bytes_of.is_name_byte text.now at }
+    ensures from { at ≤ result }
+    ensures within { result ≤ length text.now }
+{
+    let mut end = at;
+    while end < text.len() && is_in_name(text[end]) {
+        end += 1;
+    }
+    end
+}
+
+/// The end of the bytes at a place that stand for themselves in text. `<` is none of them, so that
+/// it may be taken for a quote.
 pub(crate) fn plain_end(text: &[u8], at: usize) -> usize
     requires { at ≤ length text.now }
     ensures run { result ≡ run_end bytes_of.is_text text.now at }
     ensures from { at ≤ result }
     ensures within { result ≤ length text.now }
 {
-    at + run_len(after(text, at), Run::Plain)
+    quoted_end(text, at, b'<')
 }
 
 /// The end of the bytes at a place that stand for themselves in a value between these quotes.
@@ -122,7 +113,29 @@ pub(crate) fn quoted_end(text: &[u8], at: usize, quote: u8) -> usize
     ensures from { at ≤ result }
     ensures within { result ≤ length text.now }
 {
-    at + run_len(after(text, at), Run::Quoted(quote))
+    let mut end = at;
+    while text.len() - end >= LANES {
+        let len = quoted_lanes(text, end, quote);
+        if len < LANES {
+            return end + len;
+        }
+        end += LANES;
+    }
+    quoted_end_by_bytes(text, end, quote)
+}
+
+/// The same, byte by byte.
+fn quoted_end_by_bytes(text: &[u8], at: usize, quote: u8) -> usize
+    requires { at ≤ length text.now }
+    ensures run { result ≡ run_end (bytes_of.is_value quote) text.now at }
+    ensures from { at ≤ result }
+    ensures within { result ≤ length text.now }
+{
+    let mut end = at;
+    while end < text.len() && is_quoted(quote, text[end]) {
+        end += 1;
+    }
+    end
 }
 
 /// The end of the name that is at a place, or the place where none is.
