@@ -1,4 +1,5 @@
 mod Base64Arrays
 mod Literals
 pub mod Digits
+pub mod Escaping
 pub mod Unescaping

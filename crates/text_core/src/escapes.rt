@@ -12,10 +12,16 @@ use outside_core::NoMemory;
 use secret_core::Secret;
 use std::alloc::Global;
 
-/// The text that raw markup stands for.
+/// The text that raw markup stands for. Raw markup without escapes is copied as it is.
+#[tactic(auto, using(crate::proofs::Literals::literal_text))]
 pub fn unescaped(alloc: Global, raw: &str) -> Result<Secret, NoMemory>
     ensures { IfOk result (λ text. text.bytes ≡ escapes.unescaped raw.now) }
 {
+    if is_literal(raw.as_bytes()) {
+        let mut text = Secret::with_room(alloc, raw.len())?;
+        text.extend(raw.as_bytes());
+        return Ok(text);
+    }
     let mut text = Secret::with_room(alloc, unescaped_len(raw))?;
     unescape(raw, &mut text);
     Ok(text)
@@ -38,11 +44,25 @@ fn reserve(alloc: Global, text: &mut Secret, more: usize) -> Result<(), NoMemory
     Ok(())
 }
 
+/// Appends these bytes. A refusal leaves the text as it was.
+fn append(alloc: Global, text: &mut Secret, bytes: &[u8]) -> Result<(), NoMemory>
+    ensures bytes { OnOk result (text.new.bytes ≡ text.old.bytes ++ bytes.now) }
+    ensures same { OnErr result (text.new.bytes ≡ text.old.bytes) }
+{
+    reserve(alloc, text, bytes.len())?;
+    text.extend(bytes);
+    Ok(())
+}
+
 /// Appends the text that raw markup stands for. A refusal leaves the text as it was.
+#[tactic(auto, using(crate::proofs::Literals::literal_text))]
 pub fn append_unescaped(alloc: Global, text: &mut Secret, raw: &str) -> Result<(), NoMemory>
     ensures bytes { OnOk result (text.new.bytes ≡ text.old.bytes ++ escapes.unescaped raw.now) }
     ensures same { OnErr result (text.new.bytes ≡ text.old.bytes) }
 {
+    if is_literal(raw.as_bytes()) {
+        return append(alloc, text, raw.as_bytes());
+    }
     reserve(alloc, text, unescaped_len(raw))?;
     unescape(raw, text);
     Ok(())
@@ -52,7 +72,7 @@ pub fn append_unescaped(alloc: Global, text: &mut Secret, raw: &str) -> Result<(
 fn is_literal(raw: &[u8]) -> bool
     ensures { result ≡ list_all texts.is_literal raw.now }
 {
-    raw.iter().all(|byte| *byte != b'&' && *byte != b'\r')
+    !raw.contains(&b'&') && !raw.contains(&b'\r')
 }
 
 /// Whether raw markup stands for this word, in any case of its letters. Memory is taken only for

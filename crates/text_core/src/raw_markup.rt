@@ -72,11 +72,17 @@ pub fn escape(text: &str, out: &mut Secret)
 pub fn escaped_bytes_len(text: &[u8]) -> usize
     ensures { result ≡ min (length (spec.escaped text.now)) usize.MAX }
 {
+    let mut rest = text;
     let mut total: usize = 0;
-    for byte in text {
-        total = total.saturating_add(written_len(*byte));
+    'runs: loop {
+        let len = verbatim_len(rest);
+        total = total.saturating_add(len);
+        let Some((escaped, after)) = rest.split_at(len).1.split_first() else {
+            return total;
+        };
+        total = total.saturating_add(written_len(*escaped));
+        rest = after;
     }
-    total
 }
 
 /// As `escape`, of a text by its bytes.
@@ -85,8 +91,15 @@ pub fn escape_bytes(text: &[u8], out: &mut Secret)
     ensures bytes { out.new.bytes ≡ out.old.bytes ++ spec.escaped text.now }
     ensures spare { out.new.spare + length (spec.escaped text.now) ≡ out.old.spare }
 {
-    for byte in text {
-        escape_byte(*byte, out);
+    let mut rest = text;
+    'runs: loop {
+        let (verbatim, more) = rest.split_at(verbatim_len(rest));
+        out.extend(verbatim);
+        let Some((escaped, after)) = more.split_first() else {
+            return;
+        };
+        escape_byte(*escaped, out);
+        rest = after;
     }
 }
 
@@ -211,12 +224,39 @@ fn is_inside_reference(byte: u8) -> bool
     byte != b';'
 }
 
+/// Whether a byte is written as it is.
+#[inline(always)]
+#[tactic(auto, unfolding(crate::specs::Parts::is_verbatim))]
+fn is_verbatim(byte: u8) -> bool
+    ensures { result ≡ parts.is_verbatim byte }
+{
+    byte == b'\t'
+        || byte == b'\n'
+        || (b' ' <= byte && byte != b'"' && byte != b'&' && byte != b'<' && byte != b'>')
+}
+
+/// How many bytes a text begins with that are written as they are.
+fn verbatim_len(text: &[u8]) -> usize
+    ensures len { result ≡ prefix_len parts.is_verbatim text.now }
+    ensures within { result ≤ length text.now }
+{
+    let mut len = 0;
+    while len < text.len() && is_verbatim(text[len]) {
+        len += 1;
+    }
+    len
+}
+
 /// How many bytes raw markup begins with that stand for themselves.
 fn plain_len(raw: &[u8]) -> usize
     ensures len { result ≡ prefix_len parts.is_plain raw.now }
     ensures within { result ≤ length raw.now }
 {
-    raw.iter().take_while(|b| is_plain(**b)).count()
+    let mut len = 0;
+    while len < raw.len() && is_plain(raw[len]) {
+        len += 1;
+    }
+    len
 }
 
 /// How many bytes come before the first `;`.
@@ -224,10 +264,11 @@ fn reference_len(bytes: &[u8]) -> usize
     ensures len { result ≡ prefix_len parts.is_inside_reference bytes.now }
     ensures within { result ≤ length bytes.now }
 {
-    bytes
-        .iter()
-        .take_while(|b| is_inside_reference(**b))
-        .count()
+    let mut len = 0;
+    while len < bytes.len() && is_inside_reference(bytes[len]) {
+        len += 1;
+    }
+    len
 }
 
 /// How many bytes a part has in the text.

@@ -1,9 +1,16 @@
-use Rattle.std.proofs.Common.{◌≡◌, arith, drop, []}
-use Rattle.std.proofs.lemmas.List.{drop_all}
+use Rattle.std.proofs.Common.{ap, length, arith}
+use Rattle.text_core.proofs.Escaping.{whole_written, then_len}
 use Rattle.text_core.proofs.raw_markup.escaped_bytes_len.Goals as goal
 
-pub returns : goal.returns
-returns c =
-    let none : drop c.loop-byte.byte-index c.args.text.now ≡ [] =
-    drop_all c.loop-byte.byte-index c.args.text.now c.loop-byte-test.false in
-    omega (arith, c.loop-byte.invariant.most, rw none at c.loop-byte.invariant.value)
+pub returns-in_default : goal.returns-in_default
+returns-in_default c =
+    let whole = whole_written c.runs.rest.now _ _ _ c.verbatim_len-len.ensures.len c.split_at.ensures.front c.split_at.ensures.back c.in_default.ensures.cases in
+    omega (arith, c.saturating_add-total.ensures, c.runs.invariant.value, c.runs.invariant.most, ap length whole, c.split_at.ensures.front_len)
+
+pub runs-preserved : goal.runs-preserved
+runs-preserved c =
+    let len = then_len c.runs.rest.now _ _ _ c.verbatim_len-len.ensures.len c.split_at.ensures.front c.split_at.ensures.back _ _ c.in-Some.ensures.cases.0 in
+    record {
+      value = omega (arith, c.saturating_add-total.ensures, c.saturating_add-total-in-runs.ensures, c.written_len.ensures, c.runs.invariant.value, c.runs.invariant.most, c.split_at.ensures.front_len, len);
+      most = omega (arith, c.saturating_add-total-in-runs.ensures);
+    }
