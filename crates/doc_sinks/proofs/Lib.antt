@@ -1,4 +1,5 @@
 pub mod Base64Groups
+pub mod Escaped
 pub mod Fitting
 pub mod Puts
 pub mod Spelling

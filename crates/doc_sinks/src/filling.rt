@@ -1,8 +1,9 @@
 //! The sink that keeps the text.
 
-ghost use Rattle.std.specs.Prelude.{◌≡◌, ◌<◌, ◌≤◌, ◌^◌};
+ghost use Rattle.std.specs.Prelude.{◌≡◌, ◌<◌, ◌≤◌, ◌^◌, length, nat_le};
 ghost use Rattle.doc_sinks.specs.Sinks.{TextState, with_chunk};
 ghost use Rattle.doc_sinks.specs.StreamOffsets.{is_prop_at};
+ghost use Rattle.markup_grammar.specs.Escapes as escapes;
 ghost use Rattle.stream_core.specs.InnerStream.{IsAt, keystream};
 
 use crate::coding::{coded_len, hide, put_base64};
@@ -13,6 +14,15 @@ use text_core::{escape_bytes, escaped_bytes_len};
 
 /// How many bytes a stream hides at most.
 const STREAM: u64 = 274_877_906_944;
+
+/// Whether a text has room as it is written. It is counted only where there are fewer than six
+/// bytes for each of its bytes, which is the most that one takes.
+fn has_room(text: &[u8], room: usize) -> bool
+    requires { room < 2 ^ 63 }
+    ensures { result ≡ nat_le (length (escapes.escaped text.now)) room }
+{
+    text.len() <= room / 6 || escaped_bytes_len(text) <= room
+}
 
 /// The text as far as it was put, the stream that hides bytes of it, and the offset of the stream's
 /// next byte. What has no room is left out.
@@ -47,7 +57,7 @@ impl TextSink for TextFiller {
 
     #[tactic(auto, unfolding(crate::specs::Sinks::with_chunk))]
     fn put_escaped(&mut self, text: &[u8]) {
-        if escaped_bytes_len(text) <= self.text.spare() {
+        if has_room(text, self.text.spare()) {
             escape_bytes(text, &mut self.text);
         }
     }
