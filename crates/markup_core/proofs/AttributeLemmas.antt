@@ -1,11 +1,12 @@
 -- How the attributes of a tag are read, run by run.
-use Rattle.std.proofs.Common.{◌≡◌, ℕ, suc, ◌+◌, ◌<◌, Bool, true, false, cond, not, ◌&&◌, ◌||◌, eqb, List, [], ◌∷◌, ◌++◌, length, take, drop, get_or, refl, ap, sym, subst, ◌∙◌, append_assoc, append-nil, one-add, add-one, length-drop, drop-cons, true≢false, arith, IsUtf8, Option, Some, bytes_eq}
+use Rattle.std.proofs.Common.{◌≡◌, ℕ, suc, ◌+◌, ◌<◌, Bool, true, false, cond, not, ◌&&◌, ◌||◌, eqb, List, [], ◌∷◌, ◌++◌, length, take, drop, get_or, refl, ap, sym, subst, ◌∙◌, append_assoc, append-nil, one-add, add-one, length-drop, drop-cons, true≢false, arith, IsUtf8, Option, Some, None, bytes_eq}
 use Rattle.std.proofs.lemmas.List.{drop-drop}
 use Rattle.std.proofs.lemmas.Str.{IsCharBoundary-after_ascii, IsCharBoundary-before_ascii, IsUtf8-take, IsUtf8-drop}
+use Rattle.std.proofs.lemmas.Bool.{eqb-true}
 use Rattle.std.proofs.lemmas.Bool.Decides.{nat_tests}
 use Rattle.std.specs.List.{prefix_len}
 use Rattle.markup_grammar.specs.Bytes.{is_space}
-use Rattle.markup_grammar.specs.Attributes.{naming, due, quoted, attributes, attributes_from, last_named}
+use Rattle.markup_grammar.specs.Attributes.{naming, due, quoted, attribute, attributes, attributes_from, last_named}
 use Rattle.markup_core.specs.AttributeRuns.{is_in_name, is_before_quote, is_quoted}
 
 not_false : (p : Bool) → not p ≡ true → p ≡ false
@@ -213,6 +214,12 @@ shorter_behind bytes rest n byte e = omega (arith, ap length e, length-drop n by
 pub last_of_none : (name : List ℕ) (found : Option (List ℕ)) → last_named name found [] ≡ found
 unfolding last_named
 last_of_none name found = refl
+
+-- a tag has none where nothing is written
+pub without_attributes : (raw name : List ℕ) → eqb (length raw) 0 ≡ true → attribute raw name ≡ None
+unfolding attributes_from last_named
+without_attributes [] name e = refl
+without_attributes (b ∷ raw) name e = absurd (omega (arith, eqb-true (length (b ∷ raw)) 0 e))
 
 -- what is sought stays so past the first attribute: its value where it has the name, else what was found before
 pub past_first : (name first value : List ℕ) (found sought : Option (List ℕ)) (all pairs : List (List ℕ × List ℕ))

@@ -23,6 +23,9 @@ impl<'a> Attrs<'a> {
     pub fn get(&self, name: &str) -> Option<&'a str>
         ensures { option_copied result ≡ attribute self.now.raw.now name.now }
     {
+        if self.raw.is_empty() {
+            return None;
+        }
         let mut found = None;
         let mut rest = self.raw.as_bytes();
         while let Some(first) = first_attribute(rest) {
@@ -130,7 +133,11 @@ fn run_len(bytes: &[u8], run: Run) -> usize
     ensures len { result ≡ prefix_len (runs.is_in_run run) bytes.now }
     ensures within { result ≤ length bytes.now }
 {
-    bytes.iter().take_while(|b| is_in_run(run, **b)).count()
+    let mut len = 0;
+    while len < bytes.len() && is_in_run(run, bytes[len]) {
+        len += 1;
+    }
+    len
 }
 
 /// The text that spells these bytes.

@@ -1,7 +1,7 @@
 use Rattle.std.proofs.Common.{◌≡◌, ◌∙◌, sym, ap, bytes_eq}
 use Rattle.std.specs.Option.{option_copied}
 use Rattle.markup_grammar.specs.Attributes.{attribute, attributes}
-use Rattle.markup_core.proofs.AttributeLemmas.{last_of_none, past_first}
+use Rattle.markup_core.proofs.AttributeLemmas.{last_of_none, past_first, without_attributes}
 use Rattle.markup_core.proofs.attributes.Attrs.get.Goals as goal
 use Rattle.markup_core.proofs.attributes.Attrs.get.Goals.{then-eq, else-eq}
 
@@ -23,3 +23,6 @@ returns c =
     let value = c.loop-first.invariant.value in
     sym (last_of_none c.args.name.now (option_copied c.loop-first.found))
     ∙ (rw (c.in_default.ensures.first, c.as_bytes-rest.ensures.value) at value)
+
+pub returns-then-is_empty : goal.returns-then-is_empty
+returns-then-is_empty c = sym (without_attributes c.args.self.now.raw.now c.args.name.now (sym c.is_empty.ensures ∙ c.if-is_empty.true))
