@@ -5,6 +5,7 @@
 mod decoding;
 mod escapes;
 mod fronts;
+mod lanes;
 mod raw_markup;
 mod spaces;
 

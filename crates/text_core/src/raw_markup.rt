@@ -6,6 +6,7 @@ ghost use Rattle.markup_grammar.specs.Escapes as spec;
 ghost use Rattle.text_core.specs.Parts as parts;
 
 use crate::fronts::strip;
+use crate::lanes::{LANES, verbatim_lanes};
 use secret_core::Secret;
 
 /// A part of raw markup, in the text that it stands for.
@@ -241,10 +242,27 @@ fn verbatim_len(text: &[u8]) -> usize
     ensures within { result ≤ length text.now }
 {
     let mut len = 0;
-    while len < text.len() && is_verbatim(text[len]) {
-        len += 1;
+    while text.len() - len >= LANES {
+        let more = verbatim_lanes(text, len);
+        if more < LANES {
+            return len + more;
+        }
+        len += LANES;
     }
-    len
+    verbatim_end(text, len)
+}
+
+/// The end of the bytes at a place that are written as they are, byte by byte.
+fn verbatim_end(text: &[u8], at: usize) -> usize
+    requires { at ≤ length text.now }
+    ensures end { result ≡ at + prefix_len parts.is_verbatim (drop at text.now) }
+    ensures within { result ≤ length text.now }
+{
+    let mut end = at;
+    while end < text.len() && is_verbatim(text[end]) {
+        end += 1;
+    }
+    end
 }
 
 /// How many bytes raw markup begins with that stand for themselves.
