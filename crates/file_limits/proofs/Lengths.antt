@@ -27,7 +27,7 @@ use Rattle.kdbx_writing.specs.Fields.{spelled_field}
 use Rattle.kdbx_writing.specs.Inner.{binary_field, inner_fields, spelled_inner}
 use Rattle.kdbx_seal.specs.Enciphered.{enciphered_text}
 use Rattle.kdbx_seal.specs.Made.{attached_file}
-use Rattle.kdbx_seal.specs.PayloadMade.{blocks_to_end, pieces, pieces_of}
+use Rattle.kdbx_blocks.specs.Pieces.{blocks_to_end, pieces, pieces_of}
 
 -- ---- blocks of a file of version 4
 

@@ -29,10 +29,11 @@ use Rattle.kdbx_writing.specs.Header.{header_with, spelled_header}
 use Rattle.kdbx_writing.specs.Inner.{spelled_inner}
 use Rattle.kdbx_seal.specs.Answers.{refusal_of, size_refusal}
 use Rattle.kdbx_seal.specs.Made.{files_of, made_file, text_4}
-use Rattle.kdbx_seal.specs.PayloadMade.{blocks_to_end, chacha_keystream, content_of, file_of_4, hashed_to_end, made_with, pieces, plain_content_31, plain_content_4, written_keystream}
+use Rattle.kdbx_blocks.specs.Pieces.{blocks_to_end, hashed_to_end, pieces}
+use Rattle.kdbx_seal.specs.PayloadMade.{chacha_keystream, content_of, file_of_4, made_with, plain_content_31, plain_content_4, written_keystream}
 use Rattle.kdbx_seal.specs.declared.fail.SealFail.{SealFail}
 use Rattle.kdbx_seal.specs.declared.fail.SealFail.TheVariants as seal
-use Rattle.kdbx_seal.proofs.HashedPieces.{hashed_to_end_len}
+use Rattle.kdbx_blocks.proofs.HashedPieces.{hashed_to_end_len}
 use Rattle.cli_messages.specs.declared.answers.Refusal.{Refusal}
 use Rattle.cli_writing.specs.Drawing.{next_bytes}
 use Rattle.cli_writing.specs.Writing.{NewFile, file_or_refusal}

@@ -1,8 +1,5 @@
 mod HashedDocs
 mod Refusals
 mod WrittenDocs
-mod Appended
-pub mod HashedPieces
 mod MadeFiles
 mod Padded
-mod Pieces

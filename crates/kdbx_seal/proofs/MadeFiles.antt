@@ -33,7 +33,8 @@ use Rattle.kdbx_writing.specs.Inner.{FitsField, inner_with, spelled_inner}
 use Rattle.kdbx_writing.proofs.HeaderReading.{header_again, header_again_31}
 use Rattle.kdbx_writing.proofs.InnerReading.{inner_again}
 use Rattle.kdbx_seal.specs.PayloadAnswers.{IsSealedWith}
-use Rattle.kdbx_seal.specs.PayloadMade.{blocks_to_end, chacha_keystream, content_of, file_of_4, hashed_to_end, made_payload, made_with, pieces, pieces_of, plain_content_31, written_keystream}
+use Rattle.kdbx_blocks.specs.Pieces.{blocks_to_end, hashed_to_end, pieces, pieces_of}
+use Rattle.kdbx_seal.specs.PayloadMade.{chacha_keystream, content_of, file_of_4, made_payload, made_with, plain_content_31, written_keystream}
 
 -- The pieces put end to end are the content.
 pieces_joined : (f n : ℕ) (xs : List ℕ) → 0 < n → length xs ≤ f → concat_contents (pieces_of f n xs) ≡ xs

@@ -2,7 +2,7 @@
 use Rattle.std.specs.Prelude.{◌≡◌, ℕ, ◌+◌, ◌≤◌, ◌^◌, List, length, nat_lt, if◌then◌else◌, Option, None, Some, Result, Ok, Err}
 use Rattle.std.specs.List.{AllByRecursion}
 use Rattle.secret_core.specs.Secret.{SecretBuffer}
-use Rattle.vault_model.specs.declared.forms.DocForm.TheVariants.{V4}
+use Rattle.vault_model.specs.declared.forms.DocForm.TheVariants.{V3, V4}
 use Rattle.vault_model.specs.Tree.{BareDoc}
 use Rattle.doc_spelling.specs.Ranges.{IsWritable}
 use Rattle.doc_write.specs.Written.{write_outcome}
@@ -16,10 +16,10 @@ use Rattle.kdbx_writing.specs.declared.draws.Draws.{Draws}
 use Rattle.kdbx_writing.specs.Header.{spelled_header}
 use Rattle.kdbx_writing.specs.Inner.{FitsField}
 use Rattle.kdbx_seal.specs.PayloadAnswers.{CanKeepApart}
-use Rattle.kdbx_seal.specs.PayloadMade.{chacha_keystream, plain_content, plain_content_4, written_keystream}
+use Rattle.kdbx_seal.specs.PayloadMade.{chacha_keystream, plain_content, plain_content_31, plain_content_4, salsa_keystream, written_keystream}
 use Rattle.kdbx_seal.specs.declared.payload_fail.SealPayloadFail.{SealPayloadFail}
 use Rattle.kdbx_seal.specs.declared.payload_fail.SealPayloadFail.TheVariants as payload
-use Rattle.kdbx_seal.specs.Made.{attached_files, document_text, files_of, hash_kept, text_4}
+use Rattle.kdbx_seal.specs.Made.{attached_files, document_text, files_of, hash_kept, text_31, text_4}
 use Rattle.kdbx_seal.specs.declared.fail.SealFail.{SealFail}
 use Rattle.kdbx_seal.specs.declared.fail.SealFail.TheVariants.{TooMany, TooLarge, FileFault, NoMemory}
 
@@ -109,3 +109,23 @@ abbrev pub WritesContent4 : Draws → BareDoc → Result SecretBuffer WriteFail 
 WritesContent4 draws d (Ok content) = IsWritten4 draws d content
 WritesContent4 draws d (Err write.NoMemory) = Unit {0}
 WritesContent4 draws d (Err fail) = written_document_4 draws d ≡ Err fail
+
+-- ---- the same in version 3.1, whatever the settings, with this hash of a header
+
+-- What writing a document gives.
+abbrev pub written_document_31 : List ℕ → Draws → BareDoc → Result (List ℕ) WriteFail
+written_document_31 hash draws d = write_outcome V3 (salsa_keystream draws.stream) (Some hash) d
+
+-- The content of a document's file was written.
+pub record IsWritten31 (hash : List ℕ) (draws : Draws) (d : BareDoc) (content : SecretBuffer)
+    : Type 0 where
+  pub bytes : content.bytes ≡ plain_content_31 draws (text_31 hash draws d)
+  pub spare : 16 ≤ content.spare
+  pub within : written_document_31 hash draws d ≡ Ok (text_31 hash draws d)
+  pub writable : IsWritable d
+
+-- What writing it answers.
+abbrev pub WritesContent31 : List ℕ → Draws → BareDoc → Result SecretBuffer WriteFail → Type 0
+WritesContent31 hash draws d (Ok content) = IsWritten31 hash draws d content
+WritesContent31 hash draws d (Err write.NoMemory) = Unit {0}
+WritesContent31 hash draws d (Err fail) = written_document_31 hash draws d ≡ Err fail

@@ -2,7 +2,7 @@
 use Rattle.std.specs.Prelude.{ℕ, List, [], map, Option, None, Some}
 use Rattle.sha2.specs.Sha256.{sha256}
 use Rattle.vault_model.specs.Tree.{BareDoc}
-use Rattle.vault_model.specs.declared.forms.DocForm.TheVariants.{V4}
+use Rattle.vault_model.specs.declared.forms.DocForm.TheVariants.{V3, V4}
 use Rattle.vault_model.specs.declared.forms.FileVersion.{FileVersion}
 use Rattle.vault_model.specs.declared.forms.FileVersion.TheVariants.{V31, V40, V41}
 use Rattle.doc_spelling.specs.Documents.{spelled_document}
@@ -13,7 +13,7 @@ use Rattle.kdbx_inner.specs.Inner.{Binary}
 use Rattle.kdbx_writing.specs.declared.draws.Draws.{Draws}
 use Rattle.kdbx_writing.specs.Header.{spelled_header}
 use Rattle.kdbx_payload.specs.Payloads.{Payload}
-use Rattle.kdbx_seal.specs.PayloadMade.{chacha_keystream, made, made_payload, written_keystream}
+use Rattle.kdbx_seal.specs.PayloadMade.{chacha_keystream, made, made_payload, salsa_keystream, written_keystream}
 
 -- The bytes of an attachment, as an attached file of the inner fields.
 abbrev pub attached_file : PoolPair → Binary
@@ -40,6 +40,10 @@ hash_kept V41 s draws = None
 -- key.
 abbrev pub text_4 : Draws → BareDoc → List ℕ
 text_4 draws d = spelled_document V4 (chacha_keystream draws.stream) None d
+
+-- The text of a document in a file of version 3.1 whose header has this hash.
+abbrev pub text_31 : List ℕ → Draws → BareDoc → List ℕ
+text_31 hash draws d = spelled_document V3 (salsa_keystream draws.stream) (Some hash) d
 
 -- The text of a document in a file of these settings.
 abbrev pub document_text : Settings → Draws → BareDoc → List ℕ

@@ -1,9 +1,7 @@
 -- The bytes of a file, as a function of all that it is made from.
-use Rattle.std.specs.Prelude.{ℕ, zero, suc, ◌+◌, List, [], ◌∷◌, ◌++◌, length, take, drop}
+use Rattle.std.specs.Prelude.{ℕ, List, ◌++◌, take, drop}
 use Rattle.sha2.specs.Sha256.{sha256}
 use Rattle.sha2.specs.Sha512.{sha512}
-use Rattle.mac_core.specs.Blocks.{block, blocks}
-use Rattle.mac_core.specs.HashedBlocks.{hashed_block, hashed_blocks}
 use Rattle.stream_core.specs.InnerStream.{ChaChaKeystream, Keystream, SalsaKeystream, kdbx_nonce}
 use Rattle.vault_model.specs.declared.forms.FileVersion.{FileVersion}
 use Rattle.vault_model.specs.declared.forms.FileVersion.TheVariants.{V31, V40, V41}
@@ -14,26 +12,8 @@ use Rattle.kdbx_writing.specs.Header.{header_with, settings_with, spelled_header
 use Rattle.kdbx_writing.specs.Inner.{spelled_inner}
 use Rattle.kdbx_payload.specs.HeaderMacs.{base_of, header_mac, key_of}
 use Rattle.kdbx_payload.specs.Payloads.{Payload}
+use Rattle.kdbx_blocks.specs.Pieces.{blocks_to_end, hashed_to_end, pieces}
 use Rattle.kdbx_seal.specs.Enciphered.{enciphered_text}
-
--- A content in pieces of n bytes, of which the last may have fewer; there are `most` at most.
-unfoldable pub pieces_of : ℕ → ℕ → List ℕ → List (List ℕ)
-pieces_of zero n content = []
-pieces_of (suc most) n [] = []
-pieces_of (suc most) n (b ∷ content) =
-    take n (b ∷ content) ∷ pieces_of most n (drop n (b ∷ content))
-
--- A content in pieces of 1,048,576 bytes.
-abbrev pub pieces : List ℕ → List (List ℕ)
-pieces content = pieces_of (length content) 1048576 content
-
--- Blocks of these contents from block i on, and the end block, under the file's MAC base.
-abbrev pub blocks_to_end : List ℕ → ℕ → List (List ℕ) → List ℕ
-blocks_to_end base i contents = blocks base i contents ++ block base (i + length contents) []
-
--- Hashed blocks of these contents from block i on, and the end block.
-abbrev pub hashed_to_end : ℕ → List (List ℕ) → List ℕ
-hashed_to_end i contents = hashed_blocks i contents ++ hashed_block (i + length contents) []
 
 -- The file of version 4 of a header and a content, under the file's MAC base: the header, its hash,
 -- its MAC, and the content in blocks.
@@ -80,6 +60,10 @@ made s d composite pool text = made_with s d composite (plain_content s.version 
 -- The keystream of ChaCha20 under a stream key.
 abbrev pub chacha_keystream : List ℕ → Keystream
 chacha_keystream key = ChaChaKeystream (take 32 (sha512 key)) (take 12 (drop 32 (sha512 key)))
+
+-- The keystream of Salsa20 under the first 32 bytes of a stream key.
+abbrev pub salsa_keystream : List ℕ → Keystream
+salsa_keystream key = SalsaKeystream (sha256 (take 32 key)) kdbx_nonce
 
 -- The keystream of a written file, which hides values in its document: in version 4 ChaCha20 under
 -- the drawn stream key, in 3.1 Salsa20 under its first 32 bytes.

@@ -13,8 +13,8 @@ ghost use Rattle.kdbx_seal.specs.PayloadMade.{file_of, file_of_4, made_with};
 ghost use Rattle.kdbx_seal.specs.Parts.{IsUndone, parts_base, parts_file, parts_key};
 
 use crate::SealPayloadFail;
-use crate::blocks::append_blocks;
 use crate::ciphering::encipher;
+use kdbx_blocks::append_blocks;
 use kdbx_frame::{FileVersion, HEADER_LIMIT, Settings, sums_len};
 use kdbx_payload::header_mac;
 use kdbx_writing::{Draws, with_salt, write_header};

@@ -14,11 +14,12 @@ ghost use Rattle.kdbx_payload.specs.Sealed.{SealedPayload};
 ghost use Rattle.kdbx_seal.specs.PayloadAnswers.{Puts};
 ghost use Rattle.stream_core.specs.InnerStream.{SalsaKeystream, kdbx_nonce};
 ghost use Rattle.kdbx_seal.specs.PayloadMade.{chacha_keystream};
-ghost use Rattle.kdbx_seal.specs.Answers.{LeavesNoDraft, Refuses, WritesContent, WritesContent4, size_refusal};
+ghost use Rattle.kdbx_seal.specs.Answers.{LeavesNoDraft, Refuses, WritesContent, WritesContent31, WritesContent4, size_refusal};
 ghost use Rattle.kdbx_seal.specs.Made.{made_file, made_file_payload};
 
-use crate::{Draws, SealFail, hashed_len, put_hashed, seal_payload};
-use doc_write::{Pool, WriteFail, append_doc, doc_len, write_doc};
+use crate::{Draws, SealFail, seal_payload};
+use doc_write::{Pool, WriteFail, append_doc, doc_len};
+use kdbx_blocks::{hashed_heads_len, put_hashed_room, split_hashed};
 use kdbx_frame::{FileVersion, Settings};
 use kdbx_writing::{inner_len, write_header, write_inner};
 use outside_core::FileStore;
@@ -76,8 +77,32 @@ fn write_content_4(alloc: Global, doc: &Doc, draws: &Draws) -> Result<Secret, Wr
     Ok(append_doc(content, doc, DocForm::V4, None, &pool, stream))
 }
 
-// Writes the content of a document's file of version 3.1 with these draws: the start bytes, and the
-// text of the document, which has the hash of the header, in hashed blocks.
+// Writes the content of a document's file of version 3.1 with these draws and this hash of its header,
+// in memory that is reserved once: the start bytes, and the text of the document in hashed blocks.
+fn write_hashed(
+    alloc: Global,
+    doc: &Doc,
+    hash: &[u8; 32],
+    draws: &Draws,
+) -> Result<Secret, WriteFail>
+    requires stream { length draws.now.stream ≡ 64 }
+    requires start { length draws.now.start ≡ 32 }
+    ensures { WritesContent31 hash.now draws.now (doc_seen doc.now) result }
+{
+    let pool = Pool::of(alloc, doc)?;
+    let len = doc_len(doc, DocForm::V3, Some(hash), &pool)?;
+    let room = START + hashed_heads_len(len) + len + PADDING;
+    let mut content = Secret::with_room(alloc, room)?;
+    content.extend(draws.start.bytes());
+    put_hashed_room(&mut content, len);
+    let stream = salsa_of(draws.stream.bytes());
+    let mut content = append_doc(content, doc, DocForm::V3, Some(hash), &pool, stream);
+    split_hashed(&mut content, START, len);
+    Ok(content)
+}
+
+// Writes the content of a document's file of version 3.1 with these draws: the text of the document
+// has the hash of the header.
 fn write_content_31(
     alloc: Global,
     doc: &Doc,
@@ -91,15 +116,7 @@ fn write_content_31(
     ensures { WritesContent settings.now draws.now (doc_seen doc.now) result }
 {
     let header = write_header(alloc, settings, draws)?;
-    let hash = Sha256::digest(header.as_slice());
-    let mut stream = salsa_of(draws.stream.bytes());
-    let text = write_doc(alloc, doc, DocForm::V3, Some(&hash), &mut stream)?;
-    let document = text.lend(0, text.len());
-    let room = START + hashed_len(document) + PADDING;
-    let mut content = Secret::with_room(alloc, room)?;
-    content.extend(draws.start.bytes());
-    put_hashed(&mut content, document);
-    Ok(content)
+    write_hashed(alloc, doc, &Sha256::digest(header.as_slice()), draws)
 }
 
 // Writes the content of a document's file of these settings with these draws.

@@ -4,8 +4,8 @@ use Rattle.std.specs.Int.{w32, to_le_bytes}
 use Rattle.mac_core.specs.HashedBlocks.{content_hash, hashed_block, hashed_blocks, hashed_head}
 use Rattle.mac_core.proofs.HashedBlocks.{content_hash_long}
 use Rattle.mac_core.specs.Joining.{written_blocks}
-use Rattle.kdbx_seal.specs.PayloadMade.{hashed_to_end, pieces, pieces_of}
-use Rattle.kdbx_seal.proofs.Pieces.{pieces_more}
+use Rattle.kdbx_blocks.specs.Pieces.{hashed_to_end, pieces, pieces_of}
+use Rattle.kdbx_blocks.proofs.Pieces.{pieces_more}
 
 -- The first block, and the blocks of what is left.
 hashed_more : (i : ℕ) (text : List ℕ) → 0 < length text
@@ -44,14 +44,16 @@ hashed_ended old new whole left i none put so_far = put ∙ ap (λ (xs : List �
 
 -- ---- how long they are
 
-block_len : (i : ℕ) (content : List ℕ) → length (hashed_block i content) ≡ 40 + length content
-block_len i content = omega (
+pub head_long : (i : ℕ) (content : List ℕ) → length (hashed_head i content) ≡ 40
+head_long i content = omega (
   arith,
-  length-append (hashed_head i content) content,
   length-append (to_le_bytes w32 i ++ content_hash content) (to_le_bytes w32 (length content)),
   length-append (to_le_bytes w32 i) (content_hash content),
   content_hash_long content,
 )
+
+block_len : (i : ℕ) (content : List ℕ) → length (hashed_block i content) ≡ 40 + length content
+block_len i content = omega (arith, length-append (hashed_head i content) content, head_long i content)
 
 -- Of a text of so many bytes, which is not empty, one piece and the rest.
 rest_below : (rest whole f : ℕ) → rest ≡ whole - 1048576 → 0 < whole → whole ≤ suc f → rest ≤ f
@@ -85,19 +87,3 @@ hashed_to_end_len text =
       blocks_len (length text) 0 text (omega arith),
       block_len count [],
     )
-
--- The first block, and those of what is left.
-pub hashed_more_len : (i : ℕ) (text : List ℕ) → 0 < length text
-    → length (hashed_to_end i (pieces text)) ≡ 40 + length (take 1048576 text) + length (hashed_to_end (i + 1) (pieces (drop 1048576 text)))
-hashed_more_len i text some =
-    let piece = take 1048576 text in
-    omega (
-      arith,
-      ap length (hashed_more i text some),
-      length-append (hashed_block i piece) (hashed_to_end (i + 1) (pieces (drop 1048576 text))),
-      block_len i piece,
-    )
-
--- The end block.
-pub hashed_end_len : (i : ℕ) (text : List ℕ) → length text ≡ 0 → length (hashed_to_end i (pieces text)) ≡ 40
-hashed_end_len i text none = omega (arith, ap length (hashed_end i text none), block_len i [])

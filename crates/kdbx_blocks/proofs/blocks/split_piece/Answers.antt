@@ -1,6 +1,6 @@
 use Rattle.std.proofs.Common.{sym, arith}
 use Rattle.std.proofs.lemmas.List.{drop_all, take_all}
-use Rattle.kdbx_seal.proofs.blocks.split_piece.Goals as goal
+use Rattle.kdbx_blocks.proofs.blocks.split_piece.Goals as goal
 
 pub returns-then-left-lt-PIECE-clause-piece : goal.returns-then-left-lt-PIECE-clause-piece
 returns-then-left-lt-PIECE-clause-piece c = sym (take_all 1048576 c.args.left.now (omega (arith, c.if-left-lt-PIECE.true)))

@@ -1,7 +1,7 @@
 -- A content in pieces.
 use Rattle.std.proofs.Common.{◌≡◌, ℕ, zero, suc, ◌+◌, ◌<◌, ◌≤◌, List, [], ◌∷◌, ◌++◌, length, take, drop, refl, ◌∙◌, ap, arith, append_assoc, length-drop}
 use Rattle.mac_core.specs.Blocks.{block, blocks}
-use Rattle.kdbx_seal.specs.PayloadMade.{pieces_of, pieces, blocks_to_end}
+use Rattle.kdbx_blocks.specs.Pieces.{pieces_of, pieces, blocks_to_end}
 
 pieces_fuel : (f g n : ℕ) (xs : List ℕ) → 0 < n → length xs ≤ f → length xs ≤ g → pieces_of f n xs ≡ pieces_of g n xs
 unfolding pieces_of

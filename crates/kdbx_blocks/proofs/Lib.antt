@@ -1,0 +1,4 @@
+mod Appended
+mod HashedMoves
+pub mod HashedPieces
+mod Pieces
