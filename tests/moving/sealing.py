@@ -45,14 +45,23 @@ def header_of(cipher, version):
     return opening.SIGNATURE + struct.pack("<I", version) + b"".join(field(*one, "<BH" if is_old else "<BI") for one in fields)
 
 
-def sealed_old(write, cipher, composite_key):
+def cut(text, lengths=()):
+    """The contents of the blocks of a text: of these lengths, then of 4,096 bytes, and the empty one that ends them. An empty one ends them
+    wherever it stands, and what comes after it is behind the end."""
+    pieces, at = [], 0
+    for length in lengths:
+        pieces.append(text[at : at + length])
+        at += length
+    return [*pieces, *(text[place : place + 4096] for place in range(at, len(text), 4096)), b""]
+
+
+def sealed_old(write, cipher, composite_key, lengths=()):
     """A file of KDBX 3.1."""
     head = header_of(cipher, opening.VERSION_3_1)
     read = opening.Header(head).settle()
     text, _ = write(opening.stream_of(2, read.fields[8]).encrypt, opening.sha256(head))
-    blocks = [text[at : at + 4096] for at in range(0, len(text), 4096)] + [b""]
     hashed = b"".join(struct.pack("<I", index) + (opening.sha256(block) if block else bytes(32)) + struct.pack("<I", len(block)) + block
-                      for index, block in enumerate(blocks))
+                      for index, block in enumerate(cut(text, lengths)))
     return head + enciphered(read, opening.Keys(read, composite_key), read.fields[9] + hashed)
 
 
@@ -62,20 +71,19 @@ def enciphered(header, keys, text):
     return opening.cipher_of(header, keys.cipher).encrypt(padded)
 
 
-def sealed(write, cipher="aes", version=opening.VERSION_4_0, composite_key=None):
-    """A file of a document under a composite key, or under PASSWORD; `write` gives its text under a stream, and in 3.1 with the hash of
-    the header, and its binaries."""
+def sealed(write, cipher="aes", version=opening.VERSION_4_0, composite_key=None, lengths=()):
+    """A file of a document under a composite key, or under PASSWORD, whose first blocks have these lengths; `write` gives its text under a
+    stream, and in 3.1 with the hash of the header, and its binaries."""
     composite_key = composite_key or composite(PASSWORD)
     if version == opening.VERSION_3_1:
-        return sealed_old(write, cipher, composite_key)
+        return sealed_old(write, cipher, composite_key, lengths)
     head, key = header_of(cipher, version), os.urandom(64)
     text, pool = write(opening.stream_of(3, key).encrypt, None)
     inner = field(1, struct.pack("<I", 3)) + field(2, key) + b"".join(field(3, bytes([hidden]) + content) for content, hidden in pool) + field(0) + text
     read = opening.Header(head + opening.sha256(head) + bytes(32)).settle()
     keys = opening.Keys(read, composite_key)
     secret = enciphered(read, keys, inner)
-    pieces = [secret[at : at + 4096] for at in range(0, len(secret), 4096)] + [b""]
-    blocks = b"".join(keys.block_code(index, piece) + struct.pack("<I", len(piece)) + piece for index, piece in enumerate(pieces))
+    blocks = b"".join(keys.block_code(index, piece) + struct.pack("<I", len(piece)) + piece for index, piece in enumerate(cut(secret, lengths)))
     return head + read.hash + keys.header_code(read) + blocks
 
 
