@@ -19,6 +19,7 @@ hostile_use() {
     echo 'skipped: each change of damaged files, by every command; .ci/run does that'
   fi
   many_times 'files at the limits, by every command' "$hostile/shapes" "$program"
+  many_times 'blocks of chosen lengths, by every command' "$hostile/blocks" "$program"
   many_times 'what calls leave in memory' "$hostile/secrets" "$program"
   while IFS= read -r line; do echo "$line"; done < <(grep '^skipped: ' report.txt)
   rows=$(ls -t "$top"/crates/call_rows/out/call_rows "$top"/crates/call_rows/out/call_rows.by-rattle 2>/dev/null | head -1)

@@ -34,14 +34,14 @@ class Texts:
         return f"<String><Key>{key}</Key>{self.hidden(text) if hidden else f'<Value>{text}</Value>'}</String>"
 
 
-def document(stream=None, header_hash=None, pooled=True, secrets=(HIDDEN, OLD, NOTES)):
+def document(stream=None, header_hash=None, pooled=True, secrets=(HIDDEN, OLD, NOTES), attached=ATTACHED):
     """The text of a document: two entries, one with a history and an attachment, and two groups. Where nothing is pooled outside of it, its
     attachment is in it."""
     texts = Texts(stream)
     hidden, old, notes = secrets
     meta = "<Generator>a test</Generator>" + (f"<HeaderHash>{encoded(header_hash)}</HeaderHash>" if header_hash else "")
     if not pooled:
-        meta += f'<Binaries><Binary ID="0">{encoded(ATTACHED)}</Binary></Binaries>'
+        meta += f'<Binaries><Binary ID="0">{encoded(attached)}</Binary></Binaries>'
     return f"""<KeePassFile><Meta>{meta}</Meta><Root><Group><UUID>{IDS[1]}</UUID><Name>Root</Name>{texts.times(2020)}
 <Entry><UUID>{IDS[2]}</UUID>{texts.times(2021)}{texts.string("Title", TITLE)}{texts.string("UserName", USER)}
 {texts.string("Password", hidden, True)}{texts.string("Notes", notes)}<Binary><Key>a.txt</Key><Value Ref="0"/></Binary>
@@ -51,25 +51,25 @@ def document(stream=None, header_hash=None, pooled=True, secrets=(HIDDEN, OLD, N
 """.encode()
 
 
-def sealed(version, cipher="aes", key=None, **more):
-    """A database of the document."""
+def sealed(version, cipher="aes", key=None, lengths=(), attached=ATTACHED, **more):
+    """A database of the document, whose first blocks have these lengths."""
     def write(stream, header_hash):
-        return document(stream, header_hash, header_hash is None, **more), [(ATTACHED, 0)]
+        return document(stream, header_hash, header_hash is None, attached=attached, **more), [(attached, 0)]
 
-    return sealing.sealed(write, cipher, version, key or sealing.composite(PASSWORD))
+    return sealing.sealed(write, cipher, version, key or sealing.composite(PASSWORD), lengths)
 
 
 def plain(**more):
     return document(pooled=False, **more)
 
 
-def safe(password=PASSWORD):
-    """A file of Password Safe with two records and one iteration."""
+def safe(password=PASSWORD, notes=NOTES, rest=b""):
+    """A file of Password Safe with two records and one iteration, and what comes after it."""
     stamp = psafe.moment(1_600_000_000)
     pieces = [*psafe.HEADER,
               *psafe.record((psafe.UUID, bytes([2]) * 16), (psafe.MODIFIED, stamp), group="Work", title=TITLE, user=USER, password=HIDDEN),
-              *psafe.record((psafe.UUID, bytes([3]) * 16), title="Mail", password=OLD, notes=NOTES)]
-    return psafe.file_of(pieces, password.encode(), 1)
+              *psafe.record((psafe.UUID, bytes([3]) * 16), title="Mail", password=OLD, notes=notes)]
+    return psafe.file_of(pieces, password.encode(), 1, rest=rest)
 
 
 TABLE = f'''Group,Title,Username,Password,URL,Notes,Last Modified,Created
