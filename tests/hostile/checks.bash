@@ -25,7 +25,12 @@ hostile_use() {
   rows=$(ls -t "$top"/crates/call_rows/out/call_rows "$top"/crates/call_rows/out/call_rows.by-rattle 2>/dev/null | head -1)
   if [ -n "$rows" ]; then
     many_times 'calls on the outside that fail' "$hostile/failing" "$rows"
+    if [ "$way" = --gate ]; then
+      many_times 'files that are read in pieces' "$hostile/windows" "$rows" all
+    else
+      many_times 'files that are read in pieces, a part of them' "$hostile/windows" "$rows"
+    fi
   else
-    echo 'skipped: calls on the outside that fail; run `rt run` in crates/call_rows to build its program'
+    echo 'skipped: calls on the outside that fail, and files that are read in pieces; run `rt run` in crates/call_rows to build its program'
   fi
 }

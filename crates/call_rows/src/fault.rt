@@ -1,6 +1,6 @@
 //! Why a line is not obeyed.
 
-use outside_core::{FileFail, SinkFail};
+use outside_core::{FileFail, NoMemory, SinkFail};
 use std::alloc::{AllocError, AllocFailed};
 use std::io;
 
@@ -29,6 +29,12 @@ impl From<AllocError> for Fault {
 
 impl<T: Drop> From<AllocFailed<T>> for Fault {
     fn from(_none: AllocFailed<T>) -> Fault {
+        Fault::NoMemory
+    }
+}
+
+impl From<NoMemory> for Fault {
+    fn from(_none: NoMemory) -> Fault {
         Fault::NoMemory
     }
 }

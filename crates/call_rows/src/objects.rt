@@ -2,8 +2,8 @@
 
 use crate::fault::Fault;
 use keepass_call::keepass;
-use outside_core::{Dice, Source};
-use outside_objects::{MemoryDice, MemoryFiles, MemorySink, MemorySource};
+use outside_core::{Bytes, Dice, Source};
+use outside_objects::{FileChange, MemoryDice, MemorySink, MemorySource, PieceFiles};
 use std::alloc::Global;
 
 /// How many bytes the dice of a row have, unless it says what they are.
@@ -13,7 +13,7 @@ const DICE_LEN: u16 = 1024;
 #[derive(Drop)]
 pub struct Objects {
     alloc: Global,
-    files: MemoryFiles,
+    files: PieceFiles,
     input: MemorySource,
     out: MemorySink,
     err: MemorySink,
@@ -51,7 +51,7 @@ impl Objects {
     pub fn new(alloc: Global) -> Objects {
         Objects {
             alloc,
-            files: MemoryFiles::new(alloc),
+            files: PieceFiles::new(alloc),
             input: MemorySource::new(alloc),
             out: MemorySink::new(alloc),
             err: MemorySink::new(alloc),
@@ -62,13 +62,13 @@ impl Objects {
 
     /// Puts a file under a name.
     pub fn put(&mut self, name: &str, bytes: &[u8]) -> Result<(), Fault> {
-        self.files.put(name, bytes)?;
+        self.files.files.put(name, bytes)?;
         Ok(())
     }
 
     /// The bytes of the file of a name, none where there is no such file.
     pub fn file(&self, name: &str) -> &[u8] {
-        match self.files.bytes(name) {
+        match self.files.files.bytes(name) {
             Some(bytes) => bytes,
             None => &[],
         }
@@ -111,13 +111,39 @@ impl Objects {
     /// Lets the call of this number fail on an object of this name.
     pub fn fail(&mut self, object: &str, call: u64) -> Result<(), Fault> {
         match object {
-            "files" => Ok(self.files.fail_at(call)?),
+            "files" => Ok(self.files.files.fail_at(call)?),
             "input" => Ok(self.input.fail_at(call)?),
             "out" => Ok(self.out.fail_at(call)?),
             "err" => Ok(self.err.fail_at(call)?),
             "dice" => Ok(self.dice.fail_at(call)?),
             _ => Err(Fault::BadWord),
         }
+    }
+
+    /// Lets no read of a file go over this place.
+    pub fn cut(&mut self, place: u64) -> Result<(), Fault> {
+        self.files.cuts.push(place)?;
+        Ok(())
+    }
+
+    /// Lets a read of a file give at most so many bytes.
+    pub fn set_most(&mut self, count: usize) {
+        self.files.most = count;
+    }
+
+    /// Lets the file that is read have these bytes from the read of this number on.
+    pub fn change(&mut self, first_read: u64, text: &[u8]) -> Result<(), Fault> {
+        let mut bytes = Bytes::new(self.alloc);
+        bytes.add(text)?;
+        self.files.change = Some(FileChange { first_read, bytes });
+        Ok(())
+    }
+
+    /// Gives the length of the longest array that a file was to be read into, since the last time.
+    pub fn longest(&mut self) -> usize {
+        let longest = self.files.longest;
+        self.files.longest = 0;
+        longest
     }
 
     /// Makes a call with these words at a moment, and gives its status.

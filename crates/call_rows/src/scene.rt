@@ -16,6 +16,8 @@ pub struct Scene {
     files: Table,
     objects: Objects,
     now: u64,
+    /// Whether the longest array that a file was to be read into is printed.
+    measures: bool,
 }
 
 // Prints a text with its name, unless it is empty.
@@ -65,6 +67,7 @@ impl Scene {
             files: Table::new(alloc),
             objects: Objects::new(alloc),
             now: 0,
+            measures: false,
         }
     }
 
@@ -72,6 +75,7 @@ impl Scene {
     pub fn begin(&mut self) -> Result<(), Fault> {
         self.files = Table::new(self.alloc);
         self.objects = Objects::new(self.alloc);
+        self.measures = false;
         self.objects.count_dice()
     }
 
@@ -151,6 +155,24 @@ impl Scene {
         self.objects.set_dice(bytes.as_slice())
     }
 
+    // Lets the file that is read be a text from a read on.
+    fn change_file(&mut self, words: &str) -> Result<(), Fault> {
+        let (read, name) = first_word(words);
+        let text = self.texts.bytes(name)?;
+        self.objects.change(number_of(read)?, text)
+    }
+
+    // Says how a file is read: in which pieces, or that its arrays are measured.
+    fn set_reading(&mut self, words: &str) -> Result<(), Fault> {
+        match first_word(words) {
+            ("cut", place) => self.objects.cut(number_of(place)?)?,
+            ("most", count) => self.objects.set_most(number_of(count)? as usize),
+            ("measured", "") => self.measures = true,
+            _ => return Err(Fault::BadWord),
+        }
+        Ok(())
+    }
+
     // Lets a call on an object fail.
     fn fail(&mut self, words: &str) -> Result<(), Fault> {
         let (object, call) = first_word(words);
@@ -173,6 +195,8 @@ impl Scene {
                 Ok(())
             }
             "fail" => self.fail(rest),
+            "change" => self.change_file(rest),
+            "read" => self.set_reading(rest),
             _ => Err(Fault::NoSuchLine),
         }
     }
@@ -186,7 +210,12 @@ impl Scene {
             print_change(rt, self.alloc, file, &self.objects)?;
         }
         print_count(rt, "drawn", self.objects.drawn()?)?;
-        print_count(rt, "left", self.objects.input_left()?)
+        print_count(rt, "left", self.objects.input_left()?)?;
+        let longest = self.objects.longest();
+        if self.measures {
+            println!(rt; "    longest {longest}")?;
+        }
+        Ok(())
     }
 
     /// Makes a call with these words, and prints what it did.
