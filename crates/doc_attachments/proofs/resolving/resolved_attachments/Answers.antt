@@ -1,4 +1,4 @@
-use Rattle.std.proofs.Common.{◌+◌, drop, map, ap, ◌∙◌}
+use Rattle.std.proofs.Common.{◌+◌, ◌∙◌, ap, drop, map}
 use Rattle.std.proofs.lemmas.List.{drop_all}
 use Rattle.vault_model.specs.Seen.{bare_attachment}
 use Rattle.doc_forms.specs.Attachments as spec

@@ -1,4 +1,4 @@
-use Rattle.std.proofs.Common.{arith, map, ap, ◌∙◌}
+use Rattle.std.proofs.Common.{◌∙◌, ap, arith, map}
 use Rattle.std.specs.Vec.Iter.{into_iter_items}
 use Rattle.vault_model.specs.SeenNodes.{bare_version}
 use Rattle.doc_forms.specs.Attachments as spec
