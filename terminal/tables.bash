@@ -20,6 +20,7 @@ declare -gA option_rows=(
   ['db-edit']='set-password:p:: set-key-file::FILE: unset-password::: unset-key-file::: cipher::CIPHER: kdf::KDF: rounds::NUMBER: memory::KIB: lanes::NUMBER: version::VERSION: key-file:k:FILE: no-password::: quiet:q::'
   ['db-info']='key-file:k:FILE: no-password::: plain::: quiet:q::'
   ['generate']='length:L:NUMBER: lower:l:: upper:U:: numeric:n:: special:s:: exclude:x:CHARS:'
+  ['selftest']=''
   ['attachment-export']='stdout::: key-file:k:FILE: no-password::: plain::: quiet:q::'
   ['attachment-import']='force:f:: key-file:k:FILE: no-password::: plain::: quiet:q::'
   ['attachment-rm']='key-file:k:FILE: no-password::: plain::: quiet:q::'
@@ -45,6 +46,7 @@ declare -gA command_positions=(
   ['db-edit']='DATABASE'
   ['db-info']='DATABASE'
   ['generate']=''
+  ['selftest']='COUNT'
   ['attachment-export']='DATABASE ENTRY NAME [FILE]'
   ['attachment-import']='DATABASE ENTRY NAME FILE'
   ['attachment-rm']='DATABASE ENTRY NAME'
@@ -70,6 +72,7 @@ declare -gA command_briefs=(
   ['db-edit']=$'change a file\'s key or settings'
   ['db-info']='tell what a file is'
   ['generate']='generate a password'
+  ['selftest']='test merging on made copies'
   ['attachment-export']='take an attachment out'
   ['attachment-import']='attach a file to an entry'
   ['attachment-rm']='take an attachment away'
@@ -77,7 +80,7 @@ declare -gA command_briefs=(
 )
 
 # The commands in the order of the help.
-command_order='ls show history search add edit mv rm mkdir rmdir merge import db-create export db-edit db-info generate attachment-export attachment-import attachment-rm clip'
+command_order='ls show history search add edit mv rm mkdir rmdir merge import db-create export db-edit db-info generate selftest attachment-export attachment-import attachment-rm clip'
 
 # The formats of the commands that have one.
 declare -gA command_formats=(

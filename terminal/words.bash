@@ -181,6 +181,14 @@ read_profile() {
   if [ -z "$left" ]; then because 'no characters are left: --exclude has all of them'; fi
 }
 
+# Looks at how many entries a test has.
+read_count() {
+  local number=${positions[0]-}
+  if [[ ! $number =~ ^[0-9]{1,6}$ ]] || [ "$((10#$number))" -lt 1 ] || [ "$((10#$number))" -gt 50000 ]; then
+    because "unknown number of entries '$number': 1 to 50000"
+  fi
+}
+
 # What a cost of a key derivation counts.
 cost_unit() {
   case $1 in
@@ -376,6 +384,7 @@ read_options() {
   esac
   read_attachment
   if [ "$command" = edit ]; then read_edit; else read_profile; fi
+  if [ "$command" = selftest ]; then read_count; fi
 }
 
 # Reads the words of a call into `command`, `given` (the options with their values), `repeated` and `positions`, and sets
@@ -476,8 +485,9 @@ add_database() {
 # much is read for each, and the file that is written.
 files_of() {
   local source key=${given[key-file]-}
-  files=() databases=() sizes=() target=${positions[0]-}
-  if [ "$command" = generate ]; then return; fi
+  files=() databases=() sizes=() target=''
+  case $command in generate | selftest) return ;; esac
+  target=${positions[0]-}
   if [ "$command" = import ]; then
     target=${positions[1]}
     add_database "${positions[0]}"
@@ -498,7 +508,7 @@ files_of() {
 lines_of() {
   local source pair
   lines=()
-  if [ "$command" = generate ]; then return; fi
+  case $command in generate | selftest) return ;; esac
   if [ "$command" = import ]; then
     if [ "${given[format]-xml}" = psafe3 ]; then lines+=("Password of ${positions[0]}"); fi
     if is_given set-password; then lines+=("New password of ${positions[1]}"); fi

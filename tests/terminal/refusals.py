@@ -180,6 +180,8 @@ ROWS = [
     ("generate -L 0", [], 1, "wrong words", ["unknown length '0': 1 to 4096"]),
     ("generate -n -x 0123456789", [], 1, "wrong words", ["no characters are left: --exclude has all of them"]),
     ("generate FAST", [], 1, "wrong words", ["one word too many: 'FAST'; generate takes only options"]),
+    ("selftest 0", [], 1, "wrong words", ["unknown number of entries '0': 1 to 50000"]),
+    ("selftest -q 7", [], 1, "wrong words", ["selftest takes no option '-q'; keepass selftest --help lists its options"]),
     ("create -p FRESH", [], 1, "wrong words", ["unknown command 'create': 'db-create' makes an empty database, 'import' one of another file"]),
     ("passwd FAST", [], 1, "wrong words", ["unknown command 'passwd': 'db-edit -p' gives a database another password"]),
     ("edit-db -p FAST", [], 1, "wrong words", ["unknown command 'edit-db': 'db-edit' changes a file's key or settings"]),

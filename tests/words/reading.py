@@ -2,8 +2,8 @@
 
 `read(words)` gives None where the words are wrong, and otherwise a dictionary: the command, the options that were given
 with their values (True of a flag, a list where it may come several times), the positions, how many lines of standard input
-are read, and of a password that is generated its length and the characters that it can have. `line(words)` is the same as crates/words_reader prints it. The table of commands and options is
-docs/commands.toml."""
+are read, of a password that is generated its length and the characters that it can have, and of a test how many entries
+it has. `line(words)` is the same as crates/words_reader prints it. The table of commands and options is docs/commands.toml."""
 import datetime, os, re, string, tomllib
 
 top = os.path.dirname(os.path.dirname(os.path.dirname(os.path.abspath(__file__))))
@@ -233,6 +233,10 @@ def command_of(words):
         raise Wrong
     if command == "generate":
         return {"command": command, "given": given, "positions": positions, "lines": 0, "generated": generated}
+    if command == "selftest":
+        if not re.fullmatch("[0-9]{1,6}", positions[0]) or not 1 <= int(positions[0]) <= 50000:
+            raise Wrong
+        return {"command": command, "given": given, "positions": positions, "lines": 0}
     plain, same = "plain" in given, "same-credentials" in given
     if command == "import":
         set_password = "set-password" in given
@@ -342,6 +346,8 @@ def line(words):
     generated = found.get("generated")
     if command == "generate":
         return "".join(part + "\t" for part in [command] + profile_parts(generated))
+    if command == "selftest":
+        return f"{command}\tcount={int(positions[0])}\t"
     plain, quiet = "plain" in given, "quiet" in given
     opened = access(positions[0], plain, quiet, given.get("key-file"), "no-password" in given)
     if command == "import":

@@ -1,4 +1,4 @@
--- Words have a cause exactly where they are no command and ask for no password.
+-- Words have a cause exactly where they are no command, with a database or without one.
 use Rattle.std.proofs.Common.{◌≡◌, ◌≤◌, arith, inl, inr, ℕ, suc, Bool, true, false, List, [], ◌∷◌, length, Option, Some, None, refl, sym, ap, ap₂, ◌∙◌}
 use Rattle.std.specs.Prelude.{not, ◌&&◌, ◌||◌, if◌then◌else◌, is_some, nat_lt, slice_get}
 use Rattle.std.proofs.lemmas.Bool.{le-ltb, lt-ltb, ltb-false, ltb-true, ne_eqb}
@@ -21,9 +21,12 @@ use Rattle.cli_needs.specs.declared.command.FurtherAsked.{FurtherAsked}
 use Rattle.cli_needs.specs.declared.command.ImportFormat.{ImportFormat}
 use Rattle.cli_needs.specs.Needs.{is_filled}
 use Rattle.cli_parse.specs.Fields.{further_of}
-use Rattle.cli_parse.specs.Words.{access_of, asked_of, asked_with, command_at, command_by, command_in, command_saying, create_at, edit_by, edit_file_at, edit_of, edit_with, export_as, export_at, format_asked, format_named, has_change, import_as, import_at, import_format_asked, import_format_named, is_mergeable, merge_at, merge_of, profile_at, profile_by, profile_of, profile_saying, show_of}
+use Rattle.cli_parse.specs.Words.{access_of, asked_of, asked_with, command_at, command_by, command_in, command_saying, create_at, edit_by, edit_file_at, edit_of, edit_with, export_as, export_at, format_asked, format_named, has_change, import_as, import_at, import_format_asked, import_format_named, is_mergeable, merge_at, merge_of, show_of}
+use Rattle.cli_standalone.specs.declared.standalone.Standalone.{Standalone}
+use Rattle.cli_standalone.specs.declared.standalone.Standalone.TheVariants.{Password, SelfTest}
+use Rattle.cli_standalone.specs.Standalone.{standalone_at, standalone_by, standalone_of, standalone_saying, test_count}
 use Rattle.cli_causes.specs.declared.cause.Cause.{Cause}
-use Rattle.cli_causes.specs.declared.cause.Cause.TheVariants.{EmptyAttachmentName, FewPositions, FileBesideStdout, NeedsGenerate, NoFileOrStdout, NoKeyFile, NoKeyFileFrom, NotTogether, NotWithPlain, NotWithSame, NothingToChange, UnknownExportFormat, UnknownImportFormat, UnknownLength}
+use Rattle.cli_causes.specs.declared.cause.Cause.TheVariants.{EmptyAttachmentName, FewPositions, FileBesideStdout, NeedsGenerate, NoFileOrStdout, NoKeyFile, NoKeyFileFrom, NotTogether, NotWithPlain, NotWithSame, NothingToChange, UnknownCount, UnknownExportFormat, UnknownImportFormat, UnknownLength}
 use Rattle.cli_causes.specs.Fields.{further_cause}
 use Rattle.cli_causes.specs.Files.{new_key_cause}
 use Rattle.cli_causes.specs.First.{first_of}
@@ -200,12 +203,12 @@ one_more command said positions h more =
     ap (λ (o : Option Cause). is_some o || is_some (own_cause command said positions)) (enough command positions h)
     ∙ ap (λ (b : Bool). b || is_some (own_cause command said positions)) (some_mapped (extra_cause command) (slice_get positions (most command)) ∙ more)
 
--- Of a command at these positions there is a cause exactly where it is none and asks for no
--- password.
+-- Of a command at these positions there is a cause exactly where it is none, with a database or
+-- without one.
 abbrev Agrees : CommandName → Said → List (List ℕ) → Type 0
 Agrees command said positions =
     (is_some (positions_cause command positions) || is_some (own_cause command said positions))
-    ≡ not (is_some (command_at command said positions) || is_some (profile_at command said positions))
+    ≡ not (is_some (command_at command said positions) || is_some (standalone_at command said positions))
 
 not_not : (b : Bool) → b ≡ not (not b)
 not_not true = refl
@@ -340,19 +343,26 @@ agrees name.RemoveAttachment said (a ∷ []) = refl
 agrees name.RemoveAttachment said (a ∷ b ∷ []) = refl
 agrees name.RemoveAttachment said (a ∷ b ∷ c ∷ []) = refl
 agrees name.RemoveAttachment said (a ∷ b ∷ c ∷ d ∷ rest) = one_more name.RemoveAttachment said (a ∷ b ∷ c ∷ d ∷ rest) (omega arith) refl
-agrees name.Generate said [] = profile_agrees said
+agrees name.Generate said [] = profile_agrees said ∙ ap not (sym (some_mapped Password (profile_in said)))
 agrees name.Generate said (a ∷ rest) = one_more name.Generate said (a ∷ rest) (omega arith) refl
+agrees name.SelfTest said [] = refl
+agrees name.SelfTest said (a ∷ []) = by (test_count a)
+  where
+    by : (count : Option ℕ) → is_some (if is_some count then None else Some (UnknownCount a)) ≡ not (is_some (option_map SelfTest count))
+    by None = refl
+    by (Some count) = refl
+agrees name.SelfTest said (a ∷ b ∷ rest) = one_more name.SelfTest said (a ∷ b ∷ rest) (omega arith) refl
 
 -- ---- what all words say
 
-in_order : (due positions credentials own fit command profile : Bool) → credentials ≡ not fit → (positions || own) ≡ not (command || profile)
+in_order : (due positions credentials own fit command standalone : Bool) → credentials ≡ not fit → (positions || own) ≡ not (command || standalone)
     → (due || (positions || (credentials || own)))
-    ≡ not ((if not due && fit then command else false) || (if not due && fit then profile else false))
-in_order true positions credentials own fit command profile h g = refl
-in_order false true credentials own true command profile h g = g
-in_order false true credentials own false command profile h g = refl
-in_order false false credentials own true command profile h g = ap (λ c. c || own) h ∙ g
-in_order false false credentials own false command profile h g = ap (λ c. c || own) h
+    ≡ not ((if not due && fit then command else false) || (if not due && fit then standalone else false))
+in_order true positions credentials own fit command standalone h g = refl
+in_order false true credentials own true command standalone h g = g
+in_order false true credentials own false command standalone h g = refl
+in_order false false credentials own true command standalone h g = ap (λ c. c || own) h ∙ g
+in_order false false credentials own false command standalone h g = ap (λ c. c || own) h
 
 some_when : {A : Type 0} (met : Bool) (o : Option A) → is_some (if met then o else None) ≡ (if met then is_some o else false)
 some_when true o = refl
@@ -366,46 +376,46 @@ parted None (Some x) credentials own = refl
 parted None None (Some x) own = refl
 parted None None None own = refl
 
--- A command or a profile is asked for.
-abbrev is_asked : Option Command → Option PasswordProfile → Bool
-is_asked command profile = is_some command || is_some profile
+-- A command with a database is asked for, or one without.
+abbrev is_asked : Option Command → Option Standalone → Bool
+is_asked command standalone = is_some command || is_some standalone
 
 said_agrees : (command : CommandName) (last : List ℕ) (said : Said)
-    → is_some (said_cause command last said) ≡ not (is_asked (command_saying command said) (profile_saying command said))
+    → is_some (said_cause command last said) ≡ not (is_asked (command_saying command said) (standalone_saying command said))
 said_agrees command last said =
     parted (due_cause last said.due) (positions_cause command said.positions) (credentials_cause said) (own_cause command said said.positions)
     ∙ ap (λ d. d || (is_some (positions_cause command said.positions) || (is_some (credentials_cause said) || is_some (own_cause command said said.positions)))) (some_mapped _ said.due)
     ∙ in_order (is_due said) (is_some (positions_cause command said.positions)) (is_some (credentials_cause said)) (is_some (own_cause command said said.positions))
     (is_fit (is_given option.Plain said) (is_given option.NoPassword said) (is_given option.KeyFile said) && is_fit_from said)
-    (is_some (command_at command said said.positions)) (is_some (profile_at command said said.positions))
+    (is_some (command_at command said said.positions)) (is_some (standalone_at command said said.positions))
     (fits (is_given option.Plain said) (is_given option.NoPassword said) (is_given option.KeyFile said) (is_given option.SameCredentials said)
     (is_given option.NoPasswordFrom said) (is_given option.KeyFileFrom said))
     (agrees command said said.positions)
     ∙ ap₂ (λ (a b : Bool). not (a || b)) (sym (some_when (is_whole said) (command_at command said said.positions)))
-    (sym (some_when (is_whole said) (profile_at command said said.positions)))
+    (sym (some_when (is_whole said) (standalone_at command said said.positions)))
 
 -- ---- words
 
 from_agrees : (command : CommandName) (previous : List ℕ) (words : List (List ℕ)) (said : Said)
     → is_some (cause_from command previous words said)
-    ≡ not (is_asked (option_and_then (command_saying command) (with_words command words said)) (option_and_then (profile_saying command) (with_words command words said)))
+    ≡ not (is_asked (option_and_then (command_saying command) (with_words command words said)) (option_and_then (standalone_saying command) (with_words command words said)))
 from_agrees command previous [] said = said_agrees command previous said
 from_agrees command previous (word ∷ words) said = by (λ next. from_agrees command word words next) (with_word command said word)
   where
     by : ((next : Said) → is_some (cause_from command word words next)
-        ≡ not (is_asked (option_and_then (command_saying command) (with_words command words next)) (option_and_then (profile_saying command) (with_words command words next))))
+        ≡ not (is_asked (option_and_then (command_saying command) (with_words command words next)) (option_and_then (standalone_saying command) (with_words command words next))))
         → (o : Option Said) → is_some (option_map_or (cause_from command word words) o (Some (word_cause command previous word said.due)))
         ≡ not (is_asked (option_and_then (command_saying command) (option_and_then (with_words command words) o))
-        (option_and_then (profile_saying command) (option_and_then (with_words command words) o)))
+        (option_and_then (standalone_saying command) (option_and_then (with_words command words) o)))
     by step None = refl
     by step (Some next) = step next
 
--- Words have a cause exactly where they are no command and ask for no password.
-pub cause_agrees : (words : List (List ℕ)) → is_some (cause_of words) ≡ not (is_some (command_in words) || is_some (profile_of words))
+-- Words have a cause exactly where they are no command, with a database or without one.
+pub cause_agrees : (words : List (List ℕ)) → is_some (cause_of words) ≡ not (is_some (command_in words) || is_some (standalone_of words))
 cause_agrees [] = refl
 cause_agrees (word ∷ words) = by (command_named word)
   where
     by : (o : Option CommandName) → is_some (option_map_or (λ command. cause_from command word words nothing_said) o (Some (name_cause word)))
-        ≡ not (is_asked (option_and_then (command_by words) o) (option_and_then (profile_by words) o))
+        ≡ not (is_asked (option_and_then (command_by words) o) (option_and_then (standalone_by words) o))
     by None = refl
     by (Some command) = from_agrees command word words nothing_said

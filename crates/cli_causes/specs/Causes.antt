@@ -1,5 +1,5 @@
--- Why words are no command and ask for no password: the first word from the left that is wrong, and else the first of what
--- all of them lack or what does not go together.
+-- Why words are no command, with a database or without one: the first word from the left that is
+-- wrong, and else the first of what all of them lack or what does not go together.
 use Rattle.std.specs.Prelude.{ℕ, not, ◌&&◌, ◌==◌, nat_lt, if◌then◌else◌, is_some, length, drop, List, [], ◌∷◌, codes, slice_get, Option, None, Some, option_map, unwrap_or}
 use Rattle.std.specs.Option.{option_map_or, option_or}
 use Rattle.cli_options.specs.declared.names.CommandName.{CommandName}
@@ -11,6 +11,7 @@ use Rattle.cli_options.specs.Options.{command_named, has_value, letter_option, n
 use Rattle.cli_options.specs.Prefixes.{after_sign, before_sign, strip_prefix}
 use Rattle.cli_options.specs.Said.{Said, is_given, is_option, nothing_said, text_of, with_word}
 use Rattle.cli_profiles.specs.Profiles.{alphabet_of, length_named}
+use Rattle.cli_standalone.specs.Standalone.{test_count}
 use Rattle.cli_parse.specs.Words.{format_named, has_change, import_format_named}
 use Rattle.cli_causes.specs.Attachments.{export_attachment_cause, import_attachment_cause}
 use Rattle.cli_causes.specs.Fields.{further_cause}
@@ -18,7 +19,7 @@ use Rattle.cli_causes.specs.Files.{create_cause, edit_file_cause, new_key_cause}
 use Rattle.cli_causes.specs.First.{first_of}
 use Rattle.cli_causes.specs.Versions.{number_cause, restore_cause}
 use Rattle.cli_causes.specs.declared.cause.Cause.{Cause}
-use Rattle.cli_causes.specs.declared.cause.Cause.TheVariants.{NoCommand, OptionFirst, UnknownCommand, UnknownOption, UnknownLetter, UnknownWord, TakesNoValue, LetterTakesNoValue, OptionTwice, FlagsTwice, JoinedValue, NoValue, OptionAsValue, FewPositions, ExtraPosition, ManySources, NotWithPlain, NotWithSame, NotTogether, NoKeyFile, NoKeyFileFrom, UnknownImportFormat, UnknownExportFormat, NothingToChange, NeedsGenerate, UnknownLength, NoCharacters}
+use Rattle.cli_causes.specs.declared.cause.Cause.TheVariants.{NoCommand, OptionFirst, UnknownCommand, UnknownOption, UnknownLetter, UnknownWord, TakesNoValue, LetterTakesNoValue, OptionTwice, FlagsTwice, JoinedValue, NoValue, OptionAsValue, FewPositions, ExtraPosition, ManySources, NotWithPlain, NotWithSame, NotTogether, NoKeyFile, NoKeyFileFrom, UnknownImportFormat, UnknownExportFormat, NothingToChange, NeedsGenerate, UnknownLength, UnknownCount, NoCharacters}
 
 -- ---- a word that is wrong
 
@@ -112,6 +113,7 @@ fewest name.Export = 1
 fewest name.EditFile = 1
 fewest name.Info = 1
 fewest name.Generate = 0
+fewest name.SelfTest = 1
 fewest command = 2
 
 -- The most positions that a command has.
@@ -204,6 +206,11 @@ abbrev pub length_cause : Option (List ℕ) → Option Cause
 length_cause None = None
 length_cause (Some text) = if is_some (length_named text) then None else Some (UnknownLength text)
 
+-- A number of entries that no test has, where one is named.
+abbrev pub test_cause : List (List ℕ) → Option Cause
+test_cause (text ∷ []) = if is_some (test_count text) then None else Some (UnknownCount text)
+test_cause positions = None
+
 -- No character is left.
 abbrev pub alphabet_cause : List ℕ → Option Cause
 alphabet_cause [] = Some NoCharacters
@@ -260,6 +267,7 @@ own_cause name.Create said positions = create_cause said
 own_cause name.Export said positions = export_format_cause (text_of option.Format said)
 own_cause name.EditFile said positions = edit_file_cause said
 own_cause name.Generate said positions = profile_cause said
+own_cause name.SelfTest said positions = test_cause positions
 own_cause command said positions = None
 
 -- What is wrong in all words together, of which this is the last.
@@ -280,7 +288,7 @@ cause_from command previous (word ∷ words) said = option_map_or (cause_from co
 abbrev pub name_cause : List ℕ → Cause
 name_cause word = if is_option word then OptionFirst word else UnknownCommand word
 
--- Why words are no command and ask for no password, if they do neither.
+-- Why words are no command, with a database or without one, if they are none.
 abbrev pub cause_of : List (List ℕ) → Option Cause
 cause_of [] = Some NoCommand
 cause_of (word ∷ words) = option_map_or

@@ -78,6 +78,8 @@ pub enum Cause {
     EmptyAttachmentName,
     /// No password has this length.
     UnknownLength(Text),
+    /// No test has this number of entries.
+    UnknownCount(Text),
     /// No character is left of which a password could be made.
     NoCharacters,
     /// No cipher has this name.

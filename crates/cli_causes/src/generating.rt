@@ -1,4 +1,4 @@
-//! Finding what is wrong in what is said of a generated password.
+//! Finding what is wrong in what is said of a generated password, and of a test.
 ghost use Rattle.std.specs.Prelude.{◌≡◌, IfOk};
 ghost use Rattle.cli_causes.specs.Causes as spec;
 ghost use Rattle.cli_profiles.specs.Profiles.{alphabet_of};
@@ -7,6 +7,7 @@ ghost use Rattle.cli_options.specs.SaidWords.{said_seen, text_seen};
 use crate::cause::Cause;
 use cli_options::{CommandOption, SaidWords, is_given, text_of};
 use cli_profiles::{alphabet_of, length_named};
+use cli_standalone::test_count;
 use outside_core::{NoMemory, Text};
 use std::alloc::Global;
 
@@ -17,6 +18,18 @@ fn length_cause(alloc: Global, text: Option<&str>) -> Result<Option<Cause>, NoMe
     match text {
         Some(text) if length_named(text).is_none() => {
             Ok(Some(Cause::UnknownLength(Text::of(alloc, text)?)))
+        }
+        _ => Ok(None),
+    }
+}
+
+/// A number of entries that no test has.
+pub(crate) fn test_cause(alloc: Global, positions: &[Text]) -> Result<Option<Cause>, NoMemory>
+    ensures { IfOk result (λ cause. cause ≡ spec.test_cause positions.now) }
+{
+    match positions {
+        [text] if test_count(text.as_str()).is_none() => {
+            Ok(Some(Cause::UnknownCount(Text::of(alloc, text.as_str())?)))
         }
         _ => Ok(None),
     }

@@ -10,7 +10,7 @@ use crate::attachments::{export_attachment_cause, import_attachment_cause};
 use crate::cause::Cause;
 use crate::fields;
 use crate::files::{create_cause, edit_file_cause, new_key_cause};
-use crate::generating::{generated_cause, profile_cause};
+use crate::generating::{generated_cause, profile_cause, test_cause};
 use crate::versions::{number_cause, restore_cause};
 use cli_options::{CommandName, CommandOption, SaidWords, is_given, text_of};
 use cli_parse::{format_named, has_change, import_format_named};
@@ -26,7 +26,8 @@ fn fewest(command: CommandName) -> usize
         | CommandName::Create
         | CommandName::Export
         | CommandName::EditFile
-        | CommandName::Info => 1,
+        | CommandName::Info
+        | CommandName::SelfTest => 1,
         CommandName::Move | CommandName::ExportAttachment | CommandName::RemoveAttachment => 3,
         CommandName::ImportAttachment => 4,
         CommandName::Generate => 0,
@@ -266,6 +267,7 @@ fn own_cause(
         CommandName::Export => export_format_cause(alloc, text_of(said, CommandOption::Format)),
         CommandName::EditFile => edit_file_cause(alloc, said),
         CommandName::Generate => profile_cause(alloc, said),
+        CommandName::SelfTest => test_cause(alloc, said.positions),
         _ => Ok(None),
     }
 }

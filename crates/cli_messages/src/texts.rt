@@ -246,6 +246,10 @@ keepass generate [OPTION..]
     -x CHARS, --exclude CHARS
         None of these characters is among them.
 
+keepass selftest COUNT
+    Merges two made copies of a database of COUNT entries both ways, and prints
+    what comes of it. It opens no database, reads no line and draws nothing.
+
 keepass attachment-export [OPTION..] DATABASE ENTRY NAME [FILE]
     Puts the attachment of this name into FILE, which must not be there yet, or
     prints it. One of FILE and --stdout is needed.
@@ -264,16 +268,16 @@ keepass attachment-rm [OPTION..] DATABASE ENTRY NAME
     Takes the attachment of this name away from an entry, and keeps what the
     entry was before in its history.
 
-Options of every command but generate:
+Options of every command but generate, selftest:
     -q, --quiet
         Nothing is reported.
 
-Options of every command but db-edit, generate:
+Options of every command but db-edit, generate, selftest:
     --plain
         The database is a plain XML export, which has no password and no key
         file.
 
-Options of every command but import, db-create, generate:
+Options of every command but import, db-create, generate, selftest:
     -k FILE, --key-file FILE
         The database needs this key file besides its password.
     --no-password

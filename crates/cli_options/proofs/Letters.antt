@@ -103,3 +103,4 @@ no_dash name.ExportAttachment = refl
 no_dash name.ImportAttachment = refl
 no_dash name.RemoveAttachment = refl
 no_dash name.Generate = refl
+no_dash name.SelfTest = refl

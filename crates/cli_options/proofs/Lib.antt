@@ -1,3 +1,4 @@
+pub mod Beginning
 pub mod Digits
 pub mod FlagWords
 pub mod Flags

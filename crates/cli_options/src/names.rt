@@ -39,6 +39,8 @@ pub enum CommandName {
     Info,
     /// `generate`
     Generate,
+    /// `selftest`
+    SelfTest,
     /// `attachment-export`
     ExportAttachment,
     /// `attachment-import`
@@ -69,6 +71,7 @@ pub fn command_named(name: &str) -> Option<CommandName>
         "db-edit" => Some(CommandName::EditFile),
         "db-info" => Some(CommandName::Info),
         "generate" => Some(CommandName::Generate),
+        "selftest" => Some(CommandName::SelfTest),
         "attachment-export" => Some(CommandName::ExportAttachment),
         "attachment-import" => Some(CommandName::ImportAttachment),
         "attachment-rm" => Some(CommandName::RemoveAttachment),

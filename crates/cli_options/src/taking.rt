@@ -141,7 +141,7 @@ fn shared_options(command: CommandName) -> &'static [CommandOption]
                 CommandOption::KeyFile,
             ]
         }
-        CommandName::Generate => &[],
+        CommandName::Generate | CommandName::SelfTest => &[],
         _ => {
             &[
                 CommandOption::Quiet,

@@ -5,11 +5,12 @@ use Rattle.std.specs.List.{list_all}
 use Rattle.std.proofs.lemmas.List.Folds.{list_all-map}
 use Rattle.cli_messages.specs.Pages as alone
 use Rattle.cli_needs.specs.declared.command.Command.{Command}
-use Rattle.cli_profiles.specs.declared.profiles.PasswordProfile.{PasswordProfile}
-use Rattle.cli_parse.specs.Words.{command_in, command_of, or_wrong_words, profile_of}
+use Rattle.cli_standalone.specs.declared.standalone.Standalone.{Standalone}
+use Rattle.cli_standalone.specs.Standalone.{standalone_of}
+use Rattle.cli_parse.specs.Words.{command_in, command_of, or_wrong_words}
 use Rattle.cli_causes.specs.declared.cause.Cause.{Cause}
 use Rattle.cli_causes.specs.Causes.{cause_of}
-use Rattle.cli_pages.specs.Laws.{IsCommandPageOrProfile, IsLine}
+use Rattle.cli_pages.specs.Laws.{IsCommandOrPage, IsLine}
 use Rattle.cli_pages.specs.Pages.{asks_why, is_page, page_of, why}
 use Rattle.cli_pages.specs.Texts.{cause_line, cause_text, shown_byte}
 use Rattle.cli_causes.proofs.Agreeing.{cause_agrees}
@@ -32,20 +33,20 @@ no_line false cause h = ap cause_line h
 pub of_command : (words : List (List ℕ)) (command : Command) → command_of words ≡ Ok command → why words ≡ []
 of_command words command h =
     no_line (is_page words) (cause_of words)
-    (none_of (cause_of words) (cause_agrees words ∙ ap (λ (b : Bool). not (b || is_some (profile_of words))) (some_in (command_in words) command h)))
+    (none_of (cause_of words) (cause_agrees words ∙ ap (λ (b : Bool). not (b || is_some (standalone_of words))) (some_in (command_in words) command h)))
 
--- ---- generated passwords
+-- ---- commands that need no database
 
 or_true : (b : Bool) → (b || true) ≡ true
 or_true true = refl
 or_true false = refl
 
--- Nothing is said of words that ask for a generated password.
-pub of_profile : (words : List (List ℕ)) (profile : PasswordProfile) → profile_of words ≡ Some profile → why words ≡ []
-of_profile words profile h =
+-- Nothing is said of a command that needs no database.
+pub of_standalone : (words : List (List ℕ)) (standalone : Standalone) → standalone_of words ≡ Some standalone → why words ≡ []
+of_standalone words standalone h =
     no_line (is_page words) (cause_of words)
     (none_of (cause_of words)
-    (cause_agrees words ∙ ap (λ (p : Option PasswordProfile). not (is_some (command_in words) || is_some p)) h
+    (cause_agrees words ∙ ap (λ (p : Option Standalone). not (is_some (command_in words) || is_some p)) h
     ∙ ap not (or_true (is_some (command_in words)))))
 
 -- ---- pages
@@ -87,26 +88,26 @@ flipped a true h g = refl
 flipped true false h g = cc g
 flipped false false h g = cc h
 
-profile_there : (o : Option PasswordProfile) → is_some o ≡ true → (profile : PasswordProfile) × (o ≡ Some profile)
-profile_there None h = cc h
-profile_there (Some profile) h = (profile, refl)
+standalone_there : (o : Option Standalone) → is_some o ≡ true → (standalone : Standalone) × (o ≡ Some standalone)
+standalone_there None h = cc h
+standalone_there (Some standalone) h = (standalone, refl)
 
--- Words of which nothing is said are a command, or ask for a page or a generated password.
-pub of_nothing : (words : List (List ℕ)) → why words ≡ [] → IsCommandPageOrProfile words
+-- Words of which nothing is said are a command, with a database or without one, or ask for a page.
+pub of_nothing : (words : List (List ℕ)) → why words ≡ [] → IsCommandOrPage words
 of_nothing words h = by (is_page words) refl h
   where
-    asked_for : (o : Option Command) (p : Option PasswordProfile) → (is_some o || is_some p) ≡ true
-        → ((command : Command) × (or_wrong_words o ≡ Ok command)) ⊎ ((profile : PasswordProfile) × (p ≡ Some profile))
+    asked_for : (o : Option Command) (p : Option Standalone) → (is_some o || is_some p) ≡ true
+        → ((command : Command) × (or_wrong_words o ≡ Ok command)) ⊎ ((standalone : Standalone) × (p ≡ Some standalone))
     asked_for (Some command) p g = inl (command, refl)
-    asked_for None p g = inr (profile_there p g)
+    asked_for None p g = inr (standalone_there p g)
 
-    by : (page : Bool) → is_page words ≡ page → (if page then [] else cause_line (cause_of words)) ≡ [] → IsCommandPageOrProfile words
+    by : (page : Bool) → is_page words ≡ page → (if page then [] else cause_line (cause_of words)) ≡ [] → IsCommandOrPage words
     by true e g = inr (inl (page_there words e))
     by false e g =
-        elim (asked_for (command_in words) (profile_of words)
-        (flipped (is_some (cause_of words)) (is_some (command_in words) || is_some (profile_of words)) (cause_agrees words) (no_cause (cause_of words) g))) [
+        elim (asked_for (command_in words) (standalone_of words)
+        (flipped (is_some (cause_of words)) (is_some (command_in words) || is_some (standalone_of words)) (cause_agrees words) (no_cause (cause_of words) g))) [
           | inl command ↦ inl command
-          | inr profile ↦ inr (inr profile)
+          | inr standalone ↦ inr (inr standalone)
         ]
 
 -- ---- a line

@@ -9,7 +9,7 @@ use Rattle.cli_options.specs.declared.forms.CommandOption.{CommandOption}
 use Rattle.cli_options.specs.declared.forms.CommandOption.TheVariants.{Recursive, Flat, Quiet, Plain, NoPassword, KeyFile, Title, User, Url, Notes, EntryPassword, SameCredentials, DryRun, KeyFileFrom, NoPasswordFrom, Clear, All, Attachments, Format, Attribute, SetPassword, SetKeyFile, Totp, Generate, Length, Lower, Upper, Numeric, Special, Exclude, Otp, Cipher, Kdf, Rounds, Memory, Lanes, UnsetPassword, UnsetKeyFile, FileVersion, DatabaseName, At, Restore, Details, Ids, Set, Protect, Unset, Tag, Untag, Expires, Stdout, Force}
 use Rattle.cli_options.specs.Options.{form_of, name_option}
 use Rattle.cli_causes.specs.declared.cause.Cause.{Cause}
-use Rattle.cli_causes.specs.declared.cause.Cause.TheVariants.{NoCommand, OptionFirst, UnknownCommand, UnknownOption, UnknownLetter, UnknownWord, TakesNoValue, LetterTakesNoValue, OptionTwice, FlagsTwice, JoinedValue, NoValue, OptionAsValue, FewPositions, ExtraPosition, ManySources, NotWithPlain, NotWithSame, NotTogether, NoKeyFile, NoKeyFileFrom, NoNewKey, UnknownImportFormat, UnknownExportFormat, NeedsGenerate, UnknownNumber, EmptyFieldName, StandardField, UnknownTag, NeedsSet, UnknownTime, FileBesideStdout, NoFileOrStdout, EmptyAttachmentName, UnknownLength, NoCharacters, UnknownCipher, UnknownKdf, UnknownVersion, UnknownCost, NeedsKdf, NeedsArgon, NoKeyLeft, NoFileChange, KeyFileChangesNothing}
+use Rattle.cli_causes.specs.declared.cause.Cause.TheVariants.{NoCommand, OptionFirst, UnknownCommand, UnknownOption, UnknownLetter, UnknownWord, TakesNoValue, LetterTakesNoValue, OptionTwice, FlagsTwice, JoinedValue, NoValue, OptionAsValue, FewPositions, ExtraPosition, ManySources, NotWithPlain, NotWithSame, NotTogether, NoKeyFile, NoKeyFileFrom, NoNewKey, UnknownImportFormat, UnknownExportFormat, NeedsGenerate, UnknownNumber, EmptyFieldName, StandardField, UnknownTag, NeedsSet, UnknownTime, FileBesideStdout, NoFileOrStdout, EmptyAttachmentName, UnknownLength, UnknownCount, NoCharacters, UnknownCipher, UnknownKdf, UnknownVersion, UnknownCost, NeedsKdf, NeedsArgon, NoKeyLeft, NoFileChange, KeyFileChangesNothing}
 
 -- ---- commands and options
 
@@ -32,6 +32,7 @@ command_text name.Export = codes "export"
 command_text name.EditFile = codes "db-edit"
 command_text name.Info = codes "db-info"
 command_text name.Generate = codes "generate"
+command_text name.SelfTest = codes "selftest"
 command_text name.ExportAttachment = codes "attachment-export"
 command_text name.ImportAttachment = codes "attachment-import"
 command_text name.RemoveAttachment = codes "attachment-rm"
@@ -55,6 +56,7 @@ positions_text name.Export = codes "DATABASE"
 positions_text name.EditFile = codes "DATABASE"
 positions_text name.Info = codes "DATABASE"
 positions_text name.Generate = codes "only options"
+positions_text name.SelfTest = codes "COUNT"
 positions_text name.ExportAttachment = codes "DATABASE ENTRY NAME [FILE]"
 positions_text name.ImportAttachment = codes "DATABASE ENTRY NAME FILE"
 positions_text name.RemoveAttachment = codes "DATABASE ENTRY NAME"
@@ -64,8 +66,8 @@ abbrev pub commands : List CommandName
 commands =
     name.Ls ∷ name.Show ∷ name.History ∷ name.Search ∷ name.Add ∷ name.Edit ∷ name.Move
     ∷ name.Remove ∷ name.MakeGroup ∷ name.RemoveGroup ∷ name.Merge ∷ name.Import ∷ name.Create
-    ∷ name.Export ∷ name.EditFile ∷ name.Info ∷ name.Generate ∷ name.ExportAttachment
-    ∷ name.ImportAttachment ∷ name.RemoveAttachment ∷ []
+    ∷ name.Export ∷ name.EditFile ∷ name.Info ∷ name.Generate ∷ name.SelfTest
+    ∷ name.ExportAttachment ∷ name.ImportAttachment ∷ name.RemoveAttachment ∷ []
 
 -- The options, whichever command takes them.
 abbrev pub options : List CommandOption
@@ -281,13 +283,15 @@ further_text (UnknownTime text) =
     around (codes "'--expires' needs a time as 2027-01-31T00:00:00Z, or never: '") text (codes "'")
 further_text cause = attachment_text cause
 
--- What does not go together beside what opens databases, and what is said of versions and of
--- generated passwords.
+-- What does not go together beside what opens databases, and what is said of versions, of
+-- generated passwords and of tests.
 abbrev pub profile_text : Cause → List ℕ
 profile_text (NotTogether option other) = not_together option other
 profile_text (NeedsGenerate option) = about_option option (codes "' needs '--generate'")
 profile_text (UnknownNumber option text) = unknown_number option text
 profile_text (UnknownLength text) = around (codes "unknown length '") text (codes "': 1 to 4096")
+profile_text (UnknownCount text) =
+    around (codes "unknown number of entries '") text (codes "': 1 to 50000")
 profile_text NoCharacters = codes "no characters are left: --exclude has all of them"
 profile_text cause = further_text cause
 

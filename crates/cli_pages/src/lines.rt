@@ -27,6 +27,7 @@ fn positions_text(command: CommandName) -> &'static str
         CommandName::Create | CommandName::Export | CommandName::EditFile | CommandName::Info =>
             "DATABASE",
         CommandName::Generate => "only options",
+        CommandName::SelfTest => "COUNT",
         CommandName::ExportAttachment => "DATABASE ENTRY NAME [FILE]",
         CommandName::ImportAttachment => "DATABASE ENTRY NAME FILE",
         CommandName::RemoveAttachment => "DATABASE ENTRY NAME",
@@ -355,8 +356,8 @@ fn add_further(text: &mut Bytes, cause: &Cause) -> Result<(), NoMemory>
     }
 }
 
-// Adds what does not go together beside what opens databases, and what is said of versions and of
-// generated passwords.
+// Adds what does not go together beside what opens databases, and what is said of versions, of
+// generated passwords and of tests.
 fn add_profile(text: &mut Bytes, cause: &Cause) -> Result<(), NoMemory>
     ensures { OnOk result (text.new ≡ text.old ++ spec.profile_text cause.now) }
 {
@@ -368,6 +369,14 @@ fn add_profile(text: &mut Bytes, cause: &Cause) -> Result<(), NoMemory>
         }
         Cause::UnknownLength(length) => {
             add_around(text, "unknown length '", length.as_str(), "': 1 to 4096")
+        }
+        Cause::UnknownCount(count) => {
+            add_around(
+                text,
+                "unknown number of entries '",
+                count.as_str(),
+                "': 1 to 50000",
+            )
         }
         Cause::NoCharacters => text.add(b"no characters are left: --exclude has all of them"),
         _ => add_further(text, cause),

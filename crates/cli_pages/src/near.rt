@@ -9,7 +9,7 @@ use std::alloc::Global;
 use strsim::levenshtein;
 
 /// The commands.
-const COMMANDS: [CommandName; 20] = [
+const COMMANDS: [CommandName; 21] = [
     CommandName::Ls,
     CommandName::Show,
     CommandName::History,
@@ -27,6 +27,7 @@ const COMMANDS: [CommandName; 20] = [
     CommandName::EditFile,
     CommandName::Info,
     CommandName::Generate,
+    CommandName::SelfTest,
     CommandName::ExportAttachment,
     CommandName::ImportAttachment,
     CommandName::RemoveAttachment,
@@ -110,6 +111,7 @@ pub(crate) fn command_text(command: CommandName) -> &'static str
         CommandName::EditFile => "db-edit",
         CommandName::Info => "db-info",
         CommandName::Generate => "generate",
+        CommandName::SelfTest => "selftest",
         CommandName::ExportAttachment => "attachment-export",
         CommandName::ImportAttachment => "attachment-import",
         CommandName::RemoveAttachment => "attachment-rm",

@@ -25,7 +25,7 @@ fn is_page(words: &[String]) -> bool
     }
 }
 
-// Why words are no command, no page and ask for no password.
+// Why words are no command and ask for no page.
 fn why(alloc: Global, words: &[String]) -> Result<Bytes, NoMemory>
     ensures { IfOk result (λ page. page ≡ spec.why (map string_bytes words.now)) }
 {
@@ -50,8 +50,8 @@ fn copy_of(alloc: Global, page: &str) -> Result<Bytes, NoMemory>
 }
 
 /// The page that the words ask for: why the words after `--why` are no command, nothing where they
-/// are one or ask for a page or a password; and the help or the version where one word alone asks for it. Memory runs out only
-/// where they ask for a page.
+/// are one or ask for a page; and the help or the version where one word alone asks for it. Memory
+/// runs out only where they ask for a page.
 pub fn page_of(alloc: Global, words: &[String]) -> Result<Option<Bytes>, NoMemory>
     ensures page { IfOk result (λ page. page ≡ spec.page_of (map string_bytes words.now)) }
     ensures memory { IfErr result (λ none. IsSome (spec.page_of (map string_bytes words.now))) }

@@ -15,7 +15,7 @@ use Rattle.kdbx_frame.specs.declared.settings.Cipher.TheVariants as cipher
 use Rattle.vault_model.specs.declared.forms.FileVersion.TheVariants.{V41}
 use Rattle.cli_needs.specs.declared.command.ExportFormat.TheVariants.{Csv}
 use Rattle.cli_needs.specs.declared.command.ImportFormat.TheVariants as import_format
-use Rattle.cli_parse.specs.Words.{command_in, profile_of}
+use Rattle.cli_parse.specs.Words.{command_in}
 
 -- A database is opened by its password alone.
 abbrev by_password : Access
@@ -142,21 +142,6 @@ ids_listed = refl
 merged_in_detail : command_in (codes "merge" ∷ codes "-d" ∷ codes "--details" ∷ codes "F" ∷ codes "G" ∷ [])
     ≡ Some (Merge by_password (codes "F") (codes "G" ∷ []) by_password false true true)
 merged_in_detail = refl
-
--- A password of digits without the first two.
-digits_left : profile_of (codes "generate" ∷ codes "-n" ∷ codes "-L" ∷ codes "0012" ∷ codes "--exclude=10x" ∷ [])
-    ≡ Some (record { length = 12; alphabet = codes "23456789" })
-digits_left = refl
-
-letters_and_digits : profile_of (codes "generate" ∷ [])
-    ≡ Some (record { length = 32; alphabet = codes "abcdefghijklmnopqrstuvwxyzABCDEFGHIJKLMNOPQRSTUVWXYZ0123456789" })
-letters_and_digits = refl
-
-nothing_left : profile_of (codes "generate" ∷ codes "-n" ∷ codes "-x" ∷ codes "9876543210" ∷ []) ≡ None
-nothing_left = refl
-
-too_long : profile_of (codes "generate" ∷ codes "-L" ∷ codes "4097" ∷ []) ≡ None
-too_long = refl
 
 -- A password is generated, or is a line, and its options are said only where it is generated.
 generated_and_typed : command_in (codes "add" ∷ codes "-g" ∷ codes "-p" ∷ codes "F" ∷ codes "E" ∷ []) ≡ None

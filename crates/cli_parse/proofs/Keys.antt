@@ -6,7 +6,7 @@ use Rattle.std.specs.Option.{option_and_then, option_map}
 use Rattle.cli_profiles.specs.Generating.{generated_in, has_profile_option}
 use Rattle.cli_profiles.specs.Profiles.{IsProfile}
 use Rattle.cli_profiles.specs.declared.profiles.PasswordProfile.{PasswordProfile}
-use Rattle.cli_profiles.proofs.Alphabets.{asked_profile, generated_profile}
+use Rattle.cli_profiles.proofs.Alphabets.{generated_profile}
 use Rattle.cli_needs.specs.declared.command.Access.{Access}
 use Rattle.cli_needs.specs.declared.command.Asked.{Asked}
 use Rattle.cli_needs.specs.declared.command.Command.{Command}
@@ -28,7 +28,7 @@ use Rattle.cli_needs.specs.declared.command.ImportFormat.{ImportFormat}
 use Rattle.cli_options.specs.Credentials.{has_part, is_fit, is_fit_from, is_fit_new, is_whole}
 use Rattle.cli_options.specs.Said.{Said, is_due, is_given, nothing_said, text_of, with_words}
 use Rattle.cli_parse.specs.Fields.{further_of}
-use Rattle.cli_parse.specs.Words.{access_from, access_new, access_of, access_sealed, access_source, add_at, asked_of, asked_with, command_at, command_by, command_in, command_saying, create_at, create_with, edit_at, edit_by, edit_file_at, edit_file_with, edit_of, edit_with, export_as, export_at, export_attachment_at, format_asked, has_change, history_at, import_as, import_at, import_attachment_at, import_format_asked, import_from, info_at, is_fit_create, is_fit_edit, is_fit_show, is_mergeable, list_at, make_group_at, merge_at, merge_of, move_at, profile_at, profile_by, profile_of, profile_saying, remove_at, remove_attachment_at, remove_group_at, search_at, show_at, show_by, show_of, version_asked, version_numbered}
+use Rattle.cli_parse.specs.Words.{access_from, access_new, access_of, access_sealed, access_source, add_at, asked_of, asked_with, command_at, command_by, command_in, command_saying, create_at, create_with, edit_at, edit_by, edit_file_at, edit_file_with, edit_of, edit_with, export_as, export_at, export_attachment_at, format_asked, has_change, history_at, import_as, import_at, import_attachment_at, import_format_asked, import_from, info_at, is_fit_create, is_fit_edit, is_fit_show, is_mergeable, list_at, make_group_at, merge_at, merge_of, move_at, remove_at, remove_attachment_at, remove_group_at, search_at, show_at, show_by, show_of, version_asked, version_numbered}
 
 -- What a command opens has keys, and so has what it shows or writes; and a password that it
 -- generates can be chosen.
@@ -351,6 +351,7 @@ command_key name.ImportAttachment said h =
 command_key name.RemoveAttachment said h =
     by_positions (remove_attachment_at said) tt (λ a. tt) (λ a b. tt) (remove_attachment_key said h)
 command_key name.Generate said h = λ positions. tt
+command_key name.SelfTest said h = λ positions. tt
 
 saying_key : (command : CommandName) (said : Said) → IfKey (command_saying command said)
 saying_key command said = by (is_whole said) refl
@@ -386,29 +387,3 @@ has_profile words command h = (subst IfKey h (words_key words)).2
 -- A file that it changes keeps a part of its key.
 pub has_key_after : (words : List (List ℕ)) (command : Command) → command_in words ≡ Some command → HasKeyAfter command
 has_key_after words command h = (subst IfKey h (words_key words)).3
-
--- A profile that is asked for is one.
-profile_here : (command : CommandName) (said : Said) (positions : List (List ℕ)) → IfSome (profile_at command said positions) IsProfile
-profile_here name.Generate said [] = asked_profile said
-profile_here name.Generate said (a ∷ positions) = tt
-profile_here command said positions = tt
-
-profile_said : (command : CommandName) (said : Said) → IfSome (profile_saying command said) IsProfile
-profile_said command said = by (is_whole said)
-  where
-    by : (b : Bool) → IfSome (if b then profile_at command said said.positions else None) IsProfile
-    by true = profile_here command said said.positions
-    by false = tt
-
--- A step more.
-then_profile : {A : Type 0} (F : A → Option PasswordProfile) → ((a : A) → IfSome (F a) IsProfile) → (o : Option A)
-    → IfSome (option_and_then F o) IsProfile
-then_profile F h None = tt
-then_profile F h (Some a) = h a
-
-pub profile_in_order : (words : List (List ℕ)) → IfSome (profile_of words) IsProfile
-profile_in_order [] = tt
-profile_in_order (word ∷ words) =
-    then_profile (profile_by words)
-    (λ command. then_profile (profile_saying command) (profile_said command) (with_words command words nothing_said))
-    (command_named word)

@@ -1,4 +1,3 @@
-pub mod Beginning
 pub mod Examples
 pub mod IsoTimes
 pub mod Keys

@@ -5,7 +5,6 @@ use Rattle.cli_messages.specs.declared.answers.Reason.TheVariants.{WrongWords}
 use Rattle.cli_messages.specs.declared.answers.Refusal.{Refusal}
 use Rattle.cli_messages.specs.Messages.{refusal_of}
 use Rattle.cli_profiles.specs.Generating.{generated_in, has_profile_option}
-use Rattle.cli_profiles.specs.Profiles.{profile_in}
 use Rattle.cli_profiles.specs.declared.profiles.PasswordProfile.{PasswordProfile}
 use Rattle.cli_needs.specs.declared.command.Access.{Access}
 use Rattle.cli_needs.specs.declared.command.Asked.{Asked}
@@ -340,7 +339,7 @@ abbrev pub info_at : Said → List (List ℕ) → Option Command
 info_at said (file ∷ []) = Some (Info (access_of said) file)
 info_at said positions = None
 
--- `generate` has no database, and is none of the commands that have one: see `profile_of`.
+-- `generate` and `selftest` have no database, and are none of the commands that have one.
 abbrev pub no_command_at : Said → List (List ℕ) → Option Command
 no_command_at said positions = None
 
@@ -363,6 +362,7 @@ command_at name.Export = export_at
 command_at name.EditFile = edit_file_at
 command_at name.Info = info_at
 command_at name.Generate = no_command_at
+command_at name.SelfTest = no_command_at
 command_at name.ExportAttachment = export_attachment_at
 command_at name.ImportAttachment = import_attachment_at
 command_at name.RemoveAttachment = remove_attachment_at
@@ -391,24 +391,3 @@ or_wrong_words None = Err (refusal_of WrongWords (codes "words"))
 -- The command that the words are.
 abbrev pub command_of : List (List ℕ) → Result Command Refusal
 command_of words = or_wrong_words (command_in words)
-
--- The profile that `generate` asks for, which has no positions; other commands ask for none.
-abbrev pub profile_at : CommandName → Said → List (List ℕ) → Option PasswordProfile
-profile_at name.Generate said [] = profile_in said
-profile_at command said positions = None
-
--- The profile that the command of this name asks for whose other words say this.
-abbrev pub profile_saying : CommandName → Said → Option PasswordProfile
-profile_saying command said =
-    if is_whole said then profile_at command said said.positions else None
-
--- The profile that the command of this name asks for with these words after it.
-abbrev pub profile_by : List (List ℕ) → CommandName → Option PasswordProfile
-profile_by words command =
-    option_and_then (profile_saying command) (with_words command words nothing_said)
-
--- How the password is generated that the words ask for: `generate`, and then its options in any
--- order.
-abbrev pub profile_of : List (List ℕ) → Option PasswordProfile
-profile_of [] = None
-profile_of (word ∷ words) = option_and_then (profile_by words) (command_named word)

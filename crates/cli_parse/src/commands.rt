@@ -346,7 +346,7 @@ fn command_at(
         CommandName::Export => export_at(alloc, said),
         CommandName::EditFile => edit_file_at(alloc, said),
         CommandName::Info => info_at(alloc, said),
-        CommandName::Generate => Err(WordsFail::Wrong),
+        CommandName::Generate | CommandName::SelfTest => Err(WordsFail::Wrong),
         CommandName::ExportAttachment => export_attachment_at(alloc, said),
         CommandName::ImportAttachment => import_attachment_at(alloc, said),
         CommandName::RemoveAttachment => remove_attachment_at(alloc, said),

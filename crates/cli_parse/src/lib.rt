@@ -8,13 +8,11 @@ mod entries;
 mod fields;
 mod files;
 pub mod laws;
-mod profiles;
 mod settings;
 
 pub use commands::{format_named, import_format_named, read_words};
 pub use entries::{has_change, version_numbered};
 pub use fields::{expiry_named, is_own_name};
-pub use profiles::read_profile;
 pub use settings::{
     cipher_named, has_argon_cost, has_file_change, is_argon, kdf_named, version_named,
 };

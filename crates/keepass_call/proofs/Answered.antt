@@ -13,8 +13,9 @@ use Rattle.cli_needs.specs.Needs.{Needs, database_files, file_written, files_nam
 use Rattle.cli_needs.specs.declared.command.Access.{Access}
 use Rattle.cli_needs.specs.declared.command.FileChange.{FileChange}
 use Rattle.cli_needs.specs.declared.command.Command.TheVariants.{Ls, Show, History, Search, Add, Edit, Restore, ExportAttachment, ImportAttachment, RemoveAttachment, Move, Remove, MakeGroup, RemoveGroup, Merge, Import, Create, Export, EditFile, Info}
-use Rattle.cli_profiles.specs.declared.profiles.PasswordProfile.{PasswordProfile}
-use Rattle.cli_parse.specs.Words.{command_of, profile_of}
+use Rattle.cli_standalone.specs.declared.standalone.Standalone.{Standalone}
+use Rattle.cli_parse.specs.Words.{command_of}
+use Rattle.cli_standalone.specs.Standalone.{standalone_of}
 use Rattle.cli_needs.specs.declared.command.Command.{Command}
 use Rattle.cli_writing.specs.Writing.{IsSame, KeepsDraft, KeepsFiles, Store}
 use Rattle.cli_commands.specs.declared.output.Output.{Output}
@@ -23,7 +24,7 @@ use Rattle.cli_commands.specs.Commands.{may_store}
 use Rattle.cli_files.proofs.HeldKeys.{in_turn}
 use Rattle.call_run.specs.Endings.{Ending, Ends, EndsRefused, IsOfDice, IsOfSomeDice, carried_out}
 use Rattle.cli_pages.specs.Pages.{page_of}
-use Rattle.keepass_call.specs.Outcome.{AsksCommand, IsOfSomeFile, IsOfTask, World, answer_of, command_answer, draws_with, may_store_by, page_or_answer, password_or_command, truth}
+use Rattle.keepass_call.specs.Outcome.{AsksCommand, IsOfSomeFile, IsOfTask, World, answer_of, command_answer, draws_with, may_store_by, page_or_answer, standalone_or_command, truth}
 use Rattle.keepass_call.proofs.Pages.{asks_command}
 use Rattle.cli_commands.specs.SeenChange.{output_text}
 use Rattle.cli_files.specs.Tasks.{Task, draws, draws_by}
@@ -46,18 +47,18 @@ command_refused : (words : List (List ℕ)) (time : ℕ) (world : World) (refusa
 unfolding command_answer
 command_refused words time world refusal h = ap (λ (r : Result Task Refusal). then_left (with_left r world.dice) (carried_out time)) h
 
--- Words that ask for no page give the password that they ask for, or what they give as a command.
+-- Words that ask for no page give what they give as a command, with a database or without one.
 pub unpaged : (words : List (List ℕ)) (time : ℕ) (world : World) → page_of words ≡ None
-    → answer_of words time world ≡ password_or_command (profile_of words) words time world
+    → answer_of words time world ≡ standalone_or_command (standalone_of words) words time world
 unpaged words time world none = ap (λ (p : Option (List ℕ)). page_or_answer p words time world) none
 
 -- Words that are to be a command give what they give as one.
 pub as_command : (words : List (List ℕ)) (time : ℕ) (world : World) → AsksCommand words → answer_of words time world ≡ command_answer words time world
 as_command words time world none =
-    unpaged words time world none.no_page ∙ ap (λ (p : Option PasswordProfile). password_or_command p words time world) none.no_password
+    unpaged words time world none.no_page ∙ ap (λ (p : Option Standalone). standalone_or_command p words time world) none.no_standalone
 
 pub ends_as : (words : List (List ℕ)) (time : ℕ) (world : World) (result : Result Output Stop) (before now : Store) (dice dice' : Option (List ℕ)) → page_of words ≡ None
-    → Ends result (password_or_command (profile_of words) words time world) before now dice dice' → Ends result (answer_of words time world) before now dice dice'
+    → Ends result (standalone_or_command (standalone_of words) words time world) before now dice dice' → Ends result (answer_of words time world) before now dice dice'
 ends_as words time world result before now dice dice' none h =
     subst (λ (a : StreamAnswer Ending). Ends result a before now dice dice') (sym (unpaged words time world none)) h
 
@@ -155,17 +156,17 @@ prints_some words time task (Err stop) before mid now f s h = tt
 
 -- ---- words that are to be a command
 
-pub command_told : (profile : Option PasswordProfile) (words : List (List ℕ)) (time : ℕ) (world : World) (result : Result Output Stop) (before now : Store) (dice dice' : Option (List ℕ))
-    → profile ≡ None → Ends result (command_answer words time world) before now dice dice' → Ends result (password_or_command profile words time world) before now dice dice'
-command_told profile words time world result before now dice dice' none h =
-    subst (λ (p : Option PasswordProfile). Ends result (password_or_command p words time world) before now dice dice') (sym none) h
+pub command_told : (standalone : Option Standalone) (words : List (List ℕ)) (time : ℕ) (world : World) (result : Result Output Stop) (before now : Store) (dice dice' : Option (List ℕ))
+    → standalone ≡ None → Ends result (command_answer words time world) before now dice dice' → Ends result (standalone_or_command standalone words time world) before now dice dice'
+command_told standalone words time world result before now dice dice' none h =
+    subst (λ (p : Option Standalone). Ends result (standalone_or_command p words time world) before now dice dice') (sym none) h
 
-pub command_draws : (profile : Option PasswordProfile) (words : Result Command Refusal) (dice : Option (List ℕ)) (d : List ℕ) → profile ≡ None
-    → TellsStream (draws_with profile words) dice d → TellsStream (draws_by words) dice d
-command_draws profile words dice d none t = subst (λ (p : Option PasswordProfile). TellsStream (draws_with p words) dice d) none t
+pub command_draws : (standalone : Option Standalone) (words : Result Command Refusal) (dice : Option (List ℕ)) (d : List ℕ) → standalone ≡ None
+    → TellsStream (draws_with standalone words) dice d → TellsStream (draws_by words) dice d
+command_draws standalone words dice d none t = subst (λ (p : Option Standalone). TellsStream (draws_with p words) dice d) none t
 
-pub command_undrawn : (profile : Option PasswordProfile) (words : Result Command Refusal) → profile ≡ None → draws_with profile words ≡ false → draws_by words ≡ false
-command_undrawn profile words none h = subst (λ (p : Option PasswordProfile). draws_with p words ≡ false) none h
+pub command_undrawn : (standalone : Option Standalone) (words : Result Command Refusal) → standalone ≡ None → draws_with standalone words ≡ false → draws_by words ≡ false
+command_undrawn standalone words none h = subst (λ (p : Option Standalone). draws_with p words ≡ false) none h
 
 -- ---- causes
 

@@ -21,8 +21,9 @@ use Rattle.call_run.specs.Endings.{Ending, Ends, EndsSo, ending_without}
 use Rattle.keepass_call.specs.Held.{IsAuthentic, IsComplete, WritesTask}
 use Rattle.cli_pages.specs.Pages.{page_of}
 use Rattle.keepass_call.specs.Outcome.{AsksCommand, Counts, ForEachWorld, Gains, IsAsSaid, IsCut, IsOfSomeFile, IsOfTask, IsRefused, IsSafe, IsUsage, IsWorldOf, KeepsFaults, NoFaults, Outcome, Seen, Truth, World, answer_of, draws_with, draws_words, ended, may_store_by, outcome, page_or_answer}
-use Rattle.cli_profiles.specs.declared.profiles.PasswordProfile.{PasswordProfile}
-use Rattle.cli_parse.specs.Words.{command_of, profile_of}
+use Rattle.cli_standalone.specs.declared.standalone.Standalone.{Standalone}
+use Rattle.cli_parse.specs.Words.{command_of}
+use Rattle.cli_standalone.specs.Standalone.{standalone_of}
 use Rattle.cli_files.specs.Tasks.{draws_by}
 use Rattle.call_input.specs.Reading.{asked_by, left_behind, left_of}
 use Rattle.keepass_call.specs.Telling.{IsPrinted, IsTold, PrintsPage, TellsLine, TellsOneLine, memory_line}
@@ -289,8 +290,8 @@ pub record Stopped (words : List (List ℕ)) (time : ℕ) (stop : Stop) (result 
   pub told : IsTold stop result before.errors now.errors counts.err counts'.err
   pub no_page : page_of words ≡ None
   pub unread : (refusal : Refusal) → command_of words ≡ Err refusal → now.left ≡ before.left
-  pub unasked : (refusal : Refusal) → command_of words ≡ Err refusal → profile_of words ≡ None → now.truth ≡ before.truth
-  pub wrong : (refusal : Refusal) → command_of words ≡ Err refusal → profile_of words ≡ None → IsWordsStop stop
+  pub unasked : (refusal : Refusal) → command_of words ≡ Err refusal → standalone_of words ≡ None → now.truth ≡ before.truth
+  pub wrong : (refusal : Refusal) → command_of words ≡ Err refusal → standalone_of words ≡ None → IsWordsStop stop
 
 -- All but standard error is as before.
 untouched : (before now : Seen) → now.written ≡ before.written → now.store ≡ before.store → now.left ≡ before.left → now.stream ≡ before.stream
@@ -446,12 +447,12 @@ module _ (words : List (List ℕ)) (time result : ℕ) (before now : Seen) (coun
   usage_status InputFault s w = absurd w
   usage_status NoMemory s w = elim (starved s.told) [ inl nine ↦ inr (inl nine) | inr ten ↦ inr (inr ten.0) ]
 
-  stopped_usage : (stop : Stop) → Stopped words time stop result before now counts counts' → (refusal : Refusal) → command_of words ≡ Err refusal → profile_of words ≡ None
+  stopped_usage : (stop : Stop) → Stopped words time stop result before now counts counts' → (refusal : Refusal) → command_of words ≡ Err refusal → standalone_of words ≡ None
       → IsUsage result before now
   stopped_usage stop s refusal wrong none = record {
     status = usage_status stop s (s.wrong refusal wrong none);
     untouched = untouched before now s.written (same_store before.store now.store (s.unwritten (ap may_store_by wrong))) (s.unread refusal wrong)
-        (s.undrawn (ap (λ (p : Option PasswordProfile). draws_with p (command_of words)) none ∙ ap draws_by wrong))
+        (s.undrawn (ap (λ (p : Option Standalone). draws_with p (command_of words)) none ∙ ap draws_by wrong))
         (s.unasked refusal wrong none);
   }
 
@@ -472,7 +473,7 @@ module _ (words : List (List ℕ)) (time result : ℕ) (before now : Seen) (coun
     reads_only = s.unwritten;
     draws_nothing = s.undrawn;
     page = λ text is. absurd (no_none text (page_of words) is s.no_page);
-    usage = λ refusal wrong none. stopped_usage stop s refusal wrong none.no_password;
+    usage = λ refusal wrong none. stopped_usage stop s refusal wrong none.no_standalone;
     as_said = stopped_said stop s;
     refused = stopped_refused stop s;
     cut = λ w t when. record { text = no_front before.written now.written (outcome words time w).text s.written; store = inl s.kept };

@@ -1,7 +1,7 @@
 -- What a call gives on files that hold what it uses, both ways.
 use Rattle.std.proofs.Common.{◌≡◌, ℕ, List, Option, inl, inr, ◌∙◌, ap, subst, Result, Ok}
 use Rattle.std.specs.Prelude.{◌⊎◌}
-use Rattle.cli_profiles.specs.declared.profiles.PasswordProfile.{PasswordProfile}
+use Rattle.cli_standalone.specs.declared.standalone.Standalone.{Standalone}
 use Rattle.cli_messages.specs.declared.answers.Refusal.{Refusal}
 use Rattle.cli_messages.specs.Phases.{StreamAnswer}
 use Rattle.cli_files.proofs.HeldKeys.{in_turn}
@@ -12,13 +12,13 @@ use Rattle.cli_lines.proofs.Having.{lines_have}
 use Rattle.cli_lines.specs.Lines.{lines_of}
 use Rattle.cli_needs.specs.Needs.{needs_of}
 use Rattle.call_run.specs.Endings.{Ending}
-use Rattle.keepass_call.specs.Held.{IsCarried, IsGenerated, IsTask}
-use Rattle.keepass_call.specs.Outcome.{World, answer_of, password_or_command}
+use Rattle.keepass_call.specs.Held.{IsCarried, IsCarriedAlone, IsTask}
+use Rattle.keepass_call.specs.Outcome.{World, answer_of, standalone_or_command}
 use Rattle.cli_parse.specs.Words.{command_of}
 use Rattle.cli_files.specs.Tasks.{Task, databases_in, task_with}
 use Rattle.call_input.specs.Reading.{task_of}
 use Rattle.keepass_call.proofs.Answered.{answer_is, unpaged}
-use Rattle.keepass_call.proofs.Pages.{password_no_page}
+use Rattle.keepass_call.proofs.Pages.{standalone_no_page}
 use Rattle.call_input.proofs.ReadTasks.{opened_is, task_is}
 
 ok_is : {A : Type 0} (a b : A) → ◌≡◌ {A = Result A Refusal} (Ok a) (Ok b) → a ≡ b
@@ -55,15 +55,15 @@ is_given words time world ending h =
     ap (λ (a : StreamAnswer Ending). a.answer) (answer_is words time world h.task (task_given words time world h.task h.is_task))
     ∙ h.gives
 
--- So is a password that the dice choose.
-pub is_chosen : (words : List (List ℕ)) (time : ℕ) (world : World) (ending : Ending) → IsGenerated words world ending
+-- So is a command that needs no database.
+pub is_chosen : (words : List (List ℕ)) (time : ℕ) (world : World) (ending : Ending) → IsCarriedAlone words world ending
     → (answer_of words time world).answer ≡ Ok ending
 is_chosen words time world ending h =
-    ap (λ (a : StreamAnswer Ending). a.answer) (unpaged words time world (password_no_page words h.profile h.asks)
-    ∙ ap (λ (p : Option PasswordProfile). password_or_command p words time world) h.asks)
+    ap (λ (a : StreamAnswer Ending). a.answer) (unpaged words time world (standalone_no_page words h.standalone h.asks)
+    ∙ ap (λ (p : Option Standalone). standalone_or_command p words time world) h.asks)
     ∙ h.gives
 
-pub is_gained : (words : List (List ℕ)) (time : ℕ) (world : World) (ending : Ending) → IsCarried words time world ending ⊎ IsGenerated words world ending
+pub is_gained : (words : List (List ℕ)) (time : ℕ) (world : World) (ending : Ending) → IsCarried words time world ending ⊎ IsCarriedAlone words world ending
     → (answer_of words time world).answer ≡ Ok ending
 is_gained words time world ending (inl carried) = is_given words time world ending carried
 is_gained words time world ending (inr chosen) = is_chosen words time world ending chosen

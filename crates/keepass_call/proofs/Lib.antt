@@ -5,4 +5,5 @@ pub mod MergeCalls
 pub mod Pages
 pub mod Passwords
 pub mod Ranges
+pub mod Standalones
 pub mod TaskDocs

@@ -1,4 +1,5 @@
--- Words that ask for a page or for a password are no command, and words that ask for a password ask for no page.
+-- Words that ask for a page, or are a command that needs no database, are no command that has one;
+-- and a command that needs no database asks for no page.
 use Rattle.std.proofs.Common.{◌≡◌, ℕ, Bool, true, false, List, [], ◌∷◌, codes, bytes_eq, Option, Some, None, Result, Ok, Err, inl, inr, refl, subst}
 use Rattle.std.specs.Prelude.{◌⊎◌, if◌then◌else◌}
 use Rattle.std.proofs.lemmas.Slice.Eq.{bytes_eq-Decides}
@@ -8,13 +9,14 @@ use Rattle.cli_messages.specs.declared.answers.Refusal.{Refusal}
 use Rattle.cli_messages.specs.Pages as alone
 use Rattle.cli_pages.specs.Pages.{asks_why, page_of, why}
 use Rattle.std.specs.Prelude.{option_and_then}
-use Rattle.cli_profiles.specs.declared.profiles.PasswordProfile.{PasswordProfile}
+use Rattle.cli_standalone.specs.declared.standalone.Standalone.{Standalone}
 use Rattle.cli_options.specs.Credentials.{is_whole}
 use Rattle.cli_options.specs.Options.{command_named}
 use Rattle.cli_options.specs.Said.{Said, nothing_said, with_words}
 use Rattle.cli_options.specs.declared.names.CommandName.{CommandName}
 use Rattle.cli_options.specs.declared.names.CommandName.TheVariants as n
-use Rattle.cli_parse.specs.Words.{command_at, command_by, command_in, command_of, command_saying, or_wrong_words, profile_at, profile_by, profile_of, profile_saying}
+use Rattle.cli_parse.specs.Words.{command_at, command_by, command_in, command_of, command_saying, or_wrong_words}
+use Rattle.cli_standalone.specs.Standalone.{standalone_at, standalone_by, standalone_of, standalone_saying}
 use Rattle.cli_needs.specs.declared.command.Command.{Command}
 use Rattle.keepass_call.specs.Outcome.{AsksCommand}
 
@@ -64,17 +66,18 @@ no_page words command c = by (page_of words) refl
     by None e = e
     by (Some page) e = absurd (paged words page command e c)
 
--- ---- words that ask for a password
+-- ---- commands that need no database
 
--- What a name gives that is no `generate`, or is it.
-no_profile : (name : CommandName) (words : List (List ℕ)) (profile : PasswordProfile) (command : Command)
-    → profile_by words name ≡ Some profile → command_by words name ≡ Some command → ⊥
-no_profile name words profile command h c = by (with_words name words nothing_said) h c
+-- A name is not that of a command of both kinds.
+one_kind : (name : CommandName) (words : List (List ℕ)) (standalone : Standalone) (command : Command)
+    → standalone_by words name ≡ Some standalone → command_by words name ≡ Some command → ⊥
+one_kind name words standalone command h c = by (with_words name words nothing_said) h c
   where
-    at : (said : Said) (whole : Bool) (name : CommandName) (positions : List (List ℕ)) → (if whole then profile_at name said positions else None) ≡ Some profile
+    at : (said : Said) (whole : Bool) (name : CommandName) (positions : List (List ℕ)) → (if whole then standalone_at name said positions else None) ≡ Some standalone
         → (if whole then command_at name said positions else None) ≡ Some command → ⊥
     at said false name positions h c = cc h
     at said true n.Generate positions h c = cc c
+    at said true n.SelfTest positions h c = cc c
     at said true n.Ls positions h c = cc h
     at said true n.Show positions h c = cc h
     at said true n.History positions h c = cc h
@@ -95,7 +98,7 @@ no_profile name words profile command h c = by (with_words name words nothing_sa
     at said true n.EditFile positions h c = cc h
     at said true n.Info positions h c = cc h
 
-    by : (said : Option Said) → option_and_then (profile_saying name) said ≡ Some profile → option_and_then (command_saying name) said ≡ Some command → ⊥
+    by : (said : Option Said) → option_and_then (standalone_saying name) said ≡ Some standalone → option_and_then (command_saying name) said ≡ Some command → ⊥
     by None h c = cc h
     by (Some said) h c = at said (is_whole said) name said.positions h c
 
@@ -103,57 +106,57 @@ is_command : (made : Option Command) (command : Command) → or_wrong_words made
 is_command None command c = cc c
 is_command (Some made) command c = cc c
 
-neither_both : (words : List (List ℕ)) (profile : PasswordProfile) (command : Command) → profile_of words ≡ Some profile → command_of words ≡ Ok command → ⊥
-neither_both [] profile command h c = cc h
-neither_both (word ∷ words) profile command h c = by (command_named word) h (is_command (command_in (word ∷ words)) command c)
+neither_both : (words : List (List ℕ)) (standalone : Standalone) (command : Command) → standalone_of words ≡ Some standalone → command_of words ≡ Ok command → ⊥
+neither_both [] standalone command h c = cc h
+neither_both (word ∷ words) standalone command h c = by (command_named word) h (is_command (command_in (word ∷ words)) command c)
   where
-    by : (name : Option CommandName) → option_and_then (profile_by words) name ≡ Some profile → option_and_then (command_by words) name ≡ Some command → ⊥
+    by : (name : Option CommandName) → option_and_then (standalone_by words) name ≡ Some standalone → option_and_then (command_by words) name ≡ Some command → ⊥
     by None h c = cc h
-    by (Some name) h c = no_profile name words profile command h c
+    by (Some name) h c = one_kind name words standalone command h c
 
--- A command asks for no password.
-pub no_password : (words : List (List ℕ)) (command : Command) → command_of words ≡ Ok command → profile_of words ≡ None
-no_password words command c = by (profile_of words) refl
+-- A command that has a database is none that needs none.
+pub no_standalone : (words : List (List ℕ)) (command : Command) → command_of words ≡ Ok command → standalone_of words ≡ None
+no_standalone words command c = by (standalone_of words) refl
   where
-    by : (profile : Option PasswordProfile) → profile_of words ≡ profile → profile_of words ≡ None
+    by : (standalone : Option Standalone) → standalone_of words ≡ standalone → standalone_of words ≡ None
     by None e = e
-    by (Some profile) e = absurd (neither_both words profile command e c)
+    by (Some standalone) e = absurd (neither_both words standalone command e c)
 
 -- And asks for no page.
 pub asks_command : (words : List (List ℕ)) (command : Command) → command_of words ≡ Ok command → AsksCommand words
-asks_command words command c = record { no_page = no_page words command c; no_password = no_password words command c }
+asks_command words command c = record { no_page = no_page words command c; no_standalone = no_standalone words command c }
 
--- Words that ask for a password are no command.
-pub password_words : (words : List (List ℕ)) (profile : PasswordProfile) → profile_of words ≡ Some profile → (refusal : Refusal) × (command_of words ≡ Err refusal)
-password_words words profile h = by (command_of words) refl
+-- A command that needs no database is none that has one.
+pub standalone_words : (words : List (List ℕ)) (standalone : Standalone) → standalone_of words ≡ Some standalone → (refusal : Refusal) × (command_of words ≡ Err refusal)
+standalone_words words standalone h = by (command_of words) refl
   where
     by : (read : Result Command Refusal) → command_of words ≡ read → (refusal : Refusal) × (command_of words ≡ Err refusal)
     by (Err refusal) e = (refusal, e)
-    by (Ok command) e = absurd (neither_both words profile command h e)
+    by (Ok command) e = absurd (neither_both words standalone command h e)
 
-no_some : (profile : PasswordProfile) → ◌≡◌ {A = Option PasswordProfile} None (Some profile) → ⊥
-no_some profile h = cc h
+no_some : (standalone : Standalone) → ◌≡◌ {A = Option Standalone} None (Some standalone) → ⊥
+no_some standalone h = cc h
 
-alone_profiled : (words : List (List ℕ)) (page : List ℕ) (profile : PasswordProfile) → alone.page_of words ≡ Some page → profile_of words ≡ Some profile → ⊥
-alone_profiled [] page profile h c = cc h
-alone_profiled (word ∷ other ∷ words) page profile h c = cc h
-alone_profiled (word ∷ []) page profile h c =
+alone_standalone : (words : List (List ℕ)) (page : List ℕ) (standalone : Standalone) → alone.page_of words ≡ Some page → standalone_of words ≡ Some standalone → ⊥
+alone_standalone [] page standalone h c = cc h
+alone_standalone (word ∷ other ∷ words) page standalone h c = cc h
+alone_standalone (word ∷ []) page standalone h c =
     elim (page_word word page h) [
-      | inl is ↦ no_some profile (subst (λ (w : List ℕ). profile_of (w ∷ []) ≡ Some profile) is c)
-      | inr is ↦ no_some profile (subst (λ (w : List ℕ). profile_of (w ∷ []) ≡ Some profile) is c)
+      | inl is ↦ no_some standalone (subst (λ (w : List ℕ). standalone_of (w ∷ []) ≡ Some standalone) is c)
+      | inr is ↦ no_some standalone (subst (λ (w : List ℕ). standalone_of (w ∷ []) ≡ Some standalone) is c)
     ]
 
-profiled : (words : List (List ℕ)) (page : List ℕ) (profile : PasswordProfile) → page_of words ≡ Some page → profile_of words ≡ Some profile → ⊥
-profiled [] page profile h c = cc h
-profiled (word ∷ words) page profile h c =
+standalone_paged : (words : List (List ℕ)) (page : List ℕ) (standalone : Standalone) → page_of words ≡ Some page → standalone_of words ≡ Some standalone → ⊥
+standalone_paged [] page standalone h c = cc h
+standalone_paged (word ∷ words) page standalone h c =
     elim (which (asks_why word) (why words) page (alone.page_of (word ∷ words)) h) [
-      | inl is ↦ no_some profile (subst (λ (w : List ℕ). profile_of (w ∷ words) ≡ Some profile) ((bytes_eq-Decides word (codes "--why")).0 is) c)
-      | inr is ↦ alone_profiled (word ∷ words) page profile is c
+      | inl is ↦ no_some standalone (subst (λ (w : List ℕ). standalone_of (w ∷ words) ≡ Some standalone) ((bytes_eq-Decides word (codes "--why")).0 is) c)
+      | inr is ↦ alone_standalone (word ∷ words) page standalone is c
     ]
 
-pub password_no_page : (words : List (List ℕ)) (profile : PasswordProfile) → profile_of words ≡ Some profile → page_of words ≡ None
-password_no_page words profile c = by (page_of words) refl
+pub standalone_no_page : (words : List (List ℕ)) (standalone : Standalone) → standalone_of words ≡ Some standalone → page_of words ≡ None
+standalone_no_page words standalone c = by (page_of words) refl
   where
     by : (page : Option (List ℕ)) → page_of words ≡ page → page_of words ≡ None
     by None e = e
-    by (Some page) e = absurd (profiled words page profile e c)
+    by (Some page) e = absurd (standalone_paged words page standalone e c)

@@ -21,15 +21,15 @@ pub record IsCall (words : List (List ℕ)) (time result : ℕ) (before now : Se
   pub safe : IsSafe result before now counts counts'
   -- Always: at status 0 no count of faults rose.
   pub faultless : result ≡ 0 → KeepsFaults counts counts'
-  -- Always: words that are no command that may write change no file, and words that ask for no
-  -- password and are no command that draws draw nothing.
+  -- Always: words that are no command that may write change no file, and words that are no command
+  -- that draws, with a database or without one, draw nothing.
   pub reads_only : may_store_by (command_of words) ≡ false → IsSame before.store now.store
   pub draws_nothing : draws_words words ≡ false → now.stream ≡ before.stream
   -- Always: words that ask for a page print it, and touch nothing else.
   pub page : (text : List ℕ) → page_of words ≡ Some text
       → PrintsPage text result before now counts counts'
-  -- Always: words that are no command and ask for no page and no password touch nothing but standard
-  -- error.
+  -- Always: words that are no command, with a database or without one, and ask for no page touch
+  -- nothing but standard error.
   pub usage : (refusal : Refusal) → command_of words ≡ Err refusal → AsksCommand words
       → IsUsage result before now
   -- Where the status is 0, or nothing failed and memory did not run out, all is as the outcome of

@@ -2,14 +2,15 @@
 -- their bytes.
 use Rattle.std.specs.Prelude.{◌≡◌, ℕ, List, ◌⊎◌, Ok, Some}
 use Rattle.cli_needs.specs.Needs.{needs_of}
-use Rattle.cli_profiles.specs.declared.profiles.PasswordProfile.{PasswordProfile}
-use Rattle.cli_parse.specs.Words.{command_of, profile_of}
+use Rattle.cli_standalone.specs.declared.standalone.Standalone.{Standalone}
+use Rattle.cli_parse.specs.Words.{command_of}
+use Rattle.cli_standalone.specs.Standalone.{standalone_of}
 use Rattle.cli_lines.specs.Lines.{lines_of}
 use Rattle.call_input.specs.Attaching.{attached_for}
 use Rattle.call_input.specs.Opening.{HoldCommandDatabases}
 use Rattle.cli_commands.specs.Commands.{Change}
 use Rattle.call_run.specs.Endings.{Ending, ReadsBack, Stores, carried_out, change_of_task, targets_of}
-use Rattle.keepass_call.specs.Outcome.{Counts, Gains, NoFaults, Seen, World, password_answer}
+use Rattle.keepass_call.specs.Outcome.{Counts, Gains, NoFaults, Seen, World, standalone_answer}
 use Rattle.cli_files.specs.Tasks.{Task, databases_in}
 
 -- The words are the task's command, its lines are those that are due, and the files hold its
@@ -56,15 +57,15 @@ pub record WritesTask (words : List (List ℕ)) (time : ℕ) (world : World) (be
   pub reads_back : ReadsBack (targets_of task.command) task.opened.sealing change before.store
       now.store
 
--- The words ask for a password, and the dice choose one.
-pub record IsGenerated (words : List (List ℕ)) (world : World) (ending : Ending) : Type 0 where
-  pub profile : PasswordProfile
-  pub asks : profile_of words ≡ Some profile
-  pub gives : (password_answer profile world.dice).answer ≡ Ok ending
+-- The words are a command that needs no database, which ends so.
+pub record IsCarriedAlone (words : List (List ℕ)) (world : World) (ending : Ending) : Type 0 where
+  pub standalone : Standalone
+  pub asks : standalone_of words ≡ Some standalone
+  pub gives : (standalone_answer standalone world.dice).answer ≡ Ok ending
 
--- Where the words can be carried out, or ask for a password that the dice choose, and no count of
--- faults rose, the status is 0, or memory ran out.
+-- Where the words can be carried out, with a database or without one, and no count of faults rose,
+-- the status is 0, or memory ran out.
 abbrev pub IsComplete : List (List ℕ) → ℕ → World → ℕ → Counts → Counts → Type 0
 IsComplete words time world result before now =
-    (ending : Ending) → IsCarried words time world ending ⊎ IsGenerated words world ending
+    (ending : Ending) → IsCarried words time world ending ⊎ IsCarriedAlone words world ending
     → NoFaults before now → (result ≡ 0) ⊎ (result ≡ 9)

@@ -10,8 +10,12 @@ use Rattle.cli_writing.specs.Writing.{KeepsDraft, KeepsFiles, NewFile, Store, st
 use Rattle.cli_commands.specs.Commands.{may_store, may_write}
 use Rattle.cli_pages.specs.Pages.{page_of}
 use Rattle.cli_needs.specs.Needs.{file_written}
-use Rattle.cli_parse.specs.Words.{command_of, profile_of}
+use Rattle.cli_parse.specs.Words.{command_of}
 use Rattle.cli_profiles.specs.declared.profiles.PasswordProfile.{PasswordProfile}
+use Rattle.cli_self_test.specs.SelfTest.{self_test}
+use Rattle.cli_standalone.specs.declared.standalone.Standalone.{Standalone}
+use Rattle.cli_standalone.specs.declared.standalone.Standalone.TheVariants.{Password, SelfTest}
+use Rattle.cli_standalone.specs.Standalone.{standalone_of}
 use Rattle.cli_generating.specs.Generated.{generated}
 use Rattle.cli_needs.specs.declared.command.Command.{Command}
 use Rattle.cli_files.specs.Tasks.{Task, draws_by}
@@ -44,32 +48,53 @@ password_answer profile dice =
     then_left (generated profile.alphabet profile.length dice) (λ password left.
     with_left (Ok (printed_password password)) left)
 
--- What words give that ask for no page: the password that they ask for, or else what they give as a
--- command.
-abbrev pub password_or_command : Option PasswordProfile → List (List ℕ) → ℕ → World
-    → StreamAnswer Ending
-password_or_command (Some profile) words time world = password_answer profile world.dice
-password_or_command None words time world = command_answer words time world
+-- A text that is printed, or a refusal.
+abbrev pub printed : Result (List ℕ) Refusal → Result Ending Refusal
+printed (Ok text) = Ok (ending_without text)
+printed (Err refusal) = Err refusal
 
--- What a call gives: the page that its words ask for, or else the password, or what they give as a
--- command.
+-- What a test of the program itself ends a call with: its report is printed, and nothing is drawn.
+unfoldable pub test_answer : ℕ → List ℕ → StreamAnswer Ending
+test_answer count dice = with_left (printed (self_test count)) dice
+
+-- What a command that needs no database ends with, over the dice.
+abbrev pub standalone_answer : Standalone → List ℕ → StreamAnswer Ending
+standalone_answer (Password profile) dice = password_answer profile dice
+standalone_answer (SelfTest count) dice = test_answer count dice
+
+-- What words give that ask for no page: what they give as a command that needs no database, or else
+-- as one that has one.
+abbrev pub standalone_or_command : Option Standalone → List (List ℕ) → ℕ → World
+    → StreamAnswer Ending
+standalone_or_command (Some standalone) words time world = standalone_answer standalone world.dice
+standalone_or_command None words time world = command_answer words time world
+
+-- What a call gives: the page that its words ask for, or else what they give as a command, with a
+-- database or without one.
 abbrev pub page_or_answer : Option (List ℕ) → List (List ℕ) → ℕ → World → StreamAnswer Ending
 page_or_answer (Some page) words time world = with_left (Ok (ending_without page)) world.dice
-page_or_answer None words time world = password_or_command (profile_of words) words time world
+page_or_answer None words time world =
+    standalone_or_command (standalone_of words) words time world
 
--- The words ask for no page and for no password: they are to be a command.
+-- The words ask for no page, and are no command that needs no database: they are to be a command
+-- that has one.
 pub record AsksCommand (words : List (List ℕ)) : Type 0 where
   pub no_page : page_of words ≡ None
-  pub no_password : profile_of words ≡ None
+  pub no_standalone : standalone_of words ≡ None
 
--- Words that ask for a password draw, and so does a command that draws.
-abbrev pub draws_with : Option PasswordProfile → Result Command Refusal → Bool
-draws_with (Some profile) command = true
+-- Whether a command that needs no database draws: a password does.
+abbrev pub draws_alone : Standalone → Bool
+draws_alone (Password profile) = true
+draws_alone (SelfTest count) = false
+
+-- Whether a command draws, with a database or without one.
+abbrev pub draws_with : Option Standalone → Result Command Refusal → Bool
+draws_with (Some standalone) command = draws_alone standalone
 draws_with None command = draws_by command
 
 -- Whether words draw.
 abbrev pub draws_words : List (List ℕ) → Bool
-draws_words words = draws_with (profile_of words) (command_of words)
+draws_words words = draws_with (standalone_of words) (command_of words)
 
 -- What these words give at a moment over a world.
 abbrev pub answer_of : List (List ℕ) → ℕ → World → StreamAnswer Ending
@@ -266,9 +291,9 @@ pub record IsSafe (result : ℕ) (before now : Seen) (counts counts' : Counts) :
   pub draft : KeepsDraft before.store now.store
   pub stream : LosesPrefix before.stream now.stream
 
--- A call of words that are no command, ask for no page and for no password: the status is that of
--- wrong words, or memory ran out or the output failed, and nothing but standard error is touched:
--- nothing is printed, read or drawn.
+-- A call of words that are no command, with a database or without one, and ask for no page: the
+-- status is that of wrong words, or memory ran out or the output failed, and nothing but standard
+-- error is touched: nothing is printed, read or drawn.
 pub record IsUsage (result : ℕ) (before now : Seen) : Type 0 where
   pub status : (result ≡ 1) ⊎ (result ≡ 9) ⊎ (result ≡ 10)
   pub untouched : now ≡ record before { errors = now.errors }

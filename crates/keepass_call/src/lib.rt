@@ -3,6 +3,7 @@
 #![tactic(auto)]
 
 mod run;
+mod standalone;
 mod target;
 
 pub use run::keepass;

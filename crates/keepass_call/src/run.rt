@@ -2,30 +2,28 @@
 ghost use Rattle.std.specs.Prelude.{◌≡◌, ◌++◌, ℕ, List, None, Some, Err, IfErr, IfOk, OnErr, codes, false, map, string_bytes, OnOk, true};
 ghost use Rattle.outside_core.specs.Streams.{GainsPrefix, LosesPrefix};
 ghost use Rattle.cli_messages.specs.Messages.{error_line, reason_text, status_of};
-ghost use Rattle.cli_messages.specs.Phases.{IsCaused, IsMemoryStop, IsStreamStop, IsWordsStop, Leaves, TellsStream};
+ghost use Rattle.cli_messages.specs.Phases.{IsCaused, IsWordsStop, Leaves, TellsStream};
 ghost use Rattle.cli_messages.specs.declared.answers.Refusal.{Refusal};
 ghost use Rattle.cli_needs.specs.Needs.{files_named};
-ghost use Rattle.cli_writing.specs.Writing.{IsSame, KeepsDraft, KeepsFiles, Store, store};
+ghost use Rattle.cli_writing.specs.Writing.{IsSame, KeepsDraft, KeepsFiles, store};
 ghost use Rattle.keepass_call.specs.Call.{IsCall};
 ghost use Rattle.call_run.specs.Endings.{Ends};
-ghost use Rattle.keepass_call.specs.Outcome.{AreTruthful, IsOfSomeFile, IsOfTask, World, command_answer, counts, draws_words, may_store_by, password_answer, password_or_command, seen, truth};
+ghost use Rattle.keepass_call.specs.Outcome.{AreTruthful, IsOfSomeFile, IsOfTask, World, command_answer, counts, draws_words, may_store_by, seen, standalone_or_command, truth};
 ghost use Rattle.cli_commands.specs.SeenChange.{output_text};
-ghost use Rattle.cli_parse.specs.Words.{command_of, profile_of};
-ghost use Rattle.cli_profiles.specs.Profiles.{IsProfile};
+ghost use Rattle.cli_parse.specs.Words.{command_of};
+ghost use Rattle.cli_standalone.specs.Standalone.{standalone_of};
 ghost use Rattle.cli_files.specs.Tasks.{draws_by};
 ghost use Rattle.call_input.specs.Reading.{asked_by, left_of};
 ghost use Rattle.keepass_call.specs.Telling.{IsPrinted, IsTold, IsUnwritten, TellsLine};
 
+use crate::standalone::answer_alone;
 use call_input::read_task;
 use call_run::carry_out;
 use cli_commands::{Output, lend_text};
-use cli_generating::choose_password;
 use cli_messages::{Reason, Stop, line, status, text_of_reason};
 use cli_pages::page_of;
-use cli_parse::read_profile;
-use cli_profiles::PasswordProfile;
+use cli_standalone::read_standalone;
 use outside_core::{Bytes, Dice, FileStore, NoMemory, Sink, SinkFail, Source, write_all};
-use secret_core::Secret;
 use std::alloc::Global;
 
 /// The status of a call at which the store failed.
@@ -109,47 +107,7 @@ fn answer<F: FileStore, S: Source, D: Dice>(
     carry_out(alloc, files, dice, task, now)
 }
 
-// The text that prints a password.
-fn password_output(alloc: Global, password: Secret) -> Result<Output, Stop>
-    ensures told { IfOk result (λ output. output_text output ≡ password.bytes ++ codes "\n") }
-    ensures cause { IfErr result IsMemoryStop }
-{
-    let length = password.len();
-    let Some(room) = length.checked_add(1) else {
-        drop(password);
-        return Err(Stop::NoMemory);
-    };
-    let Ok(mut line) = Secret::with_room(alloc, room) else {
-        drop(password);
-        return Err(Stop::NoMemory);
-    };
-    line.extend(password.lend(0, length));
-    line.push(b'\n');
-    drop(password);
-    Ok(Output::Report(line))
-}
-
-// The password that words ask for, chosen by the dice.
-fn password<D: Dice>(alloc: Global, dice: &mut D, profile: PasswordProfile) -> Result<Output, Stop>
-    requires { IsProfile profile }
-    ensures told { D.truthful dice.new ≡ true
-        → (d : List ℕ) (s : Store) → D.stream dice.old ≡ Some d
-        → Ends result (password_answer profile d) s s (D.stream dice.old) (D.stream dice.new) }
-    ensures stream { LosesPrefix (D.stream dice.old) (D.stream dice.new) }
-    ensures cause { IfErr result (IsStreamStop (D.faults dice.old) (D.faults dice.new)) }
-    ensures faultless { OnOk result (D.faults dice.new ≡ D.faults dice.old) }
-{
-    let alphabet = profile.alphabet.as_str().as_bytes();
-    let chosen = choose_password(alloc, dice, alphabet, profile.length);
-    drop(profile);
-    match chosen {
-        Ok(password) => password_output(alloc, password),
-        Err(stop) => Err(stop),
-    }
-}
-
-// What words give that ask for no page: the password that they ask for, or what they give as a
-// command.
+// What words give that ask for no page: what they give as a command, with a database or without one.
 fn answer_words<F: FileStore, S: Source, D: Dice>(
     alloc: Global,
     words: &[String],
@@ -164,12 +122,12 @@ fn answer_words<F: FileStore, S: Source, D: Dice>(
         → TellsStream (asked_by (command_of (map string_bytes words.now))) (S.left input.old)
         world.input
         → TellsStream (draws_words (map string_bytes words.now)) (D.stream dice.old) world.dice
-        → Ends result (password_or_command (profile_of (map string_bytes words.now))
+        → Ends result (standalone_or_command (standalone_of (map string_bytes words.now))
         (map string_bytes words.now) now world)
         (store (F.files files.old) (F.draft_name files.old) (F.draft_bytes files.old))
         (store (F.files files.new) (F.draft_name files.new) (F.draft_bytes files.new))
         (D.stream dice.old) (D.stream dice.new) }
-    ensures held { profile_of (map string_bytes words.now) ≡ None
+    ensures held { standalone_of (map string_bytes words.now) ≡ None
         → AreTruthful (truth (F.truthful files.new) (S.truthful input.new) (D.truthful dice.new))
         → (world : World) → F.files files.old ≡ Some world.files
         → TellsStream (asked_by (command_of (map string_bytes words.now))) (S.left input.old)
@@ -179,7 +137,7 @@ fn answer_words<F: FileStore, S: Source, D: Dice>(
         (output_text output)
         (store (F.files files.old) (F.draft_name files.old) (F.draft_bytes files.old))
         (store (F.files files.new) (F.draft_name files.new) (F.draft_bytes files.new))) }
-    ensures some_file { profile_of (map string_bytes words.now) ≡ None
+    ensures some_file { standalone_of (map string_bytes words.now) ≡ None
         → IfOk result (λ output. IsOfSomeFile (map string_bytes words.now) now
         (output_text output)
         (store (F.files files.old) (F.draft_name files.old) (F.draft_bytes files.old))
@@ -191,11 +149,11 @@ fn answer_words<F: FileStore, S: Source, D: Dice>(
     ensures unread { (refusal : Refusal) → command_of (map string_bytes words.now) ≡ Err refusal
         → S.left input.new ≡ S.left input.old }
     ensures unasked { (refusal : Refusal) → command_of (map string_bytes words.now) ≡ Err refusal
-        → profile_of (map string_bytes words.now) ≡ None
+        → standalone_of (map string_bytes words.now) ≡ None
         → truth (F.truthful files.new) (S.truthful input.new) (D.truthful dice.new)
         ≡ truth (F.truthful files.old) (S.truthful input.old) (D.truthful dice.old) }
     ensures wrong { (refusal : Refusal) → command_of (map string_bytes words.now) ≡ Err refusal
-        → profile_of (map string_bytes words.now) ≡ None → IfErr result IsWordsStop }
+        → standalone_of (map string_bytes words.now) ≡ None → IfErr result IsWordsStop }
     ensures kept { OnErr result (KeepsFiles
         (store (F.files files.old) (F.draft_name files.old) (F.draft_bytes files.old))
         (store (F.files files.new) (F.draft_name files.new) (F.draft_bytes files.new))) }
@@ -215,8 +173,8 @@ fn answer_words<F: FileStore, S: Source, D: Dice>(
     ensures faultless { OnOk result ((F.faults files.new ≡ F.faults files.old)
         × (S.faults input.new ≡ S.faults input.old) × (D.faults dice.new ≡ D.faults dice.old)) }
 {
-    match read_profile(alloc, words) {
-        Ok(Some(profile)) => password(alloc, dice, profile),
+    match read_standalone(alloc, words) {
+        Ok(Some(standalone)) => answer_alone(alloc, dice, standalone),
         Ok(None) => answer(alloc, words, files, input, dice, now),
         Err(_none) => Err(Stop::NoMemory),
     }
@@ -326,8 +284,8 @@ fn tell<E: Sink>(alloc: Global, err: &mut E, stop: Stop) -> u8
 /// all of them, and what the target has already changes nothing.
 ///
 /// Whatever the outside reports and answered: a refusal changes no file; words that ask for a page
-/// print it, and touch nothing else; words that ask for a password touch no file and no input; and
-/// words that are no command that may write change no file.
+/// print it, and touch nothing else; a command that needs no database touches no file and no input;
+/// and words that are no command that may write change no file.
 pub fn keepass<F: FileStore, S: Source, O: Sink, E: Sink, D: Dice>(
     alloc: Global,
     words: &[String],

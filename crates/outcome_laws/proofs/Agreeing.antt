@@ -22,8 +22,12 @@ use Rattle.cli_needs.specs.declared.command.KeyFileChange.TheVariants as key_fil
 use Rattle.cli_needs.specs.declared.command.Command.TheVariants.{Ls, Show, History, Search, Add, Edit, Restore, ExportAttachment, ImportAttachment, RemoveAttachment, Move, Remove, MakeGroup, RemoveGroup, Merge, Import, Create, Export, EditFile, Info}
 use Rattle.cli_needs.specs.Needs as from
 use Rattle.cli_needs.specs.Needs.{CreateNeeds, ImportNeeds, Needs, Origin, database_files, exported_to, files_by, files_named, files_of, key_files, needs_of, new_key_files, origin_of, source_files, target_of}
-use Rattle.cli_parse.specs.Words.{command_of, profile_of}
+use Rattle.cli_parse.specs.Words.{command_of}
 use Rattle.cli_profiles.specs.declared.profiles.PasswordProfile.{PasswordProfile}
+use Rattle.cli_self_test.specs.SelfTest.{self_test}
+use Rattle.cli_standalone.specs.declared.standalone.Standalone.{Standalone}
+use Rattle.cli_standalone.specs.declared.standalone.Standalone.TheVariants.{Password, SelfTest}
+use Rattle.cli_standalone.specs.Standalone.{standalone_of}
 use Rattle.cli_generating.specs.Generated.{generated}
 use Rattle.cli_lines.specs.Lines.{Lines, lines_of}
 use Rattle.cli_writing.specs.Writing.{NewFile, file_or_refusal, plain_file}
@@ -48,7 +52,7 @@ use Rattle.kdbx_seal.specs.Made.{made_file}
 use Rattle.kdbx_seal.specs.declared.fail.SealFail.{SealFail}
 use Rattle.cli_sealing.specs.Draws.{draws_of}
 use Rattle.cli_sealing.specs.Sealing.{file_by, file_unless, sealed_file, settings_for}
-use Rattle.keepass_call.specs.Outcome.{World, answer_of, command_answer, ended, page_or_answer, password_answer, password_or_command, printed_password}
+use Rattle.keepass_call.specs.Outcome.{World, answer_of, command_answer, ended, page_or_answer, password_answer, printed, printed_password, standalone_answer, standalone_or_command, test_answer}
 use Rattle.call_input.specs.Reading.{left_of}
 use Rattle.keepass_call.proofs.HeldTasks.{is_task}
 use Rattle.call_conditions.specs.Agreeing.{AgreeOn}
@@ -200,16 +204,16 @@ module _ (F G : FileMap) where
 
 -- ---- the outcome
 
-command_answers_same : (words : List (List ℕ)) (time : ℕ) (world : World) (files : FileMap) → AgreeOn (files_named (command_of words)) world.files files → (profile : Option PasswordProfile)
-    → password_or_command profile words time world ≡ password_or_command profile words time (with_files world files)
+command_answers_same : (words : List (List ℕ)) (time : ℕ) (world : World) (files : FileMap) → AgreeOn (files_named (command_of words)) world.files files → (standalone : Option Standalone)
+    → standalone_or_command standalone words time world ≡ standalone_or_command standalone words time (with_files world files)
 unfolding command_answer
-command_answers_same words time world files agree (Some profile) = refl
+command_answers_same words time world files agree (Some standalone) = refl
 command_answers_same words time world files agree None = ap (λ r. then_left (with_left r world.dice) (carried_out time)) (task_same world.files files words time world.input agree)
 
 answer_same : (words : List (List ℕ)) (time : ℕ) (world : World) (files : FileMap) → AgreeOn (files_named (command_of words)) world.files files → (page : Option (List ℕ))
     → page_or_answer page words time world ≡ page_or_answer page words time (with_files world files)
 answer_same words time world files agree (Some page) = refl
-answer_same words time world files agree None = command_answers_same words time world files agree (profile_of words)
+answer_same words time world files agree None = command_answers_same words time world files agree (standalone_of words)
 
 pub only_named_files_count : OnlyNamedFilesCount
 only_named_files_count words time world files agree =
@@ -344,10 +348,23 @@ password_file profile dice = of (generated profile.alphabet profile.length dice)
     of (Ok password) left = refl
     of (Err refusal) left = refl
 
-named_by : (words : List (List ℕ)) (time : ℕ) (world : World) (file : NewFile) → (profile : Option PasswordProfile)
-    → file_in (password_or_command profile words time world).answer ≡ Some file → IsIn file.name (files_named (command_of words))
+-- nor is the report of a test
+test_file : (count : ℕ) (dice : List ℕ) → file_in (test_answer count dice).answer ≡ None
+unfolding test_answer
+test_file count dice = of (self_test count)
+  where
+    of : (answer : Result (List ℕ) Refusal) → file_in (printed answer) ≡ None
+    of (Ok text) = refl
+    of (Err refusal) = refl
+
+standalone_file : (standalone : Standalone) (dice : List ℕ) → file_in (standalone_answer standalone dice).answer ≡ None
+standalone_file (Password profile) dice = password_file profile dice
+standalone_file (SelfTest count) dice = test_file count dice
+
+named_by : (words : List (List ℕ)) (time : ℕ) (world : World) (file : NewFile) → (standalone : Option Standalone)
+    → file_in (standalone_or_command standalone words time world).answer ≡ Some file → IsIn file.name (files_named (command_of words))
 unfolding command_answer
-named_by words time world file (Some profile) has = never file (sym (password_file profile world.dice) ∙ has)
+named_by words time world file (Some standalone) has = never file (sym (standalone_file standalone world.dice) ∙ has)
 named_by words time world file None has = of (task_of words time world.input world.files) refl has
   where
     of : (t : Result Task Refusal) → task_of words time world.input world.files ≡ t → file_in (after_left t world.dice (carried_out time)).answer ≡ Some file → IsIn file.name (files_named (command_of words))
@@ -360,7 +377,7 @@ named_by words time world file None has = of (task_of words time world.input wor
 named_in : (words : List (List ℕ)) (time : ℕ) (world : World) (file : NewFile) → (page : Option (List ℕ)) → file_in (page_or_answer page words time world).answer ≡ Some file
     → IsIn file.name (files_named (command_of words))
 named_in words time world file (Some page) has = never file has
-named_in words time world file None has = named_by words time world file (profile_of words) has
+named_in words time world file None has = named_by words time world file (standalone_of words) has
 
 pub only_named_is_written : OnlyNamedIsWritten
 only_named_is_written words time world file is =

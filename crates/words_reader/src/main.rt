@@ -1,15 +1,17 @@
 //! Reads lists of words as the program reads them. Each line of standard input is a list, with a tab
 //! after each word. For each a line is printed: the command that the words are and what it says, or
-//! `generate` and how the password is generated, with a tab after each part, or `wrong`.
+//! `generate` and how the password is generated, or `selftest` and the number of entries, with a tab
+//! after each part, or `wrong`.
 #![tactic(auto)]
 
 mod parts;
 mod written;
 
-use crate::written::{written, written_profile};
+use crate::written::{written, written_alone};
 use cli_messages::Stop;
 use cli_needs::Command;
-use cli_parse::{read_profile, read_words};
+use cli_parse::read_words;
+use cli_standalone::read_standalone;
 use std::alloc::{AllocError, Global};
 use std::io::{self, BufRead, BufReader};
 
@@ -23,11 +25,11 @@ fn words_of(alloc: Global, line: &str) -> Result<Vec<String>, AllocError> {
     Ok(words)
 }
 
-// Prints how the password is generated that words ask for that are no command.
-fn answer_profile(rt: &impl Print, alloc: Global, words: &[String]) -> io::Result<()> {
-    match read_profile(alloc, words) {
-        Ok(Some(profile)) => {
-            let parts = written_profile(alloc, &profile)?;
+// Prints the command without a database that words are, and what it says.
+fn answer_alone(rt: &impl Print, alloc: Global, words: &[String]) -> io::Result<()> {
+    match read_standalone(alloc, words) {
+        Ok(Some(standalone)) => {
+            let parts = written_alone(alloc, &standalone)?;
             println!(rt; "{}", parts.as_str())
         }
         Ok(None) => println!(rt; "wrong"),
@@ -49,7 +51,7 @@ fn answer_words(rt: &impl Print, alloc: Global, words: &[String]) -> io::Result<
             drop(command);
             answered
         }
-        Err(Stop::Refused(_)) => answer_profile(rt, alloc, words),
+        Err(Stop::Refused(_)) => answer_alone(rt, alloc, words),
         Err(_) => println!(rt; "out of memory"),
     }
 }

@@ -5,7 +5,7 @@ use cli_needs::{
     Asked, Command, ExportFormat, FileChange, FurtherAsked, ImportFormat, KdfAsked, KdfKind,
     KeyFileChange, PasswordChange, target_access, target_of,
 };
-use cli_profiles::PasswordProfile;
+use cli_standalone::Standalone;
 use kdbx_frame::{Cipher, FileVersion};
 use std::alloc::{AllocError, Global};
 
@@ -308,12 +308,18 @@ pub(crate) fn written(alloc: Global, command: &Command) -> Result<Parts, AllocEr
     Ok(parts)
 }
 
-/// How a password is generated that words ask for alone, as a line.
-pub(crate) fn written_profile(
-    alloc: Global,
-    profile: &PasswordProfile,
-) -> Result<Parts, AllocError> {
-    let mut parts = Parts::new(alloc, "generate")?;
-    parts.profile(alloc, profile)?;
-    Ok(parts)
+/// A command that needs no database, as a line.
+pub(crate) fn written_alone(alloc: Global, standalone: &Standalone) -> Result<Parts, AllocError> {
+    match standalone {
+        Standalone::Password(profile) => {
+            let mut parts = Parts::new(alloc, "generate")?;
+            parts.profile(alloc, profile)?;
+            Ok(parts)
+        }
+        Standalone::SelfTest(count) => {
+            let mut parts = Parts::new(alloc, "selftest")?;
+            parts.number(alloc, "count", u64::from(*count))?;
+            Ok(parts)
+        }
+    }
 }

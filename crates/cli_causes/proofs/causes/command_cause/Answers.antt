@@ -1,4 +1,4 @@
-use Rattle.cli_parse.proofs.Beginning.{begins}
+use Rattle.cli_options.proofs.Beginning.{begins}
 use Rattle.cli_causes.proofs.causes.command_cause.Goals as goal
 
 pub returns : goal.returns

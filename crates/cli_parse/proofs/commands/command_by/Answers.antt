@@ -3,7 +3,7 @@ use Rattle.std.specs.Option.{option_and_then}
 use Rattle.cli_options.specs.Said.{nothing_said, with_words}
 use Rattle.cli_options.specs.SaidWords.{Gives, reading_seen}
 use Rattle.cli_parse.specs.Words.{command_saying}
-use Rattle.cli_parse.proofs.Beginning.{begins}
+use Rattle.cli_options.proofs.Beginning.{begins}
 use Rattle.cli_parse.proofs.commands.command_by.Goals as goal
 
 pub returns : goal.returns

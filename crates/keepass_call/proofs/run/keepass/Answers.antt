@@ -37,11 +37,11 @@ returns-in-Ok g c =
         dice = c.in-Ok.ensures.faultless.2;
       };
       draft = c.in-Ok.ensures.draft;
-      held = λ n w t. c.in-Ok.ensures.held n.no_password t.truthful w t.files t.input t.dice;
+      held = λ n w t. c.in-Ok.ensures.held n.no_standalone t.truthful w t.files t.input t.dice;
       unwritten = c.in-Ok.ensures.unwritten;
       undrawn = c.in-Ok.ensures.undrawn;
       stream = c.in-Ok.ensures.stream;
-      some_file = λ n. c.in-Ok.ensures.some_file n.no_password;
+      some_file = λ n. c.in-Ok.ensures.some_file n.no_standalone;
       page = λ text is. absurd (no_none text _ is none);
     })
 
