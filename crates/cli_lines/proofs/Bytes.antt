@@ -1,6 +1,6 @@
 -- Cutting a line from the input, byte by byte.
 use Rattle.std.proofs.Common.{◌≡◌, ◌≢◌, ◌<◌, ◌≤◌, ◌+◌, ◌==◌, ◌&&◌, ℕ, Bool, true, false, cond, nat_lt, List, [], ◌∷◌, ◌++◌, length, drop, Option, Some, None, refl, sym, ap, subst, ◌∙◌, arith}
-use Rattle.std.specs.Prelude.{Ok, Err, codes}
+use Rattle.std.specs.Prelude.{Ok, Err, Result, codes, is_some, not}
 use Rattle.std.proofs.lemmas.Bool.{le-ltb, lt-ltb, ne_eqb}
 use Rattle.std.proofs.lemmas.List.{length-append}
 use Rattle.secret_core.specs.Secret.{SecretBuffer}
@@ -10,7 +10,7 @@ use Rattle.cli_messages.specs.declared.answers.Refusal.{Refusal}
 use Rattle.cli_messages.specs.declared.answers.Stop.{Stop}
 use Rattle.cli_messages.specs.declared.answers.Stop.TheVariants.{Refused, FileFault, InputFault, NoMemory}
 use Rattle.cli_lines.specs.Cutting.{ComesNext, Cuts, Ends, IsPushed, cut, with_bytes}
-use Rattle.cli_lines.specs.Lines.{as_text, ends_next, line_from, line_of, too_long, whole, with_byte}
+use Rattle.cli_lines.specs.Lines.{as_text, end_reached, ends_next, line_from, line_of, next_line, some_line, too_long, whole, with_byte}
 use Rattle.cli_messages.specs.Messages.{Refuses, refusal_of}
 use Rattle.outside_core.specs.Results.{◌>>=◌}
 use Rattle.cli_messages.specs.Phases.{StreamAnswer, RefusesStream}
@@ -175,50 +175,97 @@ came_end taken line returned input came left fits last is h e ends =
     ([], (n.1, subst (λ (t : StreamAnswer (List ℕ)). Ends fits last t []) (sym (e ∙ ap (cut line returned) n.0)) ends))
 
 -- what a line gives that is read from its first byte on
-abbrev pub Gets : Bool → ℕ → List ℕ → StreamAnswer (List ℕ) → List ℕ → Type 0
-Gets true number line taken left = taken ≡ record { answer = as_text number line; left = left }
+abbrev pub Gets : Bool → ℕ → List ℕ → StreamAnswer (Option (List ℕ)) → List ℕ → Type 0
+Gets true number line taken left = taken ≡ some_line (record { answer = as_text number line; left = left })
 Gets false number line taken left = taken ≡ record { answer = Err (refusal_of LineLimit (codes "input")); left = left }
 
 gets : (fits : Bool) (number : ℕ) (line : List ℕ) (first : ℕ) (rest left : List ℕ) → Ends fits line (line_from 0 (first ∷ rest)) left
-    → Gets fits number line (line_of number (first ∷ rest)) left
-gets true number line first rest left e = ap (λ (t : StreamAnswer (List ℕ)). record { answer = t.answer >>= (as_text number); left = t.left }) e
-gets false number line first rest left e = ap (λ (t : StreamAnswer (List ℕ)). record { answer = t.answer >>= (as_text number); left = t.left }) e
+    → Gets fits number line (next_line number (first ∷ rest)) left
+gets true number line first rest left e = ap (λ (t : StreamAnswer (List ℕ)). some_line (record { answer = t.answer >>= (as_text number); left = t.left })) e
+gets false number line first rest left e = ap (λ (t : StreamAnswer (List ℕ)). some_line (record { answer = t.answer >>= (as_text number); left = t.left })) e
 
 pub line_read : (number : ℕ) (input : List ℕ) (came : Option ℕ) (first : ℕ) (before now : Option (List ℕ)) (result fits : Bool) (line : List ℕ)
     → ComesNext (Ok came) input before → came ≡ Some first
     → ((rest : List ℕ) → before ≡ Some rest → Cuts (Ok result) line now (line_from 0 (first ∷ rest))) → result ≡ fits
-    → (rest : List ℕ) × ((now ≡ Some rest) × Gets fits number line (line_of number input) rest)
+    → (rest : List ℕ) × ((now ≡ Some rest) × Gets fits number line (next_line number input) rest)
 line_read number input came first before now result fits line h is cuts e =
     let n = subst (λ (o : Option ℕ). ComesNext (Ok o) input before) is h in
     let c = subst (λ (b : Bool). Cuts (Ok b) line now (line_from 0 (first ∷ n.0))) e (cuts n.0 n.1.1) in
-    (c.0, (c.1.0, subst (λ (i : List ℕ). Gets fits number line (line_of number i) c.0) (sym n.1.0) (gets fits number line first n.0 c.0 c.1.1)))
+    (c.0, (c.1.0, subst (λ (i : List ℕ). Gets fits number line (next_line number i) c.0) (sym n.1.0) (gets fits number line first n.0 c.0 c.1.1)))
 
--- the input ended before the line
+-- the input was at its end
 pub none_read : (number : ℕ) (input : List ℕ) (came : Option ℕ) (before : Option (List ℕ)) → ComesNext (Ok came) input before → came ≡ None
-    → (line_of number input ≡ record { answer = Err (refusal_of (InputEnded number) (codes "input")); left = [] }) × (before ≡ Some [])
+    → ((next_line number input).answer ≡ Ok None) × (before ≡ Some (next_line number input).left)
 none_read number input came before h is =
     let n = subst (λ (o : Option ℕ). ComesNext (Ok o) input before) is h in
-    (ap (line_of number) n.0, n.1)
+    subst (λ (i : List ℕ). ((next_line number i).answer ≡ Ok None) × (before ≡ Some (next_line number i).left)) (sym n.0) (refl, n.1)
+
+-- one byte is read, to see whether there is one
+pub end_told : (input : List ℕ) (came : Option ℕ) (none : Bool) (before : Option (List ℕ)) → ComesNext (Ok came) input before → is_some came ≡ not none
+    → ((end_reached input).answer ≡ Ok none) × (before ≡ Some (end_reached input).left)
+end_told input (Some b) true before h e = cc
+end_told input (Some b) false before h e =
+    subst (λ (i : List ℕ). ((end_reached i).answer ≡ Ok false) × (before ≡ Some (end_reached i).left)) (sym h.1.0) (refl, h.1.1)
+end_told input None true before h e =
+    subst (λ (i : List ℕ). ((end_reached i).answer ≡ Ok true) × (before ≡ Some (end_reached i).left)) (sym h.0) (refl, h.1)
+end_told input None false before h e = cc
 
 -- a refusal that was told
-pub refused_takes : (stop : Stop) (refusal : Refusal) (now : Option (List ℕ)) (left : List ℕ) (taken : StreamAnswer (List ℕ))
+pub refused_takes : {A : Type 0} (stop : Stop) (refusal : Refusal) (now : Option (List ℕ)) (left : List ℕ) (taken : StreamAnswer A)
     → Refuses stop refusal → taken ≡ record { answer = Err refusal; left = left } → now ≡ Some left → RefusesStream stop now taken
 refused_takes (Refused given) refusal now left taken h e l =
-    (ap (λ (t : StreamAnswer (List ℕ)). t.answer) e ∙ ap Err (sym h), l ∙ ap (λ (t : StreamAnswer (List ℕ)). Some t.left) (sym e))
+    (ap (λ (t : StreamAnswer _). t.answer) e ∙ ap Err (sym h), l ∙ ap (λ (t : StreamAnswer _). Some t.left) (sym e))
 refused_takes (FileFault name) refusal now left taken h e l = absurd h
 refused_takes InputFault refusal now left taken h e l = absurd h
 refused_takes NoMemory refusal now left taken h e l = tt
 
 -- a line in UTF-8, and one that is not
-pub text_takes : (number : ℕ) (line : List ℕ) (now : Option (List ℕ)) (left : List ℕ) (taken : StreamAnswer (List ℕ)) → is_utf8 line ≡ true
-    → taken ≡ record { answer = as_text number line; left = left } → now ≡ Some left → (taken.answer ≡ Ok line) × (now ≡ Some taken.left)
+pub text_takes : (number : ℕ) (line : List ℕ) (now : Option (List ℕ)) (left : List ℕ) (taken : StreamAnswer (Option (List ℕ))) → is_utf8 line ≡ true
+    → taken ≡ some_line (record { answer = as_text number line; left = left }) → now ≡ Some left → (taken.answer ≡ Ok (Some line)) × (now ≡ Some taken.left)
 text_takes number line now left taken text e l = (
-  ap (λ (t : StreamAnswer (List ℕ)). t.answer) e ∙ ap (λ (b : Bool). cond b (Ok line) (Err (refusal_of (LineForm number) (codes "input")))) text,
-  l ∙ ap (λ (t : StreamAnswer (List ℕ)). Some t.left) (sym e),
+  ap (λ (t : StreamAnswer (Option (List ℕ))). t.answer) e ∙ ap (λ (b : Bool). cond b (Ok line) (Err (refusal_of (LineForm number) (codes "input"))) >>= λ line. Ok (Some line)) text,
+  l ∙ ap (λ (t : StreamAnswer (Option (List ℕ))). Some t.left) (sym e),
 )
 
-pub not_text : (number : ℕ) (line left : List ℕ) (taken : StreamAnswer (List ℕ)) → is_utf8 line ≡ false
-    → taken ≡ record { answer = as_text number line; left = left }
+pub not_text : (number : ℕ) (line left : List ℕ) (taken : StreamAnswer (Option (List ℕ))) → is_utf8 line ≡ false
+    → taken ≡ some_line (record { answer = as_text number line; left = left })
     → taken ≡ record { answer = Err (refusal_of (LineForm number) (codes "input")); left = left }
 not_text number line left taken text e =
-    e ∙ ap (λ (b : Bool). record { answer = cond b (Ok line) (Err (refusal_of (LineForm number) (codes "input"))); left = left }) text
+    e ∙ ap (λ (b : Bool). some_line (record { answer = cond b (Ok line) (Err (refusal_of (LineForm number) (codes "input"))); left = left })) text
+
+-- ---- a line that is due
+
+-- it is there
+some_due : (r : Result (List ℕ) Refusal) (line : List ℕ) → (r >>= λ l. Ok (Some l)) ≡ Ok (Some line) → r ≡ Ok line
+some_due (Ok l) line h = cc
+some_due (Err refusal) line h = cc
+
+pub due_read : (number : ℕ) (input : List ℕ) (found : Option (List ℕ)) (line : List ℕ) (now : Option (List ℕ)) → found ≡ Some line
+    → ((next_line number input).answer ≡ Ok found) × (now ≡ Some (next_line number input).left)
+    → ((line_of number input).answer ≡ Ok line) × (now ≡ Some (line_of number input).left)
+due_read number [] found line now is h = cc
+due_read number (b ∷ bs) found line now is h = (some_due (line_of number (b ∷ bs)).answer line (h.0 ∙ ap Ok is), h.1)
+
+-- the input ended before it
+never_none : (r : Result (List ℕ) Refusal) → (r >>= λ l. Ok (Some l)) ≡ Ok None → ⊥
+never_none (Ok l) h = cc
+never_none (Err refusal) h = cc
+
+pub due_missing : (number : ℕ) (input : List ℕ) (found now : Option (List ℕ)) → found ≡ None
+    → ((next_line number input).answer ≡ Ok found) × (now ≡ Some (next_line number input).left)
+    → (line_of number input ≡ record { answer = Err (refusal_of (InputEnded number) (codes "input")); left = [] }) × (now ≡ Some [])
+due_missing number [] found now is h = (refl, h.1)
+due_missing number (b ∷ bs) found now is h = absurd (never_none (line_of number (b ∷ bs)).answer (h.0 ∙ ap Ok is))
+
+-- it was refused
+some_refused : (r : Result (List ℕ) Refusal) (refusal : Refusal) → (r >>= λ l. Ok (Some l)) ≡ Err refusal → r ≡ Err refusal
+some_refused (Ok l) refusal h = cc
+some_refused (Err given) refusal h = cc
+
+pub due_stops : (stop : Stop) (number : ℕ) (input : List ℕ) (now : Option (List ℕ)) → RefusesStream stop now (next_line number input)
+    → RefusesStream stop now (line_of number input)
+due_stops (Refused refusal) number [] now h = let no : Ok None ≡ Err refusal = h.0 in cc
+due_stops (Refused refusal) number (b ∷ bs) now h = (some_refused (line_of number (b ∷ bs)).answer refusal h.0, h.1)
+due_stops (FileFault name) number input now h = tt
+due_stops InputFault number input now h = tt
+due_stops NoMemory number input now h = tt

@@ -6,7 +6,7 @@ use Rattle.outside_core.specs.Results.{◌>>=◌}
 use Rattle.cli_messages.specs.declared.answers.Refusal.{Refusal}
 use Rattle.cli_messages.specs.Phases.{StreamAnswer, after_left, with_left}
 use Rattle.cli_needs.specs.Needs.{Needs, asks_password, asks_passwords_from}
-use Rattle.cli_lines.specs.Lines.{HasLines, LastLines, Lines, after_more, after_otp, field_lines, last_lines, lines_with, number_of_fields, number_of_otp, after_password, after_passwords, line_if, line_of, lines_from, lines_of, number_after, number_from, number_of_more}
+use Rattle.cli_lines.specs.Lines.{HasLines, LastLines, Lines, after_more, after_otp, field_lines, last_lines, lines_with, after_password, after_passwords, line_if, line_of, lines_from, lines_of, number_after, number_from, number_of_more}
 
 ok_is : {A : Type 0} (a b : A) → ◌≡◌ {A = Result A Refusal} (Ok a) (Ok b) → a ≡ b
 ok_is a b h = cc
@@ -67,19 +67,21 @@ record HaveLast (needs : Needs) (last : LastLines) : Type 0 where
   has_otp : is_some last.otp ≡ needs.has_otp
   has_fields : length last.fields ≡ length needs.fields
 
-last_have : (needs : Needs) (input : List ℕ) (last : LastLines) → (last_lines needs input).answer ≡ Ok last → HaveLast needs last
-last_have needs input last h =
-    let line = line_if needs.has_line (number_of_more needs) input in
-    let m = after_given line.answer line.left (after_more needs) last h in
-    let code = line_if needs.has_otp (number_of_otp needs) line.left in
-    let o = after_given code.answer code.left (after_otp needs m.0) last m.1.1 in
-    let values = field_lines needs.fields (number_of_fields needs) [] code.left in
+last_have : (number : ℕ) (needs : Needs) (input : List ℕ) (last : LastLines) → (last_lines number needs input).answer ≡ Ok last → HaveLast needs last
+last_have number needs input last h =
+    let otp = number_after needs.has_line number in
+    let fields = number_after needs.has_otp otp in
+    let line = line_if needs.has_line number input in
+    let m = after_given line.answer line.left (after_more otp needs) last h in
+    let code = line_if needs.has_otp otp line.left in
+    let o = after_given code.answer code.left (after_otp fields needs m.0) last m.1.1 in
+    let values = field_lines needs.fields fields [] code.left in
     let f = after_given values.answer values.left (λ fields end. with_left (Ok (record { more = m.0; otp = o.0; fields = fields })) end) last o.1.1 in
     subst (HaveLast needs) (ok_is (record { more = m.0; otp = o.0; fields = f.0 }) last f.1.1)
     (record {
-      has_more = line_has needs.has_line (number_of_more needs) input m.0 m.1.0;
-      has_otp = line_has needs.has_otp (number_of_otp needs) line.left o.0 o.1.0;
-      has_fields = values_have needs.fields (number_of_fields needs) code.left f.0 f.1.0;
+      has_more = line_has needs.has_line number input m.0 m.1.0;
+      has_otp = line_has needs.has_otp otp line.left o.0 o.1.0;
+      has_fields = values_have needs.fields fields code.left f.0 f.1.0;
     })
 
 -- The lines of a call.
@@ -89,9 +91,9 @@ lines_have needs input lines h =
     let p = after_given first.answer first.left (after_password needs) lines h in
     let sources = lines_from (asks_passwords_from needs) needs.sources (number_from needs) [] first.left in
     let s = after_given sources.answer sources.left (after_passwords needs p.0) lines p.1.1 in
-    let last = last_lines needs sources.left in
+    let last = last_lines (number_of_more needs) needs sources.left in
     let l = after_given last.answer last.left (λ last end. with_left (Ok (lines_with p.0 s.0 last)) end) lines s.1.1 in
-    let have = last_have needs sources.left l.0 l.1.0 in
+    let have = last_have (number_of_more needs) needs sources.left l.0 l.1.0 in
     subst (HasLines needs) (ok_is (lines_with p.0 s.0 l.0) lines l.1.1)
     (record {
       has_password = line_has (asks_password needs.access) 1 input p.0 p.1.0;

@@ -8,7 +8,7 @@ use Rattle.cli_messages.specs.declared.answers.Stop.TheVariants.{Refused, FileFa
 use Rattle.outside_core.specs.Results.{◌>>=◌}
 use Rattle.cli_messages.specs.Phases.{StreamAnswer, IsLeft, IsStreamStop, RefusesAskedStream, RefusesStream, ReturnsAskedStream, TellsStream, then_left, with_left}
 use Rattle.cli_needs.specs.Needs.{Needs}
-use Rattle.cli_lines.specs.Lines.{LastLines, Lines, after_otp, after_passwords, field_lines, last_lines, line_if, line_of, lines_with, number_of_fields}
+use Rattle.cli_lines.specs.Lines.{LastLines, Lines, after_otp, after_passwords, field_lines, last_lines, line_if, line_of, lines_with, number_of_more}
 
 -- An input that is not read.
 pub left_alone : (asked : Bool) (before : Option (List ℕ)) (input : List ℕ) → TellsStream asked before input → IsLeft before before input
@@ -99,23 +99,23 @@ later_returns seen (Ok x) before mid now taken a next p is h =
 later_returns seen (Err stop) before mid now taken a next p is h = second_stops stop before mid now taken a next p is h
 
 -- The values of fields were read, after the lines before them.
-pub fields_given : (needs : Needs) (more otp : Option (List ℕ)) (before now : Option (List ℕ)) (input : List ℕ) (fields : List (List ℕ))
-    → (field_lines needs.fields (number_of_fields needs) [] input).answer ≡ Ok fields
-    → IsLeft before now (field_lines needs.fields (number_of_fields needs) [] input).left
-    → ((after_otp needs more otp input).answer ≡ Ok (record { more = more; otp = otp; fields = fields })) × IsLeft before now (after_otp needs more otp input).left
-fields_given needs more otp before now input fields p is =
+pub fields_given : (number : ℕ) (needs : Needs) (more otp : Option (List ℕ)) (before now : Option (List ℕ)) (input : List ℕ) (fields : List (List ℕ))
+    → (field_lines needs.fields number [] input).answer ≡ Ok fields → IsLeft before now (field_lines needs.fields number [] input).left
+    → ((after_otp number needs more otp input).answer ≡ Ok (record { more = more; otp = otp; fields = fields }))
+    × IsLeft before now (after_otp number needs more otp input).left
+fields_given number needs more otp before now input fields p is =
     subst (λ (t : StreamAnswer LastLines). (t.answer ≡ Ok (record { more = more; otp = otp; fields = fields })) × IsLeft before now t.left)
-    (sym (first_gave (field_lines needs.fields (number_of_fields needs) [] input) fields
+    (sym (first_gave (field_lines needs.fields number [] input) fields
     (λ fs end. with_left (Ok (record { more = more; otp = otp; fields = fs })) end) p)) (refl, is)
 
 -- The lines after all passwords were read.
 pub lines_given : (needs : Needs) (password : Option (List ℕ)) (sources : List (Option (List ℕ))) (before now : Option (List ℕ)) (input : List ℕ) (last : LastLines)
-    → (last_lines needs input).answer ≡ Ok last → IsLeft before now (last_lines needs input).left
+    → (last_lines (number_of_more needs) needs input).answer ≡ Ok last → IsLeft before now (last_lines (number_of_more needs) needs input).left
     → ((after_passwords needs password sources input).answer ≡ Ok (lines_with password sources last))
     × IsLeft before now (after_passwords needs password sources input).left
 lines_given needs password sources before now input last p is =
     subst (λ (t : StreamAnswer Lines). (t.answer ≡ Ok (lines_with password sources last)) × IsLeft before now t.left)
-    (sym (first_gave (last_lines needs input) last (λ l end. with_left (Ok (lines_with password sources l)) end) p)) (refl, is)
+    (sym (first_gave (last_lines (number_of_more needs) needs input) last (λ l end. with_left (Ok (lines_with password sources l)) end) p)) (refl, is)
 
 -- What holds of a line holds of it where a later phase hands it on.
 pub handed_on : {X : Type 0} (P : Option (List ℕ) → Type 0) (part : X → Option (List ℕ)) (result : Result X Stop) (line : Option (List ℕ)) → P line

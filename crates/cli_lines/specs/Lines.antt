@@ -61,6 +61,17 @@ line_of number (b ∷ bs) =
 abbrev pub some_line : StreamAnswer (List ℕ) → StreamAnswer (Option (List ℕ))
 some_line taken = record { answer = taken.answer >>= λ line. Ok (Some line); left = taken.left }
 
+-- The next line of the input, which has this number, or none at its end. A line feed alone ends a
+-- line that is empty.
+abbrev pub next_line : ℕ → List ℕ → StreamAnswer (Option (List ℕ))
+next_line number [] = with_left (Ok None) []
+next_line number (b ∷ bs) = some_line (line_of number (b ∷ bs))
+
+-- Whether the input is at its end. A byte that comes instead is taken.
+abbrev pub end_reached : List ℕ → StreamAnswer Bool
+end_reached [] = with_left (Ok true) []
+end_reached (b ∷ rest) = with_left (Ok false) rest
+
 -- The line of this number, where one is due.
 abbrev pub line_if : Bool → ℕ → List ℕ → StreamAnswer (Option (List ℕ))
 line_if true number input = some_line (line_of number input)
@@ -129,35 +140,35 @@ abbrev pub number_of_more : Needs → ℕ
 number_of_more needs =
     number_after_all (asks_passwords_from needs) needs.sources (number_from needs)
 
--- The number of the line after that one.
-abbrev pub number_of_otp : Needs → ℕ
-number_of_otp needs = number_after needs.has_line (number_of_more needs)
-
--- The number of the line after that one.
-abbrev pub number_of_fields : Needs → ℕ
-number_of_fields needs = number_after needs.has_otp (number_of_otp needs)
-
--- The values of fields after these lines.
-abbrev pub after_otp : Needs → (more otp : Option (List ℕ)) → List ℕ → StreamAnswer LastLines
-after_otp needs more otp input =
-    then_left (field_lines needs.fields (number_of_fields needs) [] input) (λ fields end.
+-- The values of fields after these lines, of which the first has this number.
+abbrev pub after_otp : ℕ → Needs → (more otp : Option (List ℕ)) → List ℕ → StreamAnswer LastLines
+after_otp number needs more otp input =
+    then_left (field_lines needs.fields number [] input) (λ fields end.
     with_left (Ok (record { more = more; otp = otp; fields = fields })) end)
 
--- The text of a one-time code after this line, where it is due, and the values of fields.
-abbrev pub after_more : Needs → Option (List ℕ) → List ℕ → StreamAnswer LastLines
-after_more needs more input =
-    then_left (line_if needs.has_otp (number_of_otp needs) input) (after_otp needs more)
+-- The text of a one-time code after this line, where it is due, and the values of fields. The first
+-- of these lines has this number.
+abbrev pub after_more : ℕ → Needs → Option (List ℕ) → List ℕ → StreamAnswer LastLines
+after_more number needs more input =
+    then_left (line_if needs.has_otp number input)
+    (after_otp (number_after needs.has_otp number) needs more)
 
--- The lines after all passwords, each where it is due.
-abbrev pub last_lines : Needs → List ℕ → StreamAnswer LastLines
-last_lines needs input =
-    then_left (line_if needs.has_line (number_of_more needs) input) (after_more needs)
+-- The lines after all passwords, each where it is due. The first has this number.
+abbrev pub last_lines : ℕ → Needs → List ℕ → StreamAnswer LastLines
+last_lines number needs input =
+    then_left (line_if needs.has_line number input)
+    (after_more (number_after needs.has_line number) needs)
+
+-- The number of the line after those, of which the first has this number.
+abbrev pub number_after_last : Needs → ℕ → ℕ
+number_after_last needs number =
+    number_after needs.has_otp (number_after needs.has_line number) + length needs.fields
 
 -- The lines after all passwords, and with them all lines.
 abbrev pub after_passwords : Needs → Option (List ℕ) → List (Option (List ℕ)) → List ℕ
     → StreamAnswer Lines
 after_passwords needs password sources input =
-    then_left (last_lines needs input) (λ last end.
+    then_left (last_lines (number_of_more needs) needs input) (λ last end.
     with_left (Ok (lines_with password sources last)) end)
 
 -- The passwords of the sources, and then the lines after them.

@@ -1,5 +1,5 @@
 -- What is seen of lines in memory.
-use Rattle.std.specs.Prelude.{ℕ, List, Option, map, option_map}
+use Rattle.std.specs.Prelude.{ℕ, Bool, if◌then◌else◌, List, Option, None, Some, map, option_map}
 use Rattle.secret_core.specs.Secret.{SecretBuffer}
 use Rattle.cli_lines.specs.declared.lines.Lines as declared
 use Rattle.cli_lines.specs.declared.lines.LastLines as last
@@ -8,6 +8,10 @@ use Rattle.cli_lines.specs.Lines.{LastLines, Lines}
 -- The bytes of a line, if there is one.
 abbrev pub line_seen : Option SecretBuffer → Option (List ℕ)
 line_seen = option_map (λ line. line.bytes)
+
+-- The bytes of a line that may have been found, in memory that it was read into.
+abbrev pub found_seen : Bool → SecretBuffer → Option (List ℕ)
+found_seen found line = if found then Some line.bytes else None
 
 -- The bytes of lines that are there.
 abbrev pub values_seen : List SecretBuffer → List (List ℕ)

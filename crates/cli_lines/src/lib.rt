@@ -3,4 +3,7 @@
 
 mod lines;
 
-pub use lines::{Lines, read_lines};
+pub use lines::{
+    LastLines, Lines, number_after_last, reaches_end, read_last, read_line, read_lines,
+    read_next_line,
+};

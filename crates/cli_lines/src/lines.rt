@@ -6,8 +6,8 @@ ghost use Rattle.outside_core.specs.Counts.{HasCause};
 ghost use Rattle.outside_core.specs.Reports.{StaysTruthful};
 ghost use Rattle.cli_lines.specs.Cutting.{ComesNext, Cuts, Ends, IsPushed, Puts, cut, weight};
 ghost use Rattle.cli_lines.specs.Lines as spec;
-ghost use Rattle.cli_lines.specs.Lines.{AreTextLines, HasLines, IsTextLine, after_more, after_otp, after_password, after_passwords, field_lines, last_lines, line_from, line_if, line_of, lines_from, lines_of, number_of_fields, number_of_more, number_of_otp};
-ghost use Rattle.cli_lines.specs.SeenLines.{last_seen, line_seen, lines_seen, values_seen};
+ghost use Rattle.cli_lines.specs.Lines.{AreTextLines, HasLines, IsTextLine, after_more, after_otp, after_password, after_passwords, end_reached, field_lines, last_lines, line_from, line_if, line_of, lines_from, lines_of, next_line, number_of_more};
+ghost use Rattle.cli_lines.specs.SeenLines.{found_seen, last_seen, line_seen, lines_seen, values_seen};
 ghost use Rattle.cli_needs.specs.Needs as words;
 ghost use Rattle.cli_needs.specs.Needs.{asks_line, asks_passwords_from};
 ghost use Rattle.cli_needs.specs.SeenNeeds.{needs_seen};
@@ -136,20 +136,22 @@ fn is_text_line(line: &Secret) -> bool
     is_text(line.lend(0, line.len()))
 }
 
-// Reads the line of this number into memory that is empty.
+// Reads the next line of the input, which has this number, into memory that is empty, and reports
+// whether there is one: there is none at the end.
 fn fill_line<S: Source>(
     alloc: Global,
     input: &mut S,
     number: u64,
     window: &mut Secret,
     line: &mut Secret,
-) -> Result<(), Stop>
+) -> Result<bool, Stop>
     requires window { length window.old.bytes ≡ 1 }
     requires bytes { line.old.bytes ≡ [] }
     requires spare { line.old.spare ≡ 4096 }
     ensures told { S.truthful input.new ≡ true → (i : List ℕ) → S.left input.old ≡ Some i
-        → ReturnsStream (λ _. line.new.bytes) result (S.left input.new) (line_of number i) }
-    ensures text { OnOk result (is_utf8 line.new.bytes ≡ true) }
+        → ReturnsStream (λ found. found_seen found line.new) result (S.left input.new)
+        (next_line number i) }
+    ensures text { IfOk result (λ found. IsTextLine (found_seen found line.new)) }
     ensures truthful { StaysTruthful (S.truthful input.old) (S.truthful input.new) }
     ensures cause { IfErr result (IsStreamStop (S.faults input.old) (S.faults input.new)) }
     ensures faults { S.faults input.old ≤ S.faults input.new }
@@ -157,22 +159,27 @@ fn fill_line<S: Source>(
 {
     let first = match next_byte(input, window) {
         Ok(Some(first)) => first,
-        Ok(None) => return Err(refused(alloc, Reason::InputEnded(number), "input")),
+        Ok(None) => return Ok(false),
         Err(_) => return Err(Stop::InputFault),
     };
     match read_from(input, window, first, line) {
         Ok(false) => Err(refused(alloc, Reason::LineLimit, "input")),
-        Ok(true) if is_text_line(line) => Ok(()),
+        Ok(true) if is_text_line(line) => Ok(true),
         Ok(true) => Err(refused(alloc, Reason::LineForm(number), "input")),
         Err(_) => Err(Stop::InputFault),
     }
 }
 
-// The line of this number.
-fn read_line<S: Source>(alloc: Global, input: &mut S, number: u64) -> Result<Secret, Stop>
+/// The next line of the input, which has this number, or none at its end. A line feed alone ends a
+/// line that is empty.
+pub fn read_next_line<S: Source>(
+    alloc: Global,
+    input: &mut S,
+    number: u64,
+) -> Result<Option<Secret>, Stop>
     ensures told { S.truthful input.new ≡ true → (i : List ℕ) → S.left input.old ≡ Some i
-        → ReturnsStream (λ line. line.bytes) result (S.left input.new) (line_of number i) }
-    ensures text { IfOk result (λ line. is_utf8 line.bytes ≡ true) }
+        → ReturnsStream line_seen result (S.left input.new) (next_line number i) }
+    ensures text { IfOk result (λ line. IsTextLine (line_seen line)) }
     ensures truthful { StaysTruthful (S.truthful input.old) (S.truthful input.new) }
     ensures cause { IfErr result (IsStreamStop (S.faults input.old) (S.faults input.new)) }
     ensures faults { S.faults input.old ≤ S.faults input.new }
@@ -188,11 +195,52 @@ fn read_line<S: Source>(alloc: Global, input: &mut S, number: u64) -> Result<Sec
     let filled = fill_line(alloc, input, number, &mut window, &mut line);
     drop(window);
     match filled {
-        Ok(()) => Ok(line),
+        Ok(true) => Ok(Some(line)),
+        Ok(false) => {
+            drop(line);
+            Ok(None)
+        }
         Err(stop) => {
             drop(line);
             Err(stop)
         }
+    }
+}
+
+/// The line of this number, which is due: an input that is at its end is refused.
+pub fn read_line<S: Source>(alloc: Global, input: &mut S, number: u64) -> Result<Secret, Stop>
+    ensures told { S.truthful input.new ≡ true → (i : List ℕ) → S.left input.old ≡ Some i
+        → ReturnsStream (λ line. line.bytes) result (S.left input.new) (line_of number i) }
+    ensures text { IfOk result (λ line. is_utf8 line.bytes ≡ true) }
+    ensures truthful { StaysTruthful (S.truthful input.old) (S.truthful input.new) }
+    ensures cause { IfErr result (IsStreamStop (S.faults input.old) (S.faults input.new)) }
+    ensures faults { S.faults input.old ≤ S.faults input.new }
+    ensures faultless { OnOk result (S.faults input.new ≡ S.faults input.old) }
+{
+    match read_next_line(alloc, input, number) {
+        Ok(Some(line)) => Ok(line),
+        Ok(None) => Err(refused(alloc, Reason::InputEnded(number), "input")),
+        Err(stop) => Err(stop),
+    }
+}
+
+/// Reports whether the input is at its end. A byte that comes instead is taken from it.
+pub fn reaches_end<S: Source>(alloc: Global, input: &mut S) -> Result<bool, Stop>
+    ensures told { S.truthful input.new ≡ true → (i : List ℕ) → S.left input.old ≡ Some i
+        → ReturnsStream (λ ended. ended) result (S.left input.new) (end_reached i) }
+    ensures truthful { StaysTruthful (S.truthful input.old) (S.truthful input.new) }
+    ensures cause { IfErr result (IsStreamStop (S.faults input.old) (S.faults input.new)) }
+    ensures faults { S.faults input.old ≤ S.faults input.new }
+    ensures faultless { OnOk result (S.faults input.new ≡ S.faults input.old) }
+{
+    let Ok(mut window) = window(alloc) else {
+        return Err(Stop::NoMemory);
+    };
+    let next = next_byte(input, &mut window);
+    drop(window);
+    match next {
+        Ok(byte) => Ok(byte.is_none()),
+        Err(_) => Err(Stop::InputFault),
     }
 }
 
@@ -223,17 +271,25 @@ fn read_if<S: Source>(
     }
 }
 
-// The number of the line after one of this number, which may be due. Memory never holds so many
-// lines that the numbers end.
+// The number of the line after so many, of which the first has this number; `NoMemory` where it does
+// not fit. Memory never holds so many lines that the numbers end.
+fn number_past(lines: u64, number: u64) -> Result<u64, NoMemory>
+    ensures { IfOk result (λ next. next ≡ number + lines) }
+{
+    match number.checked_add(lines) {
+        Some(next) => Ok(next),
+        None => Err(NoMemory),
+    }
+}
+
+// The number of the line after one of this number, which may be due.
 fn number_after(due: bool, number: u64) -> Result<u64, NoMemory>
     ensures { IfOk result (λ next. next ≡ spec.number_after due number) }
 {
-    if !due {
-        return Ok(number);
-    }
-    match number.checked_add(1) {
-        Some(next) => Ok(next),
-        None => Err(NoMemory),
+    if due {
+        number_past(1, number)
+    } else {
+        Ok(number)
     }
 }
 
@@ -291,24 +347,13 @@ pub struct Lines {
 
 /// The lines after all passwords, each where it is due.
 #[derive(Drop)]
-struct LastLines {
+pub struct LastLines {
     /// The line that a command asks for.
-    more: Option<Secret>,
+    pub more: Option<Secret>,
     /// The text of a one-time code.
-    otp: Option<Secret>,
+    pub otp: Option<Secret>,
     /// The values of fields.
-    fields: List<Secret>,
-}
-
-// The number of the line after one of this number. Memory never holds so many lines that the numbers
-// end.
-fn number_next(number: u64) -> Result<u64, NoMemory>
-    ensures { IfOk result (λ next. next ≡ number + 1) }
-{
-    match number.checked_add(1) {
-        Some(next) => Ok(next),
-        None => Err(NoMemory),
-    }
+    pub fields: List<Secret>,
 }
 
 // Reads the values of fields of these names, one line after another, of which the first has this
@@ -337,7 +382,7 @@ fn read_fields<S: Source>(
         return Ok(());
     };
     let line = read_line(alloc, input, number)?;
-    let Ok(next) = number_next(number) else {
+    let Ok(next) = number_past(1, number) else {
         drop(line);
         return Err(Stop::NoMemory);
     };
@@ -385,7 +430,7 @@ fn number_from(asks: bool) -> u64
     if asks { 2 } else { 1 }
 }
 
-// Reads the values of fields after these lines, of which the first has this number.
+// Reads the values of fields after these lines. The first of them has this number.
 fn read_after_otp<S: Source>(
     alloc: Global,
     input: &mut S,
@@ -394,11 +439,10 @@ fn read_after_otp<S: Source>(
     more: Option<Secret>,
     otp: Option<Secret>,
 ) -> Result<LastLines, Stop>
-    requires { number ≡ number_of_fields (needs_seen needs) }
     ensures told { S.truthful input.new ≡ true → (i : List ℕ)
         → TellsStream (words.is_filled needs.entry.fields.now) (S.left input.old) i
         → ReturnsAskedStream last_seen result (S.left input.old) (S.left input.new)
-        (after_otp (needs_seen needs.entry) (line_seen more) (line_seen otp) i) }
+        (after_otp number (needs_seen needs.entry) (line_seen more) (line_seen otp) i) }
     ensures more { IfOk result (λ last. line_seen last.more ≡ line_seen more) }
     ensures otp { IfOk result (λ last. line_seen last.otp ≡ line_seen otp) }
     ensures fields { IfOk result (λ last. length (values_seen last.fields)
@@ -421,7 +465,8 @@ fn read_after_otp<S: Source>(
     }
 }
 
-// Reads the text of a one-time code after this line, where it is due, and the values of fields.
+// Reads the text of a one-time code after this line, where it is due, and the values of fields. The
+// first of these lines has this number.
 fn read_after_more<S: Source>(
     alloc: Global,
     input: &mut S,
@@ -429,12 +474,11 @@ fn read_after_more<S: Source>(
     number: u64,
     more: Option<Secret>,
 ) -> Result<LastLines, Stop>
-    requires { number ≡ number_of_otp (needs_seen needs) }
     ensures told { S.truthful input.new ≡ true → (i : List ℕ)
         → TellsStream (needs.entry.has_otp || words.is_filled needs.entry.fields.now)
         (S.left input.old) i
         → ReturnsAskedStream last_seen result (S.left input.old) (S.left input.new)
-        (after_more (needs_seen needs.entry) (line_seen more) i) }
+        (after_more number (needs_seen needs.entry) (line_seen more) i) }
     ensures more { IfOk result (λ last. line_seen last.more ≡ line_seen more) }
     ensures otp { IfOk result (λ last. is_some (line_seen last.otp) ≡ needs.entry.has_otp) }
     ensures otp_text { IfOk result (λ last. IsTextLine (line_seen last.otp)) }
@@ -461,18 +505,17 @@ fn read_after_more<S: Source>(
     read_after_otp(alloc, input, needs, next, more, otp)
 }
 
-// Reads the lines after all passwords, of which the first has this number.
-fn read_last<S: Source>(
+/// The lines after all passwords, each where it is due, of which the first has this number.
+pub fn read_last<S: Source>(
     alloc: Global,
     input: &mut S,
     needs: Needs<'_>,
     number: u64,
 ) -> Result<LastLines, Stop>
-    requires { number ≡ number_of_more (needs_seen needs) }
     ensures told { S.truthful input.new ≡ true → (i : List ℕ)
         → TellsStream (words.asks_more (needs_seen needs.entry)) (S.left input.old) i
         → ReturnsAskedStream last_seen result (S.left input.old) (S.left input.new)
-        (last_lines (needs_seen needs.entry) i) }
+        (last_lines number (needs_seen needs.entry) i) }
     ensures more { IfOk result (λ last. is_some (line_seen last.more) ≡ needs.entry.has_line) }
     ensures otp { IfOk result (λ last. is_some (line_seen last.otp) ≡ needs.entry.has_otp) }
     ensures fields { IfOk result (λ last. length (values_seen last.fields)
@@ -490,6 +533,16 @@ fn read_last<S: Source>(
         return Err(Stop::NoMemory);
     };
     read_after_more(alloc, input, needs, next, more)
+}
+
+/// The number of the line after those that `read_last` reads, of which the first has this number;
+/// `NoMemory` where it does not fit.
+pub fn number_after_last(needs: Needs<'_>, number: u64) -> Result<u64, NoMemory>
+    ensures { IfOk result (λ next. next ≡ spec.number_after_last (needs_seen needs.entry) number) }
+{
+    let otp = number_after(needs.has_line, number)?;
+    let fields = number_after(needs.has_otp, otp)?;
+    number_past(needs.fields.len() as u64, fields)
 }
 
 // Reads the lines after all passwords: all lines are there then.

@@ -5,7 +5,7 @@ use Rattle.std.specs.Str.{is_utf8}
 use Rattle.cli_messages.specs.declared.answers.Stop.{Stop}
 use Rattle.cli_needs.specs.Needs.{is_filled}
 use Rattle.cli_needs.specs.SeenNeeds.{needs_seen}
-use Rattle.cli_lines.specs.Lines.{AreTextLines, IsTextLine, after_more, line_if, number_of_more}
+use Rattle.cli_lines.specs.Lines.{AreTextLines, IsTextLine, after_more, line_if, number_after}
 use Rattle.cli_lines.specs.SeenLines.{last_seen, line_seen, values_seen}
 use Rattle.cli_lines.specs.declared.lines.LastLines.{LastLines}
 use Rattle.cli_lines.proofs.Inputs.{handed_on, kept_later, later_returns, stops_later, tells_first, tells_second}
@@ -22,11 +22,11 @@ pub returns-clause-told : goal.returns-clause-told
 returns-clause-told g c = λ truthful i t.
     let needs = needs_seen c.args.needs in
     let later = needs.has_otp || is_filled needs.fields in
-    let read = rw c.requires at c.in_ok-more.ensures.told in
-    let first = read (c.read_after_more.ensures.truthful truthful) i (tells_first needs.has_line later _ i t) in
-    let taken = line_if needs.has_line (number_of_more needs) i in
-    later_returns last_seen c.read_after_more.result _ _ _ taken (line_seen c.in_ok-more.more) (after_more needs) first.0 first.1
-    (c.read_after_more.ensures.told truthful taken.left (tells_second needs.has_line later _ _ i taken.left t first.1))
+    let first = c.in_ok-more.ensures.told (c.read_after_more.ensures.truthful truthful) i (tells_first needs.has_line later _ i t) in
+    let taken = line_if needs.has_line c.args.number i in
+    let rest = rw c.in-Ok.ensures at c.read_after_more.ensures.told in
+    later_returns last_seen c.read_after_more.result _ _ _ taken (line_seen c.in_ok-more.more) (after_more (number_after needs.has_line c.args.number) needs)
+    first.0 first.1 (rest truthful taken.left (tells_second needs.has_line later _ _ i taken.left t first.1))
 
 pub returns-clause-more : goal.returns-clause-more
 returns-clause-more g c =
