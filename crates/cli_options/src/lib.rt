@@ -17,8 +17,8 @@ pub use forms::{CommandOption, OPTIONS, has_value, is_repeatable, place_of};
 pub use names::{CommandName, command_named};
 pub use numbers::number_of;
 pub use said::{
-    GivenTexts, ReadingState, RepeatedText, SaidWords, WordsFail, copies_of, copy_of, empty_state,
-    is_given, no_texts, text_of, texts_of,
+    GivenTexts, ReadingState, RepeatedText, SaidWords, WordsFail, add_position, copies_of, copy_of,
+    empty_state, is_given, no_texts, text_of, texts_of, with_text,
 };
 pub use taking::{letter_option, name_option};
-pub use words::add_words;
+pub use words::{add_word, add_words};

@@ -124,8 +124,8 @@ fn is_used(texts: [Option<&str>; OPTIONS], option: CommandOption) -> bool
     !is_repeatable(option) && text_in(texts, option).is_some()
 }
 
-// The texts of options with one more, or another.
-fn with_text<'a>(
+/// The texts of options with one more, or another.
+pub fn with_text<'a>(
     given: [Option<&'a str>; OPTIONS],
     option: CommandOption,
     text: &'a str,

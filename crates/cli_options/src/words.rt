@@ -173,8 +173,8 @@ fn add_option<'a>(
     }
 }
 
-// A word more.
-fn add_word<'a>(
+/// Reads one word more after a command's name.
+pub fn add_word<'a>(
     command: CommandName,
     given: &mut GivenTexts<'a>,
     state: &mut ReadingState,

@@ -353,8 +353,8 @@ fn command_at(
     }
 }
 
-// The command of this name whose other words say this.
-fn command_saying(
+/// The command of this name whose other words say this.
+pub fn command_saying(
     alloc: Global,
     command: CommandName,
     said: &SaidWords<'_, '_>,

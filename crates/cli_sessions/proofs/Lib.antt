@@ -1,0 +1,5 @@
+pub mod Calls
+pub mod Examples
+pub mod Keeping
+pub mod OfSession
+pub mod Past

@@ -1,0 +1,4 @@
+pub mod Results
+pub mod Spelling
+pub mod Words
+pub mod inside
