@@ -1,5 +1,5 @@
 -- How a task is carried out.
-use Rattle.std.proofs.Common.{◌≡◌, ◌≤◌, ℕ, List, refl, inl, sym, ◌∙◌, ap, subst, Bool, true, false, Option, Some, None, option_map, Result, Ok, Err}
+use Rattle.std.proofs.Common.{◌≡◌, ◌≤◌, arith, ℕ, List, refl, inl, sym, ◌∙◌, ap, subst, Bool, true, false, Option, Some, None, option_map, Result, Ok, Err}
 use Rattle.std.specs.Borrow.{Bor}
 use Rattle.std.specs.Option.{option_copied, unwrap_or}
 use Rattle.std.specs.Prelude.{◌&&◌, ◌||◌, IfErr, IfOk, IfSome, OnErr, OnOk, is_some, not}
@@ -13,16 +13,18 @@ use Rattle.cli_messages.specs.Phases.{IsCommandStop, IsLeft, IsStreamStop, Refus
 use Rattle.kdbx_frame.specs.declared.sealings.Sealing.{Sealing}
 use Rattle.cli_files.proofs.FileStops.{rose_before}
 use Rattle.cli_lines.proofs.Inputs.{left_alone, left_so}
-use Rattle.cli_sealing.specs.Sealing.{Seals}
+use Rattle.cli_sealing.specs.Sealing.{Seals, settings_for}
 use Rattle.cli_needs.specs.declared.command.Command.{Command}
 use Rattle.cli_needs.specs.declared.command.Command.TheVariants.{Ls, Show, History, Search, Add, Edit, Restore, ExportAttachment, ImportAttachment, RemoveAttachment, Move, Remove, MakeGroup, RemoveGroup, Merge, Import, Create, Export, EditFile, Info}
 use Rattle.cli_needs.specs.Needs.{target_access}
-use Rattle.cli_writing.specs.Writing.{IsWriteStop, KeepsDraft, KeepsFiles, NewFile, Store, Writes}
+use Rattle.cli_writing.specs.Writing.{IsSizeStop, IsWriteStop, KeepsDraft, KeepsFiles, NewFile, Store, Writes}
 use Rattle.cli_commands.specs.declared.output.Output.{Output}
 use Rattle.cli_commands.specs.Commands.{Change, Inputs, change_of, draws_change, may_write}
 use Rattle.cli_commands.proofs.Changes.{none_changed}
-use Rattle.call_run.specs.Endings.{Ending, Ends, EndsRefused, EndsSo, EndsWith, IsOfDice, IsOfSomeDice, ReadsBack, ReadsBackSo, Targets, WritesNew, carried_out, ended_so, ended_with, inputs_of, settings_in, targets_of}
-use Rattle.cli_commands.specs.SeenChange.{output_text}
+use Rattle.call_run.specs.Endings.{Ending, Ends, EndsRefused, EndsSo, EndsWith, IsOfDice, IsOfSomeDice, IsRecoverable, IsUnrefused, LeavesDatabase, ReadsBack, ReadsBackSo, Targets, WritesNew, carried_out, change_of_task, ended_so, ended_with, inputs_of, opened_after, resealed, settings_in, targets_of}
+use Rattle.cli_commands.specs.SeenChange.{doc_if, output_text}
+use Rattle.cli_files.specs.Files.{Opened}
+use Rattle.cli_sealing.proofs.Sealed.{in_order}
 use Rattle.cli_files.specs.Tasks.{Task, draws}
 
 -- ---- the file
@@ -187,12 +189,16 @@ module _ (time : ℕ) (task : Task) (input : Inputs) (dice : List ℕ) (is : inp
   file_refused InputFault change before now old mid new h l w = tt
   file_refused NoMemory change before now old mid new h l w = tt
 
+  -- The change is the one of the task.
+  pub made_so : (change : Change) → made.answer ≡ Ok change → (change_of_task time task dice).answer ≡ Ok change
+  made_so change h = subst (λ (x : Inputs). (change_of time task.command x task.opened.doc dice).answer ≡ Ok change) is h
+
   -- What was printed and written is of the change.
   pub of_dice : (printed : List ℕ) (change : Change) (before now : Store) → printed ≡ change.text → made.answer ≡ Ok change
       → ReadsBack (targets_of task.command) task.opened.sealing change before now → IsOfDice time task dice printed before now
   of_dice printed change before now p h r = record {
     change = change;
-    makes = subst (λ (x : Inputs). (change_of time task.command x task.opened.doc dice).answer ≡ Ok change) is h;
+    makes = made_so change h;
     text = p;
     reads_back = r;
   }
@@ -333,3 +339,78 @@ write_command (Refused refusal) name faults faults' dice mid dice' le h = h
 write_command (FileFault told) name faults faults' dice mid dice' le h = h
 write_command InputFault name faults faults' dice mid dice' le h = rose_before dice mid dice' le h
 write_command NoMemory name faults faults' dice mid dice' le h = tt
+
+-- ---- what is left of the database
+
+abbrev pub sealed_with : Settings → List ℕ → Sealing
+sealed_with settings composite = record { settings = settings; composite = composite }
+
+abbrev pub opened_with : BareDoc → Option Sealing → List (List ℕ) → Opened
+opened_with doc sealing passed = record { doc = doc; sealing = sealing; passed_over = passed }
+
+abbrev pub with_doc : BareDoc → Opened → Opened
+with_doc doc opened = record opened { doc = doc }
+
+-- What a file is sealed with has the settings that its document needs, and its key.
+pub resealed_so : (old new : Sealing) (doc : BareDoc) → new.settings ≡ settings_for old.settings doc → new.composite ≡ old.composite → new ≡ resealed doc old
+resealed_so old new doc settings composite =
+    ap (λ (x : Settings). sealed_with x new.composite) settings ∙ ap (λ (x : List ℕ). sealed_with (settings_for old.settings doc) x) composite
+
+pub unrefused_sized : (result : Result (Unit {0}) Stop) → IfErr result IsUnrefused → IfErr result IsSizeStop
+unrefused_sized (Ok u) h = tt
+unrefused_sized (Err (Refused refusal)) h = absurd h
+unrefused_sized (Err (FileFault name)) h = tt
+unrefused_sized (Err InputFault) h = tt
+unrefused_sized (Err NoMemory) h = tt
+
+-- A document that was written is the one of the database.
+pub rewritten_so : (written : Bool) (old now : Opened) → written ≡ true → now.doc ≡ old.doc → now.passed_over ≡ old.passed_over
+    → now.sealing ≡ option_map (resealed old.doc) old.sealing → now ≡ opened_after old (doc_if written old.doc)
+rewritten_so true old now w doc passed sealing =
+    ap (λ (x : BareDoc). opened_with x now.sealing now.passed_over) doc ∙ ap (λ (x : Option Sealing). opened_with old.doc x now.passed_over) sealing
+    ∙ ap (λ (x : List (List ℕ)). opened_with old.doc (option_map (resealed old.doc) old.sealing) x) passed
+rewritten_so false old now w doc passed sealing = cc
+
+pub unwritten_so : (written : Bool) (old : Opened) → written ≡ false → old ≡ opened_after old (doc_if written old.doc)
+unwritten_so false old w = refl
+unwritten_so true old w = cc
+
+-- A command that makes no document only reads it.
+leaves_with : (reads written : Bool) (old now : Opened) (doc : BareDoc) → now ≡ opened_after (with_doc doc old) (doc_if written doc)
+    → (reads ≡ true → doc ≡ old.doc) → (doc_if written doc ≡ None → reads ≡ true) → now ≡ opened_after old (doc_if written doc)
+leaves_with reads true old now doc is kept none = is
+leaves_with reads false old now doc is kept none = is ∙ ap (λ (x : BareDoc). with_doc x old) (kept (none refl))
+
+pub leaves_so : (reads written : Bool) (answer : Result Change Refusal) (change : Change) (old now : Opened) (doc : BareDoc) → answer ≡ Ok change
+    → change.doc ≡ doc_if written doc → now ≡ opened_after (with_doc doc old) (doc_if written doc) → (reads ≡ true → doc ≡ old.doc)
+    → LeavesDatabase reads answer old now
+leaves_so reads written answer change old now doc h made is kept =
+    subst (λ (r : Result Change Refusal). LeavesDatabase reads r old now) (sym h)
+    (subst (λ (d : Option BareDoc). (d ≡ None → reads ≡ true) → now ≡ opened_after old d) (sym made) (leaves_with reads written old now doc is kept))
+
+-- After a refusal of size nothing goes on.
+pub not_recoverable : (stop : Stop) → IsSizeStop stop → IsRecoverable stop → ⊥
+not_recoverable (Refused refusal) size r = omega (arith, size, r)
+not_recoverable (FileFault name) size r = r
+not_recoverable InputFault size r = r
+not_recoverable NoMemory size r = r
+
+order_by : (doc : BareDoc) (sealing : Option Sealing) (passed : List (List ℕ)) (new : Option BareDoc) → IfSome sealing (λ s. IsInOrder s.settings)
+    → IfSome (opened_after (opened_with doc sealing passed) new).sealing (λ s. IsInOrder s.settings)
+order_by doc sealing passed None h = h
+order_by doc None passed (Some new) h = tt
+order_by doc (Some s) passed (Some new) h = in_order s.settings new h
+
+-- What a file is sealed with stays in order.
+pub order_after : (old now : Opened) (doc : Option BareDoc) → now ≡ opened_after old doc → IfSome old.sealing (λ s. IsInOrder s.settings)
+    → IfSome now.sealing (λ s. IsInOrder s.settings)
+order_after old now doc is h = subst (λ (o : Opened). IfSome o.sealing (λ s. IsInOrder s.settings)) (sym is) (order_by old.doc old.sealing old.passed_over doc h)
+
+sealed_by : (doc : BareDoc) (sealing : Option Sealing) (passed : List (List ℕ)) (new : Option BareDoc)
+    → is_some (opened_after (opened_with doc sealing passed) new).sealing ≡ is_some sealing
+sealed_by doc sealing passed None = refl
+sealed_by doc None passed (Some new) = refl
+sealed_by doc (Some s) passed (Some new) = refl
+
+pub sealed_after : (old now : Opened) (doc : Option BareDoc) → now ≡ opened_after old doc → is_some now.sealing ≡ is_some old.sealing
+sealed_after old now doc is = ap (λ (o : Opened). is_some o.sealing) is ∙ sealed_by old.doc old.sealing old.passed_over doc

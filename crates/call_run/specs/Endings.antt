@@ -1,9 +1,10 @@
 -- How a command ends: what is printed, the file that is written, and what is left of the dice.
-use Rattle.std.specs.Prelude.{◌≡◌, ℕ, List, Option, None, Some, Result, Ok, Err, option_map}
+use Rattle.std.specs.Prelude.{◌≡◌, ◌≤◌, ℕ, Bool, true, List, Option, None, Some, Result, Ok, Err, option_map}
 use Rattle.vault_model.specs.Tree.{BareDoc}
 use Rattle.cli_messages.specs.declared.answers.Refusal.{Refusal}
 use Rattle.cli_messages.specs.declared.answers.Stop.{Stop}
 use Rattle.cli_messages.specs.declared.answers.Stop.TheVariants.{Refused, FileFault, InputFault, NoMemory}
+use Rattle.cli_messages.specs.Messages.{status_of}
 use Rattle.cli_messages.specs.Phases.{IsLeft, StreamAnswer, then_left, with_left}
 use Rattle.cli_needs.specs.declared.command.Command.{Command}
 use Rattle.cli_needs.specs.Needs.{exported_to, target_of}
@@ -16,6 +17,7 @@ use Rattle.cli_sealing.specs.Sealing.{sealed_file, settings_for}
 use Rattle.cli_commands.specs.declared.output.Output.{Output}
 use Rattle.cli_commands.specs.Commands.{Change, Inputs, change_of}
 use Rattle.cli_commands.specs.SeenChange.{output_text}
+use Rattle.cli_files.specs.Files.{Opened}
 use Rattle.cli_files.specs.Tasks.{Task}
 
 -- ---- what is defined
@@ -100,6 +102,35 @@ unfoldable pub carried_out : ℕ → Task → List ℕ → StreamAnswer Ending
 carried_out time task dice =
     then_left (change_of_task time task dice) (λ change left.
     ended_with (targets_of task.command) task.opened.sealing change left)
+
+-- ---- what is left of a database that stays open
+
+-- What a file is sealed with once it holds this document: settings of the version that it is written
+-- in, and the same composite key.
+abbrev pub resealed : BareDoc → Sealing → Sealing
+resealed doc sealing = record sealing { settings = settings_for sealing.settings doc }
+
+-- A database after a change of its document, or after none.
+abbrev pub opened_after : Opened → Option BareDoc → Opened
+opened_after opened None = opened
+opened_after opened (Some doc) = record opened {
+  doc = doc;
+  sealing = option_map (resealed doc) opened.sealing;
+}
+
+-- A database that stays open was left as the command says, provided that a command that makes no
+-- document only reads it.
+abbrev pub LeavesDatabase : Bool → Result Change Refusal → (before now : Opened) → Type 0
+LeavesDatabase reads (Ok change) before now = (change.doc ≡ None → reads ≡ true)
+    → now ≡ opened_after before change.doc
+LeavesDatabase reads (Err refusal) before now = ⊥
+
+-- A refusal of status 1 or 2, after which a database that stays open is as it was.
+abbrev pub IsRecoverable : Stop → Type 0
+IsRecoverable (Refused refusal) = status_of refusal.reason ≤ 2
+IsRecoverable (FileFault name) = ⊥
+IsRecoverable InputFault = ⊥
+IsRecoverable NoMemory = ⊥
 
 -- ---- what a written file holds
 

@@ -12,25 +12,41 @@ ghost use Rattle.cli_profiles.specs.Profiles.{IsProfile};
 ghost use Rattle.cli_lines.specs.SeenLines.{lines_seen};
 ghost use Rattle.cli_needs.specs.Needs.{file_written, generated_by, target_access, target_of};
 ghost use Rattle.cli_writing.specs.Held.{IsWritten};
-ghost use Rattle.cli_writing.specs.Writing.{IsSame, IsWriteStop, KeepsDraft, KeepsFiles, store};
-ghost use Rattle.cli_commands.specs.Commands.{may_store, may_write};
-ghost use Rattle.call_run.specs.Endings.{Ends, EndsWith, HoldsNew, IsOfDice, IsOfSomeDice, ReadsBack, Stores, WritesNew, attachment_file, carried_out, ended_with, new_file, settings_in, targets_of};
+ghost use Rattle.cli_writing.specs.Writing.{IsSame, IsSizeStop, IsWriteStop, KeepsDraft, KeepsFiles, store};
+ghost use Rattle.cli_commands.specs.Commands.{may_store, may_write, only_reads};
+ghost use Rattle.call_run.specs.Endings.{Ends, EndsWith, HoldsNew, IsOfDice, IsOfSomeDice, IsRecoverable, LeavesDatabase, ReadsBack, Stores, WritesNew, attachment_file, carried_out, change_of_task, ended_with, new_file, opened_after, resealed, settings_in, targets_of};
+ghost use Rattle.call_run.specs.SeenRequest.{task_by};
 ghost use Rattle.cli_commands.specs.SeenChange.{change_seen, lent_settings, output_text};
+ghost use Rattle.cli_files.specs.SeenOpened.{opened_seen};
 ghost use Rattle.cli_files.specs.SeenTask.{task_seen};
 ghost use Rattle.cli_files.specs.Tasks.{draws};
 
 use cli_commands::{Change, CommandInput, Output, may_write, perform};
 use cli_files::{Opened, Task, bytes_in};
+use cli_lines::Lines;
 use cli_messages::Stop;
 use cli_needs::{Command, exported_to};
 use cli_sealing::write_sealed;
 use cli_writing::{write_bytes, write_plain};
 use kdbx_frame::{Sealing, Settings, release_key};
-use outside_core::{Dice, FileStore, Text};
+use outside_core::{Dice, FileStore, List, Text};
 use secret_core::Secret;
 use std::alloc::Global;
 use std::rc::Rc;
 use vault_model::Doc;
+
+/// What a command is carried out with beside its database.
+#[derive(Drop)]
+pub struct Request {
+    /// The command.
+    pub command: Command,
+    /// The lines that it asked for.
+    pub lines: Lines,
+    /// The documents of its sources.
+    pub sources: List<Doc>,
+    /// The bytes of the file that is put into the database, where there is one.
+    pub attached: Option<Rc<Secret>>,
+}
 
 // The file of the database that a command shows or writes.
 fn database_of(command: &Command) -> &str
@@ -63,25 +79,15 @@ fn settings_of(sealing: &Option<Sealing>) -> Option<&Settings>
     }
 }
 
-// Lets a task go, whose composite key is cleared and released.
-fn let_go(task: Task) {
-    let Task {
-        command,
-        lines,
-        opened: Opened {
-            doc,
-            sealing,
-            passed_over,
-        },
-        sources,
-        attached,
-    } = task;
-    drop(attached);
-    drop(command);
-    drop(lines);
+/// Lets a database go that was opened: its composite key, if it has one, is cleared and released.
+pub fn close(opened: Opened) {
+    let Opened {
+        doc,
+        sealing,
+        passed_over,
+    } = opened;
     drop(doc);
     drop(passed_over);
-    drop(sources);
     release_key(sealing);
 }
 
@@ -118,6 +124,8 @@ fn write_anew<F: FileStore, D: Dice>(
         (D.faults dice.old) (D.faults dice.new)) }
     ensures faultless { OnOk result ((F.faults files.new ≡ F.faults files.old)
         × (D.faults dice.new ≡ D.faults dice.old)) }
+    ensures sealing { sealing.new ≡ option_map (resealed (doc_seen doc.now)) sealing.old }
+    ensures size { IfErr result IsSizeStop }
 {
     match sealing {
         None => write_plain(alloc, files, name, doc),
@@ -201,6 +209,9 @@ fn write_change<F: FileStore, D: Dice>(
         (F.faults files.old) (F.faults files.new) (D.faults dice.old) (D.faults dice.new)) }
     ensures faultless { OnOk result ((F.faults files.new ≡ F.faults files.old)
         × (D.faults dice.new ≡ D.faults dice.old)) }
+    ensures opened { opened_seen opened.new ≡ opened_after (opened_seen opened.old)
+        (change_seen change.now (doc_seen opened.old.doc)).doc }
+    ensures size { IfErr result IsSizeStop }
 {
     if change.is_written {
         write_anew(
@@ -216,34 +227,40 @@ fn write_change<F: FileStore, D: Dice>(
     }
 }
 
-// Carries a task out that is lent: what its command makes of the document, and then the file, if
-// one is written.
-fn carry_out_on<F: FileStore, D: Dice>(
+/// Carries a command out on a database that stays open: what it makes of the document, and then the
+/// file, if one is written. What is printed is composed before the file is written.
+///
+/// Afterwards the database is as the command leaves it: with the new document where it was written,
+/// and else as before. A refusal of status 1 or 2 leaves it as it was; after any other stop its
+/// document is not known, and it is only to be closed.
+pub fn step<F: FileStore, D: Dice>(
     alloc: Global,
     files: &mut F,
     dice: &mut D,
-    task: &mut Task,
+    request: &Request,
+    opened: &mut Opened,
     now: u64,
 ) -> Result<Output, Stop>
-    requires text { AreTextLines (lines_seen task.old.lines).more
-        (lines_seen task.old.lines).otp (lines_seen task.old.lines).fields }
-    requires profile { IfSome (generated_by task.old.command) IsProfile }
-    requires in_order { IfSome task.old.opened.sealing (λ s. IsInOrder s.settings) }
-    requires sealed { is_some task.old.opened.sealing
-        ≡ not (target_access task.old.command).plain }
+    requires text { AreTextLines (lines_seen request.now.lines).more
+        (lines_seen request.now.lines).otp (lines_seen request.now.lines).fields }
+    requires profile { IfSome (generated_by request.now.command) IsProfile }
+    requires in_order { IfSome opened.old.sealing (λ s. IsInOrder s.settings) }
+    requires sealed { is_some opened.old.sealing
+        ≡ not (target_access request.now.command).plain }
     ensures told { D.truthful dice.new ≡ true
-        → (d : List ℕ) → TellsStream (draws task.old.command) (D.stream dice.old) d
-        → Ends result (carried_out now (task_seen task.old) d)
+        → (d : List ℕ) → TellsStream (draws request.now.command) (D.stream dice.old) d
+        → Ends result (carried_out now (task_by request.now opened.old) d)
         (store (F.files files.old) (F.draft_name files.old) (F.draft_bytes files.old))
         (store (F.files files.new) (F.draft_name files.new) (F.draft_bytes files.new))
         (D.stream dice.old) (D.stream dice.new) }
     ensures of_dice { D.truthful dice.new ≡ true
         → (d : List ℕ)
-        → TellsStream (draws task.old.command) (D.stream dice.old) d
-        → IfOk result (λ output. IsOfDice now (task_seen task.old) d (output_text output)
+        → TellsStream (draws request.now.command) (D.stream dice.old) d
+        → IfOk result (λ output. IsOfDice now (task_by request.now opened.old) d
+        (output_text output)
         (store (F.files files.old) (F.draft_name files.old) (F.draft_bytes files.old))
         (store (F.files files.new) (F.draft_name files.new) (F.draft_bytes files.new))) }
-    ensures some_dice { IfOk result (λ output. IsOfSomeDice now (task_seen task.old)
+    ensures some_dice { IfOk result (λ output. IsOfSomeDice now (task_by request.now opened.old)
         (output_text output)
         (store (F.files files.old) (F.draft_name files.old) (F.draft_bytes files.old))
         (store (F.files files.new) (F.draft_name files.new) (F.draft_bytes files.new))) }
@@ -254,30 +271,39 @@ fn carry_out_on<F: FileStore, D: Dice>(
         (store (F.files files.old) (F.draft_name files.old) (F.draft_bytes files.old))
         (store (F.files files.new) (F.draft_name files.new) (F.draft_bytes files.new)) }
     ensures files_truthful { StaysTruthful (F.truthful files.old) (F.truthful files.new) }
-    ensures unwritten { may_store task.old.command ≡ false → IsSame
+    ensures unwritten { may_store request.now.command ≡ false → IsSame
         (store (F.files files.old) (F.draft_name files.old) (F.draft_bytes files.old))
         (store (F.files files.new) (F.draft_name files.new) (F.draft_bytes files.new)) }
-    ensures undrawn { draws task.old.command ≡ false
+    ensures undrawn { draws request.now.command ≡ false
         → D.stream dice.new ≡ D.stream dice.old }
     ensures stream { LosesPrefix (D.stream dice.old) (D.stream dice.new) }
     ensures dice_truthful { StaysTruthful (D.truthful dice.old) (D.truthful dice.new) }
-    ensures cause { IfErr result (IsCommandStop (file_written task.old.command)
+    ensures cause { IfErr result (IsCommandStop (file_written request.now.command)
         (F.faults files.old) (F.faults files.new) (D.faults dice.old) (D.faults dice.new)) }
     ensures faultless { OnOk result ((F.faults files.new ≡ F.faults files.old)
         × (D.faults dice.new ≡ D.faults dice.old)) }
+    ensures leaves { D.truthful dice.new ≡ true
+        → (d : List ℕ) → TellsStream (draws request.now.command) (D.stream dice.old) d
+        → IfOk result (λ _. LeavesDatabase (only_reads request.now.command)
+        (change_of_task now (task_by request.now opened.old) d).answer
+        (opened_seen opened.old) (opened_seen opened.new)) }
+    ensures recoverable { IfErr result (λ stop. IsRecoverable stop
+        → opened_seen opened.new ≡ opened_seen opened.old) }
+    ensures still_in_order { IfSome opened.new.sealing (λ s. IsInOrder s.settings) }
+    ensures still_sealed { is_some opened.new.sealing ≡ is_some opened.old.sealing }
 {
     let input = CommandInput {
-        line: bytes_in(&task.lines.more),
-        otp: bytes_in(&task.lines.otp),
-        fields: task.lines.fields.as_slice(),
-        attached: task.attached.as_ref(),
-        sources: task.sources.as_slice(),
-        settings: settings_of(&task.opened.sealing),
-        passed_over: task.opened.passed_over.as_slice(),
+        line: bytes_in(&request.lines.more),
+        otp: bytes_in(&request.lines.otp),
+        fields: request.lines.fields.as_slice(),
+        attached: request.attached.as_ref(),
+        sources: request.sources.as_slice(),
+        settings: settings_of(&opened.sealing),
+        passed_over: opened.passed_over.as_slice(),
         now,
     };
-    let change = perform(alloc, dice, &task.command, input, &mut task.opened.doc)?;
-    write_change(alloc, files, dice, &task.command, &change, &mut task.opened)?;
+    let change = perform(alloc, dice, &request.command, input, &mut opened.doc)?;
+    write_change(alloc, files, dice, &request.command, &change, opened)?;
     Ok(change.output)
 }
 
@@ -290,7 +316,7 @@ pub fn carry_out<F: FileStore, D: Dice>(
     alloc: Global,
     files: &mut F,
     dice: &mut D,
-    mut task: Task,
+    task: Task,
     now: u64,
 ) -> Result<Output, Stop>
     requires text { AreTextLines (lines_seen task.lines).more (lines_seen task.lines).otp
@@ -331,8 +357,22 @@ pub fn carry_out<F: FileStore, D: Dice>(
     ensures faultless { OnOk result ((F.faults files.new ≡ F.faults files.old)
         × (D.faults dice.new ≡ D.faults dice.old)) }
 {
-    clear_unless(may_write(&task.command), &mut task.opened.sealing);
-    let answer = carry_out_on(alloc, files, dice, &mut task, now);
-    let_go(task);
+    let Task {
+        command,
+        lines,
+        mut opened,
+        sources,
+        attached,
+    } = task;
+    let request = Request {
+        command,
+        lines,
+        sources,
+        attached,
+    };
+    clear_unless(may_write(&request.command), &mut opened.sealing);
+    let answer = step(alloc, files, dice, &request, &mut opened, now);
+    drop(request);
+    close(opened);
     answer
 }

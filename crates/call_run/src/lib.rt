@@ -4,4 +4,4 @@
 
 mod carrying;
 
-pub use carrying::carry_out;
+pub use carrying::{Request, carry_out, close, step};

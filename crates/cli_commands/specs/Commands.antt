@@ -83,6 +83,30 @@ may_write (Export access format file) = false
 may_write (EditFile access file change) = true
 may_write (Info access file) = false
 
+-- A command only reads its document: every one that never writes it. A dry run of a merge tries the
+-- merge in memory.
+abbrev pub only_reads : Command → Bool
+only_reads (Ls access file group recursive flat ids) = true
+only_reads (Show access file entry clear all attachments names totp at) = true
+only_reads (History access file entry) = true
+only_reads (Search access file term) = true
+only_reads (Add access file entry asked) = false
+only_reads (Edit access file entry asked further) = false
+only_reads (Restore access file entry version) = false
+only_reads (ExportAttachment access file entry name to) = true
+only_reads (ImportAttachment access file entry name source replaces) = false
+only_reads (RemoveAttachment access file entry name) = false
+only_reads (Move access file node group) = false
+only_reads (Remove access file entry) = false
+only_reads (MakeGroup access file group) = false
+only_reads (RemoveGroup access file group) = false
+only_reads (Merge access file names from same dry details) = false
+only_reads (Import access format source from file) = false
+only_reads (Create access file name cipher kdf) = false
+only_reads (Export access format file) = true
+only_reads (EditFile access file change) = false
+only_reads (Info access file) = true
+
 -- A command may write a file: its database, or one that it takes an attachment out into.
 abbrev pub may_store : Command → Bool
 may_store command = may_write command || is_some (exported_to command)

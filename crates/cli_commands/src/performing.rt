@@ -18,7 +18,7 @@ ghost use Rattle.cli_profiles.specs.Profiles.{IsProfile};
 ghost use Rattle.cli_needs.specs.Needs.{generated_by, needs_of};
 ghost use Rattle.cli_printing.specs.Listing.{tree_listed};
 ghost use Rattle.cli_commands.specs.Commands as spec;
-ghost use Rattle.cli_commands.specs.Commands.{change_of, change_with, changed_text, created_change, created_or_refusal, draws_change, imported_text, listing_of, passed_lines, rooted_at, text_unless, with_password, with_root_id, writing};
+ghost use Rattle.cli_commands.specs.Commands.{change_of, change_with, changed_text, created_change, created_or_refusal, draws_change, imported_text, listing_of, only_reads, passed_lines, rooted_at, text_unless, with_password, with_root_id, writing};
 ghost use Rattle.cli_commands.specs.SeenChange.{change_seen, inputs_seen, lent_settings};
 ghost use Rattle.cli_printing.specs.Info.{info_shown};
 
@@ -457,6 +457,7 @@ fn change_document<'a>(
     ensures unwritten { spec.may_write command.now ≡ false
         → IfOk result (λ change. change.is_written ≡ false) }
     ensures unchanged { IfErr result (λ _. doc_seen doc.new ≡ doc_seen doc.old) }
+    ensures kept { only_reads command.now ≡ true → doc_seen doc.new ≡ doc_seen doc.old }
     ensures cause { IfErr result IsPlainStop }
 {
     let given = given_of(command, input);
@@ -618,6 +619,7 @@ fn change_with_password(
     ensures unwritten { spec.may_write command.now ≡ false
         → IfOk result (λ change. change.is_written ≡ false) }
     ensures unchanged { IfErr result (λ _. doc_seen doc.new ≡ doc_seen doc.old) }
+    ensures kept { only_reads command.now ≡ true → doc_seen doc.new ≡ doc_seen doc.old }
     ensures cause { IfErr result IsPlainStop }
 {
     let input = with_line(input, password.lend(0, password.len()));
@@ -650,6 +652,7 @@ fn change_by<D: Dice>(
     ensures unwritten { spec.may_write command.now ≡ false
         → IfOk result (λ change. change.is_written ≡ false) }
     ensures unchanged { IfErr result (λ _. doc_seen doc.new ≡ doc_seen doc.old) }
+    ensures kept { only_reads command.now ≡ true → doc_seen doc.new ≡ doc_seen doc.old }
     ensures undrawn { is_some (generated_by command.now) ≡ false
         → D.stream dice.new ≡ D.stream dice.old }
     ensures stream { LosesPrefix (D.stream dice.old) (D.stream dice.new) }
@@ -695,6 +698,7 @@ pub fn perform<'a, D: Dice>(
     ensures unwritten { spec.may_write command.now ≡ false
         → IfOk result (λ change. change.is_written ≡ false) }
     ensures unchanged { IfErr result (λ _. doc_seen doc.new ≡ doc_seen doc.old) }
+    ensures kept { only_reads command.now ≡ true → doc_seen doc.new ≡ doc_seen doc.old }
     ensures undrawn { draws_change command.now ≡ false
         → D.stream dice.new ≡ D.stream dice.old }
     ensures stream { LosesPrefix (D.stream dice.old) (D.stream dice.new) }

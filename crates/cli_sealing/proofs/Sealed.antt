@@ -21,7 +21,8 @@ use Rattle.cli_messages.specs.declared.answers.Reason.TheVariants as answer
 use Rattle.cli_messages.specs.declared.answers.Refusal.{Refusal}
 use Rattle.cli_messages.specs.declared.answers.Stop.{Stop}
 use Rattle.cli_messages.specs.declared.answers.Stop.TheVariants.{Refused, FileFault, InputFault, NoMemory}
-use Rattle.cli_writing.specs.Writing.{HasFile, IsSame, KeepsDraft, RefusesFile, Store, WritesFile}
+use Rattle.cli_writing.proofs.Sizes.{fault_sized, memory_sized, sized}
+use Rattle.cli_writing.specs.Writing.{HasFile, IsSame, IsSizeStop, KeepsDraft, RefusesFile, Store, WritesFile}
 use Rattle.cli_sealing.specs.Draws.{after_draws, draws_of}
 use Rattle.cli_sealing.specs.Sealing.{IsUnsealed, Seals, file_by, file_unless, seal_answer, settings_for}
 
@@ -48,6 +49,13 @@ in_order s doc h = record {
   version = raised (needed_version doc) s.version s.kdf s.public h.version;
   public = h.public;
 }
+
+-- Sealing is refused only as too much or too large.
+pub unsealed_large : (why : SealFail) (stop : Stop) (name : List ℕ) → IsUnsealed why name stop → IsSizeStop stop
+unsealed_large (fail.TooMany count) stop name h = sized stop (refusal_of answer.TooMany name) refl h
+unsealed_large (fail.TooLarge length) stop name h = sized stop (refusal_of answer.TooLarge name) refl h
+unsealed_large fail.FileFault stop name h = fault_sized stop name h
+unsealed_large fail.NoMemory stop name h = memory_sized stop h
 
 -- ---- what was written
 

@@ -9,7 +9,7 @@ ghost use Rattle.kdbx_frame.specs.Settings.{IsInOrder};
 ghost use Rattle.kdbx_writing.specs.Draws.{AreDrawn};
 ghost use Rattle.cli_messages.specs.Phases.{IsCommandStop, IsFault};
 ghost use Rattle.cli_writing.specs.Held.{IsWritten};
-ghost use Rattle.cli_writing.specs.Writing.{KeepsDraft, KeepsFiles, store};
+ghost use Rattle.cli_writing.specs.Writing.{IsSizeStop, KeepsDraft, KeepsFiles, store};
 ghost use Rattle.cli_sealing.specs.Draws.{after_draws, draws_of};
 ghost use Rattle.cli_sealing.specs.Held.{HoldsSealed};
 ghost use Rattle.cli_sealing.specs.Sealing.{IsUnsealed, Seals, file_by, sealed_file, settings_for};
@@ -53,7 +53,8 @@ fn faulty(alloc: Global, name: &str) -> Stop
 
 // The stop of a call that could not seal a document as the file of this name.
 fn unsealed(alloc: Global, fail: SealFail, name: &str) -> Stop
-    ensures { IsUnsealed fail name.now result }
+    ensures is { IsUnsealed fail name.now result }
+    ensures size { IsSizeStop result }
 {
     match fail {
         SealFail::FileFault => faulty(alloc, name),
@@ -114,6 +115,7 @@ fn seal<F: FileStore, D: Dice>(
     ensures dice_truthful { StaysTruthful (D.truthful dice.old) (D.truthful dice.new) }
     ensures cause { IfErr result (IsCommandStop name.now (F.faults files.old) (F.faults files.new)
         (D.faults dice.old) (D.faults dice.new)) }
+    ensures size { IfErr result IsSizeStop }
     ensures faultless { OnOk result ((F.faults files.new ≡ F.faults files.old)
         × (D.faults dice.new ≡ D.faults dice.old)) }
 {
@@ -171,7 +173,10 @@ pub fn write_sealed<F: FileStore, D: Dice>(
     ensures dice_truthful { StaysTruthful (D.truthful dice.old) (D.truthful dice.new) }
     ensures cause { IfErr result (IsCommandStop name.now (F.faults files.old) (F.faults files.new)
         (D.faults dice.old) (D.faults dice.new)) }
+    ensures size { IfErr result IsSizeStop }
     ensures composite { sealing.new.composite ≡ sealing.old.composite }
+    ensures settings { sealing.new.settings
+        ≡ settings_for sealing.old.settings (doc_seen doc.now) }
     ensures faultless { OnOk result ((F.faults files.new ≡ F.faults files.old)
         × (D.faults dice.new ≡ D.faults dice.old)) }
 {

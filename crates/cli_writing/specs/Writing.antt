@@ -9,7 +9,7 @@ use Rattle.vault_model.specs.declared.forms.DocForm.TheVariants.{Plain}
 use Rattle.doc_write.specs.Written.{write_outcome}
 use Rattle.doc_write.specs.declared.writing.WriteFail.{WriteFail}
 use Rattle.doc_write.specs.declared.writing.WriteFail.TheVariants as fail
-use Rattle.cli_messages.specs.Messages.{Refuses, refusal_of}
+use Rattle.cli_messages.specs.Messages.{Refuses, refusal_of, status_of}
 use Rattle.cli_messages.specs.Phases.{IsMemoryStop}
 use Rattle.cli_messages.specs.declared.answers.Reason.{Reason}
 use Rattle.cli_messages.specs.declared.answers.Reason.TheVariants as answer
@@ -101,6 +101,13 @@ IsWriteStop name faults faults' (Refused refusal) = ¬ (refusal.reason ≡ answe
 IsWriteStop name faults faults' (FileFault given) = (given ≡ name) × Increased faults faults'
 IsWriteStop name faults faults' InputFault = ⊥
 IsWriteStop name faults faults' NoMemory = Unit {0}
+
+-- A stop at a document that is written is refused only as too much or too large, with status 8.
+abbrev pub IsSizeStop : Stop → Type 0
+IsSizeStop (Refused refusal) = status_of refusal.reason ≡ 8
+IsSizeStop (FileFault name) = Unit {0}
+IsSizeStop InputFault = Unit {0}
+IsSizeStop NoMemory = Unit {0}
 
 -- The stop of a call that could not write this document.
 abbrev pub IsUnwritten : WriteFail → List ℕ → Stop → Type 0

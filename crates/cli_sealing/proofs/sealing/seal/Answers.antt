@@ -20,7 +20,7 @@ pub returns-in-Err-seal_file-clause-told : goal.returns-in-Err-seal_file-clause-
 returns-in-Err-seal_file-clause-told g c = λ truthful d is.
     let drew = c.in-Ok.ensures.told truthful d is in
     unsealed_so c.in-Err-seal_file.fail c.unsealed.result c.args.name.now c.args.sealing.now.settings c.args.sealing.now.composite (doc_seen c.args.doc.now) d c.in-Ok.draws _ _ _
-    c.unsealed.ensures drew.0 drew.1 c.in-Err-seal_file.ensures.refusal
+    c.unsealed.ensures.is drew.0 drew.1 c.in-Err-seal_file.ensures.refusal
     (λ n e. record {
       files = ap g.F.FileStore.files (c.in-Err-seal_file.ensures.too_many n (ap Err e));
       draft_name = ap g.F.FileStore.draft_name (c.in-Err-seal_file.ensures.too_many n (ap Err e));
@@ -64,4 +64,4 @@ returns-in-Err-seal_file-clause-kept g c = record {
 
 pub returns-in-Err-seal_file-clause-cause : goal.returns-in-Err-seal_file-clause-cause
 returns-in-Err-seal_file-clause-cause g c =
-    unsealed_caused c.in-Err-seal_file.fail c.unsealed.result _ _ _ _ _ c.unsealed.ensures (λ e. c.in-Err-seal_file.ensures.faults.rose (ap Err e))
+    unsealed_caused c.in-Err-seal_file.fail c.unsealed.result _ _ _ _ _ c.unsealed.ensures.is (λ e. c.in-Err-seal_file.ensures.faults.rose (ap Err e))
