@@ -1,1 +1,2 @@
+pub mod CarriedLines
 pub mod Examples

@@ -1,20 +1,18 @@
 -- A session: one database stays open, and lines of the input are commands on it.
-use Rattle.std.specs.Prelude.{◌++◌, ℕ, zero, suc, ◌+◌, Bool, true, false, ◌||◌, if◌then◌else◌, nat_le, List, [], ◌∷◌, codes, Option, None, Some, Result, Ok, Err}
-use Rattle.std.specs.Str.{bytes_eq}
-use Rattle.cli_messages.specs.declared.answers.Reason.TheVariants.{LineLimit, WrongWords}
+use Rattle.std.specs.Prelude.{◌++◌, ℕ, zero, suc, if◌then◌else◌, nat_le, List, [], ◌∷◌, codes, Option, None, Some, Result, Ok, Err}
+use Rattle.cli_messages.specs.declared.answers.Reason.TheVariants.{LineLimit}
 use Rattle.cli_messages.specs.declared.answers.Refusal.{Refusal}
 use Rattle.cli_messages.specs.Messages.{error_line, reason_text, refusal_of, status_of}
 use Rattle.cli_messages.specs.Phases.{StreamAnswer}
-use Rattle.cli_needs.specs.declared.command.Access.{Access}
 use Rattle.cli_needs.specs.declared.command.Command.{Command}
-use Rattle.cli_needs.specs.Needs.{needs_of}
-use Rattle.cli_lines.specs.Lines.{LastLines, last_lines, lines_with, next_line, number_after_last}
-use Rattle.line_words.specs.Words.{line_words}
-use Rattle.cli_sessions.specs.SessionLines.{line_command}
+use Rattle.cli_lines.specs.Lines.{LastLines, lines_with}
 use Rattle.cli_files.specs.Files.{Opened}
 use Rattle.cli_files.specs.Tasks.{Task}
 use Rattle.cli_writing.specs.Writing.{NewFile}
 use Rattle.cli_commands.specs.Commands.{Change}
+use Rattle.session_core.specs.Reading.{LineRead, LineRequest, line_read}
+use Rattle.session_core.specs.declared.reading.SessionDatabase.{SessionDatabase}
+use Rattle.session_core.specs.Reading as request
 use Rattle.call_run.specs.Endings.{Ending, change_of_task, ended_with, opened_after, targets_of}
 
 -- ---- what a session is over
@@ -23,11 +21,6 @@ use Rattle.call_run.specs.Endings.{Ending, change_of_task, ended_with, opened_af
 -- asks for do not count.
 abbrev pub session_line_limit : ℕ
 session_line_limit = 65536
-
--- How the database of a session was opened, and its file.
-pub record SessionDatabase : Type 0 where
-  pub access : Access
-  pub file : List ℕ
 
 -- Where a session is: its database as the lines so far left it, the number of the next line of the
 -- input, and what is left of the input and of the dice.
@@ -81,11 +74,11 @@ refused_line refusal state = if nat_le (status_of refusal.reason) 2
 -- ---- one line
 
 -- The task of a line: its command, with the lines after it, on the database of the session.
-abbrev pub line_task : SessionState → Command → LastLines → Task
-line_task state command last = record {
+abbrev pub line_task : Opened → Command → LastLines → Task
+line_task opened command last = record {
   command = command;
   lines = lines_with None [] last;
-  opened = state.opened;
+  opened = opened;
   sources = [];
   attached = None;
 }
@@ -112,61 +105,26 @@ abbrev pub task_line : ℕ → SessionState → Task → LineOutcome
 task_line time state task = line_by_change state task
     (change_of_task time task state.dice).answer (change_of_task time task state.dice).left
 
--- The state after the lines that a command asked for.
-abbrev pub after_last : SessionState → Command → List ℕ → SessionState
-after_last state command input = record state {
-  number = number_after_last (needs_of command) state.number;
-  input = input;
-}
+-- A line that asks for this, or was refused.
+abbrev pub line_by_request : ℕ → SessionState → Result LineRequest Refusal → LineOutcome
+line_by_request time state (Ok request.ends) = ends (ended 0 [] state)
+line_by_request time state (Ok request.nothing) = continues [] [] None state
+line_by_request time state (Ok (request.asks command last)) =
+    task_line time state (line_task state.opened command last)
+line_by_request time state (Err refusal) = refused_line refusal state
 
--- A line after which these lines were read, or that were refused.
-abbrev pub line_by_last : ℕ → SessionState → Command → Result LastLines Refusal → List ℕ
-    → LineOutcome
-line_by_last time state command (Ok last) input =
-    task_line time (after_last state command input) (line_task state command last)
-line_by_last time state command (Err refusal) input =
-    refused_line refusal (record state { input = input })
+-- The state after a line was read.
+abbrev pub state_after : SessionState → LineRead → SessionState
+state_after state read = record state { number = read.number; input = read.left }
 
--- A line with this command, which may ask for lines after it, or a line of wrong words.
-abbrev pub command_line : ℕ → SessionState → Result Command Refusal → LineOutcome
-command_line time state (Ok command) = line_by_last time state command
-    (last_lines state.number (needs_of command) state.input).answer
-    (last_lines state.number (needs_of command) state.input).left
-command_line time state (Err refusal) = refused_line refusal state
-
--- `quit` or `exit` alone.
-abbrev pub is_quit : List (List ℕ) → Bool
-is_quit (word ∷ []) = bytes_eq word (codes "quit") || bytes_eq word (codes "exit")
-is_quit words = false
-
--- A line of these words. One without a word is passed over.
-abbrev pub line_by_words : ℕ → SessionDatabase → SessionState → List (List ℕ) → LineOutcome
-line_by_words time database state [] = continues [] [] None state
-line_by_words time database state (word ∷ words) =
-    if is_quit (word ∷ words) then ends (ended 0 [] state)
-    else command_line time state (line_command database.access database.file (word ∷ words))
-
--- A line cut into words. An unclosed quotation mark makes wrong words.
-abbrev pub cut_line : ℕ → SessionDatabase → SessionState → Result (List (List ℕ)) ℕ → LineOutcome
-cut_line time database state (Ok words) = line_by_words time database state words
-cut_line time database state (Err offset) =
-    refused_line (refusal_of WrongWords (codes "words")) state
-
--- The next line of the input, if there is one. A session ends where its input ends.
-abbrev pub line_by_input : ℕ → SessionDatabase → SessionState
-    → Result (Option (List ℕ)) Refusal → List ℕ → LineOutcome
-line_by_input time database state (Ok (Some line)) input =
-    cut_line time database (record state { number = state.number + 1; input = input })
-    (line_words line)
-line_by_input time database state (Ok None) input =
-    ends (ended 0 [] (record state { input = input }))
-line_by_input time database state (Err refusal) input =
-    refused_line refusal (record state { input = input })
+-- What a line does of which this was read.
+abbrev pub line_after : ℕ → SessionState → LineRead → LineOutcome
+line_after time state read = line_by_request time (state_after state read) read.answer
 
 -- What the next line of a session does.
 abbrev pub line_outcome : ℕ → SessionDatabase → SessionState → LineOutcome
-line_outcome time database state = line_by_input time database state
-    (next_line state.number state.input).answer (next_line state.number state.input).left
+line_outcome time database state =
+    line_after time state (line_read database state.number state.input)
 
 -- ---- all lines
 

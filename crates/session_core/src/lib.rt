@@ -1,3 +1,9 @@
 //! A session: one database stays open, and each line of the input is a command on it. What a
-//! session comes to, as definitions.
+//! session results in, as definitions; and one line of it, read and carried out.
 #![tactic(auto)]
+
+mod reading;
+mod running;
+
+pub use reading::{LineRequest, SessionDatabase, read_request};
+pub use running::{LineEnd, Session, close, run_line};
