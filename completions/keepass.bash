@@ -30,7 +30,7 @@ _keepass() {
   if [ "$COMP_CWORD" -eq 1 ]; then
     case $word in
       -*) COMPREPLY=($(compgen -W '--help --version --why' -- "$word")) ;;
-      *) COMPREPLY=($(compgen -W 'ls show history search add edit mv rm mkdir rmdir merge import db-create export db-edit db-info generate selftest attachment-export attachment-import attachment-rm clip' -- "$word")) ;;
+      *) COMPREPLY=($(compgen -W 'ls show history search add edit mv rm mkdir rmdir merge import db-create export db-edit db-info open generate selftest attachment-export attachment-import attachment-rm clip' -- "$word")) ;;
     esac
     return
   fi
@@ -65,6 +65,7 @@ _keepass() {
     export) kinds=(file) options='-f --format -k --key-file --no-password --plain -q --quiet --help' ;;
     db-edit) kinds=(file) options='-p --set-password --set-key-file --unset-password --unset-key-file --cipher --kdf --rounds --memory --lanes --version -k --key-file --no-password -q --quiet --help' ;;
     db-info) kinds=(file) options='-k --key-file --no-password --plain -q --quiet --help' ;;
+    open) kinds=(file) options='-k --key-file --no-password --plain -q --quiet --help' ;;
     generate) kinds=() options='-L --length -l --lower -U --upper -n --numeric -s --special -x --exclude --help' ;;
     selftest) kinds=(count) options=' --help' ;;
     attachment-export) kinds=(file entry nothing any) options='--stdout -k --key-file --no-password --plain -q --quiet --help' ;;

@@ -1,13 +1,16 @@
 # What can be done about a refusal. The table is docs/hints.toml, and terminal/tables.bash has it in `hint_rows`.
 
-# A name in the form in which the shell reads it.
+# A name in the form in which the shell reads it, or a line of a session.
 quoted() {
-  if [[ $1 =~ ^[A-Za-z0-9_./+,:@%=-]+$ && $1 != -* ]]; then printf '%s' "$1"; else printf '%q' "$1"; fi
+  if [ -n "$in_session" ] && [[ $1 = *' '* ]]; then
+    printf '"%s"' "$1"
+  elif [[ $1 =~ ^[A-Za-z0-9_./+,:@%=-]+$ && $1 != -* ]]; then printf '%s' "$1"; else printf '%q' "$1"; fi
 }
 
 # A hint with its places filled in: {file}, {database} and so on.
 filled() {
   local text=$1 name value
+  if [ -n "$in_session" ]; then text=$(as_line "$text"); fi
   while [[ $text =~ ^([^{]*)\{([a-z]+)\}(.*)$ ]]; do
     name=${BASH_REMATCH[2]}
     case $name in
@@ -20,6 +23,18 @@ filled() {
     esac
     printf '%s%s' "${BASH_REMATCH[1]}" "$value"
     text=${BASH_REMATCH[3]}
+  done
+  printf '%s' "$text"
+}
+
+# A hint in which a command of a session has the words of a line.
+as_line() {
+  local text=$1 name
+  for name in $line_commands; do
+    if [[ $text = *"keepass $name "* ]]; then
+      text=${text//"keepass $name "/"$name "}
+      text=${text//'{opened}{database} '/}
+    fi
   done
   printf '%s' "$text"
 }
@@ -221,6 +236,7 @@ holds() {
     not-markup) ! holds markup ;;
     header-hash) has_wrong_hash ;;
     fault) find_fault ;;
+    session) [ -n "$in_session" ] ;;
     limit) find_limit ;;
     line) find_line ;;
     memory) find_memory ;;

@@ -8,7 +8,7 @@ has_list() {
 }
 
 # Keeps what a file has that takes another's place. Fails where it has nothing that could be lost, and its folder gives
-# nothing to a new file.
+# nothing to a new file. The file is held open, so that none gets its number which a session writes after another one.
 remember() {
   local file
   named=$1 replaced='' list='' attributes='' is_listed=''
@@ -17,6 +17,7 @@ remember() {
   attributes=$(getfattr -d -e base64 --absolute-names -- "$file" 2>/dev/null)
   if [ -z "$is_listed$attributes" ] && ! has_list "${file%/*}/"; then return 1; fi
   list=$(getfacl -cEn -- "$file" 2>/dev/null)
+  { exec {old_file}<"$file"; } 2>/dev/null
   replaced=$file
 }
 
@@ -36,6 +37,12 @@ give_back() {
   fi
 }
 
+# The status of what a call wrote, by its command and its own status. Lines of a session that come before a refusal have written, perhaps;
+# at 7 the file may be another program's.
+status_of_writing() {
+  case $1:$2 in open:7) printf 7 ;; open:*) printf 0 ;; *) printf '%s' "$2" ;; esac
+}
+
 # Runs the program on the words of a call that changes this file, and ends as the program ended. A signal is handed on to
 # it, and ends the script too.
 run_and_give_back() {
@@ -51,7 +58,7 @@ run_and_give_back() {
     if [ -z "$heard" ]; then break; fi
     by=$heard heard=''
   done
-  give_back "$status"
+  give_back "$(status_of_writing "$1" "$status")"
   if [ -n "$lost" ]; then printf '%s' "$lost" >&2; fi
   if [ -n "$by" ]; then
     trap - "$by"

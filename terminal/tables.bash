@@ -19,6 +19,7 @@ declare -gA option_rows=(
   ['export']='format:f:FORMAT: key-file:k:FILE: no-password::: plain::: quiet:q::'
   ['db-edit']='set-password:p:: set-key-file::FILE: unset-password::: unset-key-file::: cipher::CIPHER: kdf::KDF: rounds::NUMBER: memory::KIB: lanes::NUMBER: version::VERSION: key-file:k:FILE: no-password::: quiet:q::'
   ['db-info']='key-file:k:FILE: no-password::: plain::: quiet:q::'
+  ['open']='key-file:k:FILE: no-password::: plain::: quiet:q::'
   ['generate']='length:L:NUMBER: lower:l:: upper:U:: numeric:n:: special:s:: exclude:x:CHARS:'
   ['selftest']=''
   ['attachment-export']='stdout::: key-file:k:FILE: no-password::: plain::: quiet:q::'
@@ -45,6 +46,7 @@ declare -gA command_positions=(
   ['export']='DATABASE'
   ['db-edit']='DATABASE'
   ['db-info']='DATABASE'
+  ['open']='DATABASE'
   ['generate']=''
   ['selftest']='COUNT'
   ['attachment-export']='DATABASE ENTRY NAME [FILE]'
@@ -71,6 +73,7 @@ declare -gA command_briefs=(
   ['export']='print a whole database, passwords too'
   ['db-edit']=$'change a file\'s key or settings'
   ['db-info']='tell what a file is'
+  ['open']='open a session'
   ['generate']='generate a password'
   ['selftest']='test merging on made copies'
   ['attachment-export']='take an attachment out'
@@ -80,7 +83,7 @@ declare -gA command_briefs=(
 )
 
 # The commands in the order of the help.
-command_order='ls show history search add edit mv rm mkdir rmdir merge import db-create export db-edit db-info generate selftest attachment-export attachment-import attachment-rm clip'
+command_order='ls show history search add edit mv rm mkdir rmdir merge import db-create export db-edit db-info open generate selftest attachment-export attachment-import attachment-rm clip'
 
 # The formats of the commands that have one.
 declare -gA command_formats=(
@@ -103,9 +106,9 @@ declare -gA foreign_commands=(
   ['diceware']=$'\'generate\' makes passwords, of characters and not of words'
   ['edit-db']=$'\'db-edit\' changes a file\'s key or settings'
   ['estimate']='keepass has no such command'
-  ['exit']='each call opens the database itself, and nothing stays open'
+  ['exit']=$'it ends a session, which \'keepass open DATABASE\' opens'
   ['extract']=$'\'export\' prints a whole database'
-  ['close']='each call opens the database itself, and nothing stays open'
+  ['close']=$'a database stays open in a session alone, which \'keepass open DATABASE\' opens and quit ends'
   ['find']=$'\'search\' finds entries'
   ['get']=$'\'show\' shows an entry'
   ['info']=$'\'db-info\' tells what a file is'
@@ -114,9 +117,8 @@ declare -gA foreign_commands=(
   ['locate']=$'\'search\' finds entries'
   ['move']=$'\'mv\' moves entries and groups'
   ['new']=$'\'add\' adds an entry, \'db-create\' makes a database'
-  ['open']='each call opens the database itself, and nothing stays open'
   ['passwd']=$'\'db-edit -p\' gives a database another password'
-  ['quit']='each call opens the database itself, and nothing stays open'
+  ['quit']=$'it ends a session, which \'keepass open DATABASE\' opens'
   ['remove']=$'\'rm\' removes entries, \'rmdir\' groups'
   ['rename']=$'\'edit -t TITLE\' gives an entry another title'
   ['set']=$'\'edit\' changes an entry, \'edit --set\' a field of its own'
@@ -259,6 +261,7 @@ hint_rows=(
   $'7\x1fno such file\x1fimport db-create db-edit\x1f\x1fcheck the name, and the folder that the call was made in; a new key file is made first: head -c 32 /dev/urandom >FILE'
   $'7\x1fno such file\x1f\x1f\x1fcheck the name, and the folder that the call was made in'
   $'7\x1ffile fault\x1f\x1ffault\x1f{found}'
+  $'7\x1ffile fault\x1f\x1fsession\x1fanother program may have changed {file} since the session read it: open it anew'
   $'7\x1ffile fault\x1f\x1f\x1f{file} could not be read or written, or was changed meanwhile: try again, and check the disk'
   $'8\x1flimit passed\x1f\x1flimit\x1f{found}'
   $'8\x1flimit passed\x1fattachment-import\x1f\x1fwith this attachment the database would be too large: a file has at most 134217728 bytes, and the history counts too'
@@ -275,4 +278,4 @@ hint_rows=(
 
 # What the script does beside the program.
 clip_help=$'keepass clip [OPTION..] DATABASE ENTRY [FIELD]\n    Copies the value of a field to the clipboard, the password where none is\n    named, and clears the clipboard after some seconds unless something else is\n    in it by then. Needs wl-copy, xclip, xsel or pbcopy.\n    -t SECONDS, --seconds SECONDS\n        How long the value stays: 10 seconds where nothing is said, and for good\n        with 0.\n'
-terminal_help=$'    keepass COMMAND --tty ..\n        Passwords are asked for at the terminal, even where standard input is\n        something else.\n    keepass export DATABASE -\n        An export is shown on the terminal; otherwise it must go to a file or a\n        program.\n    KEEPASS_HINTS=0, -q\n        No hints after refusals.\n'
+terminal_help=$'    keepass COMMAND --tty ..\n        Passwords are asked for at the terminal, even where standard input is\n        something else.\n    keepass open DATABASE\n        Each line of the session is asked for at a prompt, with history, and TAB\n        completes it; help lists the commands. What a command asks for is not\n        shown.\n    keepass export DATABASE -\n        An export is shown on the terminal; otherwise it must go to a file or a\n        program.\n    KEEPASS_HINTS=0, -q\n        No hints after refusals.\n'

@@ -39,8 +39,8 @@ stop() {
   unhide
   trap - EXIT HUP INT QUIT TERM
   kill -"$1" $$
-  # A shell does not end by SIGQUIT.
-  exit 131
+  # A shell does not end by SIGQUIT, and one that reads a line at a prompt would set the terminal once more at its end.
+  exec sh -c 'exit 131'
 }
 
 # The streams: 3 is what the program reads where nothing is asked, and 8 the keyboard.
@@ -66,6 +66,7 @@ open_streams
 . "$terminal/hints.bash"
 . "$terminal/clip.bash"
 . "$terminal/replacing.bash"
+. "$terminal/session.bash"
 
 # What is read with the characters shown that could command the terminal: control characters but line feeds, and those that
 # turn the direction of text. It is shown at its end, and not before.
@@ -173,7 +174,7 @@ follow() {
 
 # ---- a call
 
-# Asks for each line that the program reads, and hands it on. No line is kept by the script.
+# Asks for each line that the program reads, and hands it on. No line is kept by the script. Fails where one is missing.
 ask() {
   local line
   for line in "${lines[@]}"; do
@@ -186,16 +187,18 @@ ask() {
     fi
     wait $!
     case $? in
-      0) ;;
-      2) break ;;
+      0) asking='' ;;
+      2)
+        asking=''
+        return 1
+        ;;
       *)
         tell $'\n'
-        break
+        asking=''
+        return 1
         ;;
     esac
-    asking=''
   done
-  asking=''
 }
 
 # Whether a line is the new password of a database, which nothing opens any more where it was typed wrong.
@@ -251,7 +254,12 @@ open_pipes() {
 # What becomes of what the program prints.
 show_printed() {
   trap - EXIT HUP INT QUIT TERM
-  if [ "$command" = clip ]; then to_clipboard; else visible; fi
+  case $command in
+    clip) to_clipboard ;;
+    # Line by line: a session may last.
+    open) LC_ALL=C sed "$commanding" ;;
+    *) visible ;;
+  esac
 }
 
 # Starts the program on words.
@@ -439,13 +447,15 @@ at_terminal() {
     if [ -z "$tty" ] && ! [ -t 0 ]; then lines=(); fi
     if [ "${#lines[@]}" -gt 0 ]; then test_files; fi
   fi
-  if [ "${#lines[@]}" = 0 ]; then unhide; fi
+  if [ "${#lines[@]}" = 0 ] && ! is_typed_session; then unhide; fi
+  if [ -n "$more" ] && [ -z "$reason" ]; then remember "$target"; fi
   if [ "$command" = clip ] && [ -z "$reason" ]; then
     clip
+  elif [ "$command" = open ] && [ -z "$reason" ]; then
+    session "${words[@]}"
   else
-    if [ -n "$more" ] && [ -z "$reason" ]; then remember "$target"; fi
     run "${words[@]}"
-    give_back_at_terminal "$status"
   fi
+  give_back_at_terminal "$(status_of_writing "${words[0]-}" "$status")"
   exit "$status"
 }

@@ -91,6 +91,9 @@ def commands(extras):
         extras.rows.copy("v.xml")
         extras.rows.call(["add", "--plain", "-q", "v.xml", "Merged"])
         extras.row(f"{words[0]}: list and attributes stay", [words[0], "--plain", "-q", *words[1:]])
+    for lines, status, said in ((b"mkdir New\nrm Bank\n", 0, []), (b"mkdir New\nrm Nope\n", 0, ["w.xml: not found"]), (b"mkdir New\nadd -p X\n", 12, ["input: line 3 missing"])):
+        extras.anew("w.xml")
+        extras.row(f"a session of {lines!r}: list and attributes are there at its end", ["open", "--plain", "-q", "w.xml"], line=lines, status=status, said=said)
     for what, more in (("a list", {"attributes": {}}), ("attributes", {"list_": None})):
         extras.rows.anew()
         extras.give("w.xml", **more)
@@ -118,7 +121,7 @@ def nothing_to_do(extras, work):
     note = os.path.join(work, "note")
     environment = path_with(os.path.join(work, "noting"), {tool: f'echo {tool} >>"{note}"; PATH=${{PATH#*:}}; exec {tool} "$@"' for tool in TOOLS})
     for words, most in ((["ls", "w.xml"], 0), (["show", "w.xml", "Bank"], 0), (["history", "w.xml", "Bank"], 0), (["search", "w.xml", "bank"], 0),
-                        (["export", "w.xml"], 0), (["db-info", "w.xml"], 0), (["import", "w.xml", "n.xml"], 0), (["edit", "-u", "me", "v.xml", "Bank"], 1), (["merge", "-d", "v.xml", "u.xml"], 1)):
+                        (["export", "w.xml"], 0), (["db-info", "w.xml"], 0), (["import", "w.xml", "n.xml"], 0), (["edit", "-u", "me", "v.xml", "Bank"], 1), (["open", "v.xml"], 1), (["merge", "-d", "v.xml", "u.xml"], 1)):
         extras.anew("w.xml")
         extras.rows.copy("v.xml")
         extras.rows.copy("u.xml")

@@ -333,7 +333,7 @@ def own_parts(command, given, positions, generated, kdf):
         return [f"entry={positions[1]}", f"name={positions[2]}"] + [f"to={name}" for name in positions[3:]]
     if command == "attachment-import":
         return [f"entry={positions[1]}", f"name={positions[2]}", f"source={positions[3]}"] + flags("force")
-    names = {"history": ["entry"], "attachment-rm": ["entry", "name"], "search": ["term"], "mv": ["node", "group"], "rm": ["entry"], "mkdir": ["group"], "rmdir": ["group"], "db-info": []}
+    names = {"history": ["entry"], "attachment-rm": ["entry", "name"], "search": ["term"], "mv": ["node", "group"], "rm": ["entry"], "mkdir": ["group"], "rmdir": ["group"], "db-info": [], "open": []}
     return [f"{name}={word}" for name, word in zip(names[command], positions[1:], strict=True)]
 
 

@@ -1,5 +1,5 @@
 //! Carrying a task out: what its command makes of its database, and the file that is written.
-ghost use Rattle.std.specs.Prelude.{◌≡◌, ℕ, List, IfErr, IfOk, IfSome, None, OnErr, OnOk, ◌&&◌, false, is_some, not, option_map, true};
+ghost use Rattle.std.specs.Prelude.{◌≡◌, ◌≤◌, ℕ, List, IfErr, IfOk, IfSome, None, OnErr, OnOk, ◌&&◌, false, is_some, not, option_map, true};
 ghost use Rattle.outside_core.specs.Reports.{StaysTruthful};
 ghost use Rattle.outside_core.specs.Streams.{LosesPrefix};
 ghost use Rattle.secret_core.specs.Secret.{AllZero};
@@ -289,6 +289,9 @@ pub fn step<F: FileStore, D: Dice>(
         (opened_seen opened.old) (opened_seen opened.new)) }
     ensures recoverable { IfErr result (λ stop. IsRecoverable stop
         → opened_seen opened.new ≡ opened_seen opened.old) }
+    ensures recoverable_faults { IfErr result (λ stop. IsRecoverable stop
+        → (F.faults files.new ≡ F.faults files.old)
+        × (D.faults dice.old ≤ D.faults dice.new)) }
     ensures still_in_order { IfSome opened.new.sealing (λ s. IsInOrder s.settings) }
     ensures still_sealed { is_some opened.new.sealing ≡ is_some opened.old.sealing }
 {

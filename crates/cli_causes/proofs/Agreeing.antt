@@ -1,4 +1,5 @@
--- Words have a cause exactly where they are no command, with a database or without one.
+-- Words have a cause exactly where they are no command, with a database or without one, and open no
+-- session.
 use Rattle.std.proofs.Common.{◌≡◌, ◌≤◌, arith, inl, inr, ℕ, suc, Bool, true, false, List, [], ◌∷◌, length, Option, Some, None, refl, sym, ap, ap₂, ◌∙◌}
 use Rattle.std.specs.Prelude.{not, ◌&&◌, ◌||◌, if◌then◌else◌, is_some, nat_lt, slice_get}
 use Rattle.std.proofs.lemmas.Bool.{le-ltb, lt-ltb, ltb-false, ltb-true, ne_eqb}
@@ -25,6 +26,8 @@ use Rattle.cli_parse.specs.Words.{access_of, asked_of, asked_with, command_at, c
 use Rattle.cli_standalone.specs.declared.standalone.Standalone.{Standalone}
 use Rattle.cli_standalone.specs.declared.standalone.Standalone.TheVariants.{Password, SelfTest}
 use Rattle.cli_standalone.specs.Standalone.{standalone_at, standalone_by, standalone_of, standalone_saying, test_count}
+use Rattle.cli_sessions.specs.declared.opening.SessionDatabase.{SessionDatabase}
+use Rattle.cli_sessions.specs.Openings.{opening_at, opening_by, opening_of, opening_saying}
 use Rattle.cli_causes.specs.declared.cause.Cause.{Cause}
 use Rattle.cli_causes.specs.declared.cause.Cause.TheVariants.{EmptyAttachmentName, FewPositions, FileBesideStdout, NeedsGenerate, NoFileOrStdout, NoKeyFile, NoKeyFileFrom, NotTogether, NotWithPlain, NotWithSame, NothingToChange, UnknownCount, UnknownExportFormat, UnknownImportFormat, UnknownLength}
 use Rattle.cli_causes.specs.Fields.{further_cause}
@@ -33,7 +36,7 @@ use Rattle.cli_causes.specs.First.{first_of}
 use Rattle.cli_causes.proofs.FieldCauses.{further_agrees}
 use Rattle.cli_causes.proofs.FileCauses.{create_agrees, edit_file_agrees, fits_new}
 use Rattle.cli_causes.proofs.VersionCauses.{restore_agrees, shown_agrees}
-use Rattle.cli_causes.proofs.Tests.{or_false, or_true, some_if, some_mapped, some_or}
+use Rattle.cli_causes.proofs.Tests.{or_false, some_if, some_mapped, some_or}
 use Rattle.cli_causes.specs.Causes.{alphabet_cause, cause_from, cause_of, change_cause, credentials_cause, due_cause, edit_cause, export_format_cause, extra_cause, fewest, generated_cause, import_format_cause, length_cause, most, name_cause, own_cause, positions_cause, profile_cause, profile_option_cause, said_cause, word_cause}
 
 -- ---- what opens databases
@@ -203,12 +206,18 @@ one_more command said positions h more =
     ap (λ (o : Option Cause). is_some o || is_some (own_cause command said positions)) (enough command positions h)
     ∙ ap (λ (b : Bool). b || is_some (own_cause command said positions)) (some_mapped (extra_cause command) (slice_get positions (most command)) ∙ more)
 
+-- The session that the command of this name opens at these positions.
+abbrev opened_at : CommandName → Said → List (List ℕ) → Option SessionDatabase
+opened_at name.Open said positions = opening_at said positions
+opened_at command said positions = None
+
 -- Of a command at these positions there is a cause exactly where it is none, with a database or
--- without one.
+-- without one, and opens no session.
 abbrev Agrees : CommandName → Said → List (List ℕ) → Type 0
 Agrees command said positions =
     (is_some (positions_cause command positions) || is_some (own_cause command said positions))
-    ≡ not (is_some (command_at command said positions) || is_some (standalone_at command said positions))
+    ≡ not (is_some (command_at command said positions)
+    || (is_some (standalone_at command said positions) || is_some (opened_at command said positions)))
 
 not_not : (b : Bool) → b ≡ not (not b)
 not_not true = refl
@@ -343,30 +352,47 @@ agrees name.RemoveAttachment said (a ∷ []) = refl
 agrees name.RemoveAttachment said (a ∷ b ∷ []) = refl
 agrees name.RemoveAttachment said (a ∷ b ∷ c ∷ []) = refl
 agrees name.RemoveAttachment said (a ∷ b ∷ c ∷ d ∷ rest) = one_more name.RemoveAttachment said (a ∷ b ∷ c ∷ d ∷ rest) (omega arith) refl
-agrees name.Generate said [] = profile_agrees said ∙ ap not (sym (some_mapped Password (profile_in said)))
+agrees name.Generate said [] =
+    profile_agrees said ∙ ap not (sym (some_mapped Password (profile_in said)))
+    ∙ ap not (sym (or_false (is_some (option_map Password (profile_in said)))))
 agrees name.Generate said (a ∷ rest) = one_more name.Generate said (a ∷ rest) (omega arith) refl
 agrees name.SelfTest said [] = refl
 agrees name.SelfTest said (a ∷ []) = by (test_count a)
   where
-    by : (count : Option ℕ) → is_some (if is_some count then None else Some (UnknownCount a)) ≡ not (is_some (option_map SelfTest count))
+    by : (count : Option ℕ) → is_some (if is_some count then None else Some (UnknownCount a)) ≡ not (is_some (option_map SelfTest count) || false)
     by None = refl
     by (Some count) = refl
 agrees name.SelfTest said (a ∷ b ∷ rest) = one_more name.SelfTest said (a ∷ b ∷ rest) (omega arith) refl
+agrees name.Open said [] = refl
+agrees name.Open said (a ∷ []) = refl
+agrees name.Open said (a ∷ b ∷ rest) = one_more name.Open said (a ∷ b ∷ rest) (omega arith) refl
 
 -- ---- what all words say
 
-in_order : (due positions credentials own fit command standalone : Bool) → credentials ≡ not fit → (positions || own) ≡ not (command || standalone)
+in_order : (due positions credentials own fit command standalone opened : Bool) → credentials ≡ not fit
+    → (positions || own) ≡ not (command || (standalone || opened))
     → (due || (positions || (credentials || own)))
-    ≡ not ((if not due && fit then command else false) || (if not due && fit then standalone else false))
-in_order true positions credentials own fit command standalone h g = refl
-in_order false true credentials own true command standalone h g = g
-in_order false true credentials own false command standalone h g = refl
-in_order false false credentials own true command standalone h g = ap (λ c. c || own) h ∙ g
-in_order false false credentials own false command standalone h g = ap (λ c. c || own) h
+    ≡ not ((if not due && fit then command else false)
+    || ((if not due && fit then standalone else false) || (if not due && fit then opened else false)))
+in_order true positions credentials own fit command standalone opened h g = refl
+in_order false true credentials own true command standalone opened h g = g
+in_order false true credentials own false command standalone opened h g = refl
+in_order false false credentials own true command standalone opened h g = ap (λ c. c || own) h ∙ g
+in_order false false credentials own false command standalone opened h g = ap (λ c. c || own) h
 
 some_when : {A : Type 0} (met : Bool) (o : Option A) → is_some (if met then o else None) ≡ (if met then is_some o else false)
 some_when true o = refl
 some_when false o = refl
+
+false_when : (met : Bool) → (if met then false else false) ≡ false
+false_when true = refl
+false_when false = refl
+
+-- A session is opened where all words fit together.
+opened_when : (command : CommandName) (said : Said)
+    → (if is_whole said then is_some (opened_at command said said.positions) else false) ≡ is_some (opening_saying command said)
+opened_when name.Open said = sym (some_when (is_whole said) (opening_at said said.positions))
+opened_when command said = false_when (is_whole said)
 
 -- The cause in all words, as its parts.
 parted : (due positions credentials own : Option Cause)
@@ -376,46 +402,52 @@ parted None (Some x) credentials own = refl
 parted None None (Some x) own = refl
 parted None None None own = refl
 
--- A command with a database is asked for, or one without.
-abbrev is_asked : Option Command → Option Standalone → Bool
-is_asked command standalone = is_some command || is_some standalone
+-- A command with a database is asked for, or one without, or a session.
+abbrev is_asked : Option Command → Option Standalone → Option SessionDatabase → Bool
+is_asked command standalone database = is_some command || (is_some standalone || is_some database)
 
 said_agrees : (command : CommandName) (last : List ℕ) (said : Said)
-    → is_some (said_cause command last said) ≡ not (is_asked (command_saying command said) (standalone_saying command said))
+    → is_some (said_cause command last said) ≡ not (is_asked (command_saying command said) (standalone_saying command said) (opening_saying command said))
 said_agrees command last said =
     parted (due_cause last said.due) (positions_cause command said.positions) (credentials_cause said) (own_cause command said said.positions)
     ∙ ap (λ d. d || (is_some (positions_cause command said.positions) || (is_some (credentials_cause said) || is_some (own_cause command said said.positions)))) (some_mapped _ said.due)
     ∙ in_order (is_due said) (is_some (positions_cause command said.positions)) (is_some (credentials_cause said)) (is_some (own_cause command said said.positions))
     (is_fit (is_given option.Plain said) (is_given option.NoPassword said) (is_given option.KeyFile said) && is_fit_from said)
-    (is_some (command_at command said said.positions)) (is_some (standalone_at command said said.positions))
+    (is_some (command_at command said said.positions)) (is_some (standalone_at command said said.positions)) (is_some (opened_at command said said.positions))
     (fits (is_given option.Plain said) (is_given option.NoPassword said) (is_given option.KeyFile said) (is_given option.SameCredentials said)
     (is_given option.NoPasswordFrom said) (is_given option.KeyFileFrom said))
     (agrees command said said.positions)
-    ∙ ap₂ (λ (a b : Bool). not (a || b)) (sym (some_when (is_whole said) (command_at command said said.positions)))
-    (sym (some_when (is_whole said) (standalone_at command said said.positions)))
+    ∙ ap₂ (λ (a b : Bool). not (a || (b || (if is_whole said then is_some (opened_at command said said.positions) else false))))
+    (sym (some_when (is_whole said) (command_at command said said.positions))) (sym (some_when (is_whole said) (standalone_at command said said.positions)))
+    ∙ ap (λ (o : Bool). not (is_some (command_saying command said) || (is_some (standalone_saying command said) || o))) (opened_when command said)
 
 -- ---- words
 
 from_agrees : (command : CommandName) (previous : List ℕ) (words : List (List ℕ)) (said : Said)
     → is_some (cause_from command previous words said)
-    ≡ not (is_asked (option_and_then (command_saying command) (with_words command words said)) (option_and_then (standalone_saying command) (with_words command words said)))
+    ≡ not (is_asked (option_and_then (command_saying command) (with_words command words said)) (option_and_then (standalone_saying command) (with_words command words said))
+    (option_and_then (opening_saying command) (with_words command words said)))
 from_agrees command previous [] said = said_agrees command previous said
 from_agrees command previous (word ∷ words) said = by (λ next. from_agrees command word words next) (with_word command said word)
   where
     by : ((next : Said) → is_some (cause_from command word words next)
-        ≡ not (is_asked (option_and_then (command_saying command) (with_words command words next)) (option_and_then (standalone_saying command) (with_words command words next))))
+        ≡ not (is_asked (option_and_then (command_saying command) (with_words command words next)) (option_and_then (standalone_saying command) (with_words command words next))
+        (option_and_then (opening_saying command) (with_words command words next))))
         → (o : Option Said) → is_some (option_map_or (cause_from command word words) o (Some (word_cause command previous word said.due)))
         ≡ not (is_asked (option_and_then (command_saying command) (option_and_then (with_words command words) o))
-        (option_and_then (standalone_saying command) (option_and_then (with_words command words) o)))
+        (option_and_then (standalone_saying command) (option_and_then (with_words command words) o))
+        (option_and_then (opening_saying command) (option_and_then (with_words command words) o)))
     by step None = refl
     by step (Some next) = step next
 
--- Words have a cause exactly where they are no command, with a database or without one.
-pub cause_agrees : (words : List (List ℕ)) → is_some (cause_of words) ≡ not (is_some (command_in words) || is_some (standalone_of words))
+-- Words have a cause exactly where they are no command, with a database or without one, and open no
+-- session.
+pub cause_agrees : (words : List (List ℕ))
+    → is_some (cause_of words) ≡ not (is_some (command_in words) || (is_some (standalone_of words) || is_some (opening_of words)))
 cause_agrees [] = refl
 cause_agrees (word ∷ words) = by (command_named word)
   where
     by : (o : Option CommandName) → is_some (option_map_or (λ command. cause_from command word words nothing_said) o (Some (name_cause word)))
-        ≡ not (is_asked (option_and_then (command_by words) o) (option_and_then (standalone_by words) o))
+        ≡ not (is_asked (option_and_then (command_by words) o) (option_and_then (standalone_by words) o) (option_and_then (opening_by words) o))
     by None = refl
     by (Some command) = from_agrees command word words nothing_said

@@ -1,13 +1,13 @@
 -- What else of an entry is to change has a cause exactly where it does not fit together.
-use Rattle.std.proofs.Common.{◌≡◌, ◌∙◌, ℕ, Bool, true, false, List, [], ◌∷◌, Option, Some, None, refl, ap₂, ap}
+use Rattle.std.proofs.Common.{◌≡◌, ◌∙◌, ℕ, Bool, true, false, List, [], ◌∷◌, Option, Some, None, refl, ap₂}
 use Rattle.std.specs.Prelude.{not, ◌&&◌, ◌||◌, if◌then◌else◌, is_some}
 use Rattle.std.specs.List.{find, list_all}
-use Rattle.std.specs.Option.{option_map, option_or}
+use Rattle.std.specs.Option.{option_map}
 use Rattle.cli_options.specs.declared.forms.CommandOption.{CommandOption}
 use Rattle.cli_options.specs.declared.forms.CommandOption.TheVariants as option
 use Rattle.cli_options.specs.Said.{Said, is_given, text_of, texts_of}
 use Rattle.cli_needs.specs.declared.command.FurtherAsked.{FurtherAsked}
-use Rattle.cli_parse.specs.Fields.{expiry_asked, expiry_named, further_of, further_with, is_fit_further, is_own_name}
+use Rattle.cli_parse.specs.Fields.{expiry_asked, expiry_named, further_of, further_with, is_own_name}
 use Rattle.tree_core.specs.Tags.{is_tag}
 use Rattle.tree_core.specs.declared.values.Expiry.{Expiry}
 use Rattle.cli_causes.specs.declared.cause.Cause.TheVariants.{NeedsSet, UnknownTag, UnknownTime}

@@ -1,5 +1,5 @@
--- Why words are no command, with a database or without one: the first word from the left that is
--- wrong, and else the first of what all of them lack or what does not go together.
+-- Why words are no command, with a database or without one, and open no session: the first word from
+-- the left that is wrong, and else the first of what all of them lack or what does not go together.
 use Rattle.std.specs.Prelude.{ℕ, not, ◌&&◌, ◌==◌, nat_lt, if◌then◌else◌, is_some, length, drop, List, [], ◌∷◌, codes, slice_get, Option, None, Some, option_map, unwrap_or}
 use Rattle.std.specs.Option.{option_map_or, option_or}
 use Rattle.cli_options.specs.declared.names.CommandName.{CommandName}
@@ -114,6 +114,7 @@ fewest name.EditFile = 1
 fewest name.Info = 1
 fewest name.Generate = 0
 fewest name.SelfTest = 1
+fewest name.Open = 1
 fewest command = 2
 
 -- The most positions that a command has.
@@ -288,7 +289,7 @@ cause_from command previous (word ∷ words) said = option_map_or (cause_from co
 abbrev pub name_cause : List ℕ → Cause
 name_cause word = if is_option word then OptionFirst word else UnknownCommand word
 
--- Why words are no command, with a database or without one, if they are none.
+-- Why words are no command, with a database or without one, and open no session, if they do neither.
 abbrev pub cause_of : List (List ℕ) → Option Cause
 cause_of [] = Some NoCommand
 cause_of (word ∷ words) = option_map_or

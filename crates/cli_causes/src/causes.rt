@@ -326,8 +326,9 @@ fn name_cause(alloc: Global, word: &str) -> Result<Cause, NoMemory>
     }
 }
 
-/// Why words are no command, with a database or without one, if they are none: the first word from
-/// the left that is wrong, and else the first of what all of them lack or what does not go together.
+/// Why words are no command, with a database or without one, and open no session, if they do neither:
+/// the first word from the left that is wrong, and else the first of what all of them lack or what
+/// does not go together.
 pub fn cause_of(alloc: Global, words: &[String]) -> Result<Option<Cause>, NoMemory>
     ensures { IfOk result (λ cause. cause ≡ spec.cause_of (map string_bytes words.now)) }
 {

@@ -27,7 +27,8 @@ fn fewest(command: CommandName) -> usize
         | CommandName::Export
         | CommandName::EditFile
         | CommandName::Info
-        | CommandName::SelfTest => 1,
+        | CommandName::SelfTest
+        | CommandName::Open => 1,
         CommandName::Move | CommandName::ExportAttachment | CommandName::RemoveAttachment => 3,
         CommandName::ImportAttachment => 4,
         CommandName::Generate => 0,

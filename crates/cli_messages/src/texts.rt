@@ -229,6 +229,11 @@ keepass db-info [OPTION..] DATABASE
     Prints what the database is called, how it is protected, and how much is in
     it.
 
+keepass open [OPTION..] DATABASE
+    Opens DATABASE once, and carries out a command for each line of standard
+    input after its password: ls, show, search, add, edit, mv, rm, mkdir, rmdir
+    and db-info, written without DATABASE and without what opens it.
+
 keepass generate [OPTION..]
     Prints a password that is chosen at random. It opens no database and reads
     no line.

@@ -104,3 +104,4 @@ no_dash name.ImportAttachment = refl
 no_dash name.RemoveAttachment = refl
 no_dash name.Generate = refl
 no_dash name.SelfTest = refl
+no_dash name.Open = refl

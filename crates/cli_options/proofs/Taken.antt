@@ -33,6 +33,7 @@ found_each name.ImportAttachment = ((refl, refl), ((refl, refl), ((refl, tt), ((
 found_each name.RemoveAttachment = ((refl, refl), ((refl, tt), ((refl, tt), ((refl, refl), tt))))
 found_each name.Generate = ((refl, refl), ((refl, refl), ((refl, refl), ((refl, refl), ((refl, refl), ((refl, refl), tt))))))
 found_each name.SelfTest = tt
+found_each name.Open = ((refl, refl), ((refl, tt), ((refl, tt), ((refl, refl), tt))))
 
 -- Each option is found.
 pub found : (command : CommandName) → All (IsFound command) (options_of command)

@@ -30,10 +30,11 @@ command_named word =
     else (if bytes_eq word (codes "db-info") then Some name.Info
     else (if bytes_eq word (codes "generate") then Some name.Generate
     else (if bytes_eq word (codes "selftest") then Some name.SelfTest
+    else (if bytes_eq word (codes "open") then Some name.Open
     else (if bytes_eq word (codes "attachment-export") then Some name.ExportAttachment
     else (if bytes_eq word (codes "attachment-import") then Some name.ImportAttachment
     else (if bytes_eq word (codes "attachment-rm") then Some name.RemoveAttachment
-    else None))))))))))))))))))))
+    else None)))))))))))))))))))))
 
 -- ---- how options are written
 
@@ -227,6 +228,7 @@ own_options name.ImportAttachment = Force ∷ []
 own_options name.RemoveAttachment = []
 own_options name.Generate = Length ∷ Lower ∷ Upper ∷ Numeric ∷ Special ∷ Exclude ∷ []
 own_options name.SelfTest = []
+own_options name.Open = []
 
 -- The options that a command shares with others: what has a database takes that of what is printed,
 -- and all but `db-edit`, which gives its file a key, that of plain documents; and all but `import`

@@ -2,6 +2,7 @@
 use Rattle.std.specs.Prelude.{◌≡◌, ℕ, if◌then◌else◌, List, [], ◌∷◌, Option, None, Some, Result, Ok, Err, map, option_map}
 use Rattle.std.specs.Borrow.{Bor}
 use Rattle.cli_options.specs.declared.forms.CommandOption.{CommandOption}
+use Rattle.cli_options.specs.declared.reading.ReadWords.{ReadWords}
 use Rattle.cli_options.specs.declared.said.GivenTexts.{GivenTexts}
 use Rattle.cli_options.specs.declared.said.ReadingState.{ReadingState}
 use Rattle.cli_options.specs.declared.said.RepeatedText.{RepeatedText}
@@ -40,6 +41,10 @@ reading_seen given state = record {
   ended = state.ended;
   positions = state.positions;
 }
+
+-- The same of words that were read.
+abbrev pub words_seen : ReadWords → Said
+words_seen words = reading_seen words.given words.state
 
 -- A function gives what is defined, as it is seen, or fails where nothing is defined, or memory ran
 -- out.

@@ -41,6 +41,8 @@ pub enum CommandName {
     Generate,
     /// `selftest`
     SelfTest,
+    /// `open`
+    Open,
     /// `attachment-export`
     ExportAttachment,
     /// `attachment-import`
@@ -72,6 +74,7 @@ pub fn command_named(name: &str) -> Option<CommandName>
         "db-info" => Some(CommandName::Info),
         "generate" => Some(CommandName::Generate),
         "selftest" => Some(CommandName::SelfTest),
+        "open" => Some(CommandName::Open),
         "attachment-export" => Some(CommandName::ExportAttachment),
         "attachment-import" => Some(CommandName::ImportAttachment),
         "attachment-rm" => Some(CommandName::RemoveAttachment),

@@ -8,6 +8,8 @@ use Rattle.cli_needs.specs.declared.command.Command.{Command}
 use Rattle.cli_standalone.specs.declared.standalone.Standalone.{Standalone}
 use Rattle.cli_standalone.specs.Standalone.{standalone_of}
 use Rattle.cli_parse.specs.Words.{command_in, command_of, or_wrong_words}
+use Rattle.cli_sessions.specs.declared.opening.SessionDatabase.{SessionDatabase}
+use Rattle.cli_sessions.specs.Openings.{opening_of}
 use Rattle.cli_causes.specs.declared.cause.Cause.{Cause}
 use Rattle.cli_causes.specs.Causes.{cause_of}
 use Rattle.cli_pages.specs.Laws.{IsCommandOrPage, IsLine}
@@ -33,7 +35,7 @@ no_line false cause h = ap cause_line h
 pub of_command : (words : List (List ℕ)) (command : Command) → command_of words ≡ Ok command → why words ≡ []
 of_command words command h =
     no_line (is_page words) (cause_of words)
-    (none_of (cause_of words) (cause_agrees words ∙ ap (λ (b : Bool). not (b || is_some (standalone_of words))) (some_in (command_in words) command h)))
+    (none_of (cause_of words) (cause_agrees words ∙ ap (λ (b : Bool). not (b || (is_some (standalone_of words) || is_some (opening_of words)))) (some_in (command_in words) command h)))
 
 -- ---- commands that need no database
 
@@ -46,7 +48,19 @@ pub of_standalone : (words : List (List ℕ)) (standalone : Standalone) → stan
 of_standalone words standalone h =
     no_line (is_page words) (cause_of words)
     (none_of (cause_of words)
-    (cause_agrees words ∙ ap (λ (p : Option Standalone). not (is_some (command_in words) || is_some p)) h
+    (cause_agrees words ∙ ap (λ (p : Option Standalone). not (is_some (command_in words) || (is_some p || is_some (opening_of words)))) h
+    ∙ ap not (or_true (is_some (command_in words)))))
+
+-- ---- sessions
+
+-- Nothing is said of words that open a session.
+pub of_opening : (words : List (List ℕ)) (database : SessionDatabase) → opening_of words ≡ Some database → why words ≡ []
+of_opening words database h =
+    no_line (is_page words) (cause_of words)
+    (none_of (cause_of words)
+    (cause_agrees words
+    ∙ ap (λ (p : Option SessionDatabase). not (is_some (command_in words) || (is_some (standalone_of words) || is_some p))) h
+    ∙ ap (λ (b : Bool). not (is_some (command_in words) || b)) (or_true (is_some (standalone_of words)))
     ∙ ap not (or_true (is_some (command_in words)))))
 
 -- ---- pages
@@ -88,26 +102,30 @@ flipped a true h g = refl
 flipped true false h g = cc g
 flipped false false h g = cc h
 
-standalone_there : (o : Option Standalone) → is_some o ≡ true → (standalone : Standalone) × (o ≡ Some standalone)
-standalone_there None h = cc h
-standalone_there (Some standalone) h = (standalone, refl)
+opening_there : (o : Option SessionDatabase) → is_some o ≡ true → (database : SessionDatabase) × (o ≡ Some database)
+opening_there None h = cc h
+opening_there (Some database) h = (database, refl)
 
--- Words of which nothing is said are a command, with a database or without one, or ask for a page.
+-- Words of which nothing is said are a command, with a database or without one, or open a session, or
+-- ask for a page.
 pub of_nothing : (words : List (List ℕ)) → why words ≡ [] → IsCommandOrPage words
 of_nothing words h = by (is_page words) refl h
   where
-    asked_for : (o : Option Command) (p : Option Standalone) → (is_some o || is_some p) ≡ true
-        → ((command : Command) × (or_wrong_words o ≡ Ok command)) ⊎ ((standalone : Standalone) × (p ≡ Some standalone))
-    asked_for (Some command) p g = inl (command, refl)
-    asked_for None p g = inr (standalone_there p g)
+    asked_for : (o : Option Command) (p : Option Standalone) (q : Option SessionDatabase) → (is_some o || (is_some p || is_some q)) ≡ true
+        → ((command : Command) × (or_wrong_words o ≡ Ok command))
+        ⊎ (((standalone : Standalone) × (p ≡ Some standalone)) ⊎ ((database : SessionDatabase) × (q ≡ Some database)))
+    asked_for (Some command) p q g = inl (command, refl)
+    asked_for None (Some standalone) q g = inr (inl (standalone, refl))
+    asked_for None None q g = inr (inr (opening_there q g))
 
     by : (page : Bool) → is_page words ≡ page → (if page then [] else cause_line (cause_of words)) ≡ [] → IsCommandOrPage words
     by true e g = inr (inl (page_there words e))
     by false e g =
-        elim (asked_for (command_in words) (standalone_of words)
-        (flipped (is_some (cause_of words)) (is_some (command_in words) || is_some (standalone_of words)) (cause_agrees words) (no_cause (cause_of words) g))) [
+        elim (asked_for (command_in words) (standalone_of words) (opening_of words)
+        (flipped (is_some (cause_of words)) (is_some (command_in words) || (is_some (standalone_of words) || is_some (opening_of words))) (cause_agrees words)
+        (no_cause (cause_of words) g))) [
           | inl command ↦ inl command
-          | inr standalone ↦ inr (inr standalone)
+          | inr other ↦ inr (inr other)
         ]
 
 -- ---- a line

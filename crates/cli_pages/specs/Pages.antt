@@ -15,8 +15,8 @@ abbrev pub is_page : List (List ℕ) → Bool
 is_page [] = false
 is_page (word ∷ words) = asks_why word || is_some (alone.page_of (word ∷ words))
 
--- Why words are no command, no page and ask for no password: nothing where they do one of these, and
--- else a line.
+-- Why words are no command, with a database or without one, open no session and ask for no page:
+-- nothing where they do one of these, and else a line.
 abbrev pub why : List (List ℕ) → List ℕ
 why words = if is_page words then [] else cause_line (cause_of words)
 

@@ -33,6 +33,7 @@ command_text name.EditFile = codes "db-edit"
 command_text name.Info = codes "db-info"
 command_text name.Generate = codes "generate"
 command_text name.SelfTest = codes "selftest"
+command_text name.Open = codes "open"
 command_text name.ExportAttachment = codes "attachment-export"
 command_text name.ImportAttachment = codes "attachment-import"
 command_text name.RemoveAttachment = codes "attachment-rm"
@@ -57,6 +58,7 @@ positions_text name.EditFile = codes "DATABASE"
 positions_text name.Info = codes "DATABASE"
 positions_text name.Generate = codes "only options"
 positions_text name.SelfTest = codes "COUNT"
+positions_text name.Open = codes "DATABASE"
 positions_text name.ExportAttachment = codes "DATABASE ENTRY NAME [FILE]"
 positions_text name.ImportAttachment = codes "DATABASE ENTRY NAME FILE"
 positions_text name.RemoveAttachment = codes "DATABASE ENTRY NAME"
@@ -66,7 +68,7 @@ abbrev pub commands : List CommandName
 commands =
     name.Ls ∷ name.Show ∷ name.History ∷ name.Search ∷ name.Add ∷ name.Edit ∷ name.Move
     ∷ name.Remove ∷ name.MakeGroup ∷ name.RemoveGroup ∷ name.Merge ∷ name.Import ∷ name.Create
-    ∷ name.Export ∷ name.EditFile ∷ name.Info ∷ name.Generate ∷ name.SelfTest
+    ∷ name.Export ∷ name.EditFile ∷ name.Info ∷ name.Generate ∷ name.SelfTest ∷ name.Open
     ∷ name.ExportAttachment ∷ name.ImportAttachment ∷ name.RemoveAttachment ∷ []
 
 -- The options, whichever command takes them.

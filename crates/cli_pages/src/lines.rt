@@ -24,8 +24,11 @@ fn positions_text(command: CommandName) -> &'static str
         CommandName::MakeGroup | CommandName::RemoveGroup => "DATABASE GROUP",
         CommandName::Merge => "TARGET SOURCE...",
         CommandName::Import => "SOURCE DATABASE",
-        CommandName::Create | CommandName::Export | CommandName::EditFile | CommandName::Info =>
-            "DATABASE",
+        CommandName::Create
+        | CommandName::Export
+        | CommandName::EditFile
+        | CommandName::Info
+        | CommandName::Open => "DATABASE",
         CommandName::Generate => "only options",
         CommandName::SelfTest => "COUNT",
         CommandName::ExportAttachment => "DATABASE ENTRY NAME [FILE]",

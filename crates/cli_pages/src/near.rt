@@ -9,7 +9,7 @@ use std::alloc::Global;
 use strsim::levenshtein;
 
 /// The commands.
-const COMMANDS: [CommandName; 21] = [
+const COMMANDS: [CommandName; 22] = [
     CommandName::Ls,
     CommandName::Show,
     CommandName::History,
@@ -28,6 +28,7 @@ const COMMANDS: [CommandName; 21] = [
     CommandName::Info,
     CommandName::Generate,
     CommandName::SelfTest,
+    CommandName::Open,
     CommandName::ExportAttachment,
     CommandName::ImportAttachment,
     CommandName::RemoveAttachment,
@@ -112,6 +113,7 @@ pub(crate) fn command_text(command: CommandName) -> &'static str
         CommandName::Info => "db-info",
         CommandName::Generate => "generate",
         CommandName::SelfTest => "selftest",
+        CommandName::Open => "open",
         CommandName::ExportAttachment => "attachment-export",
         CommandName::ImportAttachment => "attachment-import",
         CommandName::RemoveAttachment => "attachment-rm",

@@ -52,7 +52,8 @@ whole_parts true true false h = cc
 whole_parts true false c h = cc
 whole_parts false b c h = cc
 
-target_key : (said : Said) → is_whole said ≡ true → HasKey (access_of said)
+-- A database that is opened by what fits it has a key.
+pub target_key : (said : Said) → is_whole said ≡ true → HasKey (access_of said)
 target_key said h p n =
     key_given (is_given option.Plain said) (is_given option.NoPassword said) (is_given option.KeyFile said)
     (whole_parts (not (is_due said)) (is_fit (is_given option.Plain said) (is_given option.NoPassword said) (is_given option.KeyFile said)) (is_fit_from said) h).0 p n
@@ -352,8 +353,10 @@ command_key name.RemoveAttachment said h =
     by_positions (remove_attachment_at said) tt (λ a. tt) (λ a b. tt) (remove_attachment_key said h)
 command_key name.Generate said h = λ positions. tt
 command_key name.SelfTest said h = λ positions. tt
+command_key name.Open said h = λ positions. tt
 
-saying_key : (command : CommandName) (said : Said) → IfKey (command_saying command said)
+-- A command that is said has keys.
+pub saying_key : (command : CommandName) (said : Said) → IfKey (command_saying command said)
 saying_key command said = by (is_whole said) refl
   where
     by : (b : Bool) → is_whole said ≡ b → IfKey (if b then command_at command said said.positions else None)

@@ -339,7 +339,8 @@ abbrev pub info_at : Said → List (List ℕ) → Option Command
 info_at said (file ∷ []) = Some (Info (access_of said) file)
 info_at said positions = None
 
--- `generate` and `selftest` have no database, and are none of the commands that have one.
+-- `generate` and `selftest` have no database, and `open` opens a session over one: none of them is one
+-- of the commands that a call carries out over its database.
 abbrev pub no_command_at : Said → List (List ℕ) → Option Command
 no_command_at said positions = None
 
@@ -363,6 +364,7 @@ command_at name.EditFile = edit_file_at
 command_at name.Info = info_at
 command_at name.Generate = no_command_at
 command_at name.SelfTest = no_command_at
+command_at name.Open = no_command_at
 command_at name.ExportAttachment = export_attachment_at
 command_at name.ImportAttachment = import_attachment_at
 command_at name.RemoveAttachment = remove_attachment_at

@@ -8,8 +8,8 @@ use cli_options::{CommandOption, SaidWords, copy_of, is_given, text_of};
 use outside_core::{NoMemory, Text};
 use std::alloc::Global;
 
-// How a database is opened.
-pub(crate) fn access_of(alloc: Global, said: &SaidWords<'_, '_>) -> Result<Access, NoMemory>
+/// How a database is opened.
+pub fn access_of(alloc: Global, said: &SaidWords<'_, '_>) -> Result<Access, NoMemory>
     ensures { IfOk result (λ access. access ≡ spec.access_of (said_seen said.now)) }
 {
     Ok(Access {

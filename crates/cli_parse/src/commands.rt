@@ -14,8 +14,8 @@ use crate::files::{create_at, edit_file_at};
 use cli_messages::{Reason, Stop, refused};
 use cli_needs::{Command, ExportFormat, ImportFormat};
 use cli_options::{
-    CommandName, CommandOption, SaidWords, WordsFail, add_words, command_named, copies_of, copy_of,
-    empty_state, is_fit_new, is_given, is_whole, no_texts, text_of,
+    CommandName, CommandOption, SaidWords, WordsFail, command_named, copies_of, copy_of,
+    is_fit_new, is_given, is_whole, lend_said, read_after_name, text_of,
 };
 use outside_core::{NoMemory, Text};
 use std::alloc::Global;
@@ -346,7 +346,7 @@ fn command_at(
         CommandName::Export => export_at(alloc, said),
         CommandName::EditFile => edit_file_at(alloc, said),
         CommandName::Info => info_at(alloc, said),
-        CommandName::Generate | CommandName::SelfTest => Err(WordsFail::Wrong),
+        CommandName::Generate | CommandName::SelfTest | CommandName::Open => Err(WordsFail::Wrong),
         CommandName::ExportAttachment => export_attachment_at(alloc, said),
         CommandName::ImportAttachment => import_attachment_at(alloc, said),
         CommandName::RemoveAttachment => remove_attachment_at(alloc, said),
@@ -374,22 +374,14 @@ fn command_by(alloc: Global, words: &[String], command: CommandName) -> Result<C
     ensures { Gives (λ command. command) result
         (spec.command_by (map string_bytes words.now) command) }
 {
-    let mut given = no_texts();
-    let mut state = empty_state(alloc);
-    if let Err(fail) = add_words(command, &mut given, &mut state, words) {
-        drop(state);
-        return Err(fail);
+    match read_after_name(alloc, command, words) {
+        Ok(read) => {
+            let made = command_saying(alloc, command, &lend_said(&read));
+            drop(read);
+            made
+        }
+        Err(fail) => Err(fail),
     }
-    let said = SaidWords {
-        given: given.texts,
-        repeated: state.repeated.as_slice(),
-        due: state.due,
-        ended: state.ended,
-        positions: state.positions.as_slice(),
-    };
-    let made = command_saying(alloc, command, &said);
-    drop(state);
-    made
 }
 
 // The command that the words are, if they are one.

@@ -10,6 +10,7 @@ mod files;
 pub mod laws;
 mod settings;
 
+pub use bases::access_of;
 pub use commands::{command_saying, format_named, import_format_named, read_words};
 pub use entries::{has_change, version_numbered};
 pub use fields::{expiry_named, is_own_name};

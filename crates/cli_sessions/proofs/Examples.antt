@@ -1,7 +1,8 @@
--- Words of lines, and which commands they are.
+-- Words that open sessions, and words of lines, and which commands they are.
 use Rattle.std.proofs.Common.{◌≡◌, refl, ℕ, List, [], ◌∷◌, codes, true, false, Some, None}
 use Rattle.cli_needs.specs.declared.command.Access.{Access}
 use Rattle.cli_needs.specs.declared.command.Command.TheVariants.{Ls, Show, Add, Info}
+use Rattle.cli_sessions.specs.Openings.{opening_of}
 use Rattle.cli_sessions.specs.SessionLines.{line_in}
 
 -- A session whose database is opened by its password alone.
@@ -15,6 +16,30 @@ as_plain = record by_password { plain = true }
 -- The database's own name.
 abbrev vault : List ℕ
 vault = codes "vault.kdbx"
+
+-- ---- words that open sessions
+
+opened_by_password : opening_of (codes "open" ∷ vault ∷ []) ≡ Some (record { access = by_password; file = vault })
+opened_by_password = refl
+
+opened_as_plain : opening_of (codes "open" ∷ codes "--plain" ∷ vault ∷ []) ≡ Some (record { access = as_plain; file = vault })
+opened_as_plain = refl
+
+opened_quietly : opening_of (codes "open" ∷ codes "-q" ∷ codes "-k" ∷ codes "K" ∷ vault ∷ [])
+    ≡ Some (record { access = record by_password { quiet = true; key_file = Some (codes "K") }; file = vault })
+opened_quietly = refl
+
+no_database : opening_of (codes "open" ∷ []) ≡ None
+no_database = refl
+
+two_databases : opening_of (codes "open" ∷ codes "a" ∷ codes "b" ∷ []) ≡ None
+two_databases = refl
+
+-- A plain document has no key file.
+plain_with_key : opening_of (codes "open" ∷ codes "--plain" ∷ codes "-k" ∷ codes "K" ∷ vault ∷ []) ≡ None
+plain_with_key = refl
+
+-- ---- lines
 
 listed : line_in by_password vault (codes "ls" ∷ []) ≡ Some (Ls by_password vault None false false false)
 listed = refl

@@ -2,4 +2,5 @@ pub mod Calls
 pub mod Examples
 pub mod Keeping
 pub mod OfSession
+pub mod Opened
 pub mod Past

@@ -1,7 +1,9 @@
-//! Lines of a session, whose database is open: which command the words of a line are.
+//! Sessions over one open database: which words open one, and which command the words of a line are.
 #![tactic(auto)]
 
 pub mod laws;
 mod lines;
+mod opening;
 
-pub use lines::read_line;
+pub use lines::read_command;
+pub use opening::{SessionDatabase, read_opening};

@@ -197,7 +197,7 @@ fn line_in(
 /// The command of a line of a session, whose database is open: `access` says how it was opened, and
 /// `file` is its name; `words` are those of the line. It is refused where the words are wrong, and
 /// fails where memory runs out.
-pub fn read_line(
+pub fn read_command(
     alloc: Global,
     access: &Access,
     file: &Text,

@@ -14,7 +14,7 @@ use Rattle.cli_profiles.specs.declared.profiles.PasswordProfile.{PasswordProfile
 use Rattle.cli_profiles.proofs.Alphabets.{asked_profile}
 use Rattle.cli_standalone.specs.declared.standalone.Standalone.{Standalone}
 use Rattle.cli_standalone.specs.declared.standalone.Standalone.TheVariants.{Password, SelfTest}
-use Rattle.cli_standalone.specs.Standalone.{IsStandalone, as_count, password_at, self_test_at, standalone_at, standalone_by, standalone_of, standalone_saying, test_count}
+use Rattle.cli_standalone.specs.Standalone.{IsStandalone, as_count, password_at, self_test_at, standalone_at, standalone_by, standalone_of, standalone_saying}
 
 -- A password is chosen by a profile.
 password_here : (said : Said) (positions : List (List ℕ)) → IfSome (password_at said positions) IsStandalone

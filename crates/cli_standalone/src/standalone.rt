@@ -5,7 +5,7 @@ ghost use Rattle.cli_standalone.specs.Standalone as spec;
 
 use crate::counts::test_count;
 use cli_options::{
-    CommandName, SaidWords, WordsFail, add_words, command_named, empty_state, is_whole, no_texts,
+    CommandName, SaidWords, WordsFail, command_named, is_whole, lend_said, read_after_name,
 };
 use cli_profiles::{PasswordProfile, profile_in};
 use outside_core::{NoMemory, Text};
@@ -86,22 +86,14 @@ fn standalone_by(
     ensures { Gives (λ standalone. standalone) result
         (spec.standalone_by (map string_bytes words.now) command) }
 {
-    let mut given = no_texts();
-    let mut state = empty_state(alloc);
-    if let Err(fail) = add_words(command, &mut given, &mut state, words) {
-        drop(state);
-        return Err(fail);
+    match read_after_name(alloc, command, words) {
+        Ok(read) => {
+            let standalone = standalone_saying(alloc, command, &lend_said(&read));
+            drop(read);
+            standalone
+        }
+        Err(fail) => Err(fail),
     }
-    let said = SaidWords {
-        given: given.texts,
-        repeated: state.repeated.as_slice(),
-        due: state.due,
-        ended: state.ended,
-        positions: state.positions.as_slice(),
-    };
-    let standalone = standalone_saying(alloc, command, &said);
-    drop(state);
-    standalone
 }
 
 // The command without a database that the words are.

@@ -20,18 +20,19 @@ use Rattle.cli_needs.specs.declared.command.Command.{Command}
 use Rattle.call_run.specs.Endings.{Ending, Ends, EndsSo, ending_without}
 use Rattle.keepass_call.specs.Held.{IsAuthentic, IsComplete, WritesTask}
 use Rattle.cli_pages.specs.Pages.{page_of}
-use Rattle.keepass_call.specs.Outcome.{AsksCommand, Counts, ForEachWorld, Gains, IsAsSaid, IsCut, IsOfSomeFile, IsOfTask, IsRefused, IsSafe, IsUsage, IsWorldOf, KeepsFaults, NoFaults, Outcome, Seen, Truth, World, answer_of, draws_with, draws_words, ended, may_store_by, outcome, page_or_answer}
+use Rattle.cli_reporting.specs.Reporting.{Gains, IsPrinted, IsReported, ReportsLine, memory_line}
+use Rattle.keepass_call.specs.Outcome.{AsksCommand, Counts, ForEachWorld, IsAsSaid, IsCut, IsOfSomeFile, IsOfTask, IsRefused, IsSafe, IsUsage, IsWorldOf, KeepsFaults, NoFaults, Outcome, Seen, Truth, World, answer_of, draws_with, draws_words, ended, may_store_by, outcome, page_or_answer}
 use Rattle.cli_standalone.specs.declared.standalone.Standalone.{Standalone}
 use Rattle.cli_parse.specs.Words.{command_of}
 use Rattle.cli_standalone.specs.Standalone.{standalone_of}
 use Rattle.cli_files.specs.Tasks.{draws_by}
 use Rattle.call_input.specs.Reading.{asked_by, left_behind, left_of}
-use Rattle.keepass_call.specs.Telling.{IsPrinted, IsTold, PrintsPage, TellsLine, TellsOneLine, memory_line}
+use Rattle.keepass_call.specs.Telling.{PrintsPage, TellsOneLine}
 use Rattle.keepass_call.proofs.Answered.{answer_is, same_store}
 use Rattle.keepass_call.proofs.HeldTasks.{is_gained, is_task}
 use Rattle.keepass_call.proofs.MergeCalls.{merges_agreed, merges_nothing}
 use Rattle.keepass_call.proofs.Pages.{no_page}
-use Rattle.keepass_call.proofs.Ranges.{status_range}
+use Rattle.cli_reporting.proofs.Ranges.{status_range}
 
 -- ---- what is written
 
@@ -287,7 +288,7 @@ pub record Stopped (words : List (List ℕ)) (time : ℕ) (stop : Stop) (result 
   pub stream : LosesPrefix before.stream now.stream
   pub caused : IsCaused (files_named (command_of words)) counts.files counts'.files counts.absences counts'.absences counts.input counts'.input
       counts.dice counts'.dice stop
-  pub told : IsTold stop result before.errors now.errors counts.err counts'.err
+  pub told : IsReported stop result before.errors now.errors counts.err counts'.err
   pub no_page : page_of words ≡ None
   pub unread : (refusal : Refusal) → command_of words ≡ Err refusal → now.left ≡ before.left
   pub unasked : (refusal : Refusal) → command_of words ≡ Err refusal → standalone_of words ≡ None → now.truth ≡ before.truth
@@ -325,12 +326,12 @@ module _ (words : List (List ℕ)) (time result : ℕ) (before now : Seen) (coun
   untold (inr ten) when = elim when [ inl zero ↦ omega (arith, ten.0, zero) | inr calm ↦ calm.1.err ten.1 ]
 
   -- Memory ran out, and its line was written, or a prefix of it.
-  starved : TellsLine 9 memory_line result before.errors now.errors counts.err counts'.err → (result ≡ 9) ⊎ ((result ≡ 10) × Increased counts.err counts'.err)
+  starved : ReportsLine 9 memory_line result before.errors now.errors counts.err counts'.err → (result ≡ 9) ⊎ ((result ≡ 10) × Increased counts.err counts'.err)
   starved (inl own) = inl own.0
   starved (inr other) = other.0
 
   -- Of the line a prefix was written.
-  fronted : (own : ℕ) (line : List ℕ) → TellsLine own line result before.errors now.errors counts.err counts'.err → GainsPrefix before.errors now.errors line
+  fronted : (own : ℕ) (line : List ℕ) → ReportsLine own line result before.errors now.errors counts.err counts'.err → GainsPrefix before.errors now.errors line
   fronted own line (inl whole) = whole_front before.errors now.errors line whole.1
   fronted own line (inr part) = part.1
 
@@ -343,7 +344,7 @@ module _ (words : List (List ℕ)) (time result : ℕ) (before now : Seen) (coun
   stopped_line InputFault s w t = inr (inr (inl (s.caused, fronted 11 (error_line (codes "input") (codes "fault")) s.told)))
   stopped_line NoMemory s w t = inr (inr (inr (inl (fronted 9 memory_line s.told))))
 
-  within : (own : ℕ) (line : List ℕ) → own ≤ 12 → TellsLine own line result before.errors now.errors counts.err counts'.err → result ≤ 12
+  within : (own : ℕ) (line : List ℕ) → own ≤ 12 → ReportsLine own line result before.errors now.errors counts.err counts'.err → result ≤ 12
   within own line small (inl whole) = omega (arith, whole.0, small)
   within own line small (inr part) = elim part.0 [ inl nine ↦ omega (arith, nine) | inr ten ↦ omega (arith, ten.0) ]
 
@@ -485,3 +486,28 @@ module _ (words : List (List ℕ)) (time result : ℕ) (before now : Seen) (coun
     complete = stopped_complete stop s;
     some_file = λ none zero. absurd (not_done stop s zero);
   }
+
+-- A call for which memory ran out before anything was read.
+pub starved_call : (words : List (List ℕ)) (time : ℕ) (before : Seen) (counts : Counts) → page_of words ≡ None
+    → IsCall words time 9 before before counts counts
+starved_call words time before counts none = stopped_call words time 9 before before counts counts NoMemory (record {
+  gives = λ w t. tt;
+  left = λ w t. tt;
+  kept = record { files = refl; draft = inr (refl, refl) };
+  written = refl;
+  draft = inr (refl, refl);
+  unwritten = λ e. record { files = refl; draft_name = refl; draft_bytes = refl };
+  undrawn = λ e. refl;
+  stream = loses_none before.stream;
+  caused = tt;
+  told = inr (inl refl, no_front before.errors before.errors memory_line refl);
+  no_page = none;
+  unread = λ refusal wrong. refl;
+  unasked = λ refusal wrong none. refl;
+  wrong = λ refusal wrong none. tt;
+})
+
+-- What is there is not nothing.
+pub no_some : (asked : Option (List ℕ)) → IsSome asked → asked ≡ None → ⊥
+no_some None some none = cc some
+no_some (Some text) some none = cc none

@@ -4,6 +4,6 @@ pub mod HeldTasks
 pub mod MergeCalls
 pub mod Pages
 pub mod Passwords
-pub mod Ranges
+pub mod SessionCases
 pub mod Standalones
 pub mod TaskDocs

@@ -52,7 +52,8 @@ use Rattle.cli_commands.specs.Commands.{Change, merged_change}
 use Rattle.call_run.specs.Endings.{Ending, HoldsNew, ReadsBack, ReadsBackSo, Targets, carried_out, change_of_task, ended_so, ended_with, ending_with, new_file, targets_of}
 use Rattle.keepass_call.specs.Held.{IsAuthentic, IsTask}
 use Rattle.keepass_call.specs.Merges.{HoldsDatabase, HoldsUnder, IsUntouched, MergesAgreed, MergesNothing, MergesParts, TargetHolds, merges, unmodified_text}
-use Rattle.keepass_call.specs.Outcome.{AsksCommand, Counts, Gains, IsAsSaid, IsRefused, IsWorldOf, Seen, World, answer_of, draws_words, ended, outcome}
+use Rattle.cli_reporting.specs.Reporting.{Gains}
+use Rattle.keepass_call.specs.Outcome.{AsksCommand, Counts, IsAsSaid, IsRefused, IsWorldOf, Seen, World, answer_of, draws_words, ended, outcome}
 use Rattle.cli_files.specs.Tasks.{Task}
 use Rattle.keepass_call.proofs.Answered.{answer_is}
 use Rattle.keepass_call.proofs.HeldTasks.{task_given}

@@ -78,6 +78,7 @@ one_kind name words standalone command h c = by (with_words name words nothing_s
     at said false name positions h c = cc h
     at said true n.Generate positions h c = cc c
     at said true n.SelfTest positions h c = cc c
+    at said true n.Open positions h c = cc c
     at said true n.Ls positions h c = cc h
     at said true n.Show positions h c = cc h
     at said true n.History positions h c = cc h

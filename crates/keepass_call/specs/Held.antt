@@ -10,7 +10,8 @@ use Rattle.call_input.specs.Attaching.{attached_for}
 use Rattle.call_input.specs.Opening.{HoldCommandDatabases}
 use Rattle.cli_commands.specs.Commands.{Change}
 use Rattle.call_run.specs.Endings.{Ending, ReadsBack, Stores, carried_out, change_of_task, targets_of}
-use Rattle.keepass_call.specs.Outcome.{Counts, Gains, NoFaults, Seen, World, standalone_answer}
+use Rattle.cli_reporting.specs.Reporting.{Gains}
+use Rattle.keepass_call.specs.Outcome.{Counts, NoFaults, Seen, World, standalone_answer}
 use Rattle.cli_files.specs.Tasks.{Task, databases_in}
 
 -- The words are the task's command, its lines are those that are due, and the files hold its

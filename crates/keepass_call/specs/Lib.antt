@@ -2,4 +2,5 @@ pub mod Call
 pub mod Held
 pub mod Merges
 pub mod Outcome
+pub mod SessionCalls
 pub mod Telling

@@ -18,7 +18,8 @@ use Rattle.cli_needs.specs.Needs.{needs_of}
 use Rattle.cli_files.specs.Files.{plain_document}
 use Rattle.cli_writing.specs.Writing.{IsSame, Store}
 use Rattle.keepass_call.specs.Held.{IsTask}
-use Rattle.keepass_call.specs.Outcome.{Gains, Seen, World}
+use Rattle.cli_reporting.specs.Reporting.{Gains}
+use Rattle.keepass_call.specs.Outcome.{Seen, World}
 use Rattle.cli_files.specs.Tasks.{Task}
 
 -- A command is a merge, and no dry run.

@@ -1,5 +1,5 @@
 -- What a call results in: its phases one after another, and all that is seen of it.
-use Rattle.std.specs.Prelude.{◌≡◌, ◌≢◌, ℕ, Bool, true, false, List, [], ◌++◌, Contains, Option, None, Some, option_map, ◌⊎◌, Result, Ok, Err, codes, if◌then◌else◌}
+use Rattle.std.specs.Prelude.{◌≡◌, ◌≢◌, ℕ, Bool, true, false, List, [], ◌++◌, Contains, Option, None, Some, ◌⊎◌, Result, Ok, Err, codes, if◌then◌else◌}
 use Rattle.outside_core.specs.Counts.{Increased}
 use Rattle.outside_core.specs.Files.{FileMap}
 use Rattle.outside_core.specs.Streams.{GainsPrefix, LosesPrefix}
@@ -9,6 +9,7 @@ use Rattle.cli_messages.specs.Phases.{IsLeft, StreamAnswer, TellsStream, then_le
 use Rattle.cli_writing.specs.Writing.{KeepsDraft, KeepsFiles, NewFile, Store, store}
 use Rattle.cli_commands.specs.Commands.{may_store, may_write}
 use Rattle.cli_pages.specs.Pages.{page_of}
+use Rattle.cli_reporting.specs.Reporting.{Gains}
 use Rattle.cli_needs.specs.Needs.{file_written}
 use Rattle.cli_parse.specs.Words.{command_of}
 use Rattle.cli_profiles.specs.declared.profiles.PasswordProfile.{PasswordProfile}
@@ -200,10 +201,6 @@ pub record KeepsFaults (before now : Counts) : Type 0 where
   pub out : now.out ≡ before.out
   pub err : now.err ≡ before.err
   pub dice : now.dice ≡ before.dice
-
--- The text was written.
-abbrev pub Gains : Option (List ℕ) → Option (List ℕ) → List ℕ → Type 0
-Gains before now text = now ≡ option_map (λ w. w ++ text) before
 
 -- Every answer so far was that of what was reported.
 pub record AreTruthful (truth : Truth) : Type 0 where

@@ -3,8 +3,9 @@
 #![tactic(auto)]
 
 mod run;
+mod session;
 mod standalone;
 mod target;
 
 pub use run::keepass;
-pub use target::file_to_write;
+pub use target::{file_to_write, session_file};

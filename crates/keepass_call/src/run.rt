@@ -1,7 +1,6 @@
 //! The one call of the program: from its words, and the objects of the outside, to its status.
-ghost use Rattle.std.specs.Prelude.{◌≡◌, ◌++◌, ℕ, List, None, Some, Err, IfErr, IfOk, OnErr, codes, false, map, string_bytes, OnOk, true};
-ghost use Rattle.outside_core.specs.Streams.{GainsPrefix, LosesPrefix};
-ghost use Rattle.cli_messages.specs.Messages.{error_line, reason_text, status_of};
+ghost use Rattle.std.specs.Prelude.{◌≡◌, ℕ, List, None, Some, Err, IfErr, IfOk, OnErr, false, map, string_bytes, OnOk, true};
+ghost use Rattle.outside_core.specs.Streams.{LosesPrefix};
 ghost use Rattle.cli_messages.specs.Phases.{IsCaused, IsWordsStop, Leaves, TellsStream};
 ghost use Rattle.cli_messages.specs.declared.answers.Refusal.{Refusal};
 ghost use Rattle.cli_needs.specs.Needs.{files_named};
@@ -14,29 +13,26 @@ ghost use Rattle.cli_parse.specs.Words.{command_of};
 ghost use Rattle.cli_standalone.specs.Standalone.{standalone_of};
 ghost use Rattle.cli_files.specs.Tasks.{draws_by};
 ghost use Rattle.call_input.specs.Reading.{asked_by, left_of};
-ghost use Rattle.keepass_call.specs.Telling.{IsPrinted, IsTold, IsUnwritten, TellsLine};
+ghost use Rattle.cli_reporting.specs.Reporting.{IsPrinted};
+ghost use Rattle.cli_sessions.specs.Openings.{opening_of};
+ghost use Rattle.cli_sessions.specs.declared.opening.SessionDatabase.{SessionDatabase};
+ghost use Rattle.keepass_call.specs.SessionCalls.{IsSession};
 
+use crate::session::answer_session;
 use crate::standalone::answer_alone;
 use call_input::read_task;
 use call_run::carry_out;
 use cli_commands::{Output, lend_text};
-use cli_messages::{Reason, Stop, line, status, text_of_reason};
+use cli_messages::Stop;
 use cli_pages::page_of;
+use cli_reporting::{print, report};
+use cli_sessions::read_opening;
 use cli_standalone::read_standalone;
-use outside_core::{Bytes, Dice, FileStore, NoMemory, Sink, SinkFail, Source, write_all};
+use outside_core::{Bytes, Dice, FileStore, Sink, Source};
 use std::alloc::Global;
-
-/// The status of a call at which the store failed.
-const FILE_FAULT: u8 = 7;
 
 /// The status of a call for which memory ran out.
 const OUT_OF_MEMORY: u8 = 9;
-
-/// The status of a call whose output failed.
-const OUTPUT_FAULT: u8 = 10;
-
-/// The status of a call whose input failed.
-const INPUT_FAULT: u8 = 11;
 
 // The phases of a call whose words are to be a command, one after another.
 fn answer<F: FileStore, S: Source, D: Dice>(
@@ -180,44 +176,6 @@ fn answer_words<F: FileStore, S: Source, D: Dice>(
     }
 }
 
-// The status of a call whose text or line was not written.
-fn unwritten(fail: SinkFail) -> u8
-    ensures { IsUnwritten fail result }
-{
-    match fail {
-        SinkFail::Failed => OUTPUT_FAULT,
-        SinkFail::NoMemory => OUT_OF_MEMORY,
-    }
-}
-
-// Tries to write a line on standard error.
-fn try_line<E: Sink>(err: &mut E, line: &[u8])
-    ensures { GainsPrefix (E.written err.old) (E.written err.new) line.now }
-{
-    match write_all(err, line) {
-        Ok(()) => {}
-        Err(_fail) => {}
-    }
-}
-
-// Writes what a call gave, and gives the status that goes with it. Where standard output fails, a
-// line that says so is tried on standard error.
-fn print<O: Sink, E: Sink>(out: &mut O, err: &mut E, text: &[u8]) -> u8
-    ensures printed { IsPrinted text.now result (O.written out.old) (O.written out.new)
-        (E.written err.old) (E.written err.new) (O.faults out.old) (O.faults out.new) }
-    ensures faultless { result ≡ 0 → (O.faults out.new ≡ O.faults out.old)
-        × (E.faults err.new ≡ E.faults err.old) }
-{
-    match write_all(out, text) {
-        Ok(()) => 0,
-        Err(SinkFail::NoMemory) => OUT_OF_MEMORY,
-        Err(SinkFail::Failed) => {
-            try_line(err, b"keepass: output: could not be written\n");
-            OUTPUT_FAULT
-        }
-    }
-}
-
 // Writes a page, and gives the status that goes with it.
 fn print_page<O: Sink, E: Sink>(out: &mut O, err: &mut E, page: Bytes) -> u8
     ensures printed { IsPrinted page result (O.written out.old) (O.written out.new)
@@ -228,46 +186,6 @@ fn print_page<O: Sink, E: Sink>(out: &mut O, err: &mut E, page: Bytes) -> u8
     let status = print(out, err, page.as_slice());
     drop(page);
     status
-}
-
-// Writes the line of a subject, and gives the status that goes with it.
-fn tell_line<E: Sink>(alloc: Global, err: &mut E, own: u8, subject: &str, text: &str) -> u8
-    ensures { TellsLine own (error_line subject.now text.now) result (E.written err.old)
-        (E.written err.new) (E.faults err.old) (E.faults err.new) }
-{
-    match line(alloc, subject, text) {
-        Ok(line) => match write_all(err, line.as_slice()) {
-            Ok(()) => own,
-            Err(fail) => unwritten(fail),
-        },
-        Err(NoMemory) => OUT_OF_MEMORY,
-    }
-}
-
-// Writes the line of an answer about a subject, and gives the answer's status.
-fn tell_answer<E: Sink>(alloc: Global, err: &mut E, answer: &Reason, subject: &str) -> u8
-    ensures { TellsLine (status_of answer.now) (error_line subject.now (reason_text answer.now))
-        result (E.written err.old) (E.written err.new) (E.faults err.old) (E.faults err.new) }
-{
-    match text_of_reason(alloc, answer) {
-        Ok(text) => tell_line(alloc, err, status(answer), subject, text.as_str()),
-        Err(_none) => OUT_OF_MEMORY,
-    }
-}
-
-// Reports on standard error why a call stopped, and gives its status.
-fn tell<E: Sink>(alloc: Global, err: &mut E, stop: Stop) -> u8
-    ensures { IsTold stop result (E.written err.old) (E.written err.new) (E.faults err.old)
-        (E.faults err.new) }
-{
-    match stop {
-        Stop::Refused(refusal) => {
-            tell_answer(alloc, err, &refusal.reason, refusal.subject.as_str())
-        }
-        Stop::FileFault(name) => tell_line(alloc, err, FILE_FAULT, name.as_str(), "file fault"),
-        Stop::InputFault => tell_line(alloc, err, INPUT_FAULT, "input", "fault"),
-        Stop::NoMemory => tell_answer(alloc, err, &Reason::OutOfMemory, "words"),
-    }
 }
 
 /// One call of the program, whose words are those after its name; `now` is in seconds since the
@@ -286,6 +204,9 @@ fn tell<E: Sink>(alloc: Global, err: &mut E, stop: Stop) -> u8
 /// Whatever the outside reports and answered: a refusal changes no file; words that ask for a page
 /// print it, and touch nothing else; a command that needs no database touches no file and no input;
 /// and words that are no command that may write change no file.
+///
+/// Words that open a session are carried out line by line: for each world all that is seen is as the
+/// outcome of the session's lines says, or, where something failed, as some of its first lines leave it.
 pub fn keepass<F: FileStore, S: Source, O: Sink, E: Sink, D: Dice>(
     alloc: Global,
     words: &[String],
@@ -296,7 +217,21 @@ pub fn keepass<F: FileStore, S: Source, O: Sink, E: Sink, D: Dice>(
     dice: &mut D,
     now: u64,
 ) -> u8
-    ensures { IsCall (map string_bytes words.now) now result
+    ensures call { opening_of (map string_bytes words.now) ≡ None
+        → IsCall (map string_bytes words.now) now result
+        (seen (O.written out.old) (E.written err.old) (F.files files.old) (F.draft_name files.old)
+        (F.draft_bytes files.old) (S.left input.old) (D.stream dice.old)
+        (truth (F.truthful files.old) (S.truthful input.old) (D.truthful dice.old)))
+        (seen (O.written out.new) (E.written err.new) (F.files files.new) (F.draft_name files.new)
+        (F.draft_bytes files.new) (S.left input.new) (D.stream dice.new)
+        (truth (F.truthful files.new) (S.truthful input.new) (D.truthful dice.new)))
+        (counts (F.faults files.old) (F.absences files.old) (S.faults input.old) (O.faults out.old)
+        (E.faults err.old) (D.faults dice.old))
+        (counts (F.faults files.new) (F.absences files.new) (S.faults input.new) (O.faults out.new)
+        (E.faults err.new) (D.faults dice.new)) }
+    ensures session { (database : SessionDatabase)
+        → opening_of (map string_bytes words.now) ≡ Some database
+        → IsSession database now result
         (seen (O.written out.old) (E.written err.old) (F.files files.old) (F.draft_name files.old)
         (F.draft_bytes files.old) (S.left input.old) (D.stream dice.old)
         (truth (F.truthful files.old) (S.truthful input.old) (D.truthful dice.old)))
@@ -310,9 +245,15 @@ pub fn keepass<F: FileStore, S: Source, O: Sink, E: Sink, D: Dice>(
 {
     match page_of(alloc, words) {
         Ok(Some(page)) => print_page(out, err, page),
-        Ok(None) => match answer_words(alloc, words, files, input, dice, now) {
-            Ok(output) => print(out, err, lend_text(&output)),
-            Err(stop) => tell(alloc, err, stop),
+        Ok(None) => match read_opening(alloc, words) {
+            Ok(Some(database)) => {
+                answer_session(alloc, database, files, input, out, err, dice, now)
+            }
+            Ok(None) => match answer_words(alloc, words, files, input, dice, now) {
+                Ok(output) => print(out, err, lend_text(&output)),
+                Err(stop) => report(alloc, err, stop),
+            },
+            Err(_none) => OUT_OF_MEMORY,
         },
         Err(_none) => OUT_OF_MEMORY,
     }

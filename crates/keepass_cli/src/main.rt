@@ -1,10 +1,10 @@
 //! The command line of a password vault: `main`, and the one call that it makes.
 #![tactic(auto)]
 
-use keepass_call::{file_to_write, keepass};
+use keepass_call::{file_to_write, keepass, session_file};
 use outside_core::{NoMemory, Sink, write_all};
-use outside_host::{HostDice, HostFiles, HostInput, HostOutput, World};
-use std::alloc::AllocGlobal;
+use outside_host::{HostDice, HostFiles, HostInput, HostOutput, World, WritableFile};
+use std::alloc::{AllocGlobal, Global};
 use std::env;
 use std::io::ErrorKind;
 use std::process::ExitCode;
@@ -55,6 +55,17 @@ fn seconds(rt: &impl Clock) -> u64 {
     }
 }
 
+// The file that words may write: that of a session, or that of one call.
+fn writable_file(alloc: Global, words: &[String]) -> Result<Option<WritableFile>, NoMemory> {
+    if let Some(name) = session_file(alloc, words)? {
+        return Ok(Some(WritableFile::OfSession(name)));
+    }
+    match file_to_write(alloc, words)? {
+        Some(name) => Ok(Some(WritableFile::OfCall(name))),
+        None => Ok(None),
+    }
+}
+
 fn main(rt: HostRuntime) -> ExitCode {
     // What the host is taken to hold: nothing is known of it, and it takes no memory.
     let world = World::any();
@@ -65,7 +76,7 @@ fn main(rt: HostRuntime) -> ExitCode {
         Ok(words) => words,
         Err(why) => return ExitCode::from(refuse(&mut err, &why)),
     };
-    let target = match file_to_write(alloc, words.as_slice()) {
+    let target = match writable_file(alloc, words.as_slice()) {
         Ok(target) => target,
         Err(NoMemory) => return ExitCode::from(refuse(&mut err, &NoWords::OutOfMemory)),
     };

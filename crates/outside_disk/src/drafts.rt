@@ -1,7 +1,10 @@
 //! Drafts: new files beside those that they replace. A draft of the file NAME has the name
 //! `.NAME.RANDOM.keepass`, which is drawn and never one that is there; it is locked as long as its
 //! call goes on.
-use crate::files::{FileId, HeldFile, hold_at, id_of, look_at, place_of, stay_at, stay_unchanged};
+use crate::files::{
+    FileId, HeldFile, hold_at, id_of, look_at, place_of, refuse_written, stay_at, stay_named,
+    stay_unchanged,
+};
 use crate::leavings::{Leavings, remove_left};
 use std::alloc::Global;
 use std::fs::{File, Files, Metadata, OpenOptions};
@@ -363,34 +366,56 @@ impl Draft {
         sync_folder(&self.folder.file)
     }
 
-    /// Gives the draft its name: in the place of the file that was found, if that is still there as it
-    /// was, and else where there is none.
-    fn put<R: Files<File = File>>(&self, rt: &R, name: &str) -> io::Result<()> {
+    /// Gives the draft, of which the system said `own`, its name: in the place of the file that was
+    /// found, if that is still there as it was, and else where there is none.
+    fn put<R: Files<File = File>>(&self, rt: &R, name: &str, own: &Metadata) -> io::Result<()> {
         let (path, place) = (self.made.path.as_str(), self.base.place.as_str());
-        stay_at(rt, &self.made.file, path)?;
+        stay_named(rt, own, path)?;
         match &self.base.found {
             Some(found) => put_again(rt, path, place, name, found),
             None => put_new(rt, path, place),
         }
     }
 
-    /// Brings the whole draft to the disk, and gives it its name.
-    fn sync_and_put<R: Files<File = File>>(&self, rt: &R, name: &str) -> io::Result<()> {
+    /// Brings the whole draft to the disk, and gives it its name. Gives what the system said of the
+    /// draft before it got the name.
+    fn sync_and_put<R: Files<File = File>>(&self, rt: &R, name: &str) -> io::Result<Metadata> {
         self.sync()?;
-        self.put(rt, name)
+        let before = self.made.file.metadata()?;
+        match self.put(rt, name, &before) {
+            Ok(()) => Ok(before),
+            Err(error) => {
+                drop(before);
+                Err(error)
+            }
+        }
     }
 
     /// Brings the draft to the disk and gives it the name that it is for, which is on the disk then,
     /// too. Where that fails, the draft is removed. That the folder cannot be brought to the disk at
-    /// the end is passed over: the file is replaced by then.
-    pub fn publish<R: Files<File = File>>(&self, rt: &R, name: &str) -> io::Result<()> {
+    /// the end is passed over: the file is replaced by then. Gives what the system said of the draft
+    /// before it got the name.
+    pub fn publish<R: Files<File = File>>(&self, rt: &R, name: &str) -> io::Result<Metadata> {
         match self.sync_and_put(rt, name) {
-            Ok(()) => {
+            Ok(before) => {
                 let _ = sync_folder(&self.folder.file);
-                Ok(())
+                Ok(before)
             }
             Err(error) => {
                 let _ = self.remove(rt);
+                Err(error)
+            }
+        }
+    }
+
+    /// What the system says of the file that this draft became, whose bytes are those that the draft
+    /// had when the system said `before` of it.
+    pub fn look_after(&self, before: &Metadata) -> io::Result<Metadata> {
+        let found = self.made.file.metadata()?;
+        match refuse_written(&found, before) {
+            Ok(()) => Ok(found),
+            Err(error) => {
+                drop(found);
                 Err(error)
             }
         }

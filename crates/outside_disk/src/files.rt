@@ -78,13 +78,19 @@ pub fn id_of(metadata: &Metadata) -> FileId {
     (metadata.dev(), metadata.ino())
 }
 
-/// Reports whether both are of one file that was not changed between them, as far as its length and
-/// its times say.
-fn is_unchanged(one: &Metadata, other: &Metadata) -> bool {
+/// Reports whether both are of one file whose bytes were not changed between them, as far as its
+/// length and the time of their last change say. A new name for the file is no change of its bytes.
+fn is_unwritten(one: &Metadata, other: &Metadata) -> bool {
     id_of(one) == id_of(other)
         && one.len() == other.len()
         && one.mtime() == other.mtime()
         && one.mtime_nsec() == other.mtime_nsec()
+}
+
+/// Reports whether both are of one file that was not changed between them, as far as its length and
+/// its times say.
+fn is_unchanged(one: &Metadata, other: &Metadata) -> bool {
+    is_unwritten(one, other)
         && one.ctime() == other.ctime()
         && one.ctime_nsec() == other.ctime_nsec()
 }
@@ -94,24 +100,43 @@ fn changed_meanwhile() -> io::Error {
     io::Error::from(ErrorKind::WouldBlock)
 }
 
-/// Looks whether a path still names this open file. Another call may have put another one there.
-pub fn stay_at<R: Files>(rt: &R, file: &File, path: &str) -> io::Result<()> {
-    let held = file.metadata()?;
-    let named = fs::metadata(rt, path)?;
-    if id_of(&held) == id_of(&named) {
+/// Refuses a file that is not the one that was found, or was changed since.
+pub fn refuse_changed(now: &Metadata, found: &Metadata) -> io::Result<()> {
+    if is_unchanged(now, found) {
         Ok(())
     } else {
         Err(changed_meanwhile())
     }
 }
 
-/// Looks whether a name still leads to the file that was found there, as it was then.
-pub fn stay_unchanged<R: Files>(rt: &R, name: &str, found: &Metadata) -> io::Result<()> {
-    if is_unchanged(&fs::metadata(rt, name)?, found) {
+/// Refuses a file that is not the one that was found, or whose bytes were changed since.
+pub fn refuse_written(now: &Metadata, found: &Metadata) -> io::Result<()> {
+    if is_unwritten(now, found) {
         Ok(())
     } else {
         Err(changed_meanwhile())
     }
+}
+
+/// Looks whether a path still names the file that was found. Another call may have put another one
+/// there.
+pub fn stay_named<R: Files>(rt: &R, found: &Metadata, path: &str) -> io::Result<()> {
+    let named = fs::metadata(rt, path)?;
+    if id_of(found) == id_of(&named) {
+        Ok(())
+    } else {
+        Err(changed_meanwhile())
+    }
+}
+
+/// Looks whether a path still names this open file.
+pub fn stay_at<R: Files>(rt: &R, file: &File, path: &str) -> io::Result<()> {
+    stay_named(rt, &file.metadata()?, path)
+}
+
+/// Looks whether a name still leads to the file that was found there, as it was then.
+pub fn stay_unchanged<R: Files>(rt: &R, name: &str, found: &Metadata) -> io::Result<()> {
+    refuse_changed(&fs::metadata(rt, name)?, found)
 }
 
 /// Takes the lock of a file, which is still at its path then.
@@ -166,7 +191,7 @@ fn wait_for<R: Files<File = File> + Clock>(rt: &R, place: &str) -> io::Result<Fi
 }
 
 /// The file at a path, held from now on.
-fn hold_place<R: Files<File = File> + Clock>(rt: &R, place: String) -> io::Result<HeldFile> {
+pub fn hold_place<R: Files<File = File> + Clock>(rt: &R, place: String) -> io::Result<HeldFile> {
     let file = wait_for(rt, place.as_str())?;
     match file.metadata() {
         Ok(found) => Ok(HeldFile { place, file, found }),

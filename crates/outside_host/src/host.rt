@@ -14,7 +14,7 @@ use crate::worlds::{ReportedBytes, ReportedFiles, Truthful, World, no_answer};
 use outside_core::{
     Dice, DiceFail, FileFail, FileStore, Sink, SinkFail, Source, SourceFail, Text, increment,
 };
-use outside_disk::{Disk, Draft, file_len, read_from};
+use outside_disk::{Disk, Draft, WritableFile, file_len, read_from};
 use std::alloc::Global;
 use std::fs::{File, Files};
 use std::io::{ErrorKind, Read};
@@ -72,10 +72,15 @@ impl<'a, R: Files<File = File> + RandomSource + Clock> Model for HostFiles<'a, R
 }
 
 impl<'a, R: Files<File = File> + RandomSource + Clock> HostFiles<'a, R> {
-    /// The files of the host that `rt` gives access to. The file of the name `target`, where one is
-    /// given, is the one that the call may write: it is locked before it is read, and while another
-    /// call holds that lock this one waits, at most ten seconds. They report the files of this world.
-    pub fn new(rt: &'a R, alloc: Global, target: Option<Text>, world: &World) -> HostFiles<'a, R>
+    /// The files of the host that `rt` gives access to. The file `target`, where one is given, is the
+    /// one that may be written. While another call holds its lock, this one waits for it, at most ten
+    /// seconds. They report the files of this world.
+    pub fn new(
+        rt: &'a R,
+        alloc: Global,
+        target: Option<WritableFile>,
+        world: &World,
+    ) -> HostFiles<'a, R>
         ensures { result ≡ record {
           files = world.now.files;
           truthful = true;

@@ -10,4 +10,5 @@ mod notes;
 mod worlds;
 
 pub use host::{HostDice, HostFiles, HostInput, HostOutput};
+pub use outside_disk::WritableFile;
 pub use worlds::World;

@@ -1,9 +1,9 @@
 //! The files of the host: what is written is read, a draft that is given up leaves nothing, of two
 //! drafts of one file the second is refused, one that was left behind is removed and other files are
-//! not, and only a regular file is read.
+//! not, only a regular file is read, and a session writes its file as long as nobody else does.
 use crate::files::{keeps_a_file, read_at, reads, size_of, write_whole};
-use outside_core::{Dice, FileFail, FileStore};
-use outside_host::{HostDice, HostFiles, World};
+use outside_core::{Dice, FileFail, FileStore, Text};
+use outside_host::{HostDice, HostFiles, World, WritableFile};
 use std::alloc::Global;
 use std::fs::Files;
 use std::io::Read;
@@ -145,6 +145,70 @@ fn keeps_and_shares(
     Ok(())
 }
 
+/// The files of a session that may write the file of this name.
+fn files_of_session<'a>(
+    host: &'a HostRuntime,
+    alloc: Global,
+    name: &str,
+) -> Result<HostFiles<'a, HostRuntime>, Fail> {
+    let file = WritableFile::OfSession(Text::of(alloc, name)?);
+    Ok(HostFiles::new(host, alloc, Some(file), &World::any()))
+}
+
+/// The files of a call that may write the file of this name.
+fn files_of_call<'a>(
+    host: &'a HostRuntime,
+    alloc: Global,
+    name: &str,
+) -> Result<HostFiles<'a, HostRuntime>, Fail> {
+    let file = WritableFile::OfCall(Text::of(alloc, name)?);
+    Ok(HostFiles::new(host, alloc, Some(file), &World::any()))
+}
+
+/// A session writes a file that it has read, and again once it gave up a draft.
+fn writes_again(rt: &impl Abort, session: &mut HostFiles<'_, HostRuntime>, name: &str) {
+    assert_eq!(rt; write_whole(session, name, b"x"), Err(FileFail::Failed));
+    assert!(rt; reads(session, name, 0, b"old"));
+    assert_eq!(rt; write_whole(session, name, b"one"), Ok(()));
+    assert_eq!(rt; begin_draft(session, name), Ok(()));
+    session.discard();
+    assert_eq!(rt; write_whole(session, name, b"two"), Ok(()));
+    assert!(rt; reads(session, name, 0, b"two"));
+    assert_eq!(rt; begin_draft(session, name), Ok(()));
+    session.discard();
+}
+
+/// A call does not wait for the session, which is refused from then on; what the call wrote stays.
+fn lets_a_call_write(
+    rt: &(impl Abort + AllocGlobal),
+    host: &HostRuntime,
+    session: &mut HostFiles<'_, HostRuntime>,
+    name: &str,
+) -> Result<(), Fail> {
+    let mut call = files_of_call(host, rt.alloc(), name)?;
+    assert!(rt; reads(&mut call, name, 0, b"two"));
+    assert_eq!(rt; write_whole(&mut call, name, b"call"), Ok(()));
+    assert_eq!(rt; write_whole(session, name, b"late"), Err(FileFail::Failed));
+    assert_eq!(rt; size_of(session, name), Err(FileFail::Failed));
+    assert!(rt; reads(&mut call, name, 0, b"call"));
+    Ok(())
+}
+
+/// What a session does with the file of this name in the folder.
+fn writes_in_a_session(
+    rt: &(impl Abort + AllocGlobal),
+    host: &HostRuntime,
+    folder: &str,
+    name: &str,
+) -> Result<(), Fail> {
+    fs::write(host, name, b"old")?;
+    let mut session = files_of_session(host, rt.alloc(), name)?;
+    writes_again(rt, &mut session, name);
+    lets_a_call_write(rt, host, &mut session, name)?;
+    assert!(rt; has_files(host, folder, 1));
+    Ok(())
+}
+
 /// Removes the folder and what is in it.
 fn remove_folder(host: &HostRuntime, folder: &str) -> Result<(), Fail> {
     fs::remove_dir_all(host, folder)?;
@@ -156,5 +220,13 @@ fn the_host_keeps_files(rt: HostRuntime) -> Result<(), Fail> {
     let folder = scratch(&rt)?;
     let name = format!(in rt.alloc(); "{folder}/vault")?;
     keeps_and_shares(&rt, &rt, folder.as_str(), name.as_str())?;
+    remove_folder(&rt, folder.as_str())
+}
+
+#[test]
+fn a_session_writes_its_file(rt: HostRuntime) -> Result<(), Fail> {
+    let folder = scratch(&rt)?;
+    let name = format!(in rt.alloc(); "{folder}/vault")?;
+    writes_in_a_session(&rt, &rt, folder.as_str(), name.as_str())?;
     remove_folder(&rt, folder.as_str())
 }

@@ -3,7 +3,7 @@ use Rattle.std.proofs.Common.{◌≡◌, ℕ, true, false, List, [], ◌∷◌, 
 use Rattle.std.specs.Fmt.{digits}
 use Rattle.std.specs.Str.{chars, is_utf8}
 use Rattle.cli_files.specs.Files.{Opened}
-use Rattle.session_core.specs.declared.reading.SessionDatabase.{SessionDatabase}
+use Rattle.cli_sessions.specs.declared.opening.SessionDatabase.{SessionDatabase}
 use Rattle.session_core.specs.Sessions.{SessionState, ended, session_from}
 
 -- A database that is opened as a plain document.

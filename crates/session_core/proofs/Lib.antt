@@ -1,2 +1,4 @@
 pub mod CarriedLines
 pub mod Examples
+pub mod FileNames
+pub mod Reopened

@@ -9,7 +9,7 @@ use Rattle.cli_needs.specs.Needs.{needs_of}
 use Rattle.cli_lines.specs.Lines.{LastLines, last_lines, next_line, number_after_last}
 use Rattle.line_words.specs.Words.{line_words}
 use Rattle.cli_sessions.specs.SessionLines.{line_command}
-use Rattle.session_core.specs.declared.reading.SessionDatabase.{SessionDatabase}
+use Rattle.cli_sessions.specs.declared.opening.SessionDatabase.{SessionDatabase}
 
 -- What the words of a line say: the session ends, the line is passed over, or a command.
 pub data LineWords : Type 0 where

@@ -6,7 +6,7 @@ use Rattle.cli_profiles.specs.Profiles.{IsProfile}
 use Rattle.cli_needs.specs.declared.command.Command.{Command}
 use Rattle.cli_needs.specs.Needs.{generated_by, target_access, target_of}
 use Rattle.cli_sessions.specs.SessionLines.{in_session}
-use Rattle.session_core.specs.declared.reading.SessionDatabase.{SessionDatabase}
+use Rattle.cli_sessions.specs.declared.opening.SessionDatabase.{SessionDatabase}
 use Rattle.cli_lines.specs.Lines.{AreTextLines}
 use Rattle.cli_lines.specs.SeenLines.{last_seen}
 use Rattle.session_core.specs.Reading.{LineRead, LineRequest, LineWords, asks, ends, nothing}

@@ -11,7 +11,7 @@ use Rattle.cli_files.specs.Tasks.{Task}
 use Rattle.cli_writing.specs.Writing.{NewFile}
 use Rattle.cli_commands.specs.Commands.{Change}
 use Rattle.session_core.specs.Reading.{LineRead, LineRequest, line_read}
-use Rattle.session_core.specs.declared.reading.SessionDatabase.{SessionDatabase}
+use Rattle.cli_sessions.specs.declared.opening.SessionDatabase.{SessionDatabase}
 use Rattle.session_core.specs.Reading as request
 use Rattle.call_run.specs.Endings.{Ending, change_of_task, ended_with, opened_after, targets_of}
 

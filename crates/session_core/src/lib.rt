@@ -5,5 +5,5 @@
 mod reading;
 mod running;
 
-pub use reading::{LineRequest, SessionDatabase, read_request};
+pub use reading::{LineRequest, read_request};
 pub use running::{LineEnd, Session, close, run_line};

@@ -1,31 +1,22 @@
 //! Reading what a line of a session asks for.
-ghost use Rattle.std.specs.Prelude.{◌≡◌, ◌≤◌, ℕ, List, IfErr, IfOk, IfSome, Ok, OnOk, Some, true};
+ghost use Rattle.std.specs.Prelude.{◌≡◌, ◌≤◌, ℕ, List, IfErr, IfOk, Ok, OnOk, Some, true};
 ghost use Rattle.std.specs.Str.{is_utf8};
 ghost use Rattle.outside_core.specs.Reports.{StaysTruthful};
 ghost use Rattle.cli_messages.specs.Phases.{IsPlainStop, IsStreamStop, Returns};
 ghost use Rattle.session_core.specs.Reading.{last_read, line_read, line_said, read_by_said, words_said};
 ghost use Rattle.session_core.specs.Reading as spec;
-ghost use Rattle.session_core.specs.declared.reading.SessionDatabase.{SessionDatabase};
+ghost use Rattle.cli_sessions.specs.declared.opening.SessionDatabase.{SessionDatabase};
 ghost use Rattle.session_core.specs.SeenReading.{Fits, FitsSession, IsAsked, Reads, words_seen};
 
 use cli_lines::{LastLines, number_after_last, read_last, read_next_line};
 use cli_messages::{Reason, Stop, refused};
-use cli_needs::{Access, Command, needs_of};
-use cli_sessions::read_line;
+use cli_needs::{Command, needs_of};
+use cli_sessions::{SessionDatabase, read_command};
 use line_words::{LineFail, split_line};
 use outside_core::{Source, Text};
 use secret_core::Secret;
 use std::alloc::Global;
 use std::str;
-
-/// How the database of a session was opened, and its file.
-#[derive(Drop)]
-pub struct SessionDatabase {
-    /// How it was opened.
-    pub access: Access,
-    /// The name of its file.
-    pub file: Text,
-}
 
 /// What the words of a line say.
 #[derive(Drop)]
@@ -71,7 +62,7 @@ fn read_words(alloc: Global, database: &SessionDatabase, words: &[Text]) -> Resu
     if is_quit(words) {
         return Ok(LineWords::Quits);
     }
-    match read_line(alloc, &database.access, &database.file, words) {
+    match read_command(alloc, &database.access, &database.file, words) {
         Ok(command) => Ok(LineWords::Commands(command)),
         Err(stop) => Err(stop),
     }

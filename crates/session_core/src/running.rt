@@ -1,5 +1,6 @@
 //! Carrying out a line of a session.
 ghost use Rattle.std.specs.Prelude.{◌≡◌, ◌≤◌, ℕ, List, IfErr, IfOk, IfSome, OnErr, OnOk, Some, is_some, not, true};
+ghost use Rattle.outside_core.specs.Files.{FileMap};
 ghost use Rattle.outside_core.specs.Reports.{StaysTruthful};
 ghost use Rattle.outside_core.specs.Streams.{LosesPrefix};
 ghost use Rattle.kdbx_frame.specs.Settings.{IsInOrder};
@@ -7,17 +8,20 @@ ghost use Rattle.cli_files.specs.SeenOpened.{opened_seen};
 ghost use Rattle.cli_files.specs.declared.documents.Opened.{Opened};
 ghost use Rattle.cli_lines.specs.SeenLines.{last_seen};
 ghost use Rattle.cli_writing.specs.Writing.{KeepsDraft, KeepsFiles, store};
+ghost use Rattle.call_run.specs.Endings.{IsRecoverable};
 ghost use Rattle.call_run.specs.SeenRequest.{task_by};
+ghost use Rattle.session_core.specs.ReadsBack.{LineReadsBack};
 ghost use Rattle.session_core.specs.Running.{IsLineStop, Runs, state_seen};
 ghost use Rattle.session_core.specs.Sessions.{line_outcome, line_task};
 
-use crate::reading::{LineRequest, SessionDatabase, read_request};
+use crate::reading::{LineRequest, read_request};
 use call_run::{Request, step};
 use cli_commands::Output;
 use cli_files::Opened;
 use cli_lines::{LastLines, Lines};
 use cli_messages::Stop;
 use cli_needs::Command;
+use cli_sessions::SessionDatabase;
 use outside_core::{Dice, FileStore, List, Source};
 use std::alloc::Global;
 
@@ -94,6 +98,11 @@ pub fn run_line<F: FileStore, S: Source, D: Dice>(
         (store (F.files files.old) (F.draft_name files.old) (F.draft_bytes files.old))
         (store (F.files files.new) (F.draft_name files.new) (F.draft_bytes files.new))
         session.new (S.left input.new) (D.stream dice.new) }
+    ensures reads_back { S.truthful input.new ≡ true → D.truthful dice.new ≡ true
+        → (m : FileMap) (i d : List ℕ) → F.files files.old ≡ Some m → S.left input.old ≡ Some i
+        → D.stream dice.old ≡ Some d → IfOk result (λ end.
+        LineReadsBack (opened_seen session.old.opened).sealing
+        (line_outcome now session.old.database (state_seen session.old i d))) }
     ensures database { session.new.database ≡ session.old.database }
     ensures still_in_order { IfSome session.new.opened.sealing (λ s. IsInOrder s.settings) }
     ensures still_sealed { is_some session.new.opened.sealing
@@ -111,6 +120,9 @@ pub fn run_line<F: FileStore, S: Source, D: Dice>(
     ensures cause { IfErr result (IsLineStop session.old.database.file
         (F.faults files.old) (F.faults files.new) (S.faults input.old) (S.faults input.new)
         (D.faults dice.old) (D.faults dice.new)) }
+    ensures recoverable_faults { IfErr result (λ stop. IsRecoverable stop
+        → (F.faults files.new ≡ F.faults files.old)
+        × (S.faults input.old ≤ S.faults input.new) × (D.faults dice.old ≤ D.faults dice.new)) }
     ensures faultless { OnOk result ((F.faults files.new ≡ F.faults files.old)
         × (S.faults input.new ≡ S.faults input.old) × (D.faults dice.new ≡ D.faults dice.old)) }
 {

@@ -1,16 +1,17 @@
 //! Reads lists of words as the program reads them. Each line of standard input is a list, with a tab
 //! after each word. For each a line is printed: the command that the words are and what it says, or
-//! `generate` and how the password is generated, or `selftest` and the number of entries, with a tab
-//! after each part, or `wrong`.
+//! `open` and the database of the session, or `generate` and how the password is generated, or
+//! `selftest` and the number of entries, with a tab after each part, or `wrong`.
 #![tactic(auto)]
 
 mod parts;
 mod written;
 
-use crate::written::{written, written_alone};
+use crate::written::{written, written_alone, written_opening};
 use cli_messages::Stop;
 use cli_needs::Command;
 use cli_parse::read_words;
+use cli_sessions::{SessionDatabase, read_opening};
 use cli_standalone::read_standalone;
 use std::alloc::{AllocError, Global};
 use std::io::{self, BufRead, BufReader};
@@ -37,6 +38,25 @@ fn answer_alone(rt: &impl Print, alloc: Global, words: &[String]) -> io::Result<
     }
 }
 
+// Prints the database of the session that words open.
+fn answer_session(rt: &impl Print, alloc: Global, database: &SessionDatabase) -> io::Result<()> {
+    let parts = written_opening(alloc, database)?;
+    println!(rt; "{}", parts.as_str())
+}
+
+// Prints the session that words open, or the command without a database that they are.
+fn answer_other(rt: &impl Print, alloc: Global, words: &[String]) -> io::Result<()> {
+    match read_opening(alloc, words) {
+        Ok(Some(database)) => {
+            let answered = answer_session(rt, alloc, &database);
+            drop(database);
+            answered
+        }
+        Ok(None) => answer_alone(rt, alloc, words),
+        Err(_) => println!(rt; "out of memory"),
+    }
+}
+
 // Prints a command and what it says.
 fn answer_command(rt: &impl Print, alloc: Global, command: &Command) -> io::Result<()> {
     let parts = written(alloc, command)?;
@@ -51,7 +71,7 @@ fn answer_words(rt: &impl Print, alloc: Global, words: &[String]) -> io::Result<
             drop(command);
             answered
         }
-        Err(Stop::Refused(_)) => answer_alone(rt, alloc, words),
+        Err(Stop::Refused(_)) => answer_other(rt, alloc, words),
         Err(_) => println!(rt; "out of memory"),
     }
 }

@@ -5,6 +5,7 @@ use cli_needs::{
     Asked, Command, ExportFormat, FileChange, FurtherAsked, ImportFormat, KdfAsked, KdfKind,
     KeyFileChange, PasswordChange, target_access, target_of,
 };
+use cli_sessions::SessionDatabase;
 use cli_standalone::Standalone;
 use kdbx_frame::{Cipher, FileVersion};
 use std::alloc::{AllocError, Global};
@@ -305,6 +306,16 @@ pub(crate) fn written(alloc: Global, command: &Command) -> Result<Parts, AllocEr
     add_other(&mut parts, command)?;
     add_files(&mut parts, alloc, command)?;
     add_attachment(&mut parts, command)?;
+    Ok(parts)
+}
+
+/// The database of a session that is opened, as a line.
+pub(crate) fn written_opening(
+    alloc: Global,
+    database: &SessionDatabase,
+) -> Result<Parts, AllocError> {
+    let mut parts = Parts::new(alloc, "open")?;
+    parts.access(database.file.as_str(), &database.access)?;
     Ok(parts)
 }
 

@@ -1,0 +1,4 @@
+pub mod DoneLines
+pub mod FirstLines
+pub mod Runs
+pub mod Together

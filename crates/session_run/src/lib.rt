@@ -1,0 +1,6 @@
+//! A session from its first line to its end: each line is carried out, and what it prints is printed.
+#![tactic(auto)]
+
+mod lines;
+
+pub use lines::run_session;
